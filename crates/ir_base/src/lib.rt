@@ -1,0 +1,7 @@
+//! What needs no context: arenas and handles, lists inside records, names, stores, dictionaries, and the trait of a dialect.
+#![tactic(auto)]
+
+mod error;
+
+pub use error::CoreError;
+pub use ir_model::{ArenaIndex, Limits};

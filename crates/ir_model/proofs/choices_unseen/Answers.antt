@@ -1,0 +1,5 @@
+use Rattle.ir_model.proofs.TwoRuns.{two_runs}
+use Rattle.ir_model.proofs.choices_unseen.Goals as goal
+
+pub returns : goal.returns
+returns g c = λ unknown. two_runs _

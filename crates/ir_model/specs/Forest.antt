@@ -1,0 +1,92 @@
+-- The forest: what is in the records, by finite maps from ids.
+use Rattle.std.specs.Prelude.{Bool, ◌&&◌, false, ℕ, List, Option}
+use Rattle.ir_model.specs.Ids.{Ids}
+
+-- the closed types of one compiler
+pub record Dialect : Type 1 where
+  pub Key : Type 0
+  pub Attr : Type 0
+  pub Loc : Type 0
+  pub Name : Type 0
+  pub same_key : Key → Key → Bool
+  pub unknown : Loc
+
+module _ (N : Ids) where
+  -- what defines a value
+  pub data Definer : Type 0 where
+    of_op : N.Op → Definer
+    of_block : N.Block → Definer
+
+  pub record Value : Type 0 where
+    pub definer : Definer
+    pub number : N.ValueNumber
+
+  pub record Operand : Type 0 where
+    pub use_number : N.UseNumber
+    pub value : Value
+
+  pub record Successor : Type 0 where
+    pub use_number : N.UseNumber
+    pub block : N.Block
+
+  pub data Entity : Type 0 where
+    an_op : N.Op → Entity
+    a_block : N.Block → Entity
+    a_region : N.Region → Entity
+
+  abbrev pub same_definer : Definer → Definer → Bool
+  same_definer (of_op o) (of_op p) = N.same_op o p
+  same_definer (of_block b) (of_block c) = N.same_block b c
+  same_definer (of_op o) (of_block c) = false
+  same_definer (of_block b) (of_op p) = false
+
+  abbrev pub same_value : Value → Value → Bool
+  same_value v w = same_definer v.definer w.definer && N.same_number v.number w.number
+
+  abbrev pub same_entity : Entity → Entity → Bool
+  same_entity (an_op o) (an_op p) = N.same_op o p
+  same_entity (a_block b) (a_block c) = N.same_block b c
+  same_entity (a_region r) (a_region q) = N.same_region r q
+  same_entity _ _ = false
+
+  -- what an operand or a successor names
+  pub data Named : Type 0 where
+    a_value : Value → Named
+    the_block : N.Block → Named
+
+  abbrev pub definer_entity : Definer → Entity
+  definer_entity (of_op o) = an_op o
+  definer_entity (of_block b) = a_block b
+
+  -- what defines it
+  abbrev pub owner : Named → Entity
+  owner (a_value v) = definer_entity v.definer
+  owner (the_block b) = a_block b
+
+  module _ (W : Dialect) where
+    -- a result or an argument; its type is the place of a key among the keys
+    pub record Definition : Type 0 where
+      pub number : N.ValueNumber
+      pub ty : ℕ
+      pub name : Option W.Name
+
+    pub record OpRecord : Type 0 where
+      pub kind : ℕ
+      pub results : List Definition
+      pub operands : List Operand
+      pub successors : List Successor
+      pub regions : List N.Region
+      pub attributes : List (W.Name × W.Attr)
+      pub loc : W.Loc
+
+    pub record BlockRecord : Type 0 where
+      pub label : Option W.Name
+      pub arguments : List Definition
+      pub ops : List N.Op
+      pub attributes : List (W.Name × W.Attr)
+      pub loc : W.Loc
+
+    pub record Forest : Type 0 where
+      pub ops : N.Op → Option OpRecord
+      pub blocks : N.Block → Option BlockRecord
+      pub regions : N.Region → Option (List N.Block)

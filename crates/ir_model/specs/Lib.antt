@@ -1,0 +1,10 @@
+pub mod Ids
+pub mod ContextIds
+pub mod IdText
+pub mod Forest
+pub mod Nesting
+pub mod Changes
+pub mod Edits
+pub mod Views
+pub mod Sessions
+pub mod Arena
