@@ -1,11 +1,10 @@
 -- A write of a slot is a rewrite of the map.
 use mathlib.Core.Path.{◌≡◌, refl, sym, ap, ◌∙◌, fun_ext}
-use Rattle.std.proofs.Common.{ℕ, ◌<◌, ◌≢◌, ◌⊎◌, inl, inr, Bool, true, false, ◌&&◌, Option, Some, None, List, length, get_or, set, cond, eqb, arith, get_or-set_same, get_or-set_other}
+use Rattle.std.proofs.Common.{ℕ, ◌<◌, ◌≢◌, ◌⊎◌, inl, inr, Bool, true, false, Option, Some, None, List, length, get_or, cond, eqb, get_or-set_same, get_or-set_other}
 use Rattle.std.proofs.lemmas.Bool.{eqb-true, eq-eqb}
 use Rattle.std.specs.Option.{option_map}
 use Rattle.ir_model.specs.declared.ids.ArenaIndex.{ArenaIndex}
 use Rattle.ir_model.specs.ContextIds.{same_id}
-
 use Rattle.ir_model.specs.Changes.{rewrite}
 use Rattle.ir_model.proofs.TwoRuns.{id_tells}
 use Rattle.ir_model.proofs.Keeps.{rewrite_at}

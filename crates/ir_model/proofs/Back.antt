@@ -1,14 +1,14 @@
 -- What is live after an edit was live before, or is new.
 use mathlib.Core.Path.{◌≡◌, refl, sym, ap, ◌∙◌, subst}
-use Rattle.std.proofs.Common.{ℕ, zero, suc, ◌⊎◌, inl, inr, Bool, true, false, ◌||◌, Option, Some, None, List, [], ◌∷◌, ◌++◌, map, cond, is_some, IsSome}
+use Rattle.std.proofs.Common.{ℕ, zero, suc, ◌⊎◌, inl, inr, Bool, true, false, Option, Some, None, List, [], ◌∷◌, ◌++◌, cond, is_some, IsSome}
 use Rattle.std.specs.List.{list_any}
 use Rattle.std.specs.Prelude.{slice_get}
 use Rattle.std.specs.Option.{option_map}
-use Rattle.ir_model.specs.Ids.{Ids, Made as Fresh}
-use Rattle.ir_model.specs.Forest.{Dialect, OpRecord, BlockRecord, Forest, Entity, an_op, a_block, a_region, Definition, Operand, Successor}
-use Rattle.ir_model.specs.Nesting.{In, Inside}
-use Rattle.ir_model.specs.Changes.{rewrite, put, on_op, on_block, on_region, on_ops, on_operands, on_successors, on_regions, in_blocks, in_regions, redirect, retarget, append_ops, append_blocks, move_region, new_op, new_block, add_region, swap_out, unlist, Removes, DropsUses, no_uses, but}
-use Rattle.ir_model.specs.Edits.{Edit, State, over, Change, The, NewType, NewOp, NewBlock, AddRegion, PushResult, PushArgument, InsertResult, InsertArgument, RemoveResult, RemoveArgument, PushOperand, PushSuccessor, InsertOperand, InsertSuccessor, RemoveOperand, RemoveSuccessor, ReplaceOperand, ReplaceSuccessor, ReplaceAllUses, RetargetAll, OpFront, OpBack, OpBefore, OpAfter, UnlinkOp, UnlinkBlock, BlockFront, BlockBack, BlockBefore, BlockAfter, AppendOps, AppendBlocks, MoveRegion, DropOpUses, DropBlockUses, DropRegionUses, EraseOp, EraseBlock, EraseRegion}
+use Rattle.ir_model.specs.Ids.{Ids, Fresh}
+use Rattle.ir_model.specs.Forest.{Dialect, OpRecord, BlockRecord, Forest, Entity, an_op, a_block, a_region}
+use Rattle.ir_model.specs.Nesting.{In}
+use Rattle.ir_model.specs.Changes.{rewrite, put, on_op, on_block, on_region, on_ops, on_regions, append_ops, append_blocks, move_region, without, Removes, DropsUses, no_uses, but}
+use Rattle.ir_model.specs.Edits.{Edit, State, over, Change, NewType, NewOp, NewBlock, AddRegion, PushResult, PushArgument, InsertResult, InsertArgument, RemoveResult, RemoveArgument, PushOperand, PushSuccessor, InsertOperand, InsertSuccessor, RemoveOperand, RemoveSuccessor, ReplaceOperand, ReplaceSuccessor, ReplaceAllUses, RetargetAll, OpFront, OpBack, OpBefore, OpAfter, UnlinkOp, UnlinkBlock, BlockFront, BlockBack, BlockBefore, BlockAfter, AppendOps, AppendBlocks, MoveRegion, DropOpUses, DropBlockUses, DropRegionUses, EraseOp, EraseBlock, EraseRegion}
 use Rattle.ir_model.proofs.Keeps.{is_some-map}
 use Rattle.ir_model.proofs.KeepsNew.{put_at, any_in}
 use Rattle.ir_model.proofs.Renaming.{Tells}
@@ -111,7 +111,7 @@ module _ {N : Ids} {W : Dialect} where
   appended_blocks f new b c os = then_back f (on_region f b (λ xs. xs ++ os)) _ new (on_region_back f new b _) (on_region_back (on_region f b (λ xs. xs ++ os)) new c (λ _. []))
 
   moved : (f : Forest N W) (new : Fresh N) (r : N.Region) (o : N.Op) → Back f (move_region f r o) new
-  moved f new r o = then_back f (record f { ops = λ x. option_map (on_regions (swap_out N.same_region r)) (f.ops x) }) _ new (all_ops_back f new _) (on_op_back (record f { ops = λ x. option_map (on_regions (swap_out N.same_region r)) (f.ops x) }) new o (on_regions (λ rs. rs ++ r ∷ [])))
+  moved f new r o = then_back f (record f { ops = λ x. option_map (on_regions (without N.same_region r)) (f.ops x) }) _ new (all_ops_back f new _) (on_op_back (record f { ops = λ x. option_map (on_regions (without N.same_region r)) (f.ops x) }) new o (on_regions (λ rs. rs ++ r ∷ [])))
 
   moved_or_not : (b : Bool) (s t : State N W) (g : Forest N W) (new : Fresh N) → Back s.forest g new → t ≡ (cond b s (over s g)) → Back s.forest t.forest new
   moved_or_not true s t g new back e = to s.forest t.forest _ new (ap (λ (x : State N W). x.forest) e) (same s.forest new)

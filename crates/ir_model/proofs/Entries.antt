@@ -1,10 +1,10 @@
 -- One entry more in a list, or one fewer.
-use mathlib.Core.Path.{◌≡◌, refl, sym, ap, ap₂, ◌∙◌, subst}
-use Rattle.std.proofs.Common.{ℕ, zero, suc, ◌<◌, ◌≤◌, ◌≢◌, ◌⊎◌, inl, inr, List, [], ◌∷◌, ◌++◌, map, length, take, drop, arith, Option, Some, None}
+use mathlib.Core.Path.{◌≡◌, sym}
+use Rattle.std.proofs.Common.{ℕ, zero, suc, ◌<◌, ◌⊎◌, inl, inr, List, [], ◌∷◌, ◌++◌, map, length, arith}
 use Rattle.std.specs.List.{insert, remove}
-use Rattle.ir_model.specs.Ids.{Absent, Distinct}
+use Rattle.ir_model.specs.Ids.{Distinct}
 use Rattle.ir_model.specs.Nesting.{In}
-use Rattle.ir_model.proofs.Nests.{In-append, In-left, In-right, Absent-not_in, not_in-Absent}
+use Rattle.ir_model.proofs.Nests.{Absent-not_in, not_in-Absent}
 
 -- the second list has x, somewhere among the elements of the first
 pub data AddsOne {A : Type 0} (x : A) : List A → List A → Type 0 where

@@ -1,23 +1,26 @@
 -- A step that can be made, from a new session.
 use mathlib.Core.Path.{◌≡◌, refl, sym}
-use Rattle.std.proofs.Common.{ℕ, ◌<◌, ◌≤◌, ◌⊎◌, inl, inr, Bool, true, false, Option, Some, None, List, [], ◌∷◌, arith, IsTrue, is_some}
-use Rattle.ir_model.specs.Ids.{Made as Fresh, Counts}
+use Rattle.std.proofs.Common.{ℕ, ◌≤◌, inl, inr, true, false, None, [], ◌∷◌, arith}
+use Rattle.ir_model.specs.Ids.{Fresh}
 use Rattle.ir_model.specs.Forest.{Dialect}
-use Rattle.ir_model.specs.Nesting.{In}
-use Rattle.ir_model.specs.Edits.{Edit, NewOp, State, Answer, Made, The}
+use Rattle.ir_model.specs.Edits.{NewOp}
+use Rattle.ir_model.specs.declared.answer.Answer.TheVariants.{Made}
 use Rattle.ir_model.specs.Changes.{new_op}
 use Rattle.ir_model.specs.declared.ids.ArenaIndex.{ArenaIndex}
 use Rattle.ir_model.specs.declared.ids.Limits.{Limits}
 use Rattle.ir_model.specs.ContextIds.{context_ids, same_id}
-use Rattle.ir_model.specs.Sessions.{Passed, nothing_passed, Session, Step, made, Number, HasRoom, TakesSlot}
+use Rattle.ir_model.specs.Sessions.{nothing_passed, Session, Beside, Step, made, HasRoom}
 use Rattle.ir_model.proofs.TwoRuns.{empty, id_tells}
 
 module _ (W : Dialect) where
   limits : Limits
   limits = record { values = 10; uses = 10; slots = 10; last_version = 3 }
 
+  nothing : Beside W
+  nothing = record { saved = []; aux = λ _. None; aux_names = λ _. None; aux_passed = λ _. false }
+
   start : Session W
-  start = record { state = empty context_ids; passed = nothing_passed; limits = limits }
+  start = record { state = empty context_ids; beside = nothing; passed = nothing_passed; limits = limits }
 
   first : ArenaIndex
   first = record { slot = 4; version = 1 }
@@ -29,9 +32,10 @@ module _ (W : Dialect) where
   ended = record {
     state = record {
       forest = new_op (empty {W = W} context_ids).forest first 7 [] [] [] [];
-      keys = [];
+      store = [];
       tables = record { types = []; ops = first ∷ []; blocks = []; regions = []; values = [] };
     };
+    beside = nothing;
     passed = record nothing_passed { ops = same_id first };
     limits = limits;
   }
@@ -43,7 +47,7 @@ module _ (W : Dialect) where
   unpassed e = cc
 
   example : Step start (NewOp 7 [] [] [] 0) (Made 0) ended
-  unfolding start ended fresh limits first
+  unfolding nothing start ended fresh limits first
   example = made (tt, tt, tt)
       (record { values = none_of _ (λ x h. unpassed h) 0 (omega arith); uses = none_of _ (λ x h. unpassed h) 0 (omega arith) })
       (record {
@@ -71,5 +75,6 @@ module _ (W : Dialect) where
           numbers = λ i. (λ h. inl h, λ h. elim h [ inl e ↦ e | inr k ↦ elim k [ ] ]);
           uses = λ i. (λ h. inl h, λ h. elim h [ inl e ↦ e | inr k ↦ elim k [ ] ]);
         };
+        beside = refl;
         limits = refl;
       })

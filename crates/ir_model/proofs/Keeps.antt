@@ -1,14 +1,14 @@
 -- Changes of a forest keep it well formed.
 use mathlib.Core.Path.{◌≡◌, refl, sym, ap, ◌∙◌, subst}
-use Rattle.std.proofs.Common.{ℕ, ◌<◌, ◌≢◌, ◌⊎◌, inl, inr, Bool, true, false, Option, Some, None, List, [], ◌∷◌, ◌++◌, map, cond, is_some}
+use Rattle.std.proofs.Common.{ℕ, ◌≢◌, ◌⊎◌, inl, inr, Bool, true, false, Option, Some, None, List, [], ◌∷◌, ◌++◌, map, cond, is_some}
 use Rattle.std.specs.Option.{option_map}
-use Rattle.ir_model.specs.Ids.{Ids, Absent, Distinct}
-use Rattle.ir_model.specs.Forest.{Dialect, Definer, of_op, of_block, Value, Entity, an_op, a_block, a_region, Definition, OpRecord, BlockRecord, Forest, Operand, Successor, Named, a_value, the_block}
-use Rattle.ir_model.specs.Nesting.{In, Within, itself, below, list_of, children, Inside, IsLinked, IsLive, IsLiveNamed, Nested, WellFormed, numbers_of, types_of, uses_of, names_of, operands_of, successors_of, regions_of, ops_of, definitions_of}
-use Rattle.ir_model.specs.Changes.{rewrite, on_op, on_block, on_ops, on_operands, in_blocks, without, operand}
+use Rattle.ir_model.specs.Ids.{Ids, Distinct}
+use Rattle.ir_model.specs.Forest.{Dialect, Definer, of_op, of_block, Entity, an_op, a_block, a_region, BlockRecord, Forest, Named, a_value, the_block}
+use Rattle.ir_model.specs.Nesting.{In, list_of, children, Inside, IsLinked, IsLive, IsLiveNamed, Nested, WellFormed, regions_of, ops_of, definitions_of}
+use Rattle.ir_model.specs.Changes.{rewrite, on_block, on_ops}
 use Rattle.ir_model.proofs.Renaming.{Tells}
 use Rattle.ir_model.proofs.Loops.{Lawful}
-use Rattle.ir_model.proofs.Nests.{In-append, In-left, In-right, In-map, In-map_back, Absent-not_in, not_in-Absent, Distinct-append, Distinct-map, NoCycle-more, OneList-more, NoCycle-fewer, OneList-fewer}
+use Rattle.ir_model.proofs.Nests.{In-append, In-map, In-map_back, Absent-not_in, not_in-Absent, Distinct-append, Distinct-map, NoCycle-more, OneList-more, NoCycle-fewer, OneList-fewer}
 
 -- the map at a key, after the record under a key was rewritten
 pub rewrite_at : {A B : Type 0} (same : A → A → Bool) → Tells same → (key : A) (g : B → B) (m : A → Option B) (x : A)

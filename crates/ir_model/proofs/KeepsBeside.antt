@@ -1,15 +1,15 @@
 -- An operation put beside another, and a list joined to another, keep a forest well formed.
 use mathlib.Core.Path.{◌≡◌, refl, sym, ap, ◌∙◌, subst}
-use Rattle.std.proofs.Common.{ℕ, ◌≢◌, ◌⊎◌, inl, inr, Bool, true, false, Option, Some, None, List, [], ◌∷◌, ◌++◌, map, cond, is_some}
+use Rattle.std.proofs.Common.{ℕ, ◌≢◌, ◌⊎◌, inl, inr, Bool, true, false, Option, Some, None, List, [], ◌∷◌, ◌++◌, map, cond}
 use Rattle.std.specs.Option.{option_map}
-use Rattle.ir_model.specs.Ids.{Ids, Absent, Distinct}
+use Rattle.ir_model.specs.Ids.{Ids, Distinct}
 use Rattle.ir_model.specs.Forest.{Dialect, Entity, an_op, a_block, a_region, BlockRecord, Forest}
-use Rattle.ir_model.specs.Nesting.{In, Within, list_of, children, Inside, IsLinked, IsLive, Nested, WellFormed, ops_of}
-use Rattle.ir_model.specs.Changes.{rewrite, on_block, on_ops, in_blocks, put_before, put_after, append_ops}
+use Rattle.ir_model.specs.Nesting.{In, list_of, children, Inside, IsLinked, IsLive, WellFormed, ops_of}
+use Rattle.ir_model.specs.Changes.{on_ops, in_blocks, put_before, put_after, append_ops}
 use Rattle.ir_model.proofs.Renaming.{Tells}
 use Rattle.ir_model.proofs.Loops.{Lawful}
-use Rattle.ir_model.proofs.Nests.{In-append, In-map, In-map_back, Absent-not_in, not_in-Absent, Distinct-append, Distinct-map, NoCycle-joined, OneList-joined}
-use Rattle.ir_model.proofs.Keeps.{WellFormed-blocks, Nested-insert, live_after, ops_after, Distinct-unmap, rewrite_at}
+use Rattle.ir_model.proofs.Nests.{In-append, In-map, In-map_back, Distinct-append, Distinct-map, NoCycle-joined, OneList-joined}
+use Rattle.ir_model.proofs.Keeps.{WellFormed-blocks, Nested-insert, live_after, ops_after, Distinct-unmap}
 use Rattle.ir_model.proofs.Entries.{AddsOne, here, later, AddsOne-in, AddsOne-distinct}
 
 module _ {A : Type 0} (same : A → A → Bool) (tells : Tells same) (x mark : A) where

@@ -1,13 +1,12 @@
 -- Operands and successors put in and taken out keep a forest well formed.
-use mathlib.Core.Path.{◌≡◌, refl, sym, ap, ap₂, ◌∙◌, subst, fun_ext}
-use Rattle.std.proofs.Common.{ℕ, ◌<◌, ◌≤◌, ◌≢◌, ◌⊎◌, inl, inr, Bool, true, false, Option, Some, None, List, [], ◌∷◌, ◌++◌, map, cond, length}
+use mathlib.Core.Path.{◌≡◌, refl, sym, ap, ◌∙◌, subst}
+use Rattle.std.proofs.Common.{ℕ, ◌<◌, ◌⊎◌, inl, inr, Bool, true, false, Option, Some, None, List, [], ◌∷◌, ◌++◌, map, cond, length}
 use Rattle.std.specs.List.{insert, remove}
 use Rattle.std.specs.Option.{option_map}
 use Rattle.ir_model.specs.Ids.{Ids, Distinct}
-use Rattle.ir_model.specs.Forest.{Dialect, Value, Entity, an_op, OpRecord, Forest, Operand, Successor, Named, a_value, the_block}
-use Rattle.ir_model.specs.Nesting.{In, list_of, IsLive, IsLiveNamed, WellFormed, uses_of, names_of, operands_of, successors_of}
+use Rattle.ir_model.specs.Forest.{Dialect, Value, OpRecord, Forest, Operand, Successor, Named, a_value, the_block}
+use Rattle.ir_model.specs.Nesting.{In, list_of, IsLiveNamed, WellFormed, uses_of, names_of}
 use Rattle.ir_model.specs.Changes.{rewrite, on_op, on_operands, on_successors, operand, successor}
-use Rattle.ir_model.proofs.Renaming.{Tells}
 use Rattle.ir_model.proofs.Loops.{Lawful}
 use Rattle.ir_model.proofs.Keeps.{rewrite_at}
 use Rattle.ir_model.proofs.KeepsUses.{WellFormed-operands, on_uses}

@@ -1,15 +1,13 @@
 -- Taking out a closed subtree keeps a forest well formed.
-use mathlib.Core.Path.{◌≡◌, refl, sym, ap, ap₂, ◌∙◌, subst}
-use Rattle.std.proofs.Common.{ℕ, ◌<◌, ◌≢◌, ◌⊎◌, inl, inr, Bool, true, false, not, Option, Some, None, List, [], ◌∷◌, ◌++◌, map, cond, is_some, IsSome}
-use Rattle.std.specs.List.{filter}
+use mathlib.Core.Path.{◌≡◌, refl, sym, ap, ◌∙◌, subst}
+use Rattle.std.proofs.Common.{ℕ, ◌≢◌, ◌⊎◌, inl, inr, Bool, true, false, not, Option, Some, None, List, [], map, is_some, IsSome}
 use Rattle.std.specs.Option.{option_map}
-use Rattle.ir_model.specs.Ids.{Ids, Absent, Distinct}
-use Rattle.ir_model.specs.Forest.{Dialect, Definer, of_op, of_block, Value, Entity, an_op, a_block, a_region, Definition, OpRecord, BlockRecord, Forest, Operand, Successor, Named, a_value, the_block, same_entity, definer_entity, owner}
-use Rattle.ir_model.specs.Nesting.{In, Within, itself, below, list_of, children, Inside, IsLinked, IsLive, IsLiveNamed, IsClosed, Nested, WellFormed, numbers_of, types_of, uses_of, names_of, operands_of, successors_of, regions_of, ops_of, definitions_of}
-use Rattle.ir_model.specs.Changes.{on_ops, on_regions, but, unlist, Removes}
-use Rattle.ir_model.proofs.Renaming.{Tells}
+use Rattle.ir_model.specs.Ids.{Ids, Distinct}
+use Rattle.ir_model.specs.Forest.{Dialect, Definer, of_op, of_block, Entity, an_op, a_block, a_region, Definition, OpRecord, BlockRecord, Forest, Named, a_value, the_block, same_entity, definer_entity, owner}
+use Rattle.ir_model.specs.Nesting.{In, Within, itself, below, list_of, children, Inside, IsLive, IsLiveNamed, IsClosed, WellFormed, uses_of, names_of, operands_of, successors_of, regions_of, ops_of, definitions_of}
+use Rattle.ir_model.specs.Changes.{on_ops, on_regions, but, Removes}
 use Rattle.ir_model.proofs.Loops.{Lawful}
-use Rattle.ir_model.proofs.Nests.{In-append, In-left, In-right, In-map, In-map_back, Absent-not_in, not_in-Absent, Distinct-append, Distinct-map, NoCycle-fewer, OneList-fewer}
+use Rattle.ir_model.proofs.Nests.{In-map, In-map_back, Distinct-map, NoCycle-fewer, OneList-fewer}
 use Rattle.ir_model.proofs.Keeps.{list_of-map, is_some-map, Distinct-unmap}
 use Rattle.ir_model.proofs.KeepsUses.{In-filter, In-kept, Distinct-filter}
 

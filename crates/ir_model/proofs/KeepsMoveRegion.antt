@@ -1,19 +1,18 @@
 -- `MoveRegion` keeps a forest well formed.
-use mathlib.Core.Path.{◌≡◌, refl, sym, ap, ap₂, ◌∙◌, subst, fun_ext}
-use Rattle.std.proofs.Common.{ℕ, ◌<◌, ◌≢◌, ◌⊎◌, inl, inr, Bool, true, false, not, Option, Some, None, List, [], ◌∷◌, ◌++◌, map, cond, is_some, IsSome}
+use mathlib.Core.Path.{◌≡◌, refl, sym, ap, ◌∙◌}
+use Rattle.std.proofs.Common.{ℕ, ◌≢◌, ◌⊎◌, inl, inr, Bool, true, false, not, Option, Some, None, List, [], ◌∷◌, ◌++◌, map, cond, IsSome}
 use Rattle.std.specs.List.{filter}
 use Rattle.std.specs.Option.{option_map}
-use Rattle.ir_model.specs.Ids.{Ids, Absent, Distinct}
-use Rattle.ir_model.specs.Forest.{Dialect, Definer, of_op, of_block, Entity, an_op, a_block, a_region, Definition, OpRecord, Forest, Named, a_value, the_block, same_entity}
-use Rattle.ir_model.specs.Nesting.{In, Within, itself, below, list_of, children, Inside, IsLive, IsLiveNamed, Nested, WellFormed, definitions_of, uses_of, names_of, regions_of, operands_of, successors_of}
-use Rattle.ir_model.specs.Changes.{rewrite, on_regions, swap_out, move_region}
-use Rattle.ir_model.proofs.Renaming.{Tells}
+use Rattle.ir_model.specs.Ids.{Ids, Distinct}
+use Rattle.ir_model.specs.Forest.{Dialect, Entity, an_op, a_block, a_region, OpRecord, Forest, same_entity}
+use Rattle.ir_model.specs.Nesting.{In, Within, itself, below, list_of, children, Inside, WellFormed, regions_of}
+use Rattle.ir_model.specs.Changes.{on_regions, without, move_region}
 use Rattle.ir_model.proofs.Loops.{Lawful}
-use Rattle.ir_model.proofs.Nests.{In-append, In-left, In-right, In-map, In-map_back, Absent-not_in, not_in-Absent, Distinct-append, Distinct-map, NoCycle-fewer, OneList-fewer, NoCycle-more, OneList-more}
-use Rattle.ir_model.proofs.Keeps.{list_of-map, is_some-map, Distinct-unmap, rewrite_at}
+use Rattle.ir_model.proofs.Nests.{In-append, In-map, In-map_back, NoCycle-fewer, OneList-fewer, NoCycle-more, OneList-more}
+use Rattle.ir_model.proofs.Keeps.{Distinct-unmap}
 use Rattle.ir_model.proofs.KeepsUses.{In-filter, In-kept}
 use Rattle.ir_model.proofs.KeepsErase.{same_tells, same_self}
-use Rattle.ir_model.proofs.KeepsMove.{swap_out-in, swap_out-distinct, swap_out-still}
+use Rattle.ir_model.proofs.KeepsMove.{without-in}
 
 module _ {N : Ids} {W : Dialect} (L : Lawful N) (f : Forest N W) (keys : ℕ) (w : WellFormed f keys) (r : N.Region) (o : N.Op) (q : OpRecord N W) (is : f.ops o ≡ Some q)
     (other : In r q.regions → ⊥) (live : IsSome (f.regions r)) (apart : Inside f (a_region r) (an_op o) → ⊥) where
@@ -21,13 +20,13 @@ module _ {N : Ids} {W : Dialect} (L : Lawful N) (f : Forest N W) (keys : ℕ) (w
   after = move_region f r o
 
   abbrev joined : N.Op → List N.Region → List N.Region
-  joined p rs = cond (N.same_op p o) (swap_out N.same_region r rs ++ r ∷ []) (swap_out N.same_region r rs)
+  joined p rs = cond (N.same_op p o) (without N.same_region r rs ++ r ∷ []) (without N.same_region r rs)
 
   shape : (p : N.Op) → after.ops p ≡ option_map (on_regions (joined p)) (f.ops p)
   shape p = by (N.same_op p o) (f.ops p)
     where
-      by : (t : Bool) (m : Option (OpRecord N W)) → cond t (option_map (on_regions (λ rs. rs ++ r ∷ [])) (option_map (on_regions (swap_out N.same_region r)) m)) (option_map (on_regions (swap_out N.same_region r)) m)
-          ≡ option_map (on_regions (λ rs. cond t (swap_out N.same_region r rs ++ r ∷ []) (swap_out N.same_region r rs))) m
+      by : (t : Bool) (m : Option (OpRecord N W)) → cond t (option_map (on_regions (λ rs. rs ++ r ∷ [])) (option_map (on_regions (without N.same_region r)) m)) (option_map (on_regions (without N.same_region r)) m)
+          ≡ option_map (on_regions (λ rs. cond t (without N.same_region r rs ++ r ∷ []) (without N.same_region r rs))) m
       by true None = refl
       by true (Some x) = refl
       by false None = refl
@@ -55,15 +54,15 @@ module _ {N : Ids} {W : Dialect} (L : Lawful N) (f : Forest N W) (keys : ℕ) (w
         by at.0 at.2 e.0 e.1 (N.same_op p o) refl at.1)
   ]
     where
-      kept : (g : N.Region) → x ≡ a_region g → (z : OpRecord N W) → f.ops p ≡ Some z → In g (swap_out N.same_region r z.regions) → In x (children f (an_op p)) × (x ≢ a_region r)
+      kept : (g : N.Region) → x ≡ a_region g → (z : OpRecord N W) → f.ops p ≡ Some z → In g (without N.same_region r z.regions) → In x (children f (an_op p)) × (x ≢ a_region r)
       kept g e z s i =
-          let was = swap_out-in N.same_region L.regions r z.regions (regions_distinct p z s) g i in
+          let was = without-in N.same_region L.regions r z.regions (regions_distinct p z s) g i in
           (rw (e, s) (In-map a_region g z.regions was.0), λ k. was.1 (let l : a_region g ≡ a_region r = sym e ∙ k in cc))
 
-      by : (g : N.Region) → x ≡ a_region g → (z : OpRecord N W) → f.ops p ≡ Some z → (t : Bool) → N.same_op p o ≡ t → In g (cond t (swap_out N.same_region r z.regions ++ r ∷ []) (swap_out N.same_region r z.regions))
+      by : (g : N.Region) → x ≡ a_region g → (z : OpRecord N W) → f.ops p ≡ Some z → (t : Bool) → N.same_op p o ≡ t → In g (cond t (without N.same_region r z.regions ++ r ∷ []) (without N.same_region r z.regions))
           → (In x (children f (an_op p)) × (x ≢ a_region r)) ⊎ ((x ≡ a_region r) × (◌≡◌ {A = Entity N} (an_op p) (an_op o)))
       by g e z s false t i = inl (kept g e z s i)
-      by g e z s true t i = elim (In-append g (swap_out N.same_region r z.regions) (r ∷ []) i) [
+      by g e z s true t i = elim (In-append g (without N.same_region r z.regions) (r ∷ []) i) [
         | inl j ↦ inl (kept g e z s j)
         | inr j ↦ inr (elim j [ inl k ↦ e ∙ ap a_region k | inr k ↦ elim k [ ] ], ap an_op ((L.ops p o).0 t))
       ]

@@ -1,14 +1,14 @@
 -- A new operation keeps a forest well formed.
-use mathlib.Core.Path.{◌≡◌, refl, sym, ap, ap₂, ◌∙◌, subst}
-use Rattle.std.proofs.Common.{ℕ, ◌<◌, ◌≤◌, ◌≢◌, ◌⊎◌, inl, inr, Bool, true, false, ◌||◌, Option, Some, None, List, [], ◌∷◌, ◌++◌, map, cond, is_some, IsSome}
+use mathlib.Core.Path.{◌≡◌, refl, sym, ap, ◌∙◌, subst}
+use Rattle.std.proofs.Common.{ℕ, ◌<◌, ◌≢◌, ◌⊎◌, inl, inr, Bool, true, false, ◌||◌, Option, Some, None, List, [], ◌∷◌, ◌++◌, map, is_some, IsSome}
 use Rattle.std.specs.List.{list_any}
 use Rattle.ir_model.specs.Ids.{Ids, Distinct}
-use Rattle.ir_model.specs.Forest.{Dialect, Definer, of_op, of_block, Value, Entity, an_op, a_block, a_region, Definition, OpRecord, Forest, Operand, Successor, Named, a_value, the_block}
-use Rattle.ir_model.specs.Nesting.{In, Within, itself, below, list_of, children, Inside, IsLive, IsLiveNamed, Nested, WellFormed, numbers_of, types_of, uses_of, names_of, operands_of, successors_of, definitions_of, regions_of, blocks_of}
+use Rattle.ir_model.specs.Forest.{Dialect, Definer, of_op, of_block, Entity, an_op, a_block, a_region, Definition, OpRecord, Forest, Operand, Successor, Named, a_value, the_block}
+use Rattle.ir_model.specs.Nesting.{In, Within, itself, below, list_of, children, Inside, IsLive, IsLiveNamed, WellFormed, numbers_of, uses_of, names_of, definitions_of, regions_of, blocks_of}
 use Rattle.ir_model.specs.Changes.{put, new_op}
 use Rattle.ir_model.proofs.Renaming.{Tells}
 use Rattle.ir_model.proofs.Loops.{Lawful}
-use Rattle.ir_model.proofs.Nests.{In-map, In-map_back, Distinct-map}
+use Rattle.ir_model.proofs.Nests.{In-map_back, Distinct-map}
 
 pub put_at : {A B : Type 0} (same : A → A → Bool) → Tells same → (key : A) (v : B) (m : A → Option B) (x : A)
     → ((x ≡ key) × (put same key v m x ≡ Some v)) ⊎ ((x ≢ key) × (put same key v m x ≡ m x))

@@ -1,16 +1,14 @@
 -- Changes of operands keep a forest well formed, and so does taking an operation out of its list.
 use mathlib.Core.Path.{◌≡◌, refl, sym, ap, ap₂, ◌∙◌, subst}
-use Rattle.std.proofs.Common.{ℕ, ◌<◌, ◌≢◌, ◌⊎◌, inl, inr, Bool, true, false, not, Option, Some, None, List, [], ◌∷◌, ◌++◌, map, cond, is_some}
+use Rattle.std.proofs.Common.{ℕ, ◌⊎◌, inl, inr, Bool, true, false, not, Option, Some, None, List, [], ◌∷◌, ◌++◌, map, cond, is_some}
 use Rattle.std.specs.List.{filter}
 use Rattle.std.specs.Option.{option_map}
-use Rattle.ir_model.specs.Ids.{Ids, Absent, Distinct}
-use Rattle.ir_model.specs.Forest.{Dialect, Definer, of_op, of_block, Value, Entity, an_op, a_block, a_region, Definition, OpRecord, BlockRecord, Forest, Operand, Successor, Named, a_value, the_block, same_value}
-use Rattle.ir_model.specs.Nesting.{In, Within, itself, below, list_of, children, Inside, IsLinked, IsLive, IsLiveNamed, Nested, WellFormed, numbers_of, types_of, uses_of, names_of, operands_of, successors_of, regions_of, ops_of, definitions_of}
-use Rattle.ir_model.specs.Changes.{rewrite, rewrite_all, on_op, on_ops, on_operands, in_blocks, without, redirect, redirected}
-use Rattle.ir_model.proofs.Renaming.{Tells}
-use Rattle.ir_model.proofs.Loops.{Lawful}
-use Rattle.ir_model.proofs.Nests.{In-append, In-left, In-right, In-map, In-map_back, Absent-not_in, not_in-Absent, Distinct-append, Distinct-map, NoCycle-fewer, OneList-fewer}
-use Rattle.ir_model.proofs.Keeps.{list_of-map, is_some-map, Nested-same, WellFormed-blocks, live_after, Distinct-unmap, ops_after}
+use Rattle.ir_model.specs.Ids.{Ids, Distinct}
+use Rattle.ir_model.specs.Forest.{Dialect, Definer, of_op, of_block, Value, Entity, an_op, a_block, a_region, OpRecord, BlockRecord, Forest, Operand, Successor, Named, a_value, the_block, same_value}
+use Rattle.ir_model.specs.Nesting.{In, list_of, children, IsLive, IsLiveNamed, WellFormed, uses_of, names_of, regions_of, definitions_of}
+use Rattle.ir_model.specs.Changes.{on_ops, on_operands, in_blocks, without, redirect, redirected}
+use Rattle.ir_model.proofs.Nests.{In-append, In-left, In-right, In-map, In-map_back, Absent-not_in, not_in-Absent, Distinct-map, NoCycle-fewer, OneList-fewer}
+use Rattle.ir_model.proofs.Keeps.{list_of-map, is_some-map, Nested-same, WellFormed-blocks, live_after, Distinct-unmap}
 
 module _ {A : Type 0} where
   pub In-filter : (t : A → Bool) (x : A) (xs : List A) → In x (filter t xs) → In x xs × (t x ≡ true)

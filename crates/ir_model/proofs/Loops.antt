@@ -1,8 +1,8 @@
 -- Where names that an edit made in one run take the place of those that it made in another.
 use mathlib.Core.Path.{PathP, ◌≡◌, ap}
 use mathlib.Core.Equiv.{Iso}
-use Rattle.std.proofs.Common.{◌≢◌, Bool, List, map, length}
-use Rattle.ir_model.specs.Ids.{Ids, Made, AllAbsent, Distinct, MadeApart, MadeDistinct, Counts, counts}
+use Rattle.std.proofs.Common.{Bool}
+use Rattle.ir_model.specs.Ids.{Ids, Fresh, FreshApart, FreshDistinct, Counts, counts}
 use Rattle.ir_model.proofs.Renaming.{Tells, along, list_onto, test_along, keeps_test, moving, moving_moves, map_moving_fixes}
 
 -- each test tells equal from different
@@ -14,7 +14,7 @@ pub record Lawful (N : Ids) : Type 0 where
   pub numbers : Tells N.same_number
   pub uses : Tells same_use
 
-module _ (N : Ids) (L : Lawful N) (old new : Made N) where
+module _ (N : Ids) (L : Lawful N) (old new : Fresh N) where
   op_move : Iso N.Op N.Op
   op_move = moving N.same_op L.ops old.ops new.ops
 
@@ -44,7 +44,7 @@ module _ (N : Ids) (L : Lawful N) (old new : Made N) where
     same_number = test_along number_move N.same_number (keeps_test N.same_number L.numbers number_move) i;
   }
 
-  pub loop_moves : counts N old ≡ counts N new → MadeDistinct N old → MadeDistinct N new → PathP (λ i. Made (loop i)) old new
+  pub loop_moves : counts N old ≡ counts N new → FreshDistinct N old → FreshDistinct N new → PathP (λ i. Fresh (loop i)) old new
   unfolding loop op_move block_move region_move number_move use_move
   loop_moves c d e = λ i. record {
     ops = list_onto op_move old.ops new.ops (moving_moves N.same_op L.ops new.ops old.ops (ap (λ (n : Counts). n.ops) c) d.ops e.ops) i;
@@ -54,7 +54,7 @@ module _ (N : Ids) (L : Lawful N) (old new : Made N) where
     uses = list_onto use_move old.uses new.uses (moving_moves L.same_use L.uses new.uses old.uses (ap (λ (n : Counts). n.uses) c) d.uses e.uses) i;
   }
 
-  pub loop_fixes : (kept : Made N) → MadeApart N kept old → MadeApart N kept new → PathP (λ i. Made (loop i)) kept kept
+  pub loop_fixes : (kept : Fresh N) → FreshApart N kept old → FreshApart N kept new → PathP (λ i. Fresh (loop i)) kept kept
   unfolding loop op_move block_move region_move number_move use_move
   loop_fixes kept a b = λ i. record {
     ops = list_onto op_move kept.ops kept.ops (map_moving_fixes N.same_op L.ops old.ops new.ops kept.ops a.ops b.ops) i;

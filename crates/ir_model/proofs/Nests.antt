@@ -1,7 +1,6 @@
 -- Lists of children, and what keeps them without cycles.
 use mathlib.Core.Path.{◌≡◌, refl, sym, ap, ◌∙◌, subst}
-use Rattle.std.proofs.Common.{ℕ, ◌≢◌, ◌⊎◌, inl, inr, Bool, true, false, not, Option, Some, None, List, [], ◌∷◌, ◌++◌, map, cond}
-use Rattle.std.specs.List.{filter}
+use Rattle.std.proofs.Common.{◌≢◌, ◌⊎◌, inl, inr, List, [], ◌∷◌, ◌++◌, map}
 use Rattle.ir_model.specs.Ids.{Absent, Distinct}
 use Rattle.ir_model.specs.Nesting.{In, Within, itself, below}
 

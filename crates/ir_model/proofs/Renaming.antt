@@ -1,8 +1,8 @@
 -- One-to-one maps of names, and the paths between names that they make.
 use mathlib.Core.Path.{PathP, ◌≡◌, refl, sym, ap, ap₂, ◌∙◌, subst}
 use mathlib.Core.Equiv.{Iso, iso_to_equiv}
-use Rattle.std.proofs.Common.{ℕ, suc, ◌≢◌, Bool, true, false, List, [], ◌∷◌, ◌++◌, map, cond, length, IsTrue, ◌↔◌, arith}
-use Rattle.ir_model.specs.Ids.{Ids, Made, Absent, AllAbsent, Distinct}
+use Rattle.std.proofs.Common.{suc, ◌≢◌, Bool, true, false, List, [], ◌∷◌, map, cond, length, ◌↔◌, arith}
+use Rattle.ir_model.specs.Ids.{Absent, AllAbsent, Distinct}
 
 -- the line of types that a one-to-one map makes
 abbrev pub along : {A : Type 0} → Iso A A → 𝕀 → Type 0

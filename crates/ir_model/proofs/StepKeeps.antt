@@ -1,11 +1,10 @@
 -- Edits that are made keep the forest well formed.
-use mathlib.Core.Path.{◌≡◌, refl, sym, ap, ◌∙◌, subst}
-use Rattle.std.proofs.Common.{ℕ, ◌⊎◌, inl, inr, Bool, true, false, Option, Some, None, List, [], ◌∷◌, ◌++◌, length, is_some, IsTrue}
-use Rattle.std.specs.Prelude.{slice_get}
-use Rattle.ir_model.specs.Ids.{Ids, Made as Fresh}
-use Rattle.ir_model.specs.Forest.{Dialect, Forest, an_op, a_block, a_value, OpRecord, BlockRecord}
+use mathlib.Core.Path.{◌≡◌, sym, ap, ◌∙◌, subst}
+use Rattle.std.proofs.Common.{ℕ, Option, Some, length, is_some}
+use Rattle.ir_model.specs.Ids.{Ids, Fresh}
+use Rattle.ir_model.specs.Forest.{Dialect, Forest, an_op, a_block}
 use Rattle.ir_model.specs.Nesting.{In, WellFormed, uses_of}
-use Rattle.ir_model.specs.Edits.{Edit, State, The, Condition, Change, OpBack, UnlinkOp, EraseOp, EraseBlock, ReplaceAllUses, PushOperand, RemoveOperand}
+use Rattle.ir_model.specs.Edits.{State, The, Condition, Change, OpBack, UnlinkOp, EraseOp, EraseBlock, ReplaceAllUses, PushOperand, RemoveOperand}
 use Rattle.ir_model.proofs.Loops.{Lawful}
 use Rattle.ir_model.proofs.Keeps.{OpBack-keeps}
 use Rattle.ir_model.proofs.KeepsUses.{UnlinkOp-keeps, ReplaceAllUses-keeps}
@@ -19,12 +18,12 @@ both {A} {m} {P} {Q} p q =
     let f : p.value ≡ q.value = cc in
     record { value = q.value; found = q.found; holds = (subst P f p.holds, q.holds) }
 
-module _ {N : Ids} {W : Dialect} (L : Lawful N) (s t : State N W) (new : Fresh N) (w : WellFormed s.forest (length s.keys)) where
+module _ {N : Ids} {W : Dialect} (L : Lawful N) (s t : State N W) (new : Fresh N) (w : WellFormed s.forest (length s.store)) where
   abbrev Kept : Type 0
-  Kept = WellFormed t.forest (length s.keys)
+  Kept = WellFormed t.forest (length s.store)
 
-  becomes : (g : Forest N W) → t.forest ≡ g → WellFormed g (length s.keys) → Kept
-  becomes g e = subst (λ (x : Forest N W). WellFormed x (length s.keys)) (sym e)
+  becomes : (g : Forest N W) → t.forest ≡ g → WellFormed g (length s.store) → Kept
+  becomes g e = subst (λ (x : Forest N W). WellFormed x (length s.store)) (sym e)
 
   keeps_OpBack : (n m : ℕ) → Condition s (OpBack n m) → Change s (OpBack n m) new t → Kept
   keeps_OpBack n m c d =

@@ -1,19 +1,22 @@
 -- The law on two runs.
-use mathlib.Core.Path.{PathP, ◌≡◌, refl, sym, ap, ◌∙◌, subst, fun_ext}
-use Rattle.std.proofs.Common.{ℕ, zero, suc, ◌+◌, ◌<◌, ◌≤◌, ◌≢◌, ◌⊎◌, ◌↔◌, inl, inr, Bool, true, false, Option, Some, None, List, [], ◌∷◌, ◌&&◌, eqb, IsTrue, arith}
+use mathlib.Core.Path.{◌≡◌, refl, sym, ap, ◌∙◌, subst}
+use Rattle.std.proofs.Common.{ℕ, ◌⊎◌, inl, inr, Bool, true, false, None, List, [], ◌∷◌, ◌&&◌, eqb, arith}
 use Rattle.std.proofs.lemmas.Bool.{eqb-true, eq-eqb}
-use Rattle.ir_model.specs.Ids.{Ids, Made as Fresh, Counts, counts, Absent, AllAbsent, Distinct, MadeDistinct, MadeApart}
+use Rattle.ir_model.specs.Ids.{Ids, Fresh, Absent, AllAbsent}
 use Rattle.ir_model.specs.Forest.{Dialect}
 use Rattle.ir_model.specs.Nesting.{In}
-use Rattle.ir_model.specs.Edits.{Edit, NewType, State, Change, Condition, needs, answer as reply, Answer, Refused, Made, Done, Condition_, Counter, Slots, Memory}
+use Rattle.ir_model.specs.Edits.{Edit, NewType, State, Change, Condition, answer as reply}
+use Rattle.ir_model.specs.declared.answer.Answer.{Answer}
+use Rattle.ir_model.specs.declared.answer.Answer.TheVariants.{Refused}
+use Rattle.ir_model.specs.declared.answer.Refused.TheVariants.{Condition as ForCondition}
 use Rattle.ir_model.specs.Views.{view}
 use Rattle.ir_model.specs.declared.ids.ArenaIndex.{ArenaIndex}
 use Rattle.ir_model.specs.declared.ids.Limits.{Limits}
 use Rattle.ir_model.specs.ContextIds.{context_ids, same_id}
-use Rattle.ir_model.specs.Sessions.{Passed, Session, AreNew, IsNewId, Passes, Skips, Makes, Step, condition, counter, slots, memory, made, Run, IsSpared, SameRefusals, live_op, live_block, live_region, nothing_passed, IsNewSession, TwoRuns}
+use Rattle.ir_model.specs.Sessions.{Passed, Session, AreNew, IsNewId, Passes, Skips, Makes, Step, condition, counter, slots, memory, made, Run, IsSpared, SameRefusals, live_op, live_block, live_region, IsNewSession, TwoRuns}
 use Rattle.ir_model.proofs.Renaming.{Tells}
 use Rattle.ir_model.proofs.Loops.{Lawful}
-use Rattle.ir_model.proofs.Simulation.{History, NewTo, Past, Alike, RestsOn, RestsOn-more, Alike-more}
+use Rattle.ir_model.proofs.Simulation.{History, NewTo, Alike, RestsOn, RestsOn-more, Alike-more}
 use Rattle.ir_model.proofs.Unique.{Change-unique}
 
 number_tells : Tells eqb
@@ -107,7 +110,7 @@ States W N = State N W
 module _ {W : Dialect} where
   -- the edit was refused by its condition, or for want of room or memory, or was made
   data Outcome (s : Session W) (edit : Edit W) (a : Answer) (t : Session W) : Type 0 where
-    refused : (Condition s.state edit → ⊥) → a ≡ Refused Condition_ → t ≡ s → Outcome s edit a t
+    refused : (Condition s.state edit → ⊥) → a ≡ Refused ForCondition → t ≡ s → Outcome s edit a t
     spared : Condition s.state edit → IsSpared a → Skips s edit t → Outcome s edit a t
     done : Condition s.state edit → a ≡ reply s.state edit → Makes s edit t → Outcome s edit a t
 
@@ -196,14 +199,14 @@ module _ {W : Dialect} where
   abbrev pub empty : (N : Ids) → State N W
   empty N = record {
     forest = record { ops = λ _. None; blocks = λ _. None; regions = λ _. None };
-    keys = [];
+    store = [];
     tables = record { types = []; ops = []; blocks = []; regions = []; values = [] };
   }
 
   new_is_empty : (s : Session W) → IsNewSession s → s.state ≡ empty context_ids
   new_is_empty s n = λ i. record {
     forest = record { ops = λ x. n.ops x i; blocks = λ x. n.blocks x i; regions = λ x. n.regions x i };
-    keys = n.keys i;
+    store = n.store i;
     tables = n.tables i;
   }
 

@@ -1,11 +1,10 @@
 -- A change is the only one of its edit with its new names.
 use mathlib.Core.Path.{◌≡◌, refl, sym, ap, ◌∙◌, fun_ext, subst}
-use Rattle.std.proofs.Common.{ℕ, ◌⊎◌, inl, inr, Option, Some, None, List, [], ◌∷◌}
+use Rattle.std.proofs.Common.{◌⊎◌, inl, inr, Option, Some, None, List, [], ◌∷◌}
 use Rattle.std.specs.Option.{option_map}
-use Rattle.ir_model.specs.Ids.{Ids, Made as Fresh}
-use Rattle.ir_model.specs.Forest.{Dialect, OpRecord, Forest, Entity, an_op}
-use Rattle.ir_model.specs.Nesting.{Inside}
-use Rattle.ir_model.specs.Changes.{DropsUses, Removes, no_uses, unlist}
+use Rattle.ir_model.specs.Ids.{Ids, Fresh}
+use Rattle.ir_model.specs.Forest.{Dialect, OpRecord, Forest, Entity}
+use Rattle.ir_model.specs.Changes.{DropsUses, Removes, no_uses}
 use Rattle.ir_model.specs.Edits.{Edit, State, over, Change, The, NewType, NewOp, NewBlock, AddRegion, PushResult, PushArgument, InsertResult, InsertArgument, RemoveResult, RemoveArgument, PushOperand, PushSuccessor, InsertOperand, InsertSuccessor, RemoveOperand, RemoveSuccessor, ReplaceOperand, ReplaceSuccessor, ReplaceAllUses, RetargetAll, OpFront, OpBack, OpBefore, OpAfter, UnlinkOp, UnlinkBlock, BlockFront, BlockBack, BlockBefore, BlockAfter, AppendOps, AppendBlocks, MoveRegion, DropOpUses, DropBlockUses, DropRegionUses, EraseOp, EraseBlock, EraseRegion}
 
 the : {A S : Type 0} {m : Option A} {P Q : A → Type 0} {a b : S} → ((x : A) → P x → Q x → a ≡ b) → The m P → The m Q → a ≡ b

@@ -1,7 +1,6 @@
 -- An arena as data, and the map that it means.
-use Rattle.std.specs.Prelude.{ℕ, List, Option, Some, None, slice_get, slice_index_or, slice_set, nat_eq, if◌then◌else◌, cond}
+use Rattle.std.specs.Prelude.{ℕ, List, Option, None, slice_index_or, slice_set, nat_eq, if◌then◌else◌}
 use Rattle.ir_model.specs.declared.ids.ArenaIndex.{ArenaIndex}
-
 
 -- a slot has a version, and a record where it is occupied
 pub record Slot (R : Type 0) : Type 0 where

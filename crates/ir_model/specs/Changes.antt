@@ -1,9 +1,9 @@
 -- What the edits change in a forest.
-use Rattle.std.specs.Prelude.{◌≡◌, ◌≢◌, ◌⊎◌, ℕ, ◌-◌, Bool, not, if◌then◌else◌, cond, ◌||◌, List, [], ◌∷◌, ◌++◌, map, length, take, Option, Some, None, IsSome, slice_index_or}
-use Rattle.std.specs.List.{insert, remove, list_any, zip, filter}
+use Rattle.std.specs.Prelude.{◌≡◌, ◌⊎◌, ℕ, Bool, not, if◌then◌else◌, List, [], ◌∷◌, ◌++◌, map, Option, Some, None}
+use Rattle.std.specs.List.{list_any, filter}
 use Rattle.std.specs.Option.{option_map}
 use Rattle.ir_model.specs.Ids.{Ids}
-use Rattle.ir_model.specs.Forest.{Dialect, Definer, of_op, of_block, Value, Entity, an_op, a_block, a_region, Definition, OpRecord, BlockRecord, Forest, Operand, Successor, Named, a_value, the_block, same_value, same_entity}
+use Rattle.ir_model.specs.Forest.{Text, Dialect, Value, Entity, an_op, a_block, a_region, Definition, OpRecord, BlockRecord, Forest, Operand, Successor, same_value, same_entity}
 use Rattle.ir_model.specs.Nesting.{Inside}
 
 -- the map with this under the key
@@ -29,12 +29,6 @@ module _ {A : Type 0} (same : A → A → Bool) where
   abbrev pub put_after : A → A → List A → List A
   put_after x mark [] = []
   put_after x mark (y ∷ ys) = if same y mark then y ∷ x ∷ ys else y ∷ put_after x mark ys
-
-  -- the last element stands in the place of x, and the list is one shorter
-  abbrev pub swap_out : A → List A → List A
-  swap_out x xs = if list_any (λ y. same y x) xs
-      then map (λ y. if same y x then slice_index_or xs (length xs - 1) y else y) (take (length xs - 1) xs)
-      else xs
 
 module _ {N : Ids} where
   abbrev pub operand : N.UseNumber × Value N → Operand N
@@ -82,7 +76,7 @@ module _ {N : Ids} {W : Dialect} where
     regions = λ r. if list_any (λ s. N.same_region s r) regions then Some [] else f.regions r;
   }
 
-  abbrev pub new_block : Forest N W → N.Block → Option W.Name → List (Definition N W) → Forest N W
+  abbrev pub new_block : Forest N W → N.Block → Option Text → List (Definition N W) → Forest N W
   new_block f b label arguments = record f {
     blocks = put N.same_block b (record { label = label; arguments = arguments; ops = []; attributes = []; loc = W.unknown }) f.blocks;
   }
@@ -131,9 +125,9 @@ module _ {N : Ids} {W : Dialect} where
   abbrev pub append_blocks : Forest N W → N.Region → N.Region → List N.Block → Forest N W
   append_blocks f donee donor blocks = on_region (on_region f donee (λ xs. xs ++ blocks)) donor (λ _. [])
 
-  -- the region leaves its operation, and goes last in the other one
+  -- the region leaves its operation, whose other regions keep their order, and goes last in the other one
   abbrev pub move_region : Forest N W → N.Region → N.Op → Forest N W
-  move_region f r o = on_op (record f { ops = rewrite_all (on_regions (swap_out N.same_region r)) f.ops }) o (on_regions (λ rs. rs ++ r ∷ []))
+  move_region f r o = on_op (record f { ops = rewrite_all (on_regions (without N.same_region r)) f.ops }) o (on_regions (λ rs. rs ++ r ∷ []))
 
   abbrev pub no_uses : OpRecord N W → OpRecord N W
   no_uses r = record r { operands = []; successors = [] }

@@ -1,15 +1,17 @@
 -- The edits of a session: their conditions, needs, answers and changes.
-use Rattle.std.specs.Prelude.{◌≡◌, ◌≢◌, ℕ, ◌+◌, ◌<◌, ◌≤◌, Bool, true, false, if◌then◌else◌, List, [], ◌∷◌, ◌++◌, map, length, take, drop, Option, Some, None, IsSome, slice_get}
+use Rattle.ir_model.specs.declared.answer.Answer.{Answer}
+use Rattle.ir_model.specs.declared.answer.Answer.TheVariants.{Made, Done}
+use Rattle.std.specs.Prelude.{◌≡◌, ◌≢◌, ℕ, ◌+◌, ◌<◌, ◌≤◌, if◌then◌else◌, List, [], ◌∷◌, ◌++◌, map, length, take, drop, Option, Some, IsSome, slice_get}
 use Rattle.std.specs.List.{insert, remove, list_any, zip, filter_map, position_or_len}
-use Rattle.ir_model.specs.Ids.{Ids, Made as Fresh, Counts}
-use Rattle.ir_model.specs.Forest.{Dialect, Definer, of_op, of_block, Value, Entity, an_op, a_block, a_region, Definition, OpRecord, BlockRecord, Forest, Operand, Successor, Named, a_value, the_block}
+use Rattle.ir_model.specs.Ids.{Ids, Fresh, Counts}
+use Rattle.ir_model.specs.Forest.{Text, Dialect, Definer, of_op, of_block, Value, Entity, an_op, a_block, a_region, OpRecord, BlockRecord, Forest, Named, a_value, the_block}
 use Rattle.ir_model.specs.Nesting.{In, IsLinked, Inside, IsLiveNamed, IsClosed, children, names_of}
-use Rattle.ir_model.specs.Changes.{definition, operand, successor, on_op, on_block, on_region, new_op, new_block, add_region, on_results, on_arguments, on_operands, on_successors, on_regions, on_ops, redirect, retarget, in_blocks, in_regions, append_ops, append_blocks, move_region, put_before, put_after, without, DropsUses, Removes}
+use Rattle.ir_model.specs.Changes.{definition, operand, successor, on_op, on_block, on_region, new_op, new_block, add_region, on_results, on_arguments, on_operands, on_successors, on_ops, redirect, retarget, in_blocks, in_regions, append_ops, append_blocks, move_region, put_before, put_after, without, DropsUses, Removes}
 
 pub data Edit (W : Dialect) : Type 0 where
   NewType : W.Key → Edit W
   NewOp : ℕ → List ℕ → List ℕ → List ℕ → ℕ → Edit W
-  NewBlock : Option W.Name → List ℕ → Edit W
+  NewBlock : Option Text → List ℕ → Edit W
   AddRegion : ℕ → Edit W
   PushResult : ℕ → ℕ → Edit W
   PushArgument : ℕ → ℕ → Edit W
@@ -47,16 +49,10 @@ pub data Edit (W : Dialect) : Type 0 where
   EraseBlock : ℕ → Edit W
   EraseRegion : ℕ → ℕ → Edit W
 
-pub data Cause : Type 0 where
-  Condition_ : Cause
-  Counter : Cause
-  Slots : Cause
-  Memory : Cause
-
-pub data Answer : Type 0 where
-  Made : ℕ → Answer
-  Done : Answer
-  Refused : Cause → Answer
+-- a stored type: its key, and the part outside equality
+pub record StoredType (W : Dialect) : Type 0 where
+  pub key : W.Key
+  pub body : W.Body
 
 -- the entities that a session knows, in the order in which it made them
 pub record Tables (N : Ids) : Type 0 where
@@ -68,7 +64,8 @@ pub record Tables (N : Ids) : Type 0 where
 
 pub record State (N : Ids) (W : Dialect) : Type 0 where
   pub forest : Forest N W
-  pub keys : List W.Key
+  -- the stored types: handle k means the k-th
+  pub store : List (StoredType W)
   pub tables : Tables N
 
 -- it is there, and P holds of it
@@ -85,13 +82,14 @@ Each P (n ∷ ns) = P n × Each P ns
 abbrev pub these : {A : Type 0} → List A → List ℕ → List A
 these table ns = filter_map (slice_get table) ns
 
-module _ {K : Type 0} (same : K → K → Bool) where
-  -- the key's place, where it is there, and else it is appended
-  abbrev pub place_of : List K → K → ℕ
-  place_of keys key = position_or_len (λ k. same k key) keys
+module _ {W : Dialect} where
+  -- the place of the stored type with this key, and where there is none the place behind the last
+  abbrev pub place_of : List (StoredType W) → W.Key → ℕ
+  place_of store key = position_or_len (λ t. W.same_key t.key key) store
 
-  abbrev pub with_key : List K → K → List K
-  with_key keys key = if list_any (λ k. same k key) keys then keys else keys ++ key ∷ []
+  -- the stored types with this key: where it is there they are as before, and else it is appended with the first body
+  abbrev pub with_key : List (StoredType W) → W.Key → List (StoredType W)
+  with_key store key = if list_any (λ t. W.same_key t.key key) store then store else store ++ record { key = key; body = W.first_body } ∷ []
 
 module _ {N : Ids} where
   abbrev pub numbered : Definer N → List N.ValueNumber → List (Value N)
@@ -209,8 +207,8 @@ module _ {N : Ids} {W : Dialect} where
   abbrev pub Change : State N W → Edit W → Fresh N → State N W → Type 0
   Change s (NewType key) new t =
       t ≡ record s {
-        keys = with_key W.same_key s.keys key;
-        tables = record (s.tables) { types = s.tables.types ++ place_of W.same_key s.keys key ∷ [] };
+        store = with_key s.store key;
+        tables = record (s.tables) { types = s.tables.types ++ place_of s.store key ∷ [] };
       }
   Change s (NewOp kind types operands successors regions) new t = The (slice_get new.ops 0) λ o.
       t ≡ record s {

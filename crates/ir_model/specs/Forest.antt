@@ -2,14 +2,26 @@
 use Rattle.std.specs.Prelude.{Bool, ◌&&◌, false, ℕ, List, Option}
 use Rattle.ir_model.specs.Ids.{Ids}
 
--- the closed types of one compiler
+-- a name's text, as its bytes
+abbrev pub Text : Type 0
+Text = List ℕ
+
+-- the closed types of one compiler, with what the definitions ask of them
 pub record Dialect : Type 1 where
+  -- the uniqued part of a type, and the part outside equality
   pub Key : Type 0
+  pub Body : Type 0
   pub Attr : Type 0
+  pub Saved : Type 0
+  pub Aux : Type 0
   pub Loc : Type 0
-  pub Name : Type 0
   pub same_key : Key → Key → Bool
+  -- the body of a type that is stored anew
+  pub first_body : Body
+  -- the location of an operation or block that is made
   pub unknown : Loc
+  -- the kind implements the interface
+  pub op_impls : ℕ → ℕ → Bool
 
 module _ (N : Ids) where
   -- what defines a value
@@ -68,7 +80,7 @@ module _ (N : Ids) where
     pub record Definition : Type 0 where
       pub number : N.ValueNumber
       pub ty : ℕ
-      pub name : Option W.Name
+      pub name : Option Text
 
     pub record OpRecord : Type 0 where
       pub kind : ℕ
@@ -76,14 +88,14 @@ module _ (N : Ids) where
       pub operands : List Operand
       pub successors : List Successor
       pub regions : List N.Region
-      pub attributes : List (W.Name × W.Attr)
+      pub attributes : List (Text × W.Attr)
       pub loc : W.Loc
 
     pub record BlockRecord : Type 0 where
-      pub label : Option W.Name
+      pub label : Option Text
       pub arguments : List Definition
       pub ops : List N.Op
-      pub attributes : List (W.Name × W.Attr)
+      pub attributes : List (Text × W.Attr)
       pub loc : W.Loc
 
     pub record Forest : Type 0 where

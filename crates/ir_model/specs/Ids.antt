@@ -1,5 +1,5 @@
 -- What context_ids and numbers are: types of their own, which the definitions only compare.
-use Rattle.std.specs.Prelude.{ℕ, Bool, List, [], ◌∷◌, ◌++◌, ◌≢◌, length}
+use Rattle.std.specs.Prelude.{ℕ, Bool, List, [], ◌∷◌, ◌≢◌, length}
 
 pub record Ids : Type 1 where
   pub Op : Type 0
@@ -13,7 +13,7 @@ pub record Ids : Type 1 where
   pub same_number : ValueNumber → ValueNumber → Bool
 
 -- context_ids and numbers in order, as an edit makes them
-pub record Made (N : Ids) : Type 0 where
+pub record Fresh (N : Ids) : Type 0 where
   pub ops : List N.Op
   pub blocks : List N.Block
   pub regions : List N.Region
@@ -37,7 +37,7 @@ module _ {A : Type 0} where
   Distinct (x ∷ xs) = Absent x xs × Distinct xs
 
 -- none of the first is among the second
-pub record MadeApart (N : Ids) (a b : Made N) : Type 0 where
+pub record FreshApart (N : Ids) (a b : Fresh N) : Type 0 where
   pub ops : AllAbsent a.ops b.ops
   pub blocks : AllAbsent a.blocks b.blocks
   pub regions : AllAbsent a.regions b.regions
@@ -45,7 +45,7 @@ pub record MadeApart (N : Ids) (a b : Made N) : Type 0 where
   pub uses : AllAbsent a.uses b.uses
 
 -- no two of a kind are equal
-pub record MadeDistinct (N : Ids) (a : Made N) : Type 0 where
+pub record FreshDistinct (N : Ids) (a : Fresh N) : Type 0 where
   pub ops : Distinct a.ops
   pub blocks : Distinct a.blocks
   pub regions : Distinct a.regions
@@ -60,7 +60,7 @@ pub record Counts : Type 0 where
   pub numbers : ℕ
   pub uses : ℕ
 
-abbrev pub counts : (N : Ids) → Made N → Counts
+abbrev pub counts : (N : Ids) → Fresh N → Counts
 counts N a = record {
   ops = length a.ops;
   blocks = length a.blocks;

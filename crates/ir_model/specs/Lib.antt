@@ -3,6 +3,7 @@ pub mod ContextIds
 pub mod IdText
 pub mod Forest
 pub mod Nesting
+pub mod Uses
 pub mod Changes
 pub mod Edits
 pub mod Views

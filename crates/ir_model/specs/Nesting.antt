@@ -1,7 +1,7 @@
 -- Who stands in whom, and when a forest is well formed.
 use Rattle.std.specs.Prelude.{◌≡◌, ℕ, ◌<◌, ◌⊎◌, List, [], ◌∷◌, ◌++◌, map, Option, Some, None, IsSome}
 use Rattle.ir_model.specs.Ids.{Ids, Distinct}
-use Rattle.ir_model.specs.Forest.{Dialect, Definer, of_op, of_block, Value, Entity, an_op, a_block, a_region, Definition, OpRecord, BlockRecord, Forest, Operand, Successor, Named, a_value, the_block, owner}
+use Rattle.ir_model.specs.Forest.{Dialect, Definer, of_op, of_block, Entity, an_op, a_block, a_region, Definition, Forest, Operand, Successor, Named, a_value, the_block, owner}
 
 -- x is in the list
 abbrev pub In : {A : Type 0} → A → List A → Type 0

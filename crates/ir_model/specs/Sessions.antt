@@ -1,13 +1,16 @@
 -- Which context_ids and numbers are new, and the steps and runs of a session.
-use Rattle.std.specs.Prelude.{◌≡◌, ◌≢◌, ◌⊎◌, ◌↔◌, ◌&&◌, nat_eq, ℕ, ◌+◌, ◌<◌, ◌≤◌, Bool, true, false, List, [], ◌∷◌, length, IsSome, IsTrue, None}
+use Rattle.std.specs.Prelude.{Option, ◌≡◌, ◌≢◌, ◌⊎◌, ◌↔◌, ℕ, ◌+◌, ◌<◌, ◌≤◌, Bool, false, List, [], ◌∷◌, length, IsSome, IsTrue, None}
 use Rattle.std.specs.List.{AllZip}
 use Rattle.ir_model.specs.declared.ids.ArenaIndex.{ArenaIndex}
 use Rattle.ir_model.specs.declared.ids.Limits.{Limits}
-use Rattle.ir_model.specs.ContextIds.{context_ids, same_id}
-use Rattle.ir_model.specs.Ids.{Ids, Made, Counts, counts, Distinct, MadeDistinct}
-use Rattle.ir_model.specs.Forest.{Dialect, Value, Forest, Entity, an_op, a_block, a_region}
+use Rattle.ir_model.specs.ContextIds.{context_ids}
+use Rattle.ir_model.specs.Ids.{Fresh, Counts, counts, Distinct, FreshDistinct}
+use Rattle.ir_model.specs.Forest.{Text, Dialect}
 use Rattle.ir_model.specs.Nesting.{In}
-use Rattle.ir_model.specs.Edits.{Edit, State, Tables, Condition, Change, needs, answer as reply, MayRunOut, Answer, Refused, Condition_, Counter, Slots, Memory}
+use Rattle.ir_model.specs.Edits.{Edit, State, Condition, Change, needs, answer as reply, MayRunOut}
+use Rattle.ir_model.specs.declared.answer.Answer.{Answer}
+use Rattle.ir_model.specs.declared.answer.Answer.TheVariants.{Made, Done, Refused}
+use Rattle.ir_model.specs.declared.answer.Refused.TheVariants.{Condition as ForCondition, Counter, Slots, Memory}
 use Rattle.ir_model.specs.Views.{view}
 
 -- the context_ids and numbers that were handed out or skipped
@@ -49,7 +52,7 @@ abbrev pub nothing_passed : Passed
 nothing_passed = record { ops = λ _. false; blocks = λ _. false; regions = λ _. false; numbers = λ _. false; uses = λ _. false }
 
 -- what was passed and these, and nothing else, are passed
-pub record Passes (old : Passed) (made : Made context_ids) (new : Passed) : Type 0 where
+pub record Passes (old : Passed) (made : Fresh context_ids) (new : Passed) : Type 0 where
   pub ops : (i : ArenaIndex) → IsTrue (new.ops i) ↔ (IsTrue (old.ops i) ⊎ In i made.ops)
   pub blocks : (i : ArenaIndex) → IsTrue (new.blocks i) ↔ (IsTrue (old.blocks i) ⊎ In i made.blocks)
   pub regions : (i : ArenaIndex) → IsTrue (new.regions i) ↔ (IsTrue (old.regions i) ⊎ In i made.regions)
@@ -69,14 +72,24 @@ abbrev pub IsSpared : Answer → Type 0
 IsSpared (Refused Counter) = Unit {0}
 IsSpared (Refused Slots) = Unit {0}
 IsSpared (Refused Memory) = Unit {0}
-IsSpared _ = ⊥
+IsSpared (Refused ForCondition) = ⊥
+IsSpared (Made n) = ⊥
+IsSpared Done = ⊥
 
 abbrev pub SameRefusals : List Answer → List Answer → Type 0
 SameRefusals answers others = AllZip (λ a b. IsSpared a ⊎ IsSpared b → a ≡ b) answers others
 
 module _ (W : Dialect) where
+  -- what no edit touches: saved data, and auxiliary data with its names
+  pub record Beside : Type 0 where
+    pub saved : List W.Saved
+    pub aux : ArenaIndex → Option W.Aux
+    pub aux_names : Text → Option ArenaIndex
+    pub aux_passed : ArenaIndex → Bool
+
   pub record Session : Type 0 where
     pub state : State context_ids W
+    pub beside : Beside
     pub passed : Passed
     pub limits : Limits
 
@@ -95,12 +108,12 @@ module _ {W : Dialect} where
     pub ops : (i : ArenaIndex) → s.state.forest.ops i ≡ None
     pub blocks : (i : ArenaIndex) → s.state.forest.blocks i ≡ None
     pub regions : (i : ArenaIndex) → s.state.forest.regions i ≡ None
-    pub keys : s.state.keys ≡ []
+    pub store : s.state.store ≡ []
     pub tables : s.state.tables ≡ record { types = []; ops = []; blocks = []; regions = []; values = [] }
     pub none_passed : s.passed ≡ nothing_passed
 
   -- each of these may be handed out
-  pub record AreNew (s : Session W) (new : Made context_ids) : Type 0 where
+  pub record AreNew (s : Session W) (new : Fresh context_ids) : Type 0 where
     pub ops : (i : ArenaIndex) → In i new.ops → IsNewId s.limits s.passed.ops (live_op s.state) i
     pub blocks : (i : ArenaIndex) → In i new.blocks → IsNewId s.limits s.passed.blocks (live_block s.state) i
     pub regions : (i : ArenaIndex) → In i new.regions → IsNewId s.limits s.passed.regions (live_region s.state) i
@@ -110,8 +123,9 @@ module _ {W : Dialect} where
   -- a refusal for want of room or memory leaves the state, and passes no more than the edit needs
   pub record Skips (s : Session W) (edit : Edit W) (t : Session W) : Type 0 where
     pub state : t.state ≡ s.state
+    pub beside : t.beside ≡ s.beside
     pub limits : t.limits ≡ s.limits
-    pub skipped : Made context_ids
+    pub skipped : Fresh context_ids
     pub within : Within (counts context_ids skipped) (needs edit)
     pub were_new : AreNew s skipped
     pub passed : Passes s.passed skipped t.passed
@@ -136,16 +150,17 @@ module _ {W : Dialect} where
 
   -- the edit is made, with new context_ids and numbers
   pub record Makes (s : Session W) (edit : Edit W) (t : Session W) : Type 0 where
-    pub new : Made context_ids
+    pub new : Fresh context_ids
     pub enough : counts context_ids new ≡ needs edit
-    pub distinct : MadeDistinct context_ids new
+    pub distinct : FreshDistinct context_ids new
     pub are_new : AreNew s new
     pub change : Change s.state edit new t.state
     pub passed : Passes s.passed new t.passed
+    pub beside : t.beside ≡ s.beside
     pub limits : t.limits ≡ s.limits
 
   pub data Step (s : Session W) (edit : Edit W) (a : Answer) (t : Session W) : Type 0 where
-    condition : (Condition s.state edit → ⊥) → a ≡ Refused Condition_ → t ≡ s → Step s edit a t
+    condition : (Condition s.state edit → ⊥) → a ≡ Refused ForCondition → t ≡ s → Step s edit a t
     counter : Condition s.state edit → LacksNumbers s (needs edit) → a ≡ Refused Counter → Skips s edit t → Step s edit a t
     slots : Condition s.state edit → HasNumbers s (needs edit) → LacksSlots s (needs edit) → a ≡ Refused Slots → Skips s edit t → Step s edit a t
     memory : Condition s.state edit → HasNumbers s (needs edit) → HasSlots s (needs edit) → MayRunOut s.state edit → a ≡ Refused Memory → Skips s edit t → Step s edit a t

@@ -1,17 +1,17 @@
 -- The view of a session: its tables, with every id and number replaced by its place in them.
-use Rattle.std.specs.Prelude.{ℕ, List, map, Option, Some, None, slice_get, cond, Bool, nat_eq, []}
+use Rattle.std.specs.Prelude.{ℕ, List, map, Option, slice_get, nat_eq}
 use Rattle.std.specs.List.{position_or_len, filter}
-use Rattle.std.specs.Option.{option_map, option_flatten}
+use Rattle.std.specs.Option.{option_map}
 use Rattle.ir_model.specs.Ids.{Ids}
-use Rattle.ir_model.specs.Forest.{Dialect, Definer, of_op, of_block, Value, Definition, OpRecord, BlockRecord, Forest, Operand, Successor, same_value}
+use Rattle.ir_model.specs.Forest.{Text, Dialect, Definer, of_op, of_block, Value, Definition, OpRecord, BlockRecord, Operand, Successor, same_value}
 use Rattle.ir_model.specs.Nesting.{definitions_of}
-use Rattle.ir_model.specs.Edits.{State, Tables}
+use Rattle.ir_model.specs.Edits.{State, StoredType}
 
 module _ (W : Dialect) where
   pub record SeenDefinition : Type 0 where
     pub value : ℕ
     pub ty : ℕ
-    pub name : Option W.Name
+    pub name : Option Text
 
   pub record SeenOp : Type 0 where
     pub kind : ℕ
@@ -19,14 +19,14 @@ module _ (W : Dialect) where
     pub operands : List ℕ
     pub successors : List ℕ
     pub regions : List ℕ
-    pub attributes : List (W.Name × W.Attr)
+    pub attributes : List (Text × W.Attr)
     pub loc : W.Loc
 
   pub record SeenBlock : Type 0 where
-    pub label : Option W.Name
+    pub label : Option Text
     pub arguments : List SeenDefinition
     pub ops : List ℕ
-    pub attributes : List (W.Name × W.Attr)
+    pub attributes : List (Text × W.Attr)
     pub loc : W.Loc
 
   -- an entry is nothing where it is erased
@@ -82,7 +82,7 @@ module _ {N : Ids} {W : Dialect} where
 
     abbrev pub view : View W
     view = record {
-      types = map (λ t. slice_get s.keys t) s.tables.types;
+      types = map (λ t. option_map (λ (x : StoredType W). x.key) (slice_get s.store t)) s.tables.types;
       ops = map (λ o. option_map (seen_op o) (s.forest.ops o)) s.tables.ops;
       blocks = map (λ b. option_map (seen_block b) (s.forest.blocks b)) s.tables.blocks;
       regions = map (λ r. option_map (map block_place) (s.forest.regions r)) s.tables.regions;

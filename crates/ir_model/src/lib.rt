@@ -3,15 +3,17 @@
 //! The definitions stand in `specs/`. Each law is the contract of a public function here that takes and does nothing.
 #![tactic(auto)]
 
-ghost use Rattle.std.specs.Prelude.{ℕ, List};
+ghost use Rattle.std.specs.Prelude.{ℕ, Bool};
 ghost use Rattle.ir_model.specs.Forest.{Dialect};
 ghost use Rattle.ir_model.specs.Sessions.{TwoRuns};
 
+mod answer;
 mod ids;
 
+pub use answer::{Answer, Refused};
 pub use ids::{ArenaIndex, Limits};
 
-/// The law on two runs: which ids and numbers were chosen is never seen.
-pub fn choices_unseen<Key: Eq, Attr, Loc>()
-    ensures { (unknown : Loc) → TwoRuns (record { Key = Key; Attr = Attr; Loc = Loc; Name = List ℕ; same_key = Key.eq; unknown = unknown }) }
+/// The law on two runs: whatever ids and numbers each run chose, they give the same answers and the same view.
+pub fn choices_unseen<Key: Eq, Body, Attr, Saved, Aux, Loc>()
+    ensures { (first : Body) (unknown : Loc) (impls : ℕ → ℕ → Bool) → TwoRuns (record { Key = Key; Body = Body; Attr = Attr; Saved = Saved; Aux = Aux; Loc = Loc; same_key = Key.eq; first_body = first; unknown = unknown; op_impls = impls }) }
 {}

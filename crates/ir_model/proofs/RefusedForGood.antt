@@ -1,11 +1,11 @@
 -- What has passed and is not live stays so.
-use mathlib.Core.Path.{◌≡◌, refl, sym, ap, ◌∙◌, subst}
-use Rattle.std.proofs.Common.{◌⊎◌, inl, inr, Bool, true, false, List, [], ◌∷◌, IsTrue}
+use mathlib.Core.Path.{◌≡◌, subst}
+use Rattle.std.proofs.Common.{inl, inr, true, List, [], ◌∷◌, IsTrue}
 use Rattle.ir_model.specs.Forest.{Dialect}
-use Rattle.ir_model.specs.Edits.{Edit, Answer, State}
+use Rattle.ir_model.specs.Edits.{Edit}
+use Rattle.ir_model.specs.declared.answer.Answer.{Answer}
 use Rattle.ir_model.specs.declared.ids.ArenaIndex.{ArenaIndex}
-use Rattle.ir_model.specs.ContextIds.{context_ids}
-use Rattle.ir_model.specs.Sessions.{Passed, Session, Passes, Step, condition, counter, slots, memory, made, Run, live_op, Skips, Makes}
+use Rattle.ir_model.specs.Sessions.{Session, Step, condition, counter, slots, memory, made, Run, live_op, Skips, Makes}
 use Rattle.ir_model.proofs.TwoRuns.{lawful, new_unpassed}
 use Rattle.ir_model.proofs.Back.{Change-back}
 
