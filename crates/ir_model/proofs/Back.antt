@@ -5,7 +5,7 @@ use Rattle.std.specs.List.{list_any}
 use Rattle.std.specs.Prelude.{slice_get}
 use Rattle.std.specs.Option.{option_map}
 use Rattle.ir_model.specs.Ids.{Ids, Fresh}
-use Rattle.ir_model.specs.Forest.{Dialect, OpRecord, BlockRecord, Forest, Entity, an_op, a_block, a_region}
+use Rattle.ir_model.specs.Forest.{Dialect, Behaviour, OpRecord, BlockRecord, Forest, Entity, an_op, a_block, a_region}
 use Rattle.ir_model.specs.Nesting.{In}
 use Rattle.ir_model.specs.Changes.{rewrite, put, on_op, on_block, on_region, on_ops, on_regions, append_ops, append_blocks, move_region, without, Removes, DropsUses, no_uses, but}
 use Rattle.ir_model.specs.Edits.{Edit, State, over, Change, NewType, NewOp, NewBlock, AddRegion, PushResult, PushArgument, InsertResult, InsertArgument, RemoveResult, RemoveArgument, PushOperand, PushSuccessor, InsertOperand, InsertSuccessor, RemoveOperand, RemoveSuccessor, ReplaceOperand, ReplaceSuccessor, ReplaceAllUses, RetargetAll, OpFront, OpBack, OpBefore, OpAfter, UnlinkOp, UnlinkBlock, BlockFront, BlockBack, BlockBefore, BlockAfter, AppendOps, AppendBlocks, MoveRegion, DropOpUses, DropBlockUses, DropRegionUses, EraseOp, EraseBlock, EraseRegion}
@@ -117,43 +117,43 @@ module _ {N : Ids} {W : Dialect} where
   moved_or_not true s t g new back e = to s.forest t.forest _ new (ap (λ (x : State N W). x.forest) e) (same s.forest new)
   moved_or_not false s t g new back e = to s.forest t.forest _ new (ap (λ (x : State N W). x.forest) e) back
 
-  pub Change-back : Lawful N → (edit : Edit W) (s t : State N W) (new : Fresh N) → Change s edit new t → Back s.forest t.forest new
-  Change-back L (NewType key) s t new c = to s.forest t.forest _ new (ap (λ (x : State N W). x.forest) c) (same s.forest new)
-  Change-back L (NewOp kind types operands successors regions) s t new c = to s.forest t.forest _ new (ap (λ (x : State N W). x.forest) c.holds) (record { ops = put_some N.same_op L.ops c.value _ s.forest.ops new.ops (slice_get-in new.ops 0 c.value c.found); blocks = λ b h. inl h; regions = several L s.forest new.regions })
-  Change-back L (NewBlock label types) s t new c = to s.forest t.forest _ new (ap (λ (x : State N W). x.forest) c.holds) (record { ops = λ o h. inl h; blocks = put_some N.same_block L.blocks c.value _ s.forest.blocks new.blocks (slice_get-in new.blocks 0 c.value c.found); regions = λ r h. inl h })
-  Change-back L (AddRegion n) s t new c = to s.forest t.forest _ new (ap (λ (x : State N W). x.forest) c.holds.holds) (record { ops = λ o h. inl (sym (rewrite_some N.same_op c.value _ s.forest.ops o) ∙ h); blocks = λ b h. inl h; regions = put_some N.same_region L.regions c.holds.value _ s.forest.regions new.regions (slice_get-in new.regions 0 c.holds.value c.holds.found) })
-  Change-back L (PushResult n ty) s t new c = to s.forest t.forest _ new (ap (λ (x : State N W). x.forest) c.holds.holds.holds) (on_op_back s.forest new _ _)
-  Change-back L (PushArgument n ty) s t new c = to s.forest t.forest _ new (ap (λ (x : State N W). x.forest) c.holds.holds.holds) (on_block_back s.forest new _ _)
-  Change-back L (InsertResult n at ty) s t new c = to s.forest t.forest _ new (ap (λ (x : State N W). x.forest) c.holds.holds.holds) (on_op_back s.forest new _ _)
-  Change-back L (InsertArgument n at ty) s t new c = to s.forest t.forest _ new (ap (λ (x : State N W). x.forest) c.holds.holds.holds) (on_block_back s.forest new _ _)
-  Change-back L (RemoveResult n at) s t new c = to s.forest t.forest _ new (ap (λ (x : State N W). x.forest) c.holds) (on_op_back s.forest new _ _)
-  Change-back L (RemoveArgument n at) s t new c = to s.forest t.forest _ new (ap (λ (x : State N W). x.forest) c.holds) (on_block_back s.forest new _ _)
-  Change-back L (PushOperand n v) s t new c = to s.forest t.forest _ new (ap (λ (x : State N W). x.forest) c.holds.holds.holds) (on_op_back s.forest new _ _)
-  Change-back L (PushSuccessor n m) s t new c = to s.forest t.forest _ new (ap (λ (x : State N W). x.forest) c.holds.holds.holds) (on_op_back s.forest new _ _)
-  Change-back L (InsertOperand n at v) s t new c = to s.forest t.forest _ new (ap (λ (x : State N W). x.forest) c.holds.holds.holds) (on_op_back s.forest new _ _)
-  Change-back L (InsertSuccessor n at m) s t new c = to s.forest t.forest _ new (ap (λ (x : State N W). x.forest) c.holds.holds.holds) (on_op_back s.forest new _ _)
-  Change-back L (RemoveOperand n at) s t new c = to s.forest t.forest _ new (ap (λ (x : State N W). x.forest) c.holds) (on_op_back s.forest new _ _)
-  Change-back L (RemoveSuccessor n at) s t new c = to s.forest t.forest _ new (ap (λ (x : State N W). x.forest) c.holds) (on_op_back s.forest new _ _)
-  Change-back L (ReplaceOperand n at v) s t new c = to s.forest t.forest _ new (ap (λ (x : State N W). x.forest) c.holds.holds.holds) (on_op_back s.forest new _ _)
-  Change-back L (ReplaceSuccessor n at m) s t new c = to s.forest t.forest _ new (ap (λ (x : State N W). x.forest) c.holds.holds.holds) (on_op_back s.forest new _ _)
-  Change-back L (ReplaceAllUses v w) s t new c = to s.forest t.forest _ new (ap (λ (x : State N W). x.forest) c.holds.holds) (all_ops_back s.forest new _)
-  Change-back L (RetargetAll n m) s t new c = to s.forest t.forest _ new (ap (λ (x : State N W). x.forest) c.holds.holds) (all_ops_back s.forest new _)
-  Change-back L (OpFront n m) s t new c = to s.forest t.forest _ new (ap (λ (x : State N W). x.forest) c.holds.holds) (on_block_back s.forest new _ _)
-  Change-back L (OpBack n m) s t new c = to s.forest t.forest _ new (ap (λ (x : State N W). x.forest) c.holds.holds) (on_block_back s.forest new _ _)
-  Change-back L (OpBefore n m) s t new c = to s.forest t.forest _ new (ap (λ (x : State N W). x.forest) c.holds.holds) (all_blocks_back s.forest new _)
-  Change-back L (OpAfter n m) s t new c = to s.forest t.forest _ new (ap (λ (x : State N W). x.forest) c.holds.holds) (all_blocks_back s.forest new _)
-  Change-back L (UnlinkOp n) s t new c = to s.forest t.forest _ new (ap (λ (x : State N W). x.forest) c.holds) (all_blocks_back s.forest new _)
-  Change-back L (UnlinkBlock n) s t new c = to s.forest t.forest _ new (ap (λ (x : State N W). x.forest) c.holds) (all_regions_back s.forest new _)
-  Change-back L (BlockFront n m) s t new c = to s.forest t.forest _ new (ap (λ (x : State N W). x.forest) c.holds.holds) (on_region_back s.forest new _ _)
-  Change-back L (BlockBack n m) s t new c = to s.forest t.forest _ new (ap (λ (x : State N W). x.forest) c.holds.holds) (on_region_back s.forest new _ _)
-  Change-back L (BlockBefore n m) s t new c = to s.forest t.forest _ new (ap (λ (x : State N W). x.forest) c.holds.holds) (all_regions_back s.forest new _)
-  Change-back L (BlockAfter n m) s t new c = to s.forest t.forest _ new (ap (λ (x : State N W). x.forest) c.holds.holds) (all_regions_back s.forest new _)
-  Change-back L (AppendOps n m) s t new c = to s.forest t.forest _ new (ap (λ (x : State N W). x.forest) c.holds.holds.holds) (appended s.forest new _ _ _)
-  Change-back L (AppendBlocks n m) s t new c = to s.forest t.forest _ new (ap (λ (x : State N W). x.forest) c.holds.holds.holds) (appended_blocks s.forest new _ _ _)
-  Change-back L (MoveRegion n m) s t new c = moved_or_not _ s t _ new (moved s.forest new _ _) c.holds.holds.holds
-  Change-back L (DropOpUses n) s t new c = drops_back s.forest t.forest _ new c.holds.0
-  Change-back L (DropBlockUses n) s t new c = drops_back s.forest t.forest _ new c.holds.0
-  Change-back L (DropRegionUses n) s t new c = drops_back s.forest t.forest _ new c.holds.0
-  Change-back L (EraseOp n) s t new c = removes_back s.forest t.forest _ new c.holds.0
-  Change-back L (EraseBlock n) s t new c = removes_back s.forest t.forest _ new c.holds.0
-  Change-back L (EraseRegion n at) s t new c = removes_back s.forest t.forest _ new c.holds.holds.holds.0
+  pub Change-back : (B : Behaviour W) → Lawful N → (edit : Edit W) (s t : State N W) (new : Fresh N) → Change B s edit new t → Back s.forest t.forest new
+  Change-back B L (NewType key) s t new c = to s.forest t.forest _ new (ap (λ (x : State N W). x.forest) c) (same s.forest new)
+  Change-back B L (NewOp kind types operands successors regions) s t new c = to s.forest t.forest _ new (ap (λ (x : State N W). x.forest) c.holds) (record { ops = put_some N.same_op L.ops c.value _ s.forest.ops new.ops (slice_get-in new.ops 0 c.value c.found); blocks = λ b h. inl h; regions = several L s.forest new.regions })
+  Change-back B L (NewBlock label types) s t new c = to s.forest t.forest _ new (ap (λ (x : State N W). x.forest) c.holds) (record { ops = λ o h. inl h; blocks = put_some N.same_block L.blocks c.value _ s.forest.blocks new.blocks (slice_get-in new.blocks 0 c.value c.found); regions = λ r h. inl h })
+  Change-back B L (AddRegion n) s t new c = to s.forest t.forest _ new (ap (λ (x : State N W). x.forest) c.holds.holds) (record { ops = λ o h. inl (sym (rewrite_some N.same_op c.value _ s.forest.ops o) ∙ h); blocks = λ b h. inl h; regions = put_some N.same_region L.regions c.holds.value _ s.forest.regions new.regions (slice_get-in new.regions 0 c.holds.value c.holds.found) })
+  Change-back B L (PushResult n ty) s t new c = to s.forest t.forest _ new (ap (λ (x : State N W). x.forest) c.holds.holds.holds) (on_op_back s.forest new _ _)
+  Change-back B L (PushArgument n ty) s t new c = to s.forest t.forest _ new (ap (λ (x : State N W). x.forest) c.holds.holds.holds) (on_block_back s.forest new _ _)
+  Change-back B L (InsertResult n at ty) s t new c = to s.forest t.forest _ new (ap (λ (x : State N W). x.forest) c.holds.holds.holds) (on_op_back s.forest new _ _)
+  Change-back B L (InsertArgument n at ty) s t new c = to s.forest t.forest _ new (ap (λ (x : State N W). x.forest) c.holds.holds.holds) (on_block_back s.forest new _ _)
+  Change-back B L (RemoveResult n at) s t new c = to s.forest t.forest _ new (ap (λ (x : State N W). x.forest) c.holds) (on_op_back s.forest new _ _)
+  Change-back B L (RemoveArgument n at) s t new c = to s.forest t.forest _ new (ap (λ (x : State N W). x.forest) c.holds) (on_block_back s.forest new _ _)
+  Change-back B L (PushOperand n v) s t new c = to s.forest t.forest _ new (ap (λ (x : State N W). x.forest) c.holds.holds.holds) (on_op_back s.forest new _ _)
+  Change-back B L (PushSuccessor n m) s t new c = to s.forest t.forest _ new (ap (λ (x : State N W). x.forest) c.holds.holds.holds) (on_op_back s.forest new _ _)
+  Change-back B L (InsertOperand n at v) s t new c = to s.forest t.forest _ new (ap (λ (x : State N W). x.forest) c.holds.holds.holds) (on_op_back s.forest new _ _)
+  Change-back B L (InsertSuccessor n at m) s t new c = to s.forest t.forest _ new (ap (λ (x : State N W). x.forest) c.holds.holds.holds) (on_op_back s.forest new _ _)
+  Change-back B L (RemoveOperand n at) s t new c = to s.forest t.forest _ new (ap (λ (x : State N W). x.forest) c.holds) (on_op_back s.forest new _ _)
+  Change-back B L (RemoveSuccessor n at) s t new c = to s.forest t.forest _ new (ap (λ (x : State N W). x.forest) c.holds) (on_op_back s.forest new _ _)
+  Change-back B L (ReplaceOperand n at v) s t new c = to s.forest t.forest _ new (ap (λ (x : State N W). x.forest) c.holds.holds.holds) (on_op_back s.forest new _ _)
+  Change-back B L (ReplaceSuccessor n at m) s t new c = to s.forest t.forest _ new (ap (λ (x : State N W). x.forest) c.holds.holds.holds) (on_op_back s.forest new _ _)
+  Change-back B L (ReplaceAllUses v w) s t new c = to s.forest t.forest _ new (ap (λ (x : State N W). x.forest) c.holds.holds) (all_ops_back s.forest new _)
+  Change-back B L (RetargetAll n m) s t new c = to s.forest t.forest _ new (ap (λ (x : State N W). x.forest) c.holds.holds) (all_ops_back s.forest new _)
+  Change-back B L (OpFront n m) s t new c = to s.forest t.forest _ new (ap (λ (x : State N W). x.forest) c.holds.holds) (on_block_back s.forest new _ _)
+  Change-back B L (OpBack n m) s t new c = to s.forest t.forest _ new (ap (λ (x : State N W). x.forest) c.holds.holds) (on_block_back s.forest new _ _)
+  Change-back B L (OpBefore n m) s t new c = to s.forest t.forest _ new (ap (λ (x : State N W). x.forest) c.holds.holds) (all_blocks_back s.forest new _)
+  Change-back B L (OpAfter n m) s t new c = to s.forest t.forest _ new (ap (λ (x : State N W). x.forest) c.holds.holds) (all_blocks_back s.forest new _)
+  Change-back B L (UnlinkOp n) s t new c = to s.forest t.forest _ new (ap (λ (x : State N W). x.forest) c.holds) (all_blocks_back s.forest new _)
+  Change-back B L (UnlinkBlock n) s t new c = to s.forest t.forest _ new (ap (λ (x : State N W). x.forest) c.holds) (all_regions_back s.forest new _)
+  Change-back B L (BlockFront n m) s t new c = to s.forest t.forest _ new (ap (λ (x : State N W). x.forest) c.holds.holds) (on_region_back s.forest new _ _)
+  Change-back B L (BlockBack n m) s t new c = to s.forest t.forest _ new (ap (λ (x : State N W). x.forest) c.holds.holds) (on_region_back s.forest new _ _)
+  Change-back B L (BlockBefore n m) s t new c = to s.forest t.forest _ new (ap (λ (x : State N W). x.forest) c.holds.holds) (all_regions_back s.forest new _)
+  Change-back B L (BlockAfter n m) s t new c = to s.forest t.forest _ new (ap (λ (x : State N W). x.forest) c.holds.holds) (all_regions_back s.forest new _)
+  Change-back B L (AppendOps n m) s t new c = to s.forest t.forest _ new (ap (λ (x : State N W). x.forest) c.holds.holds.holds) (appended s.forest new _ _ _)
+  Change-back B L (AppendBlocks n m) s t new c = to s.forest t.forest _ new (ap (λ (x : State N W). x.forest) c.holds.holds.holds) (appended_blocks s.forest new _ _ _)
+  Change-back B L (MoveRegion n m) s t new c = moved_or_not _ s t _ new (moved s.forest new _ _) c.holds.holds.holds
+  Change-back B L (DropOpUses n) s t new c = drops_back s.forest t.forest _ new c.holds.0
+  Change-back B L (DropBlockUses n) s t new c = drops_back s.forest t.forest _ new c.holds.0
+  Change-back B L (DropRegionUses n) s t new c = drops_back s.forest t.forest _ new c.holds.0
+  Change-back B L (EraseOp n) s t new c = removes_back s.forest t.forest _ new c.holds.0
+  Change-back B L (EraseBlock n) s t new c = removes_back s.forest t.forest _ new c.holds.0
+  Change-back B L (EraseRegion n at) s t new c = removes_back s.forest t.forest _ new c.holds.holds.holds.0

@@ -2,7 +2,7 @@
 use mathlib.Core.Path.{◌≡◌, refl, sym}
 use Rattle.std.proofs.Common.{ℕ, ◌≤◌, inl, inr, true, false, None, [], ◌∷◌, arith}
 use Rattle.ir_model.specs.Ids.{Fresh}
-use Rattle.ir_model.specs.Forest.{Dialect}
+use Rattle.ir_model.specs.Forest.{Dialect, Behaviour}
 use Rattle.ir_model.specs.Edits.{NewOp}
 use Rattle.ir_model.specs.declared.answer.Answer.TheVariants.{Made}
 use Rattle.ir_model.specs.Changes.{new_op}
@@ -12,7 +12,7 @@ use Rattle.ir_model.specs.ContextIds.{context_ids, same_id}
 use Rattle.ir_model.specs.Sessions.{nothing_passed, Session, Beside, Step, made, HasRoom}
 use Rattle.ir_model.proofs.TwoRuns.{empty, id_tells}
 
-module _ (W : Dialect) where
+module _ (W : Dialect) (B : Behaviour W) where
   limits : Limits
   limits = record { values = 10; uses = 10; slots = 10; last_version = 3 }
 
@@ -31,7 +31,7 @@ module _ (W : Dialect) where
   ended : Session W
   ended = record {
     state = record {
-      forest = new_op (empty {W = W} context_ids).forest first 7 [] [] [] [];
+      forest = new_op (empty {W = W} context_ids).forest first B.unknown 7 [] [] [] [];
       store = [];
       tables = record { types = []; ops = first ∷ []; blocks = []; regions = []; values = [] };
     };
@@ -46,7 +46,7 @@ module _ (W : Dialect) where
   unpassed : false ≡ true → ⊥
   unpassed e = cc
 
-  example : Step start (NewOp 7 [] [] [] 0) (Made 0) ended
+  example : Step B start (NewOp 7 [] [] [] 0) (Made 0) ended
   unfolding nothing start ended fresh limits first
   example = made (tt, tt, tt)
       (record { values = none_of _ (λ x h. unpassed h) 0 (omega arith); uses = none_of _ (λ x h. unpassed h) 0 (omega arith) })

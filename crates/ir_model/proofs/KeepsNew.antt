@@ -28,14 +28,14 @@ any_in same tells x (y ∷ xs) = by (any_in same tells x xs) (same y x) refl
     by (inl h) false e = inl (h.0, inr h.1)
     by (inr h) false e = inr (h.0, λ i. elim i [ inl s ↦ (let t : same y x ≡ true = (tells y x).1 (sym s) in cc) | inr k ↦ h.1 k ])
 
-module _ {N : Ids} {W : Dialect} (L : Lawful N) (f : Forest N W) (keys : ℕ) (w : WellFormed f keys) (o : N.Op) (kind : ℕ)
+module _ {N : Ids} {W : Dialect} (L : Lawful N) (f : Forest N W) (keys : ℕ) (w : WellFormed f keys) (o : N.Op) (loc : W.Loc) (kind : ℕ)
     (results : List (Definition N W)) (operands : List (Operand N)) (successors : List (Successor N)) (regions : List N.Region)
     (dead : f.ops o ≡ None) (dead_regions : (r : N.Region) → In r regions → f.regions r ≡ None) where
   abbrev after : Forest N W
-  after = new_op f o kind results operands successors regions
+  after = new_op f o loc kind results operands successors regions
 
   abbrev made : OpRecord N W
-  made = record { kind = kind; results = results; operands = operands; successors = successors; regions = regions; attributes = []; loc = W.unknown }
+  made = record { kind = kind; results = results; operands = operands; successors = successors; regions = regions; attributes = []; loc = loc }
 
   op_case : (p : N.Op) → ((p ≡ o) × (after.ops p ≡ Some made)) ⊎ ((p ≢ o) × (after.ops p ≡ f.ops p))
   op_case p = put_at N.same_op L.ops o made f.ops p

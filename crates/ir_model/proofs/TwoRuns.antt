@@ -3,7 +3,7 @@ use mathlib.Core.Path.{◌≡◌, refl, sym, ap, ◌∙◌, subst}
 use Rattle.std.proofs.Common.{ℕ, ◌⊎◌, inl, inr, Bool, true, false, None, List, [], ◌∷◌, ◌&&◌, eqb, arith}
 use Rattle.std.proofs.lemmas.Bool.{eqb-true, eq-eqb}
 use Rattle.ir_model.specs.Ids.{Ids, Fresh, Absent, AllAbsent}
-use Rattle.ir_model.specs.Forest.{Dialect}
+use Rattle.ir_model.specs.Forest.{Dialect, Behaviour}
 use Rattle.ir_model.specs.Nesting.{In}
 use Rattle.ir_model.specs.Edits.{Edit, NewType, State, Change, Condition, answer as reply}
 use Rattle.ir_model.specs.declared.answer.Answer.{Answer}
@@ -108,13 +108,22 @@ abbrev States : Dialect → Ids → Type 0
 States W N = State N W
 
 module _ {W : Dialect} where
+  -- nothing made yet
+  abbrev pub empty : (N : Ids) → State N W
+  empty N = record {
+    forest = record { ops = λ _. None; blocks = λ _. None; regions = λ _. None };
+    store = [];
+    tables = record { types = []; ops = []; blocks = []; regions = []; values = [] };
+  }
+
+module _ {W : Dialect} (B : Behaviour W) where
   -- the edit was refused by its condition, or for want of room or memory, or was made
   data Outcome (s : Session W) (edit : Edit W) (a : Answer) (t : Session W) : Type 0 where
     refused : (Condition s.state edit → ⊥) → a ≡ Refused ForCondition → t ≡ s → Outcome s edit a t
     spared : Condition s.state edit → IsSpared a → Skips s edit t → Outcome s edit a t
-    done : Condition s.state edit → a ≡ reply s.state edit → Makes s edit t → Outcome s edit a t
+    done : Condition s.state edit → a ≡ reply s.state edit → Makes B s edit t → Outcome s edit a t
 
-  outcome : (s : Session W) (edit : Edit W) (a : Answer) (t : Session W) → Step s edit a t → Outcome s edit a t
+  outcome : (s : Session W) (edit : Edit W) (a : Answer) (t : Session W) → Step B s edit a t → Outcome s edit a t
   outcome s edit a t (condition c e f) = refused c e f
   outcome s edit a t (counter c n e k) = spared c (subst IsSpared (sym e) tt) k
   outcome s edit a t (slots c n m e k) = spared c (subst IsSpared (sym e) tt) k
@@ -158,10 +167,10 @@ module _ {W : Dialect} where
     alike = rw (k.state, m.state) r.alike;
   }
 
-  make : (s t s' t' : Session W) (edit : Edit W) → Related s t → Makes s edit s' → Makes t edit t' → Related s' t'
+  make : (s t s' t' : Session W) (edit : Edit W) → Related s t → Makes B s edit s' → Makes B t edit t' → Related s' t'
   make s t s' t' edit r k m =
-      let change = λ (M : Ids) (x : State M W) (new : Fresh M) (y : State M W). Change x edit new y in
-      let unique = λ (x a b : State context_ids W) (new : Fresh context_ids). Change-unique edit x a b new in
+      let change = λ (M : Ids) (x : State M W) (new : Fresh M) (y : State M W). Change B x edit new y in
+      let unique = λ (x a b : State context_ids W) (new : Fresh context_ids). Change-unique B edit x a b new in
       record {
         made_s = k.new ∷ r.made_s;
         made_t = m.new ∷ r.made_t;
@@ -188,20 +197,13 @@ module _ {W : Dialect} where
   step s t s' t' edit a b r (done c e f) (done d g h) same = (e ∙ same_reply s t edit r ∙ sym g, make s t s' t' edit r f h)
 
   along_runs : (edits : List (Edit W)) (s t s' t' : Session W) (answers others : List Answer) → Related s t
-      → Run s edits answers s' → Run t edits others t' → SameRefusals answers others → (answers ≡ others) × (view s'.state ≡ view t'.state)
+      → Run B s edits answers s' → Run B t edits others t' → SameRefusals answers others → (answers ≡ others) × (view s'.state ≡ view t'.state)
   along_runs [] s t s' t' answers others r p q same = (p.0 ∙ sym q.0, rw (p.1, q.1) (same_view s t r))
   along_runs (edit ∷ rest) s t s' t' answers others r p q same =
       let refusals : SameRefusals (p.0 ∷ p.1) (q.0 ∷ q.1) = rw (p.3, q.3) at same in
       let one = step s t p.2 q.2 edit p.0 q.0 r (outcome s edit p.0 p.2 p.4) (outcome t edit q.0 q.2 q.4) refusals.0 in
       let more = along_runs rest p.2 q.2 s' t' p.1 q.1 one.1 p.5 q.5 refusals.1 in
       (p.3 ∙ ap (λ x. x ∷ p.1) one.0 ∙ ap (λ xs. q.0 ∷ xs) more.0 ∙ sym q.3, more.1)
-
-  abbrev pub empty : (N : Ids) → State N W
-  empty N = record {
-    forest = record { ops = λ _. None; blocks = λ _. None; regions = λ _. None };
-    store = [];
-    tables = record { types = []; ops = []; blocks = []; regions = []; values = [] };
-  }
 
   new_is_empty : (s : Session W) → IsNewSession s → s.state ≡ empty context_ids
   new_is_empty s n = λ i. record {
@@ -224,5 +226,5 @@ module _ {W : Dialect} where
     alike = record { names = λ i. context_ids; over = λ i. ((new_is_empty s n ∙ sym (new_is_empty t m)) i, []) };
   }
 
-pub two_runs : (W : Dialect) → TwoRuns W
-two_runs W edits s t s' t' answers others n m p q same = along_runs edits s t s' t' answers others (new_related s t n m) p q same
+pub two_runs : (W : Dialect) (B : Behaviour W) → TwoRuns W B
+two_runs W B edits s t s' t' answers others n m p q same = along_runs B edits s t s' t' answers others (new_related B s t n m) p q same

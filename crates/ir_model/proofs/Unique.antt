@@ -3,7 +3,7 @@ use mathlib.Core.Path.{◌≡◌, refl, sym, ap, ◌∙◌, fun_ext, subst}
 use Rattle.std.proofs.Common.{◌⊎◌, inl, inr, Option, Some, None, List, [], ◌∷◌}
 use Rattle.std.specs.Option.{option_map}
 use Rattle.ir_model.specs.Ids.{Ids, Fresh}
-use Rattle.ir_model.specs.Forest.{Dialect, OpRecord, Forest, Entity}
+use Rattle.ir_model.specs.Forest.{Dialect, Behaviour, OpRecord, Forest, Entity}
 use Rattle.ir_model.specs.Changes.{DropsUses, Removes, no_uses}
 use Rattle.ir_model.specs.Edits.{Edit, State, over, Change, The, NewType, NewOp, NewBlock, AddRegion, PushResult, PushArgument, InsertResult, InsertArgument, RemoveResult, RemoveArgument, PushOperand, PushSuccessor, InsertOperand, InsertSuccessor, RemoveOperand, RemoveSuccessor, ReplaceOperand, ReplaceSuccessor, ReplaceAllUses, RetargetAll, OpFront, OpBack, OpBefore, OpAfter, UnlinkOp, UnlinkBlock, BlockFront, BlockBack, BlockBefore, BlockAfter, AppendOps, AppendBlocks, MoveRegion, DropOpUses, DropBlockUses, DropRegionUses, EraseOp, EraseBlock, EraseRegion}
 
@@ -69,43 +69,43 @@ module _ {N : Ids} {W : Dialect} where
   dropped : (s a b : State N W) (e : Entity N) → DropsUses s.forest e a.forest × (a ≡ over s a.forest) → DropsUses s.forest e b.forest × (b ≡ over s b.forest) → a ≡ b
   dropped s a b e p q = by_forest s a b (DropsUses-unique s.forest a.forest b.forest e p.0 q.0) p.1 q.1
 
-  pub Change-unique : (edit : Edit W) (s a b : State N W) (new : Fresh N) → Change s edit new a → Change s edit new b → a ≡ b
-  Change-unique (NewType key) s a b new p q = p ∙ sym q
-  Change-unique (NewOp kind types operands successors regions) s a b new p q = the (λ _. λ p q. p ∙ sym q) p q
-  Change-unique (NewBlock label types) s a b new p q = the (λ _. λ p q. p ∙ sym q) p q
-  Change-unique (AddRegion n) s a b new p q = the (λ _. the (λ _. λ p q. p ∙ sym q)) p q
-  Change-unique (PushResult n ty) s a b new p q = the (λ _. the (λ _. the (λ _. λ p q. p ∙ sym q))) p q
-  Change-unique (PushArgument n ty) s a b new p q = the (λ _. the (λ _. the (λ _. λ p q. p ∙ sym q))) p q
-  Change-unique (InsertResult n at ty) s a b new p q = the (λ _. the (λ _. the (λ _. λ p q. p ∙ sym q))) p q
-  Change-unique (InsertArgument n at ty) s a b new p q = the (λ _. the (λ _. the (λ _. λ p q. p ∙ sym q))) p q
-  Change-unique (RemoveResult n at) s a b new p q = the (λ _. λ p q. p ∙ sym q) p q
-  Change-unique (RemoveArgument n at) s a b new p q = the (λ _. λ p q. p ∙ sym q) p q
-  Change-unique (PushOperand n v) s a b new p q = the (λ _. the (λ _. the (λ _. λ p q. p ∙ sym q))) p q
-  Change-unique (PushSuccessor n m) s a b new p q = the (λ _. the (λ _. the (λ _. λ p q. p ∙ sym q))) p q
-  Change-unique (InsertOperand n at v) s a b new p q = the (λ _. the (λ _. the (λ _. λ p q. p ∙ sym q))) p q
-  Change-unique (InsertSuccessor n at m) s a b new p q = the (λ _. the (λ _. the (λ _. λ p q. p ∙ sym q))) p q
-  Change-unique (RemoveOperand n at) s a b new p q = the (λ _. λ p q. p ∙ sym q) p q
-  Change-unique (RemoveSuccessor n at) s a b new p q = the (λ _. λ p q. p ∙ sym q) p q
-  Change-unique (ReplaceOperand n at v) s a b new p q = the (λ _. the (λ _. the (λ _. λ p q. p ∙ sym q))) p q
-  Change-unique (ReplaceSuccessor n at m) s a b new p q = the (λ _. the (λ _. the (λ _. λ p q. p ∙ sym q))) p q
-  Change-unique (ReplaceAllUses v w) s a b new p q = the (λ _. the (λ _. λ p q. p ∙ sym q)) p q
-  Change-unique (RetargetAll n m) s a b new p q = the (λ _. the (λ _. λ p q. p ∙ sym q)) p q
-  Change-unique (OpFront n m) s a b new p q = the (λ _. the (λ _. λ p q. p ∙ sym q)) p q
-  Change-unique (OpBack n m) s a b new p q = the (λ _. the (λ _. λ p q. p ∙ sym q)) p q
-  Change-unique (OpBefore n m) s a b new p q = the (λ _. the (λ _. λ p q. p ∙ sym q)) p q
-  Change-unique (OpAfter n m) s a b new p q = the (λ _. the (λ _. λ p q. p ∙ sym q)) p q
-  Change-unique (UnlinkOp n) s a b new p q = the (λ _. λ p q. p ∙ sym q) p q
-  Change-unique (UnlinkBlock n) s a b new p q = the (λ _. λ p q. p ∙ sym q) p q
-  Change-unique (BlockFront n m) s a b new p q = the (λ _. the (λ _. λ p q. p ∙ sym q)) p q
-  Change-unique (BlockBack n m) s a b new p q = the (λ _. the (λ _. λ p q. p ∙ sym q)) p q
-  Change-unique (BlockBefore n m) s a b new p q = the (λ _. the (λ _. λ p q. p ∙ sym q)) p q
-  Change-unique (BlockAfter n m) s a b new p q = the (λ _. the (λ _. λ p q. p ∙ sym q)) p q
-  Change-unique (AppendOps n m) s a b new p q = the (λ _. the (λ _. the (λ _. λ p q. p ∙ sym q))) p q
-  Change-unique (AppendBlocks n m) s a b new p q = the (λ _. the (λ _. the (λ _. λ p q. p ∙ sym q))) p q
-  Change-unique (MoveRegion n m) s a b new p q = the (λ _. the (λ _. the (λ _. λ p q. p ∙ sym q))) p q
-  Change-unique (DropOpUses n) s a b new p q = the (λ _. λ p q. dropped s a b _ p q) p q
-  Change-unique (DropBlockUses n) s a b new p q = the (λ _. λ p q. dropped s a b _ p q) p q
-  Change-unique (DropRegionUses n) s a b new p q = the (λ _. λ p q. dropped s a b _ p q) p q
-  Change-unique (EraseOp n) s a b new p q = the (λ _. λ p q. removed s a b _ p q) p q
-  Change-unique (EraseBlock n) s a b new p q = the (λ _. λ p q. removed s a b _ p q) p q
-  Change-unique (EraseRegion n at) s a b new p q = the (λ _. the (λ _. the (λ _. λ p q. removed s a b _ p q))) p q
+  pub Change-unique : (B : Behaviour W) (edit : Edit W) (s a b : State N W) (new : Fresh N) → Change B s edit new a → Change B s edit new b → a ≡ b
+  Change-unique B (NewType key) s a b new p q = p ∙ sym q
+  Change-unique B (NewOp kind types operands successors regions) s a b new p q = the (λ _. λ p q. p ∙ sym q) p q
+  Change-unique B (NewBlock label types) s a b new p q = the (λ _. λ p q. p ∙ sym q) p q
+  Change-unique B (AddRegion n) s a b new p q = the (λ _. the (λ _. λ p q. p ∙ sym q)) p q
+  Change-unique B (PushResult n ty) s a b new p q = the (λ _. the (λ _. the (λ _. λ p q. p ∙ sym q))) p q
+  Change-unique B (PushArgument n ty) s a b new p q = the (λ _. the (λ _. the (λ _. λ p q. p ∙ sym q))) p q
+  Change-unique B (InsertResult n at ty) s a b new p q = the (λ _. the (λ _. the (λ _. λ p q. p ∙ sym q))) p q
+  Change-unique B (InsertArgument n at ty) s a b new p q = the (λ _. the (λ _. the (λ _. λ p q. p ∙ sym q))) p q
+  Change-unique B (RemoveResult n at) s a b new p q = the (λ _. λ p q. p ∙ sym q) p q
+  Change-unique B (RemoveArgument n at) s a b new p q = the (λ _. λ p q. p ∙ sym q) p q
+  Change-unique B (PushOperand n v) s a b new p q = the (λ _. the (λ _. the (λ _. λ p q. p ∙ sym q))) p q
+  Change-unique B (PushSuccessor n m) s a b new p q = the (λ _. the (λ _. the (λ _. λ p q. p ∙ sym q))) p q
+  Change-unique B (InsertOperand n at v) s a b new p q = the (λ _. the (λ _. the (λ _. λ p q. p ∙ sym q))) p q
+  Change-unique B (InsertSuccessor n at m) s a b new p q = the (λ _. the (λ _. the (λ _. λ p q. p ∙ sym q))) p q
+  Change-unique B (RemoveOperand n at) s a b new p q = the (λ _. λ p q. p ∙ sym q) p q
+  Change-unique B (RemoveSuccessor n at) s a b new p q = the (λ _. λ p q. p ∙ sym q) p q
+  Change-unique B (ReplaceOperand n at v) s a b new p q = the (λ _. the (λ _. the (λ _. λ p q. p ∙ sym q))) p q
+  Change-unique B (ReplaceSuccessor n at m) s a b new p q = the (λ _. the (λ _. the (λ _. λ p q. p ∙ sym q))) p q
+  Change-unique B (ReplaceAllUses v w) s a b new p q = the (λ _. the (λ _. λ p q. p ∙ sym q)) p q
+  Change-unique B (RetargetAll n m) s a b new p q = the (λ _. the (λ _. λ p q. p ∙ sym q)) p q
+  Change-unique B (OpFront n m) s a b new p q = the (λ _. the (λ _. λ p q. p ∙ sym q)) p q
+  Change-unique B (OpBack n m) s a b new p q = the (λ _. the (λ _. λ p q. p ∙ sym q)) p q
+  Change-unique B (OpBefore n m) s a b new p q = the (λ _. the (λ _. λ p q. p ∙ sym q)) p q
+  Change-unique B (OpAfter n m) s a b new p q = the (λ _. the (λ _. λ p q. p ∙ sym q)) p q
+  Change-unique B (UnlinkOp n) s a b new p q = the (λ _. λ p q. p ∙ sym q) p q
+  Change-unique B (UnlinkBlock n) s a b new p q = the (λ _. λ p q. p ∙ sym q) p q
+  Change-unique B (BlockFront n m) s a b new p q = the (λ _. the (λ _. λ p q. p ∙ sym q)) p q
+  Change-unique B (BlockBack n m) s a b new p q = the (λ _. the (λ _. λ p q. p ∙ sym q)) p q
+  Change-unique B (BlockBefore n m) s a b new p q = the (λ _. the (λ _. λ p q. p ∙ sym q)) p q
+  Change-unique B (BlockAfter n m) s a b new p q = the (λ _. the (λ _. λ p q. p ∙ sym q)) p q
+  Change-unique B (AppendOps n m) s a b new p q = the (λ _. the (λ _. the (λ _. λ p q. p ∙ sym q))) p q
+  Change-unique B (AppendBlocks n m) s a b new p q = the (λ _. the (λ _. the (λ _. λ p q. p ∙ sym q))) p q
+  Change-unique B (MoveRegion n m) s a b new p q = the (λ _. the (λ _. the (λ _. λ p q. p ∙ sym q))) p q
+  Change-unique B (DropOpUses n) s a b new p q = the (λ _. λ p q. dropped s a b _ p q) p q
+  Change-unique B (DropBlockUses n) s a b new p q = the (λ _. λ p q. dropped s a b _ p q) p q
+  Change-unique B (DropRegionUses n) s a b new p q = the (λ _. λ p q. dropped s a b _ p q) p q
+  Change-unique B (EraseOp n) s a b new p q = the (λ _. λ p q. removed s a b _ p q) p q
+  Change-unique B (EraseBlock n) s a b new p q = the (λ _. λ p q. removed s a b _ p q) p q
+  Change-unique B (EraseRegion n at) s a b new p q = the (λ _. the (λ _. the (λ _. λ p q. removed s a b _ p q))) p q

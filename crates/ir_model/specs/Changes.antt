@@ -62,8 +62,8 @@ module _ {N : Ids} {W : Dialect} where
   definition p = record { number = p.0; ty = p.1; name = None }
 
   -- new, unlinked, with no names and no attributes
-  abbrev pub new_op : Forest N W → N.Op → ℕ → List (Definition N W) → List (Operand N) → List (Successor N) → List N.Region → Forest N W
-  new_op f o kind results operands successors regions = record f {
+  abbrev pub new_op : Forest N W → N.Op → W.Loc → ℕ → List (Definition N W) → List (Operand N) → List (Successor N) → List N.Region → Forest N W
+  new_op f o loc kind results operands successors regions = record f {
     ops = put N.same_op o (record {
       kind = kind;
       results = results;
@@ -71,14 +71,14 @@ module _ {N : Ids} {W : Dialect} where
       successors = successors;
       regions = regions;
       attributes = [];
-      loc = W.unknown;
+      loc = loc;
     }) f.ops;
     regions = λ r. if list_any (λ s. N.same_region s r) regions then Some [] else f.regions r;
   }
 
-  abbrev pub new_block : Forest N W → N.Block → Option Text → List (Definition N W) → Forest N W
-  new_block f b label arguments = record f {
-    blocks = put N.same_block b (record { label = label; arguments = arguments; ops = []; attributes = []; loc = W.unknown }) f.blocks;
+  abbrev pub new_block : Forest N W → N.Block → W.Loc → Option Text → List (Definition N W) → Forest N W
+  new_block f b loc label arguments = record f {
+    blocks = put N.same_block b (record { label = label; arguments = arguments; ops = []; attributes = []; loc = loc }) f.blocks;
   }
 
   abbrev pub add_region : Forest N W → N.Op → N.Region → Forest N W

@@ -4,7 +4,7 @@ use Rattle.ir_model.specs.declared.answer.Answer.TheVariants.{Made, Done}
 use Rattle.std.specs.Prelude.{◌≡◌, ◌≢◌, ℕ, ◌+◌, ◌<◌, ◌≤◌, if◌then◌else◌, List, [], ◌∷◌, ◌++◌, map, length, take, drop, Option, Some, IsSome, slice_get}
 use Rattle.std.specs.List.{insert, remove, list_any, zip, filter_map, position_or_len}
 use Rattle.ir_model.specs.Ids.{Ids, Fresh, Counts}
-use Rattle.ir_model.specs.Forest.{Text, Dialect, Definer, of_op, of_block, Value, Entity, an_op, a_block, a_region, OpRecord, BlockRecord, Forest, Named, a_value, the_block}
+use Rattle.ir_model.specs.Forest.{Text, Dialect, Behaviour, Definer, of_op, of_block, Value, Entity, an_op, a_block, a_region, OpRecord, BlockRecord, Forest, Named, a_value, the_block}
 use Rattle.ir_model.specs.Nesting.{In, IsLinked, Inside, IsLiveNamed, IsClosed, children, names_of}
 use Rattle.ir_model.specs.Changes.{definition, operand, successor, on_op, on_block, on_region, new_op, new_block, add_region, on_results, on_arguments, on_operands, on_successors, on_ops, redirect, retarget, in_blocks, in_regions, append_ops, append_blocks, move_region, put_before, put_after, without, DropsUses, Removes}
 
@@ -84,12 +84,12 @@ these table ns = filter_map (slice_get table) ns
 
 module _ {W : Dialect} where
   -- the place of the stored type with this key, and where there is none the place behind the last
-  abbrev pub place_of : List (StoredType W) → W.Key → ℕ
-  place_of store key = position_or_len (λ t. W.same_key t.key key) store
+  abbrev pub place_of : Behaviour W → List (StoredType W) → W.Key → ℕ
+  place_of B store key = position_or_len (λ t. B.same_key t.key key) store
 
   -- the stored types with this key: where it is there they are as before, and else it is appended with the first body
-  abbrev pub with_key : List (StoredType W) → W.Key → List (StoredType W)
-  with_key store key = if list_any (λ t. W.same_key t.key key) store then store else store ++ record { key = key; body = W.first_body } ∷ []
+  abbrev pub with_key : Behaviour W → List (StoredType W) → W.Key → List (StoredType W)
+  with_key B store key = if list_any (λ t. B.same_key t.key key) store then store else store ++ record { key = key; body = B.first_body } ∷ []
 
 module _ {N : Ids} where
   abbrev pub numbered : Definer N → List N.ValueNumber → List (Value N)
@@ -204,15 +204,15 @@ module _ {N : Ids} {W : Dialect} where
   AddsUse s new g t = The (slice_get new.uses 0) λ u. t ≡ over s (g u)
 
   -- what an edit that is made leaves, where it made these new context_ids and numbers
-  abbrev pub Change : State N W → Edit W → Fresh N → State N W → Type 0
-  Change s (NewType key) new t =
+  abbrev pub Change : Behaviour W → State N W → Edit W → Fresh N → State N W → Type 0
+  Change B s (NewType key) new t =
       t ≡ record s {
-        store = with_key s.store key;
-        tables = record (s.tables) { types = s.tables.types ++ place_of s.store key ∷ [] };
+        store = with_key B s.store key;
+        tables = record (s.tables) { types = s.tables.types ++ place_of B s.store key ∷ [] };
       }
-  Change s (NewOp kind types operands successors regions) new t = The (slice_get new.ops 0) λ o.
+  Change B s (NewOp kind types operands successors regions) new t = The (slice_get new.ops 0) λ o.
       t ≡ record s {
-        forest = new_op s.forest o kind
+        forest = new_op s.forest o B.unknown kind
             (map definition (zip new.numbers (these s.tables.types types)))
             (map operand (zip (take (length operands) new.uses) (these s.tables.values operands)))
             (map successor (zip (drop (length operands) new.uses) (these s.tables.blocks successors)))
@@ -223,65 +223,65 @@ module _ {N : Ids} {W : Dialect} where
           values = s.tables.values ++ numbered (of_op o) new.numbers;
         };
       }
-  Change s (NewBlock label types) new t = The (slice_get new.blocks 0) λ b.
+  Change B s (NewBlock label types) new t = The (slice_get new.blocks 0) λ b.
       t ≡ record s {
-        forest = new_block s.forest b label (map definition (zip new.numbers (these s.tables.types types)));
+        forest = new_block s.forest b B.unknown label (map definition (zip new.numbers (these s.tables.types types)));
         tables = record (s.tables) {
           blocks = s.tables.blocks ++ b ∷ [];
           values = s.tables.values ++ numbered (of_block b) new.numbers;
         };
       }
-  Change s (AddRegion n) new t = TheOp s n λ o. The (slice_get new.regions 0) λ r.
+  Change B s (AddRegion n) new t = TheOp s n λ o. The (slice_get new.regions 0) λ r.
       t ≡ record s {
         forest = add_region s.forest o r;
         tables = record (s.tables) { regions = s.tables.regions ++ r ∷ [] };
       }
-  Change s (PushResult n ty) new t = TheOp s n λ o. TheType s ty λ y.
+  Change B s (PushResult n ty) new t = TheOp s n λ o. TheType s ty λ y.
       AddsValue s new (of_op o) (λ x. on_op s.forest o (on_results (λ xs. xs ++ definition (x, y) ∷ []))) t
-  Change s (PushArgument n ty) new t = TheBlock s n λ b. TheType s ty λ y.
+  Change B s (PushArgument n ty) new t = TheBlock s n λ b. TheType s ty λ y.
       AddsValue s new (of_block b) (λ x. on_block s.forest b (on_arguments (λ xs. xs ++ definition (x, y) ∷ []))) t
-  Change s (InsertResult n at ty) new t = TheOp s n λ o. TheType s ty λ y.
+  Change B s (InsertResult n at ty) new t = TheOp s n λ o. TheType s ty λ y.
       AddsValue s new (of_op o) (λ x. on_op s.forest o (on_results (λ xs. insert xs at (definition (x, y))))) t
-  Change s (InsertArgument n at ty) new t = TheBlock s n λ b. TheType s ty λ y.
+  Change B s (InsertArgument n at ty) new t = TheBlock s n λ b. TheType s ty λ y.
       AddsValue s new (of_block b) (λ x. on_block s.forest b (on_arguments (λ xs. insert xs at (definition (x, y))))) t
-  Change s (RemoveResult n at) new t = TheOp s n λ o. t ≡ over s (on_op s.forest o (on_results (λ xs. remove xs at)))
-  Change s (RemoveArgument n at) new t = TheBlock s n λ b. t ≡ over s (on_block s.forest b (on_arguments (λ xs. remove xs at)))
-  Change s (PushOperand n v) new t = TheOp s n λ o. TheValue s v λ x.
+  Change B s (RemoveResult n at) new t = TheOp s n λ o. t ≡ over s (on_op s.forest o (on_results (λ xs. remove xs at)))
+  Change B s (RemoveArgument n at) new t = TheBlock s n λ b. t ≡ over s (on_block s.forest b (on_arguments (λ xs. remove xs at)))
+  Change B s (PushOperand n v) new t = TheOp s n λ o. TheValue s v λ x.
       AddsUse s new (λ u. on_op s.forest o (on_operands (λ ps. ps ++ operand (u, x) ∷ []))) t
-  Change s (PushSuccessor n m) new t = TheOp s n λ o. TheBlock s m λ b.
+  Change B s (PushSuccessor n m) new t = TheOp s n λ o. TheBlock s m λ b.
       AddsUse s new (λ u. on_op s.forest o (on_successors (λ ps. ps ++ successor (u, b) ∷ []))) t
-  Change s (InsertOperand n at v) new t = TheOp s n λ o. TheValue s v λ x.
+  Change B s (InsertOperand n at v) new t = TheOp s n λ o. TheValue s v λ x.
       AddsUse s new (λ u. on_op s.forest o (on_operands (λ ps. insert ps at (operand (u, x))))) t
-  Change s (InsertSuccessor n at m) new t = TheOp s n λ o. TheBlock s m λ b.
+  Change B s (InsertSuccessor n at m) new t = TheOp s n λ o. TheBlock s m λ b.
       AddsUse s new (λ u. on_op s.forest o (on_successors (λ ps. insert ps at (successor (u, b))))) t
-  Change s (RemoveOperand n at) new t = TheOp s n λ o. t ≡ over s (on_op s.forest o (on_operands (λ ps. remove ps at)))
-  Change s (RemoveSuccessor n at) new t = TheOp s n λ o. t ≡ over s (on_op s.forest o (on_successors (λ ps. remove ps at)))
-  Change s (ReplaceOperand n at v) new t = TheOp s n λ o. TheValue s v λ x.
+  Change B s (RemoveOperand n at) new t = TheOp s n λ o. t ≡ over s (on_op s.forest o (on_operands (λ ps. remove ps at)))
+  Change B s (RemoveSuccessor n at) new t = TheOp s n λ o. t ≡ over s (on_op s.forest o (on_successors (λ ps. remove ps at)))
+  Change B s (ReplaceOperand n at v) new t = TheOp s n λ o. TheValue s v λ x.
       AddsUse s new (λ u. on_op s.forest o (on_operands (λ ps. insert (remove ps at) at (operand (u, x))))) t
-  Change s (ReplaceSuccessor n at m) new t = TheOp s n λ o. TheBlock s m λ b.
+  Change B s (ReplaceSuccessor n at m) new t = TheOp s n λ o. TheBlock s m λ b.
       AddsUse s new (λ u. on_op s.forest o (on_successors (λ ps. insert (remove ps at) at (successor (u, b))))) t
-  Change s (ReplaceAllUses v w) new t = TheValue s v λ x. TheValue s w λ y. t ≡ over s (redirect s.forest x y)
-  Change s (RetargetAll n m) new t = TheBlock s n λ b. TheBlock s m λ c. t ≡ over s (retarget s.forest b c)
-  Change s (OpFront n m) new t = TheOp s n λ o. TheBlock s m λ b. t ≡ over s (on_block s.forest b (on_ops (λ os. o ∷ os)))
-  Change s (OpBack n m) new t = TheOp s n λ o. TheBlock s m λ b. t ≡ over s (on_block s.forest b (on_ops (λ os. os ++ o ∷ [])))
-  Change s (OpBefore n m) new t = TheOp s n λ o. TheOp s m λ mark. t ≡ over s (in_blocks s.forest (put_before N.same_op o mark))
-  Change s (OpAfter n m) new t = TheOp s n λ o. TheOp s m λ mark. t ≡ over s (in_blocks s.forest (put_after N.same_op o mark))
-  Change s (UnlinkOp n) new t = TheOp s n λ o. t ≡ over s (in_blocks s.forest (without N.same_op o))
-  Change s (UnlinkBlock n) new t = TheBlock s n λ b. t ≡ over s (in_regions s.forest (without N.same_block b))
-  Change s (BlockFront n m) new t = TheBlock s n λ b. TheRegion s m λ g. t ≡ over s (on_region s.forest g (λ bs. b ∷ bs))
-  Change s (BlockBack n m) new t = TheBlock s n λ b. TheRegion s m λ g. t ≡ over s (on_region s.forest g (λ bs. bs ++ b ∷ []))
-  Change s (BlockBefore n m) new t = TheBlock s n λ b. TheBlock s m λ mark. t ≡ over s (in_regions s.forest (put_before N.same_block b mark))
-  Change s (BlockAfter n m) new t = TheBlock s n λ b. TheBlock s m λ mark. t ≡ over s (in_regions s.forest (put_after N.same_block b mark))
-  Change s (AppendOps n m) new t = TheBlock s n λ b. LiveBlock s m λ c q. t ≡ over s (append_ops s.forest b c q.ops)
-  Change s (AppendBlocks n m) new t = TheRegion s n λ g. TheRegion s m λ h. The (s.forest.regions h) λ bs. t ≡ over s (append_blocks s.forest g h bs)
-  Change s (MoveRegion n m) new t = TheRegion s n λ g. LiveOp s m λ o r.
+  Change B s (ReplaceAllUses v w) new t = TheValue s v λ x. TheValue s w λ y. t ≡ over s (redirect s.forest x y)
+  Change B s (RetargetAll n m) new t = TheBlock s n λ b. TheBlock s m λ c. t ≡ over s (retarget s.forest b c)
+  Change B s (OpFront n m) new t = TheOp s n λ o. TheBlock s m λ b. t ≡ over s (on_block s.forest b (on_ops (λ os. o ∷ os)))
+  Change B s (OpBack n m) new t = TheOp s n λ o. TheBlock s m λ b. t ≡ over s (on_block s.forest b (on_ops (λ os. os ++ o ∷ [])))
+  Change B s (OpBefore n m) new t = TheOp s n λ o. TheOp s m λ mark. t ≡ over s (in_blocks s.forest (put_before N.same_op o mark))
+  Change B s (OpAfter n m) new t = TheOp s n λ o. TheOp s m λ mark. t ≡ over s (in_blocks s.forest (put_after N.same_op o mark))
+  Change B s (UnlinkOp n) new t = TheOp s n λ o. t ≡ over s (in_blocks s.forest (without N.same_op o))
+  Change B s (UnlinkBlock n) new t = TheBlock s n λ b. t ≡ over s (in_regions s.forest (without N.same_block b))
+  Change B s (BlockFront n m) new t = TheBlock s n λ b. TheRegion s m λ g. t ≡ over s (on_region s.forest g (λ bs. b ∷ bs))
+  Change B s (BlockBack n m) new t = TheBlock s n λ b. TheRegion s m λ g. t ≡ over s (on_region s.forest g (λ bs. bs ++ b ∷ []))
+  Change B s (BlockBefore n m) new t = TheBlock s n λ b. TheBlock s m λ mark. t ≡ over s (in_regions s.forest (put_before N.same_block b mark))
+  Change B s (BlockAfter n m) new t = TheBlock s n λ b. TheBlock s m λ mark. t ≡ over s (in_regions s.forest (put_after N.same_block b mark))
+  Change B s (AppendOps n m) new t = TheBlock s n λ b. LiveBlock s m λ c q. t ≡ over s (append_ops s.forest b c q.ops)
+  Change B s (AppendBlocks n m) new t = TheRegion s n λ g. TheRegion s m λ h. The (s.forest.regions h) λ bs. t ≡ over s (append_blocks s.forest g h bs)
+  Change B s (MoveRegion n m) new t = TheRegion s n λ g. LiveOp s m λ o r.
       t ≡ (if list_any (λ h. N.same_region h g) r.regions then s else over s (move_region s.forest g o))
-  Change s (DropOpUses n) new t = TheOp s n λ o. DropsUses s.forest (an_op o) t.forest × (t ≡ over s t.forest)
-  Change s (DropBlockUses n) new t = TheBlock s n λ b. DropsUses s.forest (a_block b) t.forest × (t ≡ over s t.forest)
-  Change s (DropRegionUses n) new t = TheRegion s n λ g. DropsUses s.forest (a_region g) t.forest × (t ≡ over s t.forest)
-  Change s (EraseOp n) new t = TheOp s n λ o. Removes s.forest (an_op o) t.forest × (t ≡ over s t.forest)
-  Change s (EraseBlock n) new t = TheBlock s n λ b. Removes s.forest (a_block b) t.forest × (t ≡ over s t.forest)
-  Change s (EraseRegion n at) new t = LiveOp s n λ o r. The (slice_get r.regions at) λ g. Removes s.forest (a_region g) t.forest × (t ≡ over s t.forest)
+  Change B s (DropOpUses n) new t = TheOp s n λ o. DropsUses s.forest (an_op o) t.forest × (t ≡ over s t.forest)
+  Change B s (DropBlockUses n) new t = TheBlock s n λ b. DropsUses s.forest (a_block b) t.forest × (t ≡ over s t.forest)
+  Change B s (DropRegionUses n) new t = TheRegion s n λ g. DropsUses s.forest (a_region g) t.forest × (t ≡ over s t.forest)
+  Change B s (EraseOp n) new t = TheOp s n λ o. Removes s.forest (an_op o) t.forest × (t ≡ over s t.forest)
+  Change B s (EraseBlock n) new t = TheBlock s n λ b. Removes s.forest (a_block b) t.forest × (t ≡ over s t.forest)
+  Change B s (EraseRegion n at) new t = LiveOp s n λ o r. The (slice_get r.regions at) λ g. Removes s.forest (a_region g) t.forest × (t ≡ over s t.forest)
 
 -- the context_ids and numbers that an edit makes
 abbrev pub no_needs : Counts

@@ -6,7 +6,7 @@ use Rattle.ir_model.specs.Ids.{Ids}
 abbrev pub Text : Type 0
 Text = List ℕ
 
--- the closed types of one compiler, with what the definitions ask of them
+-- the closed types of one compiler
 pub record Dialect : Type 1 where
   -- the uniqued part of a type, and the part outside equality
   pub Key : Type 0
@@ -15,11 +15,14 @@ pub record Dialect : Type 1 where
   pub Saved : Type 0
   pub Aux : Type 0
   pub Loc : Type 0
-  pub same_key : Key → Key → Bool
+
+-- what the definitions ask of a dialect
+pub record Behaviour (W : Dialect) : Type 0 where
+  pub same_key : W.Key → W.Key → Bool
   -- the body of a type that is stored anew
-  pub first_body : Body
+  pub first_body : W.Body
   -- the location of an operation or block that is made
-  pub unknown : Loc
+  pub unknown : W.Loc
   -- the kind implements the interface
   pub op_impls : ℕ → ℕ → Bool
 

@@ -5,7 +5,7 @@ use Rattle.ir_model.specs.declared.ids.ArenaIndex.{ArenaIndex}
 use Rattle.ir_model.specs.declared.ids.Limits.{Limits}
 use Rattle.ir_model.specs.ContextIds.{context_ids}
 use Rattle.ir_model.specs.Ids.{Fresh, Counts, counts, Distinct, FreshDistinct}
-use Rattle.ir_model.specs.Forest.{Text, Dialect}
+use Rattle.ir_model.specs.Forest.{Behaviour, Text, Dialect}
 use Rattle.ir_model.specs.Nesting.{In}
 use Rattle.ir_model.specs.Edits.{Edit, State, Condition, Change, needs, answer as reply, MayRunOut}
 use Rattle.ir_model.specs.declared.answer.Answer.{Answer}
@@ -149,32 +149,32 @@ module _ {W : Dialect} where
       ⊎ LacksRoom s.limits.slots (TakesSlot s.limits s.passed.regions (live_region s.state)) n.regions
 
   -- the edit is made, with new context_ids and numbers
-  pub record Makes (s : Session W) (edit : Edit W) (t : Session W) : Type 0 where
+  pub record Makes (B : Behaviour W) (s : Session W) (edit : Edit W) (t : Session W) : Type 0 where
     pub new : Fresh context_ids
     pub enough : counts context_ids new ≡ needs edit
     pub distinct : FreshDistinct context_ids new
     pub are_new : AreNew s new
-    pub change : Change s.state edit new t.state
+    pub change : Change B s.state edit new t.state
     pub passed : Passes s.passed new t.passed
     pub beside : t.beside ≡ s.beside
     pub limits : t.limits ≡ s.limits
 
-  pub data Step (s : Session W) (edit : Edit W) (a : Answer) (t : Session W) : Type 0 where
-    condition : (Condition s.state edit → ⊥) → a ≡ Refused ForCondition → t ≡ s → Step s edit a t
-    counter : Condition s.state edit → LacksNumbers s (needs edit) → a ≡ Refused Counter → Skips s edit t → Step s edit a t
-    slots : Condition s.state edit → HasNumbers s (needs edit) → LacksSlots s (needs edit) → a ≡ Refused Slots → Skips s edit t → Step s edit a t
-    memory : Condition s.state edit → HasNumbers s (needs edit) → HasSlots s (needs edit) → MayRunOut s.state edit → a ≡ Refused Memory → Skips s edit t → Step s edit a t
-    made : Condition s.state edit → HasNumbers s (needs edit) → HasSlots s (needs edit) → a ≡ reply s.state edit → Makes s edit t → Step s edit a t
+  pub data Step (B : Behaviour W) (s : Session W) (edit : Edit W) (a : Answer) (t : Session W) : Type 0 where
+    condition : (Condition s.state edit → ⊥) → a ≡ Refused ForCondition → t ≡ s → Step B s edit a t
+    counter : Condition s.state edit → LacksNumbers s (needs edit) → a ≡ Refused Counter → Skips s edit t → Step B s edit a t
+    slots : Condition s.state edit → HasNumbers s (needs edit) → LacksSlots s (needs edit) → a ≡ Refused Slots → Skips s edit t → Step B s edit a t
+    memory : Condition s.state edit → HasNumbers s (needs edit) → HasSlots s (needs edit) → MayRunOut s.state edit → a ≡ Refused Memory → Skips s edit t → Step B s edit a t
+    made : Condition s.state edit → HasNumbers s (needs edit) → HasSlots s (needs edit) → a ≡ reply s.state edit → Makes B s edit t → Step B s edit a t
 
   -- steps joined over the list, one answer for each edit
-  abbrev pub Run : Session W → List (Edit W) → List Answer → Session W → Type 0
-  Run s [] answers u = (answers ≡ []) × (u ≡ s)
-  Run s (edit ∷ rest) answers u = (a : Answer) × (later : List Answer) × (t : Session W) × (answers ≡ a ∷ later) × Step s edit a t × Run t rest later u
+  abbrev pub Run : Behaviour W → Session W → List (Edit W) → List Answer → Session W → Type 0
+  Run B s [] answers u = (answers ≡ []) × (u ≡ s)
+  Run B s (edit ∷ rest) answers u = (a : Answer) × (later : List Answer) × (t : Session W) × (answers ≡ a ∷ later) × Step B s edit a t × Run B t rest later u
 
 module _ (W : Dialect) where
   -- two runs of one list of edits from new sessions, refused alike, answer alike and leave the same view
-  abbrev pub TwoRuns : Type 0
-  TwoRuns =
+  abbrev pub TwoRuns : Behaviour W → Type 0
+  TwoRuns B =
       (edits : List (Edit W)) (s t s' t' : Session W) (answers others : List Answer)
-      → IsNewSession s → IsNewSession t → Run s edits answers s' → Run t edits others t' → SameRefusals answers others
+      → IsNewSession s → IsNewSession t → Run B s edits answers s' → Run B t edits others t' → SameRefusals answers others
       → (answers ≡ others) × (view s'.state ≡ view t'.state)

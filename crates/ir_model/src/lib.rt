@@ -15,5 +15,5 @@ pub use ids::{ArenaIndex, Limits};
 
 /// The law on two runs: whatever ids and numbers each run chose, they give the same answers and the same view.
 pub fn choices_unseen<Key: Eq, Body, Attr, Saved, Aux, Loc>()
-    ensures { (first : Body) (unknown : Loc) (impls : ℕ → ℕ → Bool) → TwoRuns (record { Key = Key; Body = Body; Attr = Attr; Saved = Saved; Aux = Aux; Loc = Loc; same_key = Key.eq; first_body = first; unknown = unknown; op_impls = impls }) }
+    ensures { (first : Body) (unknown : Loc) (impls : ℕ → ℕ → Bool) → TwoRuns (record { Key = Key; Body = Body; Attr = Attr; Saved = Saved; Aux = Aux; Loc = Loc }) (record { same_key = Key.eq; first_body = first; unknown = unknown; op_impls = impls }) }
 {}
