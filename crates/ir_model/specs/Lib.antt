@@ -9,3 +9,11 @@ pub mod Edits
 pub mod Views
 pub mod Sessions
 pub mod Arena
+pub mod Parent
+pub mod BlockGraph
+pub mod Subtree
+pub mod Names
+pub mod Faults
+pub mod Stores
+pub mod VerifierLists
+pub mod Dead
