@@ -17,3 +17,4 @@ pub mod Faults
 pub mod Stores
 pub mod VerifierLists
 pub mod Dead
+pub mod DefinitionLaws

@@ -8,9 +8,11 @@ ghost use Rattle.ir_model.specs.Forest.{Dialect};
 ghost use Rattle.ir_model.specs.Sessions.{TwoRuns};
 
 mod answer;
+mod definition_laws;
 mod ids;
 
 pub use answer::{Answer, Refused};
+pub use definition_laws::{unique_names_tell, unlinked_goes_back};
 pub use ids::{ArenaIndex, Limits};
 
 /// The law on two runs: whatever ids and numbers each run chose, they give the same answers and the same view.

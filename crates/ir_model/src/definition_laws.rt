@@ -1,0 +1,21 @@
+//! Laws that speak of the definitions alone: what the crates above may take as given of them.
+//!
+//! Each is the contract of a function that takes and does nothing, for every choice of a dialect's types.
+
+ghost use Rattle.std.specs.Prelude.{ℕ, Bool};
+ghost use Rattle.ir_model.specs.Forest.{Dialect, Behaviour};
+ghost use Rattle.ir_model.specs.DefinitionLaws.{UnlinkedGoesBack, UniqueNamesTell, RemovalIsOne, SubtreeSizeIsOne, ReplacedTakesUses, RetargetedTakesUses, SuccessorsMeetPredecessors};
+
+/// An operation or block that is unlinked and put back where it stood leaves the forest as it was.
+///
+/// It stood behind another one, or at the front.
+pub fn unlinked_goes_back<Key, Body, Attr, Saved, Aux, Loc>()
+    ensures { UnlinkedGoesBack (record { Key = Key; Body = Body; Attr = Attr; Saved = Saved; Aux = Aux; Loc = Loc }) }
+{}
+
+/// Equal unique names of two values, or of two blocks, are names of one, and no value shares its name with a block.
+///
+/// The given names may be any texts.
+pub fn unique_names_tell<Key, Body, Attr, Saved, Aux, Loc>()
+    ensures { UniqueNamesTell (record { Key = Key; Body = Body; Attr = Attr; Saved = Saved; Aux = Aux; Loc = Loc }) }
+{}
