@@ -19,3 +19,13 @@ pub fn unlinked_goes_back<Key, Body, Attr, Saved, Aux, Loc>()
 pub fn unique_names_tell<Key, Body, Attr, Saved, Aux, Loc>()
     ensures { UniqueNamesTell (record { Key = Key; Body = Body; Attr = Attr; Saved = Saved; Aux = Aux; Loc = Loc }) }
 {}
+
+/// What a removal leaves is determined: the forest, the uses in it, and that nothing names what is gone.
+pub fn removal_is_one<Key, Body, Attr, Saved, Aux, Loc>()
+    ensures { RemovalIsOne (record { Key = Key; Body = Body; Attr = Attr; Saved = Saved; Aux = Aux; Loc = Loc }) }
+{}
+
+/// How many entities lie inside one is determined: any two lists of them without repeats are equally long.
+pub fn subtree_size_is_one<Key, Body, Attr, Saved, Aux, Loc>()
+    ensures { SubtreeSizeIsOne (record { Key = Key; Body = Body; Attr = Attr; Saved = Saved; Aux = Aux; Loc = Loc }) }
+{}

@@ -12,7 +12,9 @@ mod definition_laws;
 mod ids;
 
 pub use answer::{Answer, Refused};
-pub use definition_laws::{unique_names_tell, unlinked_goes_back};
+pub use definition_laws::{
+    removal_is_one, subtree_size_is_one, unique_names_tell, unlinked_goes_back,
+};
 pub use ids::{ArenaIndex, Limits};
 
 /// The law on two runs: whatever ids and numbers each run chose, they give the same answers and the same view.
