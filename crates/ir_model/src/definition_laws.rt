@@ -29,3 +29,13 @@ pub fn removal_is_one<Key, Body, Attr, Saved, Aux, Loc>()
 pub fn subtree_size_is_one<Key, Body, Attr, Saved, Aux, Loc>()
     ensures { SubtreeSizeIsOne (record { Key = Key; Body = Body; Attr = Attr; Saved = Saved; Aux = Aux; Loc = Loc }) }
 {}
+
+/// After all uses of a value were replaced by another value, the first has none and the other has as many as both had.
+pub fn replaced_takes_uses<Key, Body, Attr, Saved, Aux, Loc>()
+    ensures { ReplacedTakesUses (record { Key = Key; Body = Body; Attr = Attr; Saved = Saved; Aux = Aux; Loc = Loc }) }
+{}
+
+/// After all uses of a block were retargeted to another block, the first has none and the other has as many as both had.
+pub fn retargeted_takes_uses<Key, Body, Attr, Saved, Aux, Loc>()
+    ensures { RetargetedTakesUses (record { Key = Key; Body = Body; Attr = Attr; Saved = Saved; Aux = Aux; Loc = Loc }) }
+{}
