@@ -119,7 +119,7 @@ module _ {N : Ids} {W : Dialect} (L : Lawful N) (f : Forest N W) (keys : ℕ) (w
   once_blocks : (g : N.Region) → Distinct (blocks_of f g)
   once_blocks g = Distinct-unmap a_block (blocks_of f g) (w.nested.once (a_region g))
 
-  one_block : (o : N.Op) (b c : N.Block) → In o (ops_of f b) → In o (ops_of f c) → b ≡ c
+  pub one_block : (o : N.Op) (b c : N.Block) → In o (ops_of f b) → In o (ops_of f c) → b ≡ c
   one_block o b c h k =
       let e : ◌≡◌ {A = Entity N} (a_block b) (a_block c) = w.nested.one_list (an_op o) (a_block b) (a_block c) (In-map an_op o (ops_of f b) h) (In-map an_op o (ops_of f c) k) in cc
 

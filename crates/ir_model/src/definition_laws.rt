@@ -39,3 +39,8 @@ pub fn replaced_takes_uses<Key, Body, Attr, Saved, Aux, Loc>()
 pub fn retargeted_takes_uses<Key, Body, Attr, Saved, Aux, Loc>()
     ensures { RetargetedTakesUses (record { Key = Key; Body = Body; Attr = Attr; Saved = Saved; Aux = Aux; Loc = Loc }) }
 {}
+
+/// Where each operation with a successor is the terminator of a block, b is among the successors of a exactly where a is among the predecessors of b.
+pub fn successors_meet_predecessors<Key: Eq, Body, Attr, Saved, Aux, Loc>()
+    ensures { (first : Body) (unknown : Loc) (impls : ℕ → ℕ → Bool) → SuccessorsMeetPredecessors (record { Key = Key; Body = Body; Attr = Attr; Saved = Saved; Aux = Aux; Loc = Loc }) (record { same_key = Key.eq; first_body = first; unknown = unknown; op_impls = impls }) }
+{}

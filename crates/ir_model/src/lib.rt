@@ -14,7 +14,7 @@ mod ids;
 pub use answer::{Answer, Refused};
 pub use definition_laws::{
     removal_is_one, replaced_takes_uses, retargeted_takes_uses, subtree_size_is_one,
-    unique_names_tell, unlinked_goes_back,
+    successors_meet_predecessors, unique_names_tell, unlinked_goes_back,
 };
 pub use ids::{ArenaIndex, Limits};
 
