@@ -12,7 +12,9 @@ use Rattle.ir_model.specs.Uses.{Use, IsUse}
 use Rattle.ir_model.specs.BlockGraph.{implements, last_op, targets_of, terminator, succs, ArePredecessors, is_terminator_interface}
 use Rattle.ir_model.proofs.Nests.{In-map, In-map_back}
 use Rattle.ir_model.proofs.Relinks.{one_block}
+use Rattle.ir_model.specs.DefinitionLaws.{SuccessorsMeetPredecessors}
 use Rattle.ir_model.proofs.Loops.{Lawful}
+use Rattle.ir_model.proofs.TwoRuns.{lawful}
 
 got_in : {A : Type 0} (xs : List A) (n : ℕ) (x : A) → slice_get xs n ≡ Some x → In x xs
 got_in [] n x e = absurd cc
@@ -77,3 +79,6 @@ module _ {N : Ids} {W : Dialect} (L : Lawful N) (B : Behaviour W) (f : Forest N 
       let ends = only at.0.user b target in
       let same = one_block L f keys w at.0.user a ends.0 at.2 (terminator_in ends.0 at.0.user ends.1) in
       subst (λ z. In b (succs B f z)) (sym same) (subst (λ m. In b (list_of (targets_of f) m)) (sym ends.1) target)
+
+pub edges_meet : (W : Dialect) (B : Behaviour W) → SuccessorsMeetPredecessors W B
+edges_meet W B f keys w only a b preds p = (forward lawful B f keys w a b preds p, back lawful B f keys w only a b preds p)
