@@ -1,13 +1,12 @@
 -- Where terminators alone name successors, the edges of the graph of blocks are the same from both ends.
 use mathlib.Core.Path.{◌≡◌, refl, sym, ap, ◌∙◌, subst}
-use Rattle.std.proofs.Common.{ℕ, zero, suc, ◌+◌, ◌-◌, ◌⊎◌, inl, inr, Bool, true, false, cond, Option, Some, None, List, [], ◌∷◌, map, length, arith}
+use Rattle.std.proofs.Common.{ℕ, zero, suc, ◌-◌, inl, inr, Bool, true, false, cond, Option, Some, None, List, [], ◌∷◌, length}
 use Rattle.std.specs.Prelude.{slice_get}
 use Rattle.std.specs.List.{AllZip}
 use Rattle.std.specs.Option.{option_and_then}
 use Rattle.ir_model.specs.Ids.{Ids}
-use Rattle.ir_model.specs.Forest.{Dialect, Behaviour, Forest, Entity, an_op, a_block, Successor, the_block}
+use Rattle.ir_model.specs.Forest.{Dialect, Behaviour, Forest, Successor, the_block}
 use Rattle.ir_model.specs.Nesting.{In, list_of, WellFormed, ops_of, successors_of}
-use Rattle.ir_model.specs.Parent.{last_of}
 use Rattle.ir_model.specs.Uses.{Use, IsUse}
 use Rattle.ir_model.specs.BlockGraph.{implements, last_op, targets_of, terminator, succs, ArePredecessors, is_terminator_interface}
 use Rattle.ir_model.proofs.Nests.{In-map, In-map_back}
