@@ -9,6 +9,7 @@ use Rattle.ir_model.specs.Uses.{Use, IsUse, AreUses}
 use Rattle.ir_model.specs.Parent.{ComesAfter, first_of}
 use Rattle.ir_model.specs.BlockGraph.{succs, targets_of, terminator, ArePredecessors}
 use Rattle.ir_model.specs.Subtree.{ListsSubtree}
+use Rattle.ir_model.specs.Legaliser.{Given, nothing_given, name_of, Run}
 use Rattle.ir_model.specs.Names.{IsValueName, IsBlockName}
 
 -- slot and version fit their types
@@ -76,3 +77,8 @@ module _ (W : Dialect) where
 
   abbrev pub SubtreeSizeIsOne : Type 0
   SubtreeSizeIsOne = (f : Forest context_ids W) (e : Entity context_ids) → SizeIsOne f e
+
+-- what one legaliser gave, from any counter on: no two sources have one identifier
+abbrev pub SourcesApart : Type 0
+SourcesApart = (counter : ℕ) (calls : List (Text × Text)) (s : Given) → Run (nothing_given counter) calls s
+    → (source other name : Text) → name_of s source ≡ Some name → name_of s other ≡ Some name → source ≡ other

@@ -17,4 +17,6 @@ pub mod Faults
 pub mod Stores
 pub mod VerifierLists
 pub mod Dead
+pub mod Identifier
+pub mod Legaliser
 pub mod DefinitionLaws

@@ -4,7 +4,7 @@
 
 ghost use Rattle.std.specs.Prelude.{ℕ, Bool};
 ghost use Rattle.ir_model.specs.Forest.{Dialect, Behaviour};
-ghost use Rattle.ir_model.specs.DefinitionLaws.{UnlinkedGoesBack, UniqueNamesTell, RemovalIsOne, SubtreeSizeIsOne, ReplacedTakesUses, RetargetedTakesUses, SuccessorsMeetPredecessors};
+ghost use Rattle.ir_model.specs.DefinitionLaws.{UnlinkedGoesBack, UniqueNamesTell, RemovalIsOne, SubtreeSizeIsOne, ReplacedTakesUses, RetargetedTakesUses, SuccessorsMeetPredecessors, SourcesApart};
 
 /// An operation or block that is unlinked and put back where it stood leaves the forest as it was.
 ///
@@ -43,4 +43,9 @@ pub fn retargeted_takes_uses<Key, Body, Attr, Saved, Aux, Loc>()
 /// Where each operation with a successor is the terminator of a block, b is among the successors of a exactly where a is among the predecessors of b.
 pub fn successors_meet_predecessors<Key: Eq, Body, Attr, Saved, Aux, Loc>()
     ensures { (first : Body) (unknown : Loc) (impls : ℕ → ℕ → Bool) → SuccessorsMeetPredecessors (record { Key = Key; Body = Body; Attr = Attr; Saved = Saved; Aux = Aux; Loc = Loc }) (record { same_key = Key.eq; first_body = first; unknown = unknown; op_impls = impls }) }
+{}
+
+/// Whatever calls a legaliser was given, no two sources have one identifier.
+pub fn sources_apart()
+    ensures { SourcesApart }
 {}

@@ -9,11 +9,13 @@ ghost use Rattle.ir_model.specs.Sessions.{TwoRuns};
 
 mod answer;
 mod definition_laws;
+#[cfg(test)]
+mod definition_laws_tests;
 mod ids;
 
 pub use answer::{Answer, Refused};
 pub use definition_laws::{
-    removal_is_one, replaced_takes_uses, retargeted_takes_uses, subtree_size_is_one,
+    removal_is_one, replaced_takes_uses, retargeted_takes_uses, sources_apart, subtree_size_is_one,
     successors_meet_predecessors, unique_names_tell, unlinked_goes_back,
 };
 pub use ids::{ArenaIndex, Limits};
