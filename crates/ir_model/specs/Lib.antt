@@ -19,4 +19,6 @@ pub mod VerifierLists
 pub mod Dead
 pub mod Identifier
 pub mod Legaliser
+pub mod SmallForests
+pub mod WorkedRows
 pub mod DefinitionLaws

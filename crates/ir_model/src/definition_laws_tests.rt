@@ -3,6 +3,7 @@
 use crate::{
     choices_unseen, removal_is_one, replaced_takes_uses, retargeted_takes_uses, sources_apart,
     subtree_size_is_one, successors_meet_predecessors, unique_names_tell, unlinked_goes_back,
+    worked_rows,
 };
 
 #[test]
@@ -16,4 +17,5 @@ fn laws_are_called() {
     retargeted_takes_uses::<u32, u8, u8, u8, u8, u8>();
     successors_meet_predecessors::<u32, u8, u8, u8, u8, u8>();
     sources_apart();
+    worked_rows();
 }

@@ -11,6 +11,7 @@ mod answer;
 mod definition_laws;
 #[cfg(test)]
 mod definition_laws_tests;
+mod examples;
 mod ids;
 
 pub use answer::{Answer, Refused};
@@ -18,6 +19,7 @@ pub use definition_laws::{
     removal_is_one, replaced_takes_uses, retargeted_takes_uses, sources_apart, subtree_size_is_one,
     successors_meet_predecessors, unique_names_tell, unlinked_goes_back,
 };
+pub use examples::worked_rows;
 pub use ids::{ArenaIndex, Limits};
 
 /// The law on two runs: whatever ids and numbers each run chose, they give the same answers and the same view.
