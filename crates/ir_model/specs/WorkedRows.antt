@@ -1,14 +1,15 @@
 -- What the definitions say of small forests, each beside a neighbour that they refuse.
-use Rattle.std.specs.Prelude.{◌≡◌, ◌≢◌, ℕ, List, [], ◌∷◌, Some, None, slice_get}
+use Rattle.std.specs.Prelude.{◌↔◌, ◌≡◌, ◌≢◌, ℕ, List, [], ◌∷◌, Some, None, slice_get}
 use Rattle.std.specs.List.{insert, remove}
 use Rattle.ir_model.specs.Forest.{Forest, Value, an_op, a_value}
-use Rattle.ir_model.specs.Nesting.{IsClosed, regions_of}
+use Rattle.ir_model.specs.Nesting.{In, IsClosed, regions_of}
 use Rattle.ir_model.specs.Changes.{on_op, on_operands, move_region, Removes}
 use Rattle.ir_model.specs.Edits.{Condition, Change, OpBack, EraseOp, MoveRegion, State}
 use Rattle.ir_model.specs.Ids.{Fresh}
 use Rattle.ir_model.specs.Uses.{Use, IsUse, AreUses, IsOperandAt}
 use Rattle.ir_model.specs.Subtree.{IsSubtreeSize}
 use Rattle.ir_model.specs.BlockGraph.{succs, IsSuccessor, IsSuccessorOf, IsPredecessorCount, ArePredecessors}
+use Rattle.ir_model.specs.Dead.{Dead}
 use Rattle.ir_model.specs.SmallForests.{Small, n0, n1, n2, n3, n4, small_ids, bare, behaviour, result, operand, successor, operation, block, forest, over_tables}
 
 abbrev pub use_ : Small → Small → Use small_ids
@@ -108,3 +109,45 @@ pub record PredsTwice : Type 0 where
   pub no_successor : IsSuccessor behaviour (twice_named 4) n0 n1 → ⊥
   -- were it a terminator, both would be successors
   pub successors : succs behaviour (twice_named 3) n0 ≡ n1 ∷ n1 ∷ []
+
+-- ## What a sweep takes out
+
+-- these are the dead operations of the block n0
+abbrev pub AreDead : Forest small_ids bare → List Small → Type 0
+AreDead f ops = (o : Small) → Dead behaviour f n0 o ↔ In o ops
+
+-- two constants, a sum of both, and an operation that uses the second constant
+abbrev pub kept_constant : Forest small_ids bare
+kept_constant = forest (operation 0 (n0 ∷ []) [] [] [] ∷ operation 0 (n1 ∷ []) [] [] []
+  ∷ operation 1 (n2 ∷ []) (operand n0 (result n0 n0) ∷ operand n1 (result n1 n1) ∷ []) [] [] ∷ operation 4 [] (operand n2 (result n1 n1) ∷ []) [] [] ∷ []) (block (n0 ∷ n1 ∷ n2 ∷ n3 ∷ []) ∷ []) []
+
+-- two sums, each of the other's result
+abbrev pub ring : Forest small_ids bare
+ring = forest (operation 1 (n0 ∷ []) (operand n0 (result n1 n1) ∷ operand n1 (result n1 n1) ∷ []) [] []
+  ∷ operation 1 (n1 ∷ []) (operand n2 (result n0 n0) ∷ operand n3 (result n0 n0) ∷ []) [] [] ∷ []) (block (n0 ∷ n1 ∷ []) ∷ []) []
+
+-- a sum of the constant that stands behind it
+abbrev pub constant_behind : Forest small_ids bare
+constant_behind = forest (operation 1 (n0 ∷ []) (operand n0 (result n1 n1) ∷ operand n1 (result n1 n1) ∷ []) [] []
+  ∷ operation 0 (n1 ∷ []) [] [] [] ∷ []) (block (n0 ∷ n1 ∷ []) ∷ []) []
+
+-- a sum of its own result
+abbrev pub own_sum : Forest small_ids bare
+own_sum = forest (operation 1 (n0 ∷ []) (operand n0 (result n0 n0) ∷ operand n1 (result n0 n0) ∷ []) [] [] ∷ []) (block (n0 ∷ []) ∷ []) []
+
+-- a constant that an operation of another block uses
+abbrev pub used_elsewhere : Forest small_ids bare
+used_elsewhere = forest (operation 0 (n0 ∷ []) [] [] [] ∷ operation 4 [] (operand n0 (result n0 n0) ∷ []) [] [] ∷ []) (block (n0 ∷ []) ∷ block (n1 ∷ []) ∷ []) []
+
+-- a constant, and a pure operation with one inside that uses it
+abbrev pub used_inside : Forest small_ids bare
+used_inside = forest (operation 0 (n0 ∷ []) [] [] [] ∷ operation 0 [] [] [] (n0 ∷ []) ∷ operation 4 [] (operand n0 (result n0 n0) ∷ []) [] [] ∷ []) (block (n0 ∷ n1 ∷ []) ∷ block (n2 ∷ []) ∷ []) ((n1 ∷ []) ∷ [])
+
+pub record Sweeps : Type 0 where
+  pub constant_stays : AreDead kept_constant (n0 ∷ n2 ∷ [])
+  pub ring_stays : AreDead ring []
+  pub both_go : AreDead constant_behind (n0 ∷ n1 ∷ [])
+  pub own_goes : AreDead own_sum (n0 ∷ [])
+  pub other_block : AreDead used_elsewhere []
+  pub with_inside : AreDead used_inside (n0 ∷ n1 ∷ [])
+  pub nothing : AreDead (forest [] (block [] ∷ []) []) []
