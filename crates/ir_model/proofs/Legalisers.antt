@@ -2,7 +2,7 @@
 use mathlib.Core.Path.{◌≡◌, refl, sym, ap, ◌∙◌, subst}
 use Rattle.std.proofs.Common.{ℕ, inl, inr, Bool, true, false, cond, Option, Some, None, List, [], ◌∷◌}
 use Rattle.std.specs.Prelude.{MatchOption}
-use Rattle.std.specs.Ordering.{nat_cmp, eq_by_cmp, is_eq}
+use Rattle.std.specs.Ordering.{nat_cmp, eq_by_cmp, is_eq, ordering_reverse}
 use Rattle.std.specs.declared.cmp.Ordering.{Ordering}
 use Rattle.std.specs.declared.cmp.Ordering.TheVariants.{Less, Equal, Greater}
 use Rattle.std.specs.Cmp.Lexicographic.{slice_cmp, nat_list_cmp_total}
@@ -59,3 +59,31 @@ pub sources_apart : SourcesApart
 unfolding Apart
 sources_apart counter calls s r a b name p q =
     run_apart calls (nothing_given counter) s r (λ x y n h k. absurd (let none : None ≡ Some n = sym (finite.get-empty (slice_cmp nat_cmp) x) ∙ h in cc)) a b name p q
+
+pub text_itself : (t : Text) → eq_by_cmp (slice_cmp nat_cmp) t t ≡ true
+text_itself t = by (slice_cmp nat_cmp t t) (nat_list_cmp_total.antisymm t t)
+  where
+    by : (o : Ordering) → o ≡ ordering_reverse o → is_eq o ≡ true
+    by Less e = absurd cc
+    by Equal e = refl
+    by Greater e = absurd cc
+
+-- the source has the name that it was given
+pub gives_named : (old new : Given) (source name : Text) → Gives old source name new → name_of new source ≡ Some name
+gives_named old new source name g = by (name_of old source) refl g
+  where
+    by : (m : Option Text) → name_of old source ≡ m → MatchOption m (GivesNew old source name new) (λ known. (name ≡ known) × (new ≡ old)) → name_of new source ≡ Some name
+    by None e n = subst (λ s. name_of s source ≡ Some name) (sym n.new_is) (name_after old source name source new.counter true (text_itself source))
+    by (Some known) e k = subst (λ s. name_of s source ≡ Some name) (sym k.1) (e ∙ ap Some (sym k.0))
+
+-- and each keeps the one that it had
+pub gives_keeps : (old new : Given) (source name q n : Text) → Gives old source name new → name_of old q ≡ Some n → name_of new q ≡ Some n
+gives_keeps old new source name q n g h = by (name_of old source) refl g
+  where
+    at : name_of old source ≡ None → (t : Bool) → eq_by_cmp (slice_cmp nat_cmp) q source ≡ t → name_of (give old source name new.counter) q ≡ Some n
+    at e true s = absurd (let none : None ≡ Some n = sym (ap (name_of old) (texts_tell q source s) ∙ e) ∙ h in cc)
+    at e false s = name_after old source name q new.counter false s ∙ h
+
+    by : (m : Option Text) → name_of old source ≡ m → MatchOption m (GivesNew old source name new) (λ known. (name ≡ known) × (new ≡ old)) → name_of new q ≡ Some n
+    by None e k = subst (λ s. name_of s q ≡ Some n) (sym k.new_is) (at e (eq_by_cmp (slice_cmp nat_cmp) q source) refl)
+    by (Some known) e k = subst (λ s. name_of s q ≡ Some n) (sym k.1) h

@@ -1,22 +1,17 @@
 -- Which operations of the small forests are dead.
 use mathlib.Core.Path.{◌≡◌, refl, sym, ap, ◌∙◌, subst}
-use Rattle.std.proofs.Common.{ℕ, ◌⊎◌, inl, inr, Bool, true, false, ◌||◌, List, [], ◌∷◌, map}
+use Rattle.std.proofs.Common.{inl, inr, Bool, true, false, ◌||◌, List, [], ◌∷◌, map}
 use Rattle.std.specs.List.{list_any}
-use Rattle.std.specs.Prelude.{IsTrue}
 use Rattle.ir_model.specs.Forest.{Forest, Entity, an_op, a_block, a_region, Named, a_value, owner}
 use Rattle.ir_model.specs.Nesting.{In, Inside, itself, below, children, names_of, regions_of, ops_of}
 use Rattle.ir_model.specs.BlockGraph.{implements, pure_interface}
 use Rattle.ir_model.specs.Dead.{Dead, dead, GoesWith, inside_it, inside_dead}
-use Rattle.ir_model.specs.SmallForests.{Small, n0, n1, n2, n3, n4, n5, same_small, small_ids, bare, behaviour, result, forest, block}
+use Rattle.ir_model.specs.SmallForests.{Small, n0, n1, n2, n3, same_small, small_ids, bare, behaviour, result, forest, block}
 use Rattle.ir_model.specs.WorkedRows.{AreDead, Sweeps, kept_constant, ring, constant_behind, own_sum, used_elsewhere, used_inside}
 
 small_same : (x : Small) → same_small x x ≡ true
 small_same n0 = refl
-small_same n1 = refl
-small_same n2 = refl
-small_same n3 = refl
-small_same n4 = refl
-small_same n5 = refl
+small_same _ = refl
 
 listed : (x : Small) (xs : List Small) → In x xs → list_any (same_small x) xs ≡ true
 listed x [] h = elim h [ ]
@@ -60,8 +55,7 @@ sum_dead = dead_alone kept_constant n2 refl (inr (inr (inl refl))) refl by
     by n2 d h e = inside_it itself
     by n3 d (inl s) e = absurd (let t : ◌≡◌ {A = Entity small_ids} (an_op n1) (an_op n2) = sym (ap (owner small_ids) s) ∙ e in cc)
     by n3 d (inr k) e = elim k [ ]
-    by n4 d h e = elim h [ ]
-    by n5 d h e = elim h [ ]
+    by _ d h e = elim h [ ]
 
 first_dead : Dead behaviour kept_constant n0 n0
 first_dead = dead_alone kept_constant n0 refl (inl refl) refl by
@@ -72,8 +66,7 @@ first_dead = dead_alone kept_constant n0 refl (inl refl) refl by
     by n2 d h e = inside_dead sum_dead itself
     by n3 d (inl s) e = absurd (let t : ◌≡◌ {A = Entity small_ids} (an_op n1) (an_op n0) = sym (ap (owner small_ids) s) ∙ e in cc)
     by n3 d (inr k) e = elim k [ ]
-    by n4 d h e = elim h [ ]
-    by n5 d h e = elim h [ ]
+    by _ d h e = elim h [ ]
 
 -- a user that is not inside, and stands in no operation that is dead, keeps an operation
 second_stays : Dead behaviour kept_constant n0 n1 → ⊥
@@ -84,8 +77,7 @@ second_stays (dead here pure goes) = by (goes n3 (a_value (result n1 n1)) (inl r
     of n1 d i = let e = alone kept_constant n1 refl (an_op n3) i in cc
     of n2 d i = let e = alone kept_constant n2 refl (an_op n3) i in cc
     of n3 d i = not_pure kept_constant n3 refl d
-    of n4 d i = let e = alone kept_constant n4 refl (an_op n3) i in cc
-    of n5 d i = let e = alone kept_constant n5 refl (an_op n3) i in cc
+    of o d i = let e = alone kept_constant o refl (an_op n3) i in cc
 
     by : GoesWith behaviour kept_constant n0 n1 n3 → ⊥
     by (inside_it i) = let e = alone kept_constant n1 refl (an_op n3) i in cc
@@ -96,18 +88,14 @@ constant_stays n0 = (λ _. inl refl, λ _. first_dead)
 constant_stays n1 = (λ d. absurd (second_stays d), λ h. absurd (not_listed n1 (n0 ∷ n2 ∷ []) refl h))
 constant_stays n2 = (λ _. inr (inl refl), λ _. sum_dead)
 constant_stays n3 = (λ d. absurd (not_pure kept_constant n3 refl d), λ h. absurd (not_listed n3 (n0 ∷ n2 ∷ []) refl h))
-constant_stays n4 = (λ d. absurd (not_there kept_constant n4 refl d), λ h. absurd (not_listed n4 (n0 ∷ n2 ∷ []) refl h))
-constant_stays n5 = (λ d. absurd (not_there kept_constant n5 refl d), λ h. absurd (not_listed n5 (n0 ∷ n2 ∷ []) refl h))
+constant_stays o = (λ d. absurd (not_there kept_constant o refl d), λ h. absurd (not_listed o (n0 ∷ n2 ∷ []) refl h))
 
 -- in a ring each would have to go first
 mutual
   ring_op : (o : Small) → Dead behaviour ring n0 o → ⊥
   ring_op n0 (dead here pure goes) = ring_user n0 n1 (λ i. (let e = alone ring n0 refl (an_op n1) i in cc)) (goes n1 (a_value (result n0 n0)) (inl refl) itself)
   ring_op n1 (dead here pure goes) = ring_user n1 n0 (λ i. (let e = alone ring n1 refl (an_op n0) i in cc)) (goes n0 (a_value (result n1 n1)) (inl refl) itself)
-  ring_op n2 (dead here pure goes) = not_listed n2 (n0 ∷ n1 ∷ []) refl here
-  ring_op n3 (dead here pure goes) = not_listed n3 (n0 ∷ n1 ∷ []) refl here
-  ring_op n4 (dead here pure goes) = not_listed n4 (n0 ∷ n1 ∷ []) refl here
-  ring_op n5 (dead here pure goes) = not_listed n5 (n0 ∷ n1 ∷ []) refl here
+  ring_op o (dead here pure goes) = not_listed o (n0 ∷ n1 ∷ []) refl here
 
   ring_user : (o user : Small) → (Inside ring (an_op o) (an_op user) → ⊥) → GoesWith behaviour ring n0 o user → ⊥
   ring_user o user out (inside_it i) = out i
@@ -121,49 +109,30 @@ sum_goes = dead_alone constant_behind n0 refl (inl refl) refl by
   where
     by : (user : Small) (d : Named small_ids) → In d (names_of constant_behind user) → owner small_ids d ≡ an_op n0 → GoesWith behaviour constant_behind n0 n0 user
     by n0 d h e = inside_it itself
-    by n1 d h e = elim h [ ]
-    by n2 d h e = elim h [ ]
-    by n3 d h e = elim h [ ]
-    by n4 d h e = elim h [ ]
-    by n5 d h e = elim h [ ]
+    by _ d h e = elim h [ ]
 
 constant_goes : Dead behaviour constant_behind n0 n1
 constant_goes = dead_alone constant_behind n1 refl (inr (inl refl)) refl by
   where
     by : (user : Small) (d : Named small_ids) → In d (names_of constant_behind user) → owner small_ids d ≡ an_op n1 → GoesWith behaviour constant_behind n0 n1 user
     by n0 d h e = inside_dead sum_goes itself
-    by n1 d h e = elim h [ ]
-    by n2 d h e = elim h [ ]
-    by n3 d h e = elim h [ ]
-    by n4 d h e = elim h [ ]
-    by n5 d h e = elim h [ ]
+    by _ d h e = elim h [ ]
 
 both_go : AreDead constant_behind (n0 ∷ n1 ∷ [])
 both_go n0 = (λ _. inl refl, λ _. sum_goes)
 both_go n1 = (λ _. inr (inl refl), λ _. constant_goes)
-both_go n2 = (λ d. absurd (not_there constant_behind n2 refl d), λ h. absurd (not_listed n2 (n0 ∷ n1 ∷ []) refl h))
-both_go n3 = (λ d. absurd (not_there constant_behind n3 refl d), λ h. absurd (not_listed n3 (n0 ∷ n1 ∷ []) refl h))
-both_go n4 = (λ d. absurd (not_there constant_behind n4 refl d), λ h. absurd (not_listed n4 (n0 ∷ n1 ∷ []) refl h))
-both_go n5 = (λ d. absurd (not_there constant_behind n5 refl d), λ h. absurd (not_listed n5 (n0 ∷ n1 ∷ []) refl h))
+both_go o = (λ d. absurd (not_there constant_behind o refl d), λ h. absurd (not_listed o (n0 ∷ n1 ∷ []) refl h))
 
 own_dead : Dead behaviour own_sum n0 n0
 own_dead = dead_alone own_sum n0 refl (inl refl) refl by
   where
     by : (user : Small) (d : Named small_ids) → In d (names_of own_sum user) → owner small_ids d ≡ an_op n0 → GoesWith behaviour own_sum n0 n0 user
     by n0 d h e = inside_it itself
-    by n1 d h e = elim h [ ]
-    by n2 d h e = elim h [ ]
-    by n3 d h e = elim h [ ]
-    by n4 d h e = elim h [ ]
-    by n5 d h e = elim h [ ]
+    by _ d h e = elim h [ ]
 
 own_goes : AreDead own_sum (n0 ∷ [])
 own_goes n0 = (λ _. inl refl, λ _. own_dead)
-own_goes n1 = (λ d. absurd (not_there own_sum n1 refl d), λ h. absurd (not_listed n1 (n0 ∷ []) refl h))
-own_goes n2 = (λ d. absurd (not_there own_sum n2 refl d), λ h. absurd (not_listed n2 (n0 ∷ []) refl h))
-own_goes n3 = (λ d. absurd (not_there own_sum n3 refl d), λ h. absurd (not_listed n3 (n0 ∷ []) refl h))
-own_goes n4 = (λ d. absurd (not_there own_sum n4 refl d), λ h. absurd (not_listed n4 (n0 ∷ []) refl h))
-own_goes n5 = (λ d. absurd (not_there own_sum n5 refl d), λ h. absurd (not_listed n5 (n0 ∷ []) refl h))
+own_goes o = (λ d. absurd (not_there own_sum o refl d), λ h. absurd (not_listed o (n0 ∷ []) refl h))
 
 -- the user stands in another block, so in no operation of this one
 elsewhere_stays : Dead behaviour used_elsewhere n0 n0 → ⊥
@@ -171,11 +140,7 @@ elsewhere_stays (dead here pure goes) = by (goes n1 (a_value (result n0 n0)) (in
   where
     of : (p : Small) → Dead behaviour used_elsewhere n0 p → Inside used_elsewhere (an_op p) (an_op n1) → ⊥
     of n0 d i = let e = alone used_elsewhere n0 refl (an_op n1) i in cc
-    of n1 d i = not_there used_elsewhere n1 refl d
-    of n2 d i = not_there used_elsewhere n2 refl d
-    of n3 d i = not_there used_elsewhere n3 refl d
-    of n4 d i = not_there used_elsewhere n4 refl d
-    of n5 d i = not_there used_elsewhere n5 refl d
+    of o d i = not_there used_elsewhere o refl d
 
     by : GoesWith behaviour used_elsewhere n0 n0 n1 → ⊥
     by (inside_it i) = let e = alone used_elsewhere n0 refl (an_op n1) i in cc
@@ -183,11 +148,7 @@ elsewhere_stays (dead here pure goes) = by (goes n1 (a_value (result n0 n0)) (in
 
 other_block : AreDead used_elsewhere []
 other_block n0 = (λ d. absurd (elsewhere_stays d), λ h. elim h [ ])
-other_block n1 = (λ d. absurd (not_there used_elsewhere n1 refl d), λ h. elim h [ ])
-other_block n2 = (λ d. absurd (not_there used_elsewhere n2 refl d), λ h. elim h [ ])
-other_block n3 = (λ d. absurd (not_there used_elsewhere n3 refl d), λ h. elim h [ ])
-other_block n4 = (λ d. absurd (not_there used_elsewhere n4 refl d), λ h. elim h [ ])
-other_block n5 = (λ d. absurd (not_there used_elsewhere n5 refl d), λ h. elim h [ ])
+other_block o = (λ d. absurd (not_there used_elsewhere o refl d), λ h. elim h [ ])
 
 user_inside : Inside used_inside (an_op n1) (an_op n2)
 user_inside = below {c = a_block n1} (inl refl) (below {c = a_region n0} (inl refl) (below {c = an_op n1} (inl refl) itself))
@@ -199,9 +160,7 @@ holder_goes = dead (inr (inl refl)) refl by
     by n0 d h i = elim h [ ]
     by n1 d h i = elim h [ ]
     by n2 d h i = inside_it user_inside
-    by n3 d h i = elim h [ ]
-    by n4 d h i = elim h [ ]
-    by n5 d h i = elim h [ ]
+    by _ d h i = elim h [ ]
 
 inner_goes : Dead behaviour used_inside n0 n0
 inner_goes = dead_alone used_inside n0 refl (inl refl) refl by
@@ -210,17 +169,12 @@ inner_goes = dead_alone used_inside n0 refl (inl refl) refl by
     by n0 d h e = elim h [ ]
     by n1 d h e = elim h [ ]
     by n2 d h e = inside_dead holder_goes user_inside
-    by n3 d h e = elim h [ ]
-    by n4 d h e = elim h [ ]
-    by n5 d h e = elim h [ ]
+    by _ d h e = elim h [ ]
 
 with_inside : AreDead used_inside (n0 ∷ n1 ∷ [])
 with_inside n0 = (λ _. inl refl, λ _. inner_goes)
 with_inside n1 = (λ _. inr (inl refl), λ _. holder_goes)
-with_inside n2 = (λ d. absurd (not_there used_inside n2 refl d), λ h. absurd (not_listed n2 (n0 ∷ n1 ∷ []) refl h))
-with_inside n3 = (λ d. absurd (not_there used_inside n3 refl d), λ h. absurd (not_listed n3 (n0 ∷ n1 ∷ []) refl h))
-with_inside n4 = (λ d. absurd (not_there used_inside n4 refl d), λ h. absurd (not_listed n4 (n0 ∷ n1 ∷ []) refl h))
-with_inside n5 = (λ d. absurd (not_there used_inside n5 refl d), λ h. absurd (not_listed n5 (n0 ∷ n1 ∷ []) refl h))
+with_inside o = (λ d. absurd (not_there used_inside o refl d), λ h. absurd (not_listed o (n0 ∷ n1 ∷ []) refl h))
 
 pub sweeps : Sweeps
 sweeps = record {

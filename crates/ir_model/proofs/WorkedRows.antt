@@ -32,11 +32,7 @@ own_uses u h = by u.user h
     by : (o : Small) → IsUse own_replaced (a_value (result n0 n0)) (record { user = o; number = u.number }) → ⊥
     by n0 (inl e) = let s : n0 ≡ n1 = ap (λ (p : Operand small_ids). p.value.number) e in cc
     by n0 (inr k) = elim k [ ]
-    by n1 k = elim k [ ]
-    by n2 k = elim k [ ]
-    by n3 k = elim k [ ]
-    by n4 k = elim k [ ]
-    by n5 k = elim k [ ]
+    by _ k = elim k [ ]
 
 own_use_of : (u : Use small_ids) → IsUse own_replaced (a_value (result n1 n1)) u → u ≡ use_ n0 n1
 own_use_of u h = by u.user h
@@ -44,11 +40,7 @@ own_use_of u h = by u.user h
     by : (o : Small) → IsUse own_replaced (a_value (result n1 n1)) (record { user = o; number = u.number }) → ◌≡◌ {A = Use small_ids} (record { user = o; number = u.number }) (use_ n0 n1)
     by n0 (inl e) = let s : u.number ≡ n1 = ap (λ (p : Operand small_ids). p.use_number) e in λ i. record { user = n0; number = s i }
     by n0 (inr k) = elim k [ ]
-    by n1 k = elim k [ ]
-    by n2 k = elim k [ ]
-    by n3 k = elim k [ ]
-    by n4 k = elim k [ ]
-    by n5 k = elim k [ ]
+    by _ k = elim k [ ]
 
 old_use_gone : (index : ℕ) → IsOperandAt own_replaced (use_ n0 n0) index → ⊥
 old_use_gone zero h = let e : ◌≡◌ {A = Option (Operand small_ids)} (Some (operand n1 (result n1 n1))) (Some (operand n0 h.0)) = h.1 in let s : operand n1 (result n1 n1) ≡ operand n0 h.0 = cc in let t : n1 ≡ n0 = ap (λ (p : Operand small_ids). p.use_number) s in cc
@@ -56,11 +48,7 @@ old_use_gone (suc index) h = let e : ◌≡◌ {A = Option (Operand small_ids)} 
 
 own_closed : IsClosed own_put_back (an_op n0)
 own_closed n0 d h inside = itself
-own_closed n1 d h inside = elim h [ ]
-own_closed n2 d h inside = elim h [ ]
-own_closed n3 d h inside = elim h [ ]
-own_closed n4 d h inside = elim h [ ]
-own_closed n5 d h inside = elim h [ ]
+own_closed _ d h inside = elim h [ ]
 
 -- the second operation has nothing inside but itself
 only_itself : (x : Entity small_ids) → Inside own_replaced (an_op n1) x → x ≡ an_op n1
@@ -123,9 +111,7 @@ nest_closed n0 d h inside = itself
 nest_closed n1 d h inside = inner_op_inside (result n3 n1)
 nest_closed n2 d (inl e) inside = absurd (op_three_outside (an_op n3) (in_nest (result n3 n1) (an_op n3) (subst (λ z. Inside (nest (result n3 n1)) (an_op n0) (owner small_ids z)) e inside)) refl)
 nest_closed n2 d (inr k) inside = elim k [ ]
-nest_closed n3 d h inside = elim h [ ]
-nest_closed n4 d h inside = elim h [ ]
-nest_closed n5 d h inside = elim h [ ]
+nest_closed _ d h inside = elim h [ ]
 
 nest_list : List (Entity small_ids)
 nest_list = an_op n0 ∷ a_region n0 ∷ a_block n0 ∷ an_op n1 ∷ []
@@ -219,10 +205,7 @@ twice_use u h = by u.user h
     by n1 (inl e) = inl (let s : u.number ≡ n0 = ap (λ (p : Successor small_ids). p.use_number) e in λ i. record { user = n1; number = s i })
     by n1 (inr (inl e)) = inr (let s : u.number ≡ n1 = ap (λ (p : Successor small_ids). p.use_number) e in λ i. record { user = n1; number = s i })
     by n1 (inr (inr k)) = elim k [ ]
-    by n2 k = elim k [ ]
-    by n3 k = elim k [ ]
-    by n4 k = elim k [ ]
-    by n5 k = elim k [ ]
+    by _ k = elim k [ ]
 
 both_uses : AreUses (twice_named 4) (the_block n1) (use_ n1 n0 ∷ use_ n1 n1 ∷ [])
 both_uses = record {

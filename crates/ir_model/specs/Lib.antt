@@ -21,4 +21,5 @@ pub mod Identifier
 pub mod Legaliser
 pub mod SmallForests
 pub mod WorkedRows
+pub mod NamedRows
 pub mod DefinitionLaws

@@ -119,17 +119,17 @@ AreDead f ops = (o : Small) → Dead behaviour f n0 o ↔ In o ops
 -- two constants, a sum of both, and an operation that uses the second constant
 abbrev pub kept_constant : Forest small_ids bare
 kept_constant = forest (operation 0 (n0 ∷ []) [] [] [] ∷ operation 0 (n1 ∷ []) [] [] []
-  ∷ operation 1 (n2 ∷ []) (operand n0 (result n0 n0) ∷ operand n1 (result n1 n1) ∷ []) [] [] ∷ operation 4 [] (operand n2 (result n1 n1) ∷ []) [] [] ∷ []) (block (n0 ∷ n1 ∷ n2 ∷ n3 ∷ []) ∷ []) []
+    ∷ operation 1 (n2 ∷ []) (operand n0 (result n0 n0) ∷ operand n1 (result n1 n1) ∷ []) [] [] ∷ operation 4 [] (operand n2 (result n1 n1) ∷ []) [] [] ∷ []) (block (n0 ∷ n1 ∷ n2 ∷ n3 ∷ []) ∷ []) []
 
 -- two sums, each of the other's result
 abbrev pub ring : Forest small_ids bare
 ring = forest (operation 1 (n0 ∷ []) (operand n0 (result n1 n1) ∷ operand n1 (result n1 n1) ∷ []) [] []
-  ∷ operation 1 (n1 ∷ []) (operand n2 (result n0 n0) ∷ operand n3 (result n0 n0) ∷ []) [] [] ∷ []) (block (n0 ∷ n1 ∷ []) ∷ []) []
+    ∷ operation 1 (n1 ∷ []) (operand n2 (result n0 n0) ∷ operand n3 (result n0 n0) ∷ []) [] [] ∷ []) (block (n0 ∷ n1 ∷ []) ∷ []) []
 
 -- a sum of the constant that stands behind it
 abbrev pub constant_behind : Forest small_ids bare
 constant_behind = forest (operation 1 (n0 ∷ []) (operand n0 (result n1 n1) ∷ operand n1 (result n1 n1) ∷ []) [] []
-  ∷ operation 0 (n1 ∷ []) [] [] [] ∷ []) (block (n0 ∷ n1 ∷ []) ∷ []) []
+    ∷ operation 0 (n1 ∷ []) [] [] [] ∷ []) (block (n0 ∷ n1 ∷ []) ∷ []) []
 
 -- a sum of its own result
 abbrev pub own_sum : Forest small_ids bare

@@ -1,4 +1,6 @@
 use Rattle.ir_model.proofs.WorkedRows.{region_moves, own_result, outside_use, into_itself, preds_twice}
+use Rattle.ir_model.proofs.SweepRows.{sweeps}
+use Rattle.ir_model.proofs.NamedRows.{unique_names, entry_block, clashes}
 use Rattle.ir_model.proofs.examples.worked_rows.Goals as goal
 
 pub returns-clause-region_moves : goal.returns-clause-region_moves
@@ -15,3 +17,15 @@ returns-clause-insert_into_itself c = into_itself
 
 pub returns-clause-preds_twice : goal.returns-clause-preds_twice
 returns-clause-preds_twice c = preds_twice
+
+pub returns-clause-sweeps : goal.returns-clause-sweeps
+returns-clause-sweeps c = sweeps
+
+pub returns-clause-unique_names : goal.returns-clause-unique_names
+returns-clause-unique_names c = unique_names
+
+pub returns-clause-entry_block : goal.returns-clause-entry_block
+returns-clause-entry_block c = entry_block
+
+pub returns-clause-legalise_clashes : goal.returns-clause-legalise_clashes
+returns-clause-legalise_clashes c = clashes
