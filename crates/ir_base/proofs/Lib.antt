@@ -1,0 +1,2 @@
+pub mod ArenaSlots
+pub mod ArenaSound

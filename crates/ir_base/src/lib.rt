@@ -1,7 +1,14 @@
 //! What needs no context: arenas and handles, lists inside records, names, stores, dictionaries, and the trait of a dialect.
 #![tactic(auto)]
 
+mod arena;
 mod error;
+mod ptr;
+mod room;
+mod tally;
 
+pub use arena::Arena;
 pub use error::CoreError;
 pub use ir_model::{ArenaIndex, Limits};
+pub use ptr::Ptr;
+pub use room::Room;
