@@ -9,10 +9,10 @@ use Rattle.ir_base.specs.declared.arena.Slot.{Slot}
 use Rattle.ir_base.specs.ArenaSlots.{had_version, never, slot_in, slot_at, find, put}
 use Rattle.ir_base.specs.ArenaSound.{IsInRange}
 use Rattle.ir_base.specs.Arena.{Arena, empty, get, IsLive, IsNew, IsWhole, is_passed, fill, cut, miss}
-use Rattle.ir_base.proofs.ArenaSlots.{taken_at, slot_at-place, at-put_same, at-put_other, at_zero, at_past, find_vacant, find-put_same, find-put_other}
+use Rattle.ir_base.proofs.ArenaSlots.{taken_at, slot_at-place, slot_at-next, length-put, at-put_same, at-put_other, at_zero, at_past, find_vacant, find-put_same, find-put_other}
 
 -- the versions that a slot had
-had-within : (n v : ℕ) → had_version n v ≡ true → (1 ≤ v) × (v ≤ n)
+pub had-within : (n v : ℕ) → had_version n v ≡ true → (1 ≤ v) × (v ≤ n)
 unfolding had_version
 had-within zero v had = absurd (true≢false (sym had))
 had-within (suc zero) v had =
@@ -29,14 +29,14 @@ had-within (suc (suc n)) v had =
     ]
 
 -- a slot had the version that it has
-had-itself : (n : ℕ) → 1 ≤ n → had_version n n ≡ true
+pub had-itself : (n : ℕ) → 1 ≤ n → had_version n n ≡ true
 unfolding had_version
 had-itself zero some = absurd (omega arith)
 had-itself (suc zero) some = refl
 had-itself (suc (suc n)) some = ap (λ b. b || had_version n (suc (suc n))) (eq-eqb (suc (suc n)) (suc (suc n)) refl)
 
 -- any other version that a slot had is two below at least
-had-below : (n v : ℕ) → had_version n v ≡ true → (v ≡ n) ⊎ (v + 2 ≤ n)
+pub had-below : (n v : ℕ) → had_version n v ≡ true → (v ≡ n) ⊎ (v + 2 ≤ n)
 unfolding had_version
 had-below zero v had = absurd (true≢false (sym had))
 had-below (suc zero) v had =
@@ -63,7 +63,7 @@ had-none : (v : ℕ) → had_version 0 v ≡ false
 unfolding had_version
 had-none v = refl
 
-same_id : (p q : ArenaIndex) → p.slot ≡ q.slot → p.version ≡ q.version → p ≡ q
+pub same_id : (p q : ArenaIndex) → p.slot ≡ q.slot → p.version ≡ q.version → p ≡ q
 same_id p q slot version = λ i. record { slot = slot i; version = version i }
 
 empty_at : (T : Type 0) (n : ℕ) → slot_at {T = T} [] n ≡ never
@@ -76,6 +76,9 @@ get-empty T limit last q = find_vacant [] q (ap (λ s. s.item) (empty_at T q.slo
 
 pub passed-empty : (T : Type 0) (limit last : ℕ) (q : ArenaIndex) → is_passed {T = T} (empty limit last) q ≡ false
 passed-empty T limit last q = ap (λ s. had_version s.version q.version) (empty_at T q.slot) ∙ had-none q.version
+
+pub whole-empty : (T : Type 0) (limit last : ℕ) → IsWhole {T = T} (empty limit last)
+whole-empty T limit last = record { within = omega arith; versions = λ k below. absurd (omega (arith, below)) }
 
 module _ {T : Type 0} where
   -- the id of a write is that of a live record, or new: then each other record stays
@@ -240,3 +243,49 @@ module _ {T : Type 0} where
             λ live. true≢false (sym live ∙ ap is_some (find_vacant a.slots (record { slot = id.slot; version = (slot_at a.slots id.slot).version }) new.vacant)),
             λ j had here. (had-within (slot_at a.slots id.slot).version j.version (ap (λ n. had_version (slot_at a.slots n).version j.version) (sym here) ∙ had)).1,
           )
+
+  -- the versions of a whole arena, by the numbers of the slots
+  put-whole : (a : Arena T) (id : ArenaIndex) (s : Slot T) (n : ℕ) → IsWhole a → 1 ≤ id.slot → id.slot ≤ length a.slots + 1 → id.slot ≤ a.limit → IsInRange a.last_version s.version
+      → IsWhole (record { slots = put a.slots id.slot s; limit = a.limit; last_version = a.last_version; removals = n })
+  put-whole a id s n whole numbered within fits range =
+      record {
+        within = omega (arith, length-put a.slots id.slot s numbered within, whole.within);
+        versions = λ k below. at_place k below;
+      }
+    where
+      at_place : (k : ℕ) → k < length (put a.slots id.slot s) → IsInRange a.last_version (slot_in (put a.slots id.slot s) k).version
+      at_place k below =
+          elim (cases_eq (k + 1) id.slot) [
+            | inl here ↦
+                let at : slot_in (put a.slots id.slot s) k ≡ s = sym (slot_at-next (put a.slots id.slot s) k) ∙ ap (slot_at (put a.slots id.slot s)) here ∙ at-put_same a.slots id.slot s numbered within in
+                rw at range
+            | inr there ↦
+                let at : slot_in (put a.slots id.slot s) k ≡ slot_in a.slots k = sym (slot_at-next (put a.slots id.slot s) k) ∙ at-put_other a.slots id.slot (k + 1) s numbered within there ∙ slot_at-next a.slots k in
+                rw at (whole.versions k (omega (arith, below, there, numbered, within, length-put a.slots id.slot s numbered within)))
+          ]
+
+  -- each change of an arena leaves it whole
+  pub whole-fill_live : (a : Arena T) (id : ArenaIndex) (v : T) → IsWhole a → IsLive a id → IsWhole (fill a id v)
+  whole-fill_live a id v whole live =
+      let taken = taken_at a.slots id live in
+      put-whole a id (record { version = id.version; item = Some v }) a.removals whole taken.numbered (omega (arith, taken.within)) (omega (arith, taken.within, taken.numbered, whole.within))
+      (rw (sym taken.version) (whole.versions (id.slot - 1) taken.within))
+
+  pub whole-fill_new : (a : Arena T) (id : ArenaIndex) (v : T) → IsWhole a → IsNew a id → IsWhole (fill a id v)
+  whole-fill_new a id v whole new =
+      let at = open_new a id new in
+      put-whole a id (record { version = id.version; item = Some v }) a.removals whole at.numbered at.within new.within
+      (record { first = first new.version; within = new.fits })
+    where
+      first : ((id.slot ≡ length a.slots + 1) × (id.version ≡ 1)) ⊎ ((id.slot ≤ length a.slots) × (1 ≤ (slot_at a.slots id.slot).version) × (id.version ≡ (slot_at a.slots id.slot).version + 2)) → 1 ≤ id.version
+      first (inl end) = omega (arith, end.1)
+      first (inr reused) = omega (arith, reused.2)
+
+  pub whole-cut : (a : Arena T) (id : ArenaIndex) → IsWhole a → IsLive a id → IsWhole (cut a id)
+  whole-cut a id whole live =
+      let taken = taken_at a.slots id live in
+      put-whole a id (record { version = id.version; item = None }) (a.removals + 1) whole taken.numbered (omega (arith, taken.within)) (omega (arith, taken.within, taken.numbered, whole.within))
+      (rw (sym taken.version) (whole.versions (id.slot - 1) taken.within))
+
+  pub whole-miss : (a : Arena T) → IsWhole a → IsWhole (miss a)
+  whole-miss a whole = record { within = whole.within; versions = whole.versions }

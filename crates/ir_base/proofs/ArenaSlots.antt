@@ -1,5 +1,5 @@
 -- What a write of one slot does to what stands under each id, and to the versions that each slot had.
-use Rattle.std.proofs.Common.{◌≡◌, ◌≢◌, ◌⊎◌, ℕ, zero, suc, ◌+◌, ◌-◌, ◌<◌, ◌≤◌, nat_eq, Bool, true, false, List, [], ◌∷◌, ◌++◌, length, set, Option, Some, None, IsSome, cond, refl, sym, ap, subst, ◌∙◌, inl, inr, arith, true≢false}
+use Rattle.std.proofs.Common.{◌≡◌, ◌≢◌, ◌⊎◌, ℕ, zero, suc, ◌+◌, ◌-◌, ◌<◌, ◌≤◌, max, nat_eq, Bool, true, false, List, [], ◌∷◌, ◌++◌, length, set, Option, Some, None, IsSome, cond, refl, sym, ap, subst, ◌∙◌, inl, inr, arith, true≢false}
 use Rattle.std.proofs.lemmas.Bool.Decides.{eqb_tells}
 use Rattle.std.proofs.lemmas.Bool.{cases_eq, eq-eqb, ne_eqb}
 use Rattle.std.proofs.lemmas.List.{get_or_past}
@@ -56,6 +56,16 @@ module _ {T : Type 0} where
   in-put_other (x ∷ xs) zero (suc j) s within differs = refl
   in-put_other (x ∷ xs) (suc k) zero s within differs = refl
   in-put_other (x ∷ xs) (suc k) (suc j) s within differs = in-put_other xs k j s (omega arith) (λ same. differs (ap suc same))
+
+  length-put_in : (slots : List (Slot T)) (k : ℕ) (s : Slot T) → k ≤ length slots → length (put_in slots k s) ≤ max (length slots) (k + 1)
+  length-put_in [] zero s within = omega arith
+  length-put_in [] (suc k) s within = absurd (omega arith)
+  length-put_in (x ∷ xs) zero s within = omega arith
+  length-put_in (x ∷ xs) (suc k) s within = omega (arith, length-put_in xs k s (omega arith))
+
+  -- a write makes the list no longer than the number of the slot asks
+  pub length-put : (slots : List (Slot T)) (n : ℕ) (s : Slot T) → 1 ≤ n → n ≤ length slots + 1 → length (put slots n s) ≤ max (length slots) n
+  length-put slots n s numbered within = rw (put-place slots n s numbered) (omega (arith, length-put_in slots (n - 1) s (omega arith)))
 
   -- a slot that is written is what was written, and each other one is as it was
   pub at-put_same : (slots : List (Slot T)) (n : ℕ) (s : Slot T) → 1 ≤ n → n ≤ length slots + 1 → slot_at (put slots n s) n ≡ s
