@@ -1,0 +1,4 @@
+pub mod ArenaSlots
+pub mod ArenaSound
+pub mod ArenaLaws
+pub mod ArenaRoom

@@ -1,0 +1,4 @@
+pub mod ArenaSlots
+pub mod ArenaSound
+pub mod Arena
+pub mod ArenaLends

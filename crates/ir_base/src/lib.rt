@@ -2,8 +2,15 @@
 #![tactic(auto)]
 
 mod dialects;
+mod arena;
 mod error;
+mod ptr;
+mod room;
+mod tally;
 
 pub use dialects::{Dialects, unknown_loc};
+pub use arena::Arena;
 pub use error::CoreError;
 pub use ir_model::{ArenaIndex, Limits};
+pub use ptr::Ptr;
+pub use room::Room;
