@@ -2,6 +2,8 @@
 #![tactic(auto)]
 
 mod error;
+mod storage_uniquer;
 
 pub use error::CoreError;
 pub use ir_model::{ArenaIndex, Limits};
+pub use storage_uniquer::UniqueStore;
