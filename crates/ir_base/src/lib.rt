@@ -1,9 +1,18 @@
 //! What needs no context: arenas and handles, lists inside records, names, stores, dictionaries, and the trait of a dialect.
 #![tactic(auto)]
 
+mod dialects;
 mod error;
+pub mod interfaces;
 mod storage_uniquer;
+#[cfg(test)]
+mod stores_tests;
+mod type_handle;
+mod type_store;
 
+pub use dialects::{Dialects, unknown_loc};
 pub use error::CoreError;
 pub use ir_model::{ArenaIndex, Limits};
 pub use storage_uniquer::UniqueStore;
+pub use type_handle::TypeHandle;
+pub use type_store::TypeStore;
