@@ -1,0 +1,3 @@
+pub mod Identifier
+pub mod IdentErr
+pub mod IdentifierText

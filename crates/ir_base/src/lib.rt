@@ -2,6 +2,8 @@
 #![tactic(auto)]
 
 mod error;
+mod identifier;
 
 pub use error::CoreError;
+pub use identifier::{IdentErr, Identifier, MalformedIdentifierErr};
 pub use ir_model::{ArenaIndex, Limits};
