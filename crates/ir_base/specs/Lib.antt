@@ -1,1 +1,4 @@
+pub mod Identifier
+pub mod IdentErr
+pub mod IdentifierText
 pub mod Stores

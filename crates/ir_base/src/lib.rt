@@ -3,6 +3,7 @@
 
 mod dialects;
 mod error;
+mod identifier;
 pub mod interfaces;
 mod storage_uniquer;
 #[cfg(test)]
@@ -12,6 +13,7 @@ mod type_store;
 
 pub use dialects::{Dialects, unknown_loc};
 pub use error::CoreError;
+pub use identifier::{IdentErr, Identifier, MalformedIdentifierErr};
 pub use ir_model::{ArenaIndex, Limits};
 pub use storage_uniquer::UniqueStore;
 pub use type_handle::TypeHandle;
