@@ -150,6 +150,26 @@ impl<T> Arena<T> {
         }
     }
 
+    /// The record under a live `ptr`.
+    pub fn at(&self, ptr: Ptr<T>) -> &T
+        requires { IsLive self.now ptr.index }
+        ensures { get self.now ptr.index ≡ Some result.now }
+    {
+        match self.get(ptr) {
+            Some(record) => record,
+            None => unreachable!(),
+        }
+    }
+
+    /// The record under a live `ptr`, for writing.
+    pub fn at_mut(&mut self, ptr: Ptr<T>) -> &mut T
+        requires { IsLive self.old ptr.index }
+        ensures* writes_back { sem 𝓛 (lends_value T.row self.entry ptr.index result) }
+        ensures value { get self.old ptr.index ≡ Some result.now }
+    {
+        self.value_mut(ptr.index)
+    }
+
     // The record under a live id, for writing.
     fn value_mut(&mut self, id: ArenaIndex) -> &mut T
         requires { IsLive self.old id }

@@ -1,7 +1,7 @@
 -- The edits of a session: their conditions, needs, answers and changes.
 use Rattle.ir_model.specs.declared.answer.Answer.{Answer}
 use Rattle.ir_model.specs.declared.answer.Answer.TheVariants.{Made, Done}
-use Rattle.std.specs.Prelude.{◌≡◌, ◌≢◌, ℕ, ◌+◌, ◌<◌, ◌≤◌, if◌then◌else◌, List, [], ◌∷◌, ◌++◌, map, length, take, drop, Option, Some, IsSome, slice_get}
+use Rattle.std.specs.Prelude.{Bool, ◌≡◌, ◌≢◌, ℕ, ◌+◌, ◌<◌, ◌≤◌, if◌then◌else◌, List, [], ◌∷◌, ◌++◌, map, length, take, drop, Option, Some, IsSome, slice_get}
 use Rattle.std.specs.List.{insert, remove, list_any, zip, filter_map, position_or_len}
 use Rattle.ir_model.specs.Ids.{Ids, Fresh, Counts}
 use Rattle.ir_model.specs.Forest.{Text, Dialect, Behaviour, Definer, of_op, of_block, Value, Entity, an_op, a_block, a_region, OpRecord, BlockRecord, Forest, Named, a_value, the_block}
