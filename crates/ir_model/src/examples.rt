@@ -2,7 +2,7 @@
 //!
 //! They show that the definitions mean what they are read as, apart from any code.
 
-ghost use Rattle.ir_model.specs.WorkedRows.{RegionMoves, OwnResult, OutsideUseInDepth, InsertIntoItself, PredsTwice, Sweeps};
+ghost use Rattle.ir_model.specs.WorkedRows.{RegionMoves, OwnResult, OutsideUseInDepth, InsertIntoItself, PredsTwice, SweptRows};
 ghost use Rattle.ir_model.specs.NamedRows.{UniqueNames, EntryBlock, LegaliseClashes};
 ghost use Rattle.ir_model.specs.FaultRows.{FaultsStand};
 
@@ -15,7 +15,7 @@ pub fn worked_rows()
     ensures outside_use_in_depth { OutsideUseInDepth }
     ensures insert_into_itself { InsertIntoItself }
     ensures preds_twice { PredsTwice }
-    ensures sweeps { Sweeps }
+    ensures sweeps { SweptRows }
     ensures unique_names { UniqueNames }
     ensures entry_block { EntryBlock }
     ensures legalise_clashes { LegaliseClashes }
