@@ -1,6 +1,6 @@
 -- In a well-formed forest what is found by searching all lists is found one way.
 use mathlib.Core.Path.{◌≡◌, refl, sym, ap, ◌∙◌, subst}
-use Rattle.std.proofs.Common.{ℕ, zero, suc, ◌⊎◌, inl, inr, Option, Some, None, List, [], ◌∷◌, ◌++◌}
+use Rattle.std.proofs.Common.{ℕ, zero, suc, inl, Option, Some, None, List, [], ◌∷◌, ◌++◌}
 use Rattle.std.specs.Prelude.{slice_get}
 use Rattle.ir_model.specs.Ids.{Distinct}
 use Rattle.ir_model.specs.ContextIds.{context_ids}

@@ -1,9 +1,9 @@
 //! Each law is called once, at the types of a small dialect.
 
 use crate::{
-    choices_unseen, removal_is_one, replaced_takes_uses, retargeted_takes_uses, searches_agree, sources_apart,
-    subtree_size_is_one, successors_meet_predecessors, unique_names_tell, unlinked_goes_back,
-    worked_rows,
+    choices_unseen, removal_is_one, replaced_takes_uses, retargeted_takes_uses, searches_agree,
+    sources_apart, subtree_size_is_one, successors_meet_predecessors, unique_names_tell,
+    unlinked_goes_back, worked_rows,
 };
 
 #[test]
