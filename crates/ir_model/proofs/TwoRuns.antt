@@ -116,6 +116,13 @@ module _ {W : Dialect} where
     tables = record { types = []; ops = []; blocks = []; regions = []; values = [] };
   }
 
+  pub new_is_empty : (s : Session W) → IsNewSession s → s.state ≡ empty context_ids
+  new_is_empty s n = λ i. record {
+    forest = record { ops = λ x. n.ops x i; blocks = λ x. n.blocks x i; regions = λ x. n.regions x i };
+    store = n.store i;
+    tables = n.tables i;
+  }
+
 module _ {W : Dialect} (B : Behaviour W) where
   -- the edit was refused by its condition, or for want of room or memory, or was made
   data Outcome (s : Session W) (edit : Edit W) (a : Answer) (t : Session W) : Type 0 where
@@ -204,13 +211,6 @@ module _ {W : Dialect} (B : Behaviour W) where
       let one = step s t p.2 q.2 edit p.0 q.0 r (outcome s edit p.0 p.2 p.4) (outcome t edit q.0 q.2 q.4) refusals.0 in
       let more = along_runs rest p.2 q.2 s' t' p.1 q.1 one.1 p.5 q.5 refusals.1 in
       (p.3 ∙ ap (λ x. x ∷ p.1) one.0 ∙ ap (λ xs. q.0 ∷ xs) more.0 ∙ sym q.3, more.1)
-
-  new_is_empty : (s : Session W) → IsNewSession s → s.state ≡ empty context_ids
-  new_is_empty s n = λ i. record {
-    forest = record { ops = λ x. n.ops x i; blocks = λ x. n.blocks x i; regions = λ x. n.regions x i };
-    store = n.store i;
-    tables = n.tables i;
-  }
 
   empty_rests : (s : Session W) → IsNewSession s → RestsOn context_ids (States W) (s.state, [])
   empty_rests s n = rw (new_is_empty s n) (λ p q i. empty (p i))

@@ -8,4 +8,5 @@ pub mod Changes
 pub mod Edits
 pub mod Views
 pub mod Sessions
+pub mod Soundness
 pub mod Arena
