@@ -7,7 +7,7 @@ use Rattle.ir_model.specs.Ids.{Distinct}
 use Rattle.ir_model.specs.Forest.{Dialect, Behaviour, Value, a_value}
 use Rattle.ir_model.specs.Nesting.{In, IsLiveNamed, WellFormed, uses_of}
 use Rattle.ir_model.specs.Edits.{Edit, NewType, NewOp}
-use Rattle.ir_model.specs.Sessions.{Session, Step, live_op, live_block, live_region}
+use Rattle.ir_model.specs.Sessions.{Session, Step, IsNewSession, live_op, live_block, live_region}
 
 module _ {W : Dialect} where
   -- what is live stands in the tables
@@ -43,6 +43,11 @@ module _ {W : Dialect} where
   -- every step of this edit from a sound session ends in a sound one
   abbrev pub KeepsSound : Behaviour W → Edit W → Type 0
   KeepsSound B edit = (s t : Session W) (a : Answer) → Sound s → Step B s edit a t → Sound t
+
+module _ (W : Dialect) where
+  -- every session in which nothing is made yet is sound
+  abbrev pub NewSessionsAreSound : Type 0
+  NewSessionsAreSound = (s : Session W) → IsNewSession s → Sound s
 
 module _ (W : Dialect) (B : Behaviour W) where
   -- a stored type and a new operation leave a session sound

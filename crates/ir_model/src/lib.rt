@@ -9,9 +9,11 @@ ghost use Rattle.ir_model.specs.Sessions.{TwoRuns};
 
 mod answer;
 mod ids;
+mod laws;
 
 pub use answer::{Answer, Refused};
 pub use ids::{ArenaIndex, Limits};
+pub use laws::{first_edits_keep_sound, new_sessions_are_sound};
 
 /// The law on two runs: whatever ids and numbers each run chose, they give the same answers and the same view.
 pub fn choices_unseen<Key: Eq, Body, Attr, Saved, Aux, Loc>()
