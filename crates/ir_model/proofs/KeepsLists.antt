@@ -101,12 +101,23 @@ module _ {A B E : Type 0} (same : B → B → Bool) (tells : Tells same) (owner 
       by false true e k = inr (inl (ap owner ((tells b donee).0 k), refl))
       by false false e k = inr (inr (λ h. (let l : same b donor ≡ true = (tells b donor).1 (one b donor h) in cc), refl))
 
+-- the donor's list joined to the donee's, as a change of all lists
+abbrev joined : {A B : Type 0} → (B → B → Bool) → B → B → List A → B → List A → List A
+joined same donee donor ys b xs = cond (same b donor) [] (cond (same b donee) (xs ++ ys) xs)
+
+joined_shape : {A B R : Type 0} (p : Part R (List A)) (same : B → B → Bool) (donee donor : B) (ys : List A) (m : B → Option R) (b : B)
+    → rewrite same donor (p.on (λ _. [])) (rewrite same donee (p.on (λ xs. xs ++ ys)) m) b ≡ option_map (p.on (joined same donee donor ys b)) (m b)
+joined_shape p same donee donor ys m b =
+    rewrite_shape p same donor (λ _. []) (rewrite same donee (p.on (λ xs. xs ++ ys)) m) b
+    ∙ ap (option_map (p.on (λ xs. cond (same b donor) [] xs))) (rewrite_shape p same donee (λ xs. xs ++ ys) m b)
+    ∙ map_shape p same (λ xs. cond (same b donee) (xs ++ ys) xs) (λ xs. cond (same b donor) [] xs) (m b)
+
 module _ {A : Type 0} (same : A → A → Bool) (tells : Tells same) (x mark : A) where
   -- the list is as it was, or it has the mark, and x beside it
   abbrev Joins : List A → List A → Type 0
   Joins xs ys = (ys ≡ xs) ⊎ (AddsOne x xs ys × In mark xs)
 
-  joins_before : (xs : List A) → Joins xs (put_before same x mark xs)
+  pub joins_before : (xs : List A) → Joins xs (put_before same x mark xs)
   joins_before [] = inl refl
   joins_before (y ∷ ys) = by (joins_before ys) (same y mark) refl
     where
@@ -115,7 +126,7 @@ module _ {A : Type 0} (same : A → A → Bool) (tells : Tells same) (x mark : A
       by (inl s) false e = inl (ap (λ zs. y ∷ zs) s)
       by (inr a) false e = inr (later a.0, inr a.1)
 
-  joins_after : (xs : List A) → Joins xs (put_after same x mark xs)
+  pub joins_after : (xs : List A) → Joins xs (put_after same x mark xs)
   joins_after [] = inl refl
   joins_after (y ∷ ys) = by (joins_after ys) (same y mark) refl
     where
@@ -131,6 +142,9 @@ module _ {N : Ids} {W : Dialect} (L : Lawful N) (f : Forest N W) (keys : ℕ) (n
   marked member x mark c y xs ys there are (inl e) = inl e
   marked member x mark c y xs ys there are (inr a) = inr (a.0, w.nested.one_list (member mark) y c (rw are (In-map member mark xs a.1)) there)
 
+  linked_still : (m : N.Region → Option (List N.Block)) (G : N.Region → List N.Block → List N.Block) (shape : (c : N.Region) → m c ≡ option_map (G c) (f.regions c)) → Linked (record f { regions = m })
+  linked_still m G shape r h = w.nested.regions_linked r (sym ((same_but_blocks f m G shape).regions r) ∙ h)
+
   module _ (o : N.Op) (live : IsLive f (an_op o)) (unlinked : IsLinked f (an_op o) → ⊥) where
     pub op_into_keeps : (b : N.Block) (g : List N.Op → List N.Op) → ((xs : List N.Op) → AddsOne o xs (g xs)) → (Inside f (an_op o) (a_block b) → ⊥) → Kept f (on_block f b (on_ops g)) keys new
     op_into_keeps b g adds apart =
@@ -145,9 +159,6 @@ module _ {N : Ids} {W : Dialect} (L : Lawful N) (f : Forest N W) (keys : ℕ) (n
         (λ b xs e. marked an_op o mark c (a_block b) xs (g xs) there e (joins xs)) live unlinked apart
 
   module _ (b : N.Block) (live : IsLive f (a_block b)) (unlinked : IsLinked f (a_block b) → ⊥) where
-    linked_still : (m : N.Region → Option (List N.Block)) (G : N.Region → List N.Block → List N.Block) (shape : (c : N.Region) → m c ≡ option_map (G c) (f.regions c)) → Linked (record f { regions = m })
-    linked_still m G shape r h = w.nested.regions_linked r (sym ((same_but_blocks f m G shape).regions r) ∙ h)
-
     pub block_into_keeps : (r : N.Region) (g : List N.Block → List N.Block) → ((xs : List N.Block) → AddsOne b xs (g xs)) → (Inside f (a_block b) (a_region r) → ⊥) → Kept f (on_region f r g) keys new
     block_into_keeps r g adds apart =
         let G = λ (c : N.Region) (bs : List N.Block). cond (N.same_region c r) (g bs) bs in
@@ -159,3 +170,27 @@ module _ {N : Ids} {W : Dialect} (L : Lawful N) (f : Forest N W) (keys : ℕ) (n
     block_beside_keeps mark c g joins there apart =
         added_keeps a_block a_region (λ _. g) f _ keys new (rewrites_blocks f _ (λ _. g) (λ _. refl)) (same_but_blocks f _ (λ _. g) (λ _. refl)) w (linked_still _ (λ _. g) (λ _. refl)) b c
         (λ r xs e. marked a_block b mark c (a_region r) xs (g xs) there e (joins xs)) live unlinked apart
+
+  pub UnlinkOp-kept : (o : N.Op) → Kept f (in_blocks f (without N.same_op o)) keys new
+  UnlinkOp-kept o =
+      let g = without N.same_op o in
+      fewer_keeps an_op a_block (λ _. g) f _ keys new (rewrites_ops f _ (λ _. g) (λ _. refl)) (same_but_ops f _ (λ _. g) (λ _. refl)) w w.nested.regions_linked (λ _. Sub-filter _)
+
+  pub UnlinkBlock-kept : (b : N.Block) → Kept f (in_regions f (without N.same_block b)) keys new
+  UnlinkBlock-kept b =
+      let g = without N.same_block b in
+      fewer_keeps a_block a_region (λ _. g) f _ keys new (rewrites_blocks f _ (λ _. g) (λ _. refl)) (same_but_blocks f _ (λ _. g) (λ _. refl)) w (linked_still _ (λ _. g) (λ _. refl)) (λ _. Sub-filter _)
+
+  pub AppendOps-kept : (b c : N.Block) (q : BlockRecord N W) → f.blocks c ≡ Some q → ◌≢◌ {A = Entity N} (a_block b) (a_block c) → ((x : Entity N) → In x (children f (a_block c)) → Inside f x (a_block b) → ⊥) → Kept f (append_ops f b c q.ops) keys new
+  AppendOps-kept b c q is differ apart =
+      let G = joined N.same_block b c q.ops in
+      let shape = joined_shape ops_part N.same_block b c q.ops f.blocks in
+      joined_keeps an_op a_block G f _ keys new (rewrites_ops f _ G shape) (same_but_ops f _ G shape) w w.nested.regions_linked b c q.ops (ap (λ m. map an_op (list_of (λ (r : BlockRecord N W). r.ops) m)) is) differ apart
+      (at_keys N.same_block L.blocks a_block b c q.ops (λ x y e. cc))
+
+  pub AppendBlocks-kept : (r q : N.Region) (bs : List N.Block) → f.regions q ≡ Some bs → ◌≢◌ {A = Entity N} (a_region r) (a_region q) → ((x : Entity N) → In x (children f (a_region q)) → Inside f x (a_region r) → ⊥) → Kept f (append_blocks f r q bs) keys new
+  AppendBlocks-kept r q bs is differ apart =
+      let G = joined N.same_region r q bs in
+      let shape = joined_shape (whole (List N.Block)) N.same_region r q bs f.regions in
+      joined_keeps a_block a_region G f _ keys new (rewrites_blocks f _ G shape) (same_but_blocks f _ G shape) w (linked_still _ G shape) r q bs (ap (λ m. map a_block (list_of (λ (xs : List N.Block). xs) m)) is) differ apart
+      (at_keys N.same_region L.regions a_region r q bs (λ x y e. cc))
