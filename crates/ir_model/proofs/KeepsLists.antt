@@ -1,6 +1,6 @@
 -- Operations and blocks that are put into lists, taken out, and joined to others keep a forest well formed.
 use mathlib.Core.Path.{◌≡◌, refl, sym, ap, ◌∙◌, subst}
-use Rattle.std.proofs.Common.{ℕ, ◌≢◌, ◌⊎◌, inl, inr, Bool, true, false, not, Option, Some, None, List, [], ◌∷◌, ◌++◌, map, cond, IsSome}
+use Rattle.std.proofs.Common.{ℕ, ◌≢◌, ◌⊎◌, inl, inr, Bool, true, false, not, Option, Some, None, List, [], ◌∷◌, ◌++◌, map, cond, is_some, IsSome}
 use Rattle.std.specs.List.{filter}
 use Rattle.std.specs.Option.{option_map}
 use Rattle.ir_model.specs.Ids.{Ids}
@@ -9,6 +9,7 @@ use Rattle.ir_model.specs.Nesting.{In, list_of, children, Inside, IsLinked, IsLi
 use Rattle.ir_model.specs.Changes.{rewrite, on_block, on_region, on_ops, in_blocks, in_regions, put_before, put_after, without, append_ops, append_blocks}
 use Rattle.ir_model.proofs.Renaming.{Tells}
 use Rattle.ir_model.proofs.Loops.{Lawful}
+use Rattle.ir_model.proofs.Keeps.{is_some-map}
 use Rattle.ir_model.proofs.Nests.{In-map}
 use Rattle.ir_model.proofs.Entries.{AddsOne, here, later, AddsOne-map, AddsOne-push}
 use Rattle.ir_model.proofs.Trees.{Sub, Sub-all, Sub-map, Sub-filter, Tree, tree_of, nested_of, Tree-added, Tree-fewer, Tree-joined}
@@ -21,7 +22,7 @@ module _ {N : Ids} {W : Dialect} where
     pub values : (v : Value N) → IsLiveNamed g (a_value v) → IsLiveNamed f (a_value v)
     pub uses : (o : N.Op) (u : N.UseNumber) → In u (uses_of g o) → In u (uses_of f o) ⊎ In u new
 
-  abbrev Linked : Forest N W → Type 0
+  abbrev pub Linked : Forest N W → Type 0
   Linked f = (r : N.Region) → IsSome (f.regions r) → (o : N.Op) × In r (regions_of f o)
 
   pub kept_lists : (f g : Forest N W) (keys : ℕ) (new : List N.UseNumber) → SameButLists f g → WellFormed f keys → Tree g → Linked g → Kept f g keys new
@@ -31,33 +32,38 @@ module _ {N : Ids} {W : Dialect} where
     uses = λ o u h. inl (rw (s.uses o) at h);
   }
 
+  module _ {A B : Type 0} (member : A → Entity N) (owner : B → Entity N) (G : B → List A → List A) (f g : Forest N W) (rewrites : Rewrites member owner G f g) where
+    -- the list of each, where at most that of c gets x
+    pub added_at : (x : A) (c : Entity N)
+        → ((b : B) (xs : List A) → children f (owner b) ≡ map member xs → (G b xs ≡ xs) ⊎ (AddsOne x xs (G b xs) × (owner b ≡ c)))
+        → (y : Entity N) → (children g y ≡ children f y) ⊎ ((y ≡ c) × AddsOne (member x) (children f y) (children g y))
+    added_at x c adds y = elim (rewrites y) [
+      | inl e ↦ inl e.1
+      | inr (inl e) ↦ inl (e.1 ∙ sym e.0)
+      | inr (inr e) ↦ elim (adds e.0 e.1 (ap (children f) (sym e.2) ∙ e.3)) [
+        | inl k ↦ inl (e.4 ∙ ap (map member) k ∙ sym e.3)
+        | inr k ↦ inr (e.2 ∙ k.1, rw (e.3, e.4) (AddsOne-map member k.0))
+      ]
+    ]
+
+    -- the list of each, where lists only lose members
+    pub fewer_at : ((b : B) (xs : List A) → Sub (G b xs) xs) → (y : Entity N) → Sub (children g y) (children f y)
+    fewer_at fewer y = elim (rewrites y) [
+      | inl e ↦ rw e.1 (Sub-all (children f y))
+      | inr (inl e) ↦ rw (e.0, e.1) (Sub-all [])
+      | inr (inr e) ↦ rw (e.3, e.4) (Sub-map member (fewer e.0 e.1))
+    ]
+
   module _ {A B : Type 0} (member : A → Entity N) (owner : B → Entity N) (G : B → List A → List A) (f g : Forest N W) (keys : ℕ) (new : List N.UseNumber) (rewrites : Rewrites member owner G f g)
       (s : SameButLists f g) (w : WellFormed f keys) (linked : Linked g) where
     pub added_keeps : (x : A) (c : Entity N)
         → ((b : B) (xs : List A) → children f (owner b) ≡ map member xs → (G b xs ≡ xs) ⊎ (AddsOne x xs (G b xs) × (owner b ≡ c)))
         → IsLive f (member x) → (IsLinked f (member x) → ⊥) → (Inside f (member x) c → ⊥) → Kept f g keys new
     added_keeps x c adds live unlinked apart =
-        kept_lists f g keys new s w (Tree-added f g (still_live f g s) (tree_of f w.nested) (member x) c at (still_live f g s (member x) live) (λ y h. unlinked (y, h)) apart) linked
-      where
-        at : (y : Entity N) → (children g y ≡ children f y) ⊎ ((y ≡ c) × AddsOne (member x) (children f y) (children g y))
-        at y = elim (rewrites y) [
-          | inl e ↦ inl e.1
-          | inr (inl e) ↦ inl (e.1 ∙ sym e.0)
-          | inr (inr e) ↦ elim (adds e.0 e.1 (ap (children f) (sym e.2) ∙ e.3)) [
-            | inl k ↦ inl (e.4 ∙ ap (map member) k ∙ sym e.3)
-            | inr k ↦ inr (e.2 ∙ k.1, rw (e.3, e.4) (AddsOne-map member k.0))
-          ]
-        ]
+        kept_lists f g keys new s w (Tree-added f g (still_live f g s) (tree_of f w.nested) (member x) c (added_at member owner G f g rewrites x c adds) (still_live f g s (member x) live) (λ y h. unlinked (y, h)) apart) linked
 
     pub fewer_keeps : ((b : B) (xs : List A) → Sub (G b xs) xs) → Kept f g keys new
-    fewer_keeps fewer = kept_lists f g keys new s w (Tree-fewer f g (still_live f g s) (tree_of f w.nested) at) linked
-      where
-        at : (y : Entity N) → Sub (children g y) (children f y)
-        at y = elim (rewrites y) [
-          | inl e ↦ rw e.1 (Sub-all (children f y))
-          | inr (inl e) ↦ rw (e.0, e.1) (Sub-all [])
-          | inr (inr e) ↦ rw (e.3, e.4) (Sub-map member (fewer e.0 e.1))
-        ]
+    fewer_keeps fewer = kept_lists f g keys new s w (Tree-fewer f g (still_live f g s) (tree_of f w.nested) (fewer_at member owner G f g rewrites fewer)) linked
 
     pub joined_keeps : (donee donor : B) (ys : List A) → children f (owner donor) ≡ map member ys → owner donee ≢ owner donor → ((x : Entity N) → In x (children f (owner donor)) → Inside f x (owner donee) → ⊥)
         → ((b : B) (xs : List A) → ((owner b ≡ owner donor) × (G b xs ≡ [])) ⊎ ((owner b ≡ owner donee) × (G b xs ≡ xs ++ ys)) ⊎ ((owner b ≢ owner donor) × (G b xs ≡ xs))) → Kept f g keys new
@@ -80,7 +86,7 @@ module _ {N : Ids} {W : Dialect} where
 
 -- a list that gets one more under one key
 module _ {A B E : Type 0} (same : B → B → Bool) (tells : Tells same) (owner : B → E) where
-  at_key : (key : B) (x : A) (g : List A → List A) → ((xs : List A) → AddsOne x xs (g xs)) → (b : B) (xs : List A) → (cond (same b key) (g xs) xs ≡ xs) ⊎ (AddsOne x xs (cond (same b key) (g xs) xs) × (owner b ≡ owner key))
+  pub at_key : (key : B) (x : A) (g : List A → List A) → ((xs : List A) → AddsOne x xs (g xs)) → (b : B) (xs : List A) → (cond (same b key) (g xs) xs ≡ xs) ⊎ (AddsOne x xs (cond (same b key) (g xs) xs) × (owner b ≡ owner key))
   at_key key x g adds b xs = by (same b key) refl
     where
       by : (t : Bool) → same b key ≡ t → (cond t (g xs) xs ≡ xs) ⊎ (AddsOne x xs (cond t (g xs) xs) × (owner b ≡ owner key))
@@ -143,7 +149,7 @@ module _ {N : Ids} {W : Dialect} (L : Lawful N) (f : Forest N W) (keys : ℕ) (n
   marked member x mark c y xs ys there are (inr a) = inr (a.0, w.nested.one_list (member mark) y c (rw are (In-map member mark xs a.1)) there)
 
   linked_still : (m : N.Region → Option (List N.Block)) (G : N.Region → List N.Block → List N.Block) (shape : (c : N.Region) → m c ≡ option_map (G c) (f.regions c)) → Linked (record f { regions = m })
-  linked_still m G shape r h = w.nested.regions_linked r (sym ((same_but_blocks f m G shape).regions r) ∙ h)
+  linked_still m G shape r h = w.nested.regions_linked r (sym (ap is_some (shape r) ∙ is_some-map (G r) (f.regions r)) ∙ h)
 
   module _ (o : N.Op) (live : IsLive f (an_op o)) (unlinked : IsLinked f (an_op o) → ⊥) where
     pub op_into_keeps : (b : N.Block) (g : List N.Op → List N.Op) → ((xs : List N.Op) → AddsOne o xs (g xs)) → (Inside f (an_op o) (a_block b) → ⊥) → Kept f (on_block f b (on_ops g)) keys new

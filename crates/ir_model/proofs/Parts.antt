@@ -1,6 +1,6 @@
 -- What a change of one list of a record leaves as it was.
 use mathlib.Core.Path.{◌≡◌, refl, sym, ap, ap₂, ◌∙◌, subst}
-use Rattle.std.proofs.Common.{ℕ, ◌≢◌, ◌⊎◌, inl, inr, Bool, true, false, Option, Some, None, List, [], ◌∷◌, ◌++◌, map, cond, is_some}
+use Rattle.std.proofs.Common.{ℕ, ◌≢◌, ◌⊎◌, inl, inr, Bool, true, false, Option, Some, None, List, [], ◌∷◌, ◌++◌, map, cond, is_some, IsSome}
 use Rattle.std.specs.Option.{option_map}
 use Rattle.ir_model.specs.Ids.{Ids}
 use Rattle.ir_model.specs.Forest.{Dialect, Definer, of_op, of_block, Entity, an_op, a_block, a_region, OpRecord, BlockRecord, Forest, Named, a_value, the_block}
@@ -40,19 +40,29 @@ module _ {N : Ids} {W : Dialect} where
   abbrev pub regions_part : Part (OpRecord N W) (List N.Region)
   regions_part = record { on = on_regions; none = λ r. refl; twice = λ g h r. refl }
 
-  -- definitions, uses and what is live are as before
+  -- definitions, uses and what is live are as before, but for more regions
   pub record SameButLists (f g : Forest N W) : Type 0 where
     pub definitions : (d : Definer N) → definitions_of g d ≡ definitions_of f d
     pub uses : (o : N.Op) → uses_of g o ≡ uses_of f o
     pub names : (o : N.Op) → names_of g o ≡ names_of f o
     pub ops : (o : N.Op) → is_some (g.ops o) ≡ is_some (f.ops o)
     pub blocks : (b : N.Block) → is_some (g.blocks b) ≡ is_some (f.blocks b)
-    pub regions : (r : N.Region) → is_some (g.regions r) ≡ is_some (f.regions r)
+    pub regions : (r : N.Region) → IsSome (f.regions r) → IsSome (g.regions r)
 
   pub still_live : (f g : Forest N W) → SameButLists f g → (x : Entity N) → IsLive f x → IsLive g x
   still_live f g s (an_op o) h = s.ops o ∙ h
   still_live f g s (a_block b) h = s.blocks b ∙ h
-  still_live f g s (a_region r) h = s.regions r ∙ h
+  still_live f g s (a_region r) h = s.regions r h
+
+  pub then_same : (f g h : Forest N W) → SameButLists f g → SameButLists g h → SameButLists f h
+  then_same f g h a b = record {
+    definitions = λ d. b.definitions d ∙ a.definitions d;
+    uses = λ o. b.uses o ∙ a.uses o;
+    names = λ o. b.names o ∙ a.names o;
+    ops = λ o. b.ops o ∙ a.ops o;
+    blocks = λ o. b.blocks o ∙ a.blocks o;
+    regions = λ r h. b.regions r (a.regions r h);
+  }
 
   still_named : (f g : Forest N W) → SameButLists f g → (d : Named N) → IsLiveNamed f d → IsLiveNamed g d
   still_named f g s (a_value v) h = rw (s.definitions v.definer) h
@@ -90,7 +100,7 @@ module _ {N : Ids} {W : Dialect} where
         names = λ o. refl;
         ops = λ o. refl;
         blocks = λ b. ap is_some (shape b) ∙ is_some-map (on_ops (G b)) (f.blocks b);
-        regions = λ r. refl;
+        regions = λ r h. h;
       }
         where
           definitions : (d : Definer N) → definitions_of (record f { blocks = m }) d ≡ definitions_of f d
@@ -113,7 +123,7 @@ module _ {N : Ids} {W : Dialect} where
         names = λ o. refl;
         ops = λ o. refl;
         blocks = λ b. refl;
-        regions = λ r. ap is_some (shape r) ∙ is_some-map (G r) (f.regions r);
+        regions = λ r h. ap is_some (shape r) ∙ is_some-map (G r) (f.regions r) ∙ h;
       }
         where
           definitions : (d : Definer N) → definitions_of (record f { regions = m }) d ≡ definitions_of f d
@@ -136,7 +146,7 @@ module _ {N : Ids} {W : Dialect} where
         names = λ o. ap₂ (λ ps qs. map (λ p. a_value p.value) ps ++ map (λ p. the_block p.block) qs) (operands o) (successors o);
         ops = λ o. ap is_some (shape o) ∙ is_some-map (on_regions (G o)) (f.ops o);
         blocks = λ b. refl;
-        regions = λ r. refl;
+        regions = λ r h. h;
       }
         where
           definitions : (d : Definer N) → definitions_of (record f { ops = m }) d ≡ definitions_of f d
