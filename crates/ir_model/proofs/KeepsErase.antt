@@ -9,7 +9,7 @@ use Rattle.ir_model.specs.Changes.{on_ops, on_regions, but, Removes}
 use Rattle.ir_model.proofs.Loops.{Lawful}
 use Rattle.ir_model.proofs.Nests.{In-map, In-map_back, Distinct-map, NoCycle-fewer, OneList-fewer}
 use Rattle.ir_model.proofs.Keeps.{list_of-map, is_some-map, Distinct-unmap}
-use Rattle.ir_model.proofs.KeepsUses.{In-filter, In-kept, Distinct-filter}
+use Rattle.ir_model.proofs.Filters.{In-filter, In-kept, Distinct-filter}
 
 pub same_self : (N : Ids) → Lawful N → (x : Entity N) → same_entity N x x ≡ true
 same_self N L (an_op o) = (L.ops o o).1 refl

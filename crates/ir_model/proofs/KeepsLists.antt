@@ -1,27 +1,20 @@
 -- Operations and blocks that are put into lists, taken out, and joined to others keep a forest well formed.
-use mathlib.Core.Path.{◌≡◌, refl, sym, ap, ◌∙◌, subst}
-use Rattle.std.proofs.Common.{ℕ, ◌≢◌, ◌⊎◌, inl, inr, Bool, true, false, not, Option, Some, None, List, [], ◌∷◌, ◌++◌, map, cond, is_some, IsSome}
-use Rattle.std.specs.List.{filter}
+use mathlib.Core.Path.{◌≡◌, refl, sym, ap, ◌∙◌}
+use Rattle.std.proofs.Common.{ℕ, ◌≢◌, ◌⊎◌, inl, inr, Bool, true, false, Option, Some, List, [], ◌∷◌, ◌++◌, map, cond, is_some, IsSome}
 use Rattle.std.specs.Option.{option_map}
 use Rattle.ir_model.specs.Ids.{Ids}
-use Rattle.ir_model.specs.Forest.{Dialect, Value, Entity, an_op, a_block, a_region, OpRecord, BlockRecord, Forest, a_value}
-use Rattle.ir_model.specs.Nesting.{In, list_of, children, Inside, IsLinked, IsLive, IsLiveNamed, WellFormed, regions_of, uses_of}
+use Rattle.ir_model.specs.Forest.{Dialect, Entity, an_op, a_block, a_region, BlockRecord, Forest}
+use Rattle.ir_model.specs.Nesting.{In, list_of, children, Inside, IsLinked, IsLive, WellFormed, regions_of}
 use Rattle.ir_model.specs.Changes.{rewrite, on_block, on_region, on_ops, in_blocks, in_regions, put_before, put_after, without, append_ops, append_blocks}
 use Rattle.ir_model.proofs.Renaming.{Tells}
 use Rattle.ir_model.proofs.Loops.{Lawful}
 use Rattle.ir_model.proofs.Keeps.{is_some-map}
 use Rattle.ir_model.proofs.Nests.{In-map}
-use Rattle.ir_model.proofs.Entries.{AddsOne, here, later, AddsOne-map, AddsOne-push}
+use Rattle.ir_model.proofs.Entries.{AddsOne, here, later, AddsOne-map}
 use Rattle.ir_model.proofs.Trees.{Sub, Sub-all, Sub-map, Sub-filter, Tree, tree_of, nested_of, Tree-added, Tree-fewer, Tree-joined}
-use Rattle.ir_model.proofs.Parts.{Part, whole, ops_part, rewrite_shape, map_shape, SameButLists, still_live, WellFormed-lists, Rewrites, same_but_ops, rewrites_ops, same_but_blocks, rewrites_blocks}
+use Rattle.ir_model.proofs.Parts.{Part, whole, ops_part, rewrite_shape, map_shape, SameButLists, still_live, Kept, WellFormed-lists, Rewrites, same_but_ops, rewrites_ops, same_but_blocks, rewrites_blocks}
 
 module _ {N : Ids} {W : Dialect} where
-  -- the forest is well formed, it has no values that it had not, and no uses but those and these
-  pub record Kept (f g : Forest N W) (keys : ℕ) (new : List N.UseNumber) : Type 0 where
-    pub forest : WellFormed g keys
-    pub values : (v : Value N) → IsLiveNamed g (a_value v) → IsLiveNamed f (a_value v)
-    pub uses : (o : N.Op) (u : N.UseNumber) → In u (uses_of g o) → In u (uses_of f o) ⊎ In u new
-
   abbrev pub Linked : Forest N W → Type 0
   Linked f = (r : N.Region) → IsSome (f.regions r) → (o : N.Op) × In r (regions_of f o)
 

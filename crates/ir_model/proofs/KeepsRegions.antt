@@ -4,17 +4,17 @@ use Rattle.std.proofs.Common.{ℕ, ◌≢◌, ◌⊎◌, inl, inr, Bool, true, f
 use Rattle.std.specs.Option.{option_map}
 use Rattle.ir_model.specs.Ids.{Ids}
 use Rattle.ir_model.specs.Forest.{Dialect, Definer, of_op, of_block, Entity, an_op, a_block, a_region, OpRecord, Forest}
-use Rattle.ir_model.specs.Nesting.{In, Within, itself, below, list_of, children, Inside, IsLive, WellFormed, regions_of, blocks_of, definitions_of}
+use Rattle.ir_model.specs.Nesting.{In, Within, itself, below, list_of, children, Inside, WellFormed, regions_of, definitions_of}
 use Rattle.ir_model.specs.Changes.{put, on_op, on_regions, without, move_region, add_region}
 use Rattle.ir_model.proofs.Loops.{Lawful}
 use Rattle.ir_model.proofs.Nests.{In-left, In-right, In-map_back, Within-fewer}
 use Rattle.ir_model.proofs.Keeps.{rewrite_at}
-use Rattle.ir_model.proofs.KeepsUses.{In-filter, In-kept}
+use Rattle.ir_model.proofs.Filters.{In-filter, In-kept}
 use Rattle.ir_model.proofs.KeepsNew.{put_at}
 use Rattle.ir_model.proofs.Entries.{AddsOne-push}
 use Rattle.ir_model.proofs.Trees.{Sub-all, Sub-filter, Sub-in, Tree, tree_of, Tree-added, Tree-fewer}
-use Rattle.ir_model.proofs.Parts.{regions_part, rewrite_shape, SameButLists, still_live, then_same, same_but_regions, rewrites_regions}
-use Rattle.ir_model.proofs.KeepsLists.{Kept, Linked, kept_lists, at_key, added_at, fewer_at}
+use Rattle.ir_model.proofs.Parts.{Kept, regions_part, rewrite_shape, SameButLists, still_live, then_same, same_but_regions, rewrites_regions}
+use Rattle.ir_model.proofs.KeepsLists.{Linked, kept_lists, at_key, added_at, fewer_at}
 
 module _ {N : Ids} {W : Dialect} (L : Lawful N) where
   -- an unlinked region goes last in an operation

@@ -1,10 +1,10 @@
 -- What a change of one list of a record leaves as it was.
-use mathlib.Core.Path.{◌≡◌, refl, sym, ap, ap₂, ◌∙◌, subst}
-use Rattle.std.proofs.Common.{ℕ, ◌≢◌, ◌⊎◌, inl, inr, Bool, true, false, Option, Some, None, List, [], ◌∷◌, ◌++◌, map, cond, is_some, IsSome}
+use mathlib.Core.Path.{◌≡◌, refl, sym, ap, ap₂, ◌∙◌}
+use Rattle.std.proofs.Common.{ℕ, ◌≢◌, ◌⊎◌, inl, inr, Bool, true, false, Option, Some, None, List, [], ◌++◌, map, cond, is_some, IsSome}
 use Rattle.std.specs.Option.{option_map}
 use Rattle.ir_model.specs.Ids.{Ids}
-use Rattle.ir_model.specs.Forest.{Dialect, Definer, of_op, of_block, Entity, an_op, a_block, a_region, OpRecord, BlockRecord, Forest, Named, a_value, the_block}
-use Rattle.ir_model.specs.Nesting.{In, list_of, children, IsLive, IsLiveNamed, Nested, WellFormed, regions_of, ops_of, blocks_of, operands_of, successors_of, uses_of, names_of, definitions_of}
+use Rattle.ir_model.specs.Forest.{Dialect, Definer, of_op, of_block, Value, Entity, an_op, a_block, a_region, OpRecord, BlockRecord, Forest, Named, a_value, the_block}
+use Rattle.ir_model.specs.Nesting.{In, list_of, children, IsLive, IsLiveNamed, Nested, WellFormed, operands_of, successors_of, uses_of, names_of, definitions_of}
 use Rattle.ir_model.specs.Changes.{rewrite, on_ops, on_regions}
 use Rattle.ir_model.proofs.Keeps.{list_of-map, is_some-map}
 
@@ -39,6 +39,12 @@ module _ {N : Ids} {W : Dialect} where
 
   abbrev pub regions_part : Part (OpRecord N W) (List N.Region)
   regions_part = record { on = on_regions; none = λ r. refl; twice = λ g h r. refl }
+
+  -- the forest is well formed, it has no values that it had not, and no uses but those and these
+  pub record Kept (f g : Forest N W) (keys : ℕ) (new : List N.UseNumber) : Type 0 where
+    pub forest : WellFormed g keys
+    pub values : (v : Value N) → IsLiveNamed g (a_value v) → IsLiveNamed f (a_value v)
+    pub uses : (o : N.Op) (u : N.UseNumber) → In u (uses_of g o) → In u (uses_of f o) ⊎ In u new
 
   -- definitions, uses and what is live are as before, but for more regions
   pub record SameButLists (f g : Forest N W) : Type 0 where

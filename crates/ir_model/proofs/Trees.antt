@@ -1,7 +1,7 @@
 -- Changes of one list, and what they leave of a forest without cycles.
-use mathlib.Core.Path.{◌≡◌, refl, sym, ap, ◌∙◌, subst}
-use Rattle.std.proofs.Common.{◌≢◌, ◌⊎◌, inl, inr, Bool, true, false, List, [], ◌∷◌, ◌++◌, map, cond, IsSome}
-use Rattle.std.specs.List.{filter}
+use mathlib.Core.Path.{◌≡◌, sym, ◌∙◌, subst}
+use Rattle.std.proofs.Common.{ℕ, zero, suc, ◌≢◌, ◌⊎◌, inl, inr, Bool, true, false, List, [], ◌∷◌, ◌++◌, map, cond, IsSome}
+use Rattle.std.specs.List.{filter, remove}
 use Rattle.ir_model.specs.Ids.{Ids, Distinct}
 use Rattle.ir_model.specs.Forest.{Dialect, Entity, Forest}
 use Rattle.ir_model.specs.Nesting.{In, children, Inside, IsLive, Nested, regions_of}
@@ -31,6 +31,17 @@ module _ {A : Type 0} where
   Sub-map f end = end
   Sub-map f (skip h) = skip (Sub-map f h)
   Sub-map f (keep h) = keep (Sub-map f h)
+
+  pub Sub-append : {xs ys zs ws : List A} → Sub xs ys → Sub zs ws → Sub (xs ++ zs) (ys ++ ws)
+  Sub-append end s = s
+  Sub-append (skip r) s = skip (Sub-append r s)
+  Sub-append (keep r) s = keep (Sub-append r s)
+
+  pub Sub-remove : (xs : List A) (at : ℕ) → Sub (remove xs at) xs
+  Sub-remove [] zero = end
+  Sub-remove [] (suc at) = end
+  Sub-remove (x ∷ xs) zero = skip (Sub-all xs)
+  Sub-remove (x ∷ xs) (suc at) = keep (Sub-remove xs at)
 
   pub Sub-in : {xs ys : List A} (x : A) → Sub xs ys → In x xs → In x ys
   Sub-in x end h = h
