@@ -59,10 +59,10 @@ module _ {W : Dialect} where
     blocks = λ o h. dead _ (λ l. (let e = new_unpassed s.limits s.passed.blocks (live_block s.state) o (m.are_new.blocks o h) in let p : s.passed.blocks o ≡ true = k.passed.blocks o (k.listed.blocks o l) in cc));
     regions = λ o h. dead _ (λ l. (let e = new_unpassed s.limits s.passed.regions (live_region s.state) o (m.are_new.regions o h) in let p : s.passed.regions o ≡ true = k.passed.regions o (k.listed.regions o l) in cc));
     numbers = λ d n h l. (
-      let v : Value context_ids = record { definer = d; number = n } in
-      let e : s.passed.numbers n ≡ false = (m.are_new.numbers n h).1 in
-      let p : s.passed.numbers n ≡ true = k.passed.numbers n (In-map (λ (v : Value context_ids). v.number) v s.state.tables.values (k.listed.values v l)) in
-      cc);
+        let v : Value context_ids = record { definer = d; number = n } in
+        let e : s.passed.numbers n ≡ false = (m.are_new.numbers n h).1 in
+        let p : s.passed.numbers n ≡ true = k.passed.numbers n (In-map (λ (v : Value context_ids). v.number) v s.state.tables.values (k.listed.values v l)) in
+        cc);
     uses = λ o u h l. (let e : s.passed.uses u ≡ false = (m.are_new.uses u h).1 in let p : s.passed.uses u ≡ true = k.passed.uses o u l in cc);
   }
 

@@ -287,9 +287,9 @@ module _ {N : Ids} {W : Dialect} (B : Behaviour W) (L : Lawful N) (s t : State N
       let defines = defines_block L f d.value B.unknown label arguments dead in
       let number : Definition N W → N.ValueNumber = λ x. x.number in
       let kept = made_kept f _ (of_block d.value) [] arguments keys w defines new.numbers (λ n h. elim h [ ])
-          (λ n h. inr (zip-firsts definition number (λ p. refl) new.numbers (these s.tables.types types) n h)) fresh.numbers
-          (λ _. zip-distinct definition number (λ p. refl) new.numbers (these s.tables.types types) fresh.distinct.numbers)
-          (λ k h. inr (let at = zip-seconds definition (λ y. y) (λ (x : Definition N W). x.ty) (λ p. refl) new.numbers (these s.tables.types types) k h in rw at.2 (stored at.0 (these-in s.tables.types types at.0 at.1)))) in
+      (λ n h. inr (zip-firsts definition number (λ p. refl) new.numbers (these s.tables.types types) n h)) fresh.numbers
+      (λ _. zip-distinct definition number (λ p. refl) new.numbers (these s.tables.types types) fresh.distinct.numbers)
+      (λ k h. inr (let at = zip-seconds definition (λ y. y) (λ (x : Definition N W). x.ty) (λ p. refl) new.numbers (these s.tables.types types) k h in rw at.2 (stored at.0 (these-in s.tables.types types at.0 at.1)))) in
       rw d.holds (record {
         forest = kept.forest;
         stored = stored;

@@ -130,8 +130,8 @@ module _ {N : Ids} {W : Dialect} (B : Behaviour W) (L : Lawful N) (kind : ℕ) (
     forest = NewOp-keeps L s.forest (length s.store) w d.value B.unknown kind results used targets new.regions dead fresh.regions fresh.distinct.regions
         (zip-distinct definition (λ (x : Definition N W). x.number) (λ p. refl) new.numbers (these s.tables.types types) fresh.distinct.numbers)
         (Distinct-append _ _ (zip-distinct operand (λ (p : Operand N). p.use_number) (λ p. refl) _ (these s.tables.values operands) (take-distinct (length operands) new.uses fresh.distinct.uses))
-            (zip-distinct successor (λ (p : Successor N). p.use_number) (λ p. refl) _ (these s.tables.blocks successors) (drop-distinct (length operands) new.uses fresh.distinct.uses))
-            (λ u h k. take-drop-apart (length operands) new.uses fresh.distinct.uses u (used_number u h) (target_number u k)))
+        (zip-distinct successor (λ (p : Successor N). p.use_number) (λ p. refl) _ (these s.tables.blocks successors) (drop-distinct (length operands) new.uses fresh.distinct.uses))
+        (λ u h k. take-drop-apart (length operands) new.uses fresh.distinct.uses u (used_number u h) (target_number u k)))
         (λ e n h k. fresh.numbers e n (new_number n h) k)
         (λ p u h k. fresh.uses p u (new_use u h) k)
         live

@@ -154,8 +154,8 @@ module _ {N : Ids} {W : Dialect} where
         at (of_block b) = inr refl
         at (of_op p) = elim (rewrite_at N.same_op L.ops o (on_results G) f.ops p) [
           | inl e ↦ inl (
-            let was : f.ops p ≡ Some r = ap f.ops e.0 ∙ is in
-            (ap of_op e.0, ap (list_of (λ (x : OpRecord N W). x.results)) was, ap (list_of (λ (x : OpRecord N W). x.results)) (e.1 ∙ ap (option_map (on_results G)) was)))
+              let was : f.ops p ≡ Some r = ap f.ops e.0 ∙ is in
+              (ap of_op e.0, ap (list_of (λ (x : OpRecord N W). x.results)) was, ap (list_of (λ (x : OpRecord N W). x.results)) (e.1 ∙ ap (option_map (on_results G)) was)))
           | inr e ↦ inr (ap (list_of (λ (x : OpRecord N W). x.results)) e.1)
         ]
 
@@ -184,8 +184,8 @@ module _ {N : Ids} {W : Dialect} where
         at (of_op b) = inr refl
         at (of_block p) = elim (rewrite_at N.same_block L.blocks b (on_arguments G) f.blocks p) [
           | inl e ↦ inl (
-            let was : f.blocks p ≡ Some r = ap f.blocks e.0 ∙ is in
-            (ap of_block e.0, ap (list_of (λ (x : BlockRecord N W). x.arguments)) was, ap (list_of (λ (x : BlockRecord N W). x.arguments)) (e.1 ∙ ap (option_map (on_arguments G)) was)))
+              let was : f.blocks p ≡ Some r = ap f.blocks e.0 ∙ is in
+              (ap of_block e.0, ap (list_of (λ (x : BlockRecord N W). x.arguments)) was, ap (list_of (λ (x : BlockRecord N W). x.arguments)) (e.1 ∙ ap (option_map (on_arguments G)) was)))
           | inr e ↦ inr (ap (list_of (λ (x : BlockRecord N W). x.arguments)) e.1)
         ]
 

@@ -66,9 +66,9 @@ module _ {N : Ids} {W : Dialect} where
           ⊎ ((uses_of after p ≡ uses_of f p) × (names_of after p ≡ names_of f p))
       use_case p = elim (rewrite_at N.same_op L.ops o (on_uses G H) f.ops p) [
         | inl e ↦ inl (
-          let was : f.ops p ≡ Some r = ap f.ops e.0 ∙ is in
-          let now : after.ops p ≡ Some (on_uses G H r) = e.1 ∙ ap (option_map (on_uses G H)) was in
-          (e.0, uses_are after p ∙ ap (list_of use_numbers) now, uses_are f p ∙ ap (list_of use_numbers) was, names_are after p ∙ ap (list_of named_by) now, names_are f p ∙ ap (list_of named_by) was))
+            let was : f.ops p ≡ Some r = ap f.ops e.0 ∙ is in
+            let now : after.ops p ≡ Some (on_uses G H r) = e.1 ∙ ap (option_map (on_uses G H)) was in
+            (e.0, uses_are after p ∙ ap (list_of use_numbers) now, uses_are f p ∙ ap (list_of use_numbers) was, names_are after p ∙ ap (list_of named_by) now, names_are f p ∙ ap (list_of named_by) was))
         | inr e ↦ inr (uses_are after p ∙ ap (list_of use_numbers) e.1 ∙ sym (uses_are f p), names_are after p ∙ ap (list_of named_by) e.1 ∙ sym (names_are f p))
       ]
 

@@ -6,8 +6,8 @@ use Rattle.ir_model.specs.ContextIds.{context_ids}
 use Rattle.ir_model.specs.Ids.{Distinct}
 use Rattle.ir_model.specs.Forest.{Dialect, Behaviour, Value, a_value}
 use Rattle.ir_model.specs.Nesting.{In, IsLiveNamed, WellFormed, uses_of}
-use Rattle.ir_model.specs.Edits.{Edit, NewType, NewOp}
-use Rattle.ir_model.specs.Sessions.{Session, Step, IsNewSession, live_op, live_block, live_region}
+use Rattle.ir_model.specs.Edits.{Edit}
+use Rattle.ir_model.specs.Sessions.{Session, Step, Run, IsNewSession, live_op, live_block, live_region}
 
 module _ {W : Dialect} where
   -- what is live stands in the tables
@@ -50,8 +50,14 @@ module _ (W : Dialect) where
   NewSessionsAreSound = (s : Session W) → IsNewSession s → Sound s
 
 module _ (W : Dialect) (B : Behaviour W) where
-  -- a stored type and a new operation leave a session sound
-  abbrev pub FirstEditsKeepSound : Type 0
-  FirstEditsKeepSound =
-      ((key : W.Key) → KeepsSound B (NewType key))
-      × ((kind : ℕ) (types operands successors : List ℕ) (regions : ℕ) → KeepsSound B (NewOp kind types operands successors regions))
+  -- every step from a sound session ends in a sound one
+  abbrev pub StepsKeepSound : Type 0
+  StepsKeepSound = (edit : Edit W) → KeepsSound B edit
+
+  -- every run from a sound session ends in a sound one
+  abbrev pub RunsKeepSound : Type 0
+  RunsKeepSound = (edits : List (Edit W)) (s t : Session W) (answers : List Answer) → Sound s → Run B s edits answers t → Sound t
+
+  -- after every run from a new session the forest is well formed
+  abbrev pub RunsAreWellFormed : Type 0
+  RunsAreWellFormed = (edits : List (Edit W)) (s t : Session W) (answers : List Answer) → IsNewSession s → Run B s edits answers t → WellFormed t.state.forest (length t.state.store)

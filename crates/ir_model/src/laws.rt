@@ -1,16 +1,22 @@
 //! Laws of the definitions: what holds of a session from its start and after every step.
 //!
-//! Each law is the contract of a function that takes and does nothing, for the types of any dialect.
+//! Each law is the contract of a function that takes and does nothing, for the types of any dialect and any behaviour of theirs.
 
 ghost use Rattle.ir_model.specs.Forest.{Behaviour};
-ghost use Rattle.ir_model.specs.Soundness.{FirstEditsKeepSound, NewSessionsAreSound};
+ghost use Rattle.ir_model.specs.Soundness.{NewSessionsAreSound, StepsKeepSound, RunsKeepSound, RunsAreWellFormed};
 
 /// A session in which nothing is made yet is sound.
 pub fn new_sessions_are_sound<Key, Body, Attr, Saved, Aux, Loc>()
     ensures { NewSessionsAreSound (record { Key = Key; Body = Body; Attr = Attr; Saved = Saved; Aux = Aux; Loc = Loc }) }
 {}
 
-/// A stored type and a new operation, carried out or refused, keep a sound session sound.
-pub fn first_edits_keep_sound<Key, Body, Attr, Saved, Aux, Loc>()
-    ensures { (behaviour : Behaviour (record { Key = Key; Body = Body; Attr = Attr; Saved = Saved; Aux = Aux; Loc = Loc })) → FirstEditsKeepSound _ behaviour }
+/// Every step from a sound session, of any edit and with any answer, ends in a sound one.
+pub fn steps_keep_sound<Key, Body, Attr, Saved, Aux, Loc>()
+    ensures { (behaviour : Behaviour (record { Key = Key; Body = Body; Attr = Attr; Saved = Saved; Aux = Aux; Loc = Loc })) → StepsKeepSound _ behaviour }
+{}
+
+/// Every run from a sound session ends in a sound one, and so after every run from a new session the forest is well formed.
+pub fn runs_keep_sound<Key, Body, Attr, Saved, Aux, Loc>()
+    ensures sound { (behaviour : Behaviour (record { Key = Key; Body = Body; Attr = Attr; Saved = Saved; Aux = Aux; Loc = Loc })) → RunsKeepSound _ behaviour }
+    ensures well_formed { (behaviour : Behaviour (record { Key = Key; Body = Body; Attr = Attr; Saved = Saved; Aux = Aux; Loc = Loc })) → RunsAreWellFormed _ behaviour }
 {}
