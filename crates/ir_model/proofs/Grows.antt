@@ -23,7 +23,7 @@ module _ {N : Ids} {W : Dialect} where
     pub regions : t.tables.regions ≡ s.tables.regions ++ new.regions
     pub numbers : map (λ (v : Value N). v.number) t.tables.values ≡ map (λ (v : Value N). v.number) s.tables.values ++ new.numbers
     pub values : (v : Value N) → In v s.tables.values → In v t.tables.values
-    pub live_values : (v : Value N) → IsLiveNamed t.forest (a_value v) → IsLiveNamed s.forest (a_value v) ⊎ In v t.tables.values
+    pub live_values : (v : Value N) → IsLiveNamed t.forest (a_value v) → IsLiveNamed s.forest (a_value v) ⊎ (In v t.tables.values × In v.number new.numbers)
     pub uses : (o : N.Op) (u : N.UseNumber) → In u (uses_of t.forest o) → In u (uses_of s.forest o) ⊎ In u new.uses
 
 -- what an edit owes where its condition holds and all that it makes is new
@@ -52,7 +52,7 @@ listed f (inr a) = inr a
 
 module _ {W : Dialect} where
   -- what may be handed out stands nowhere
-  new_not_in : (B : Behaviour W) (s t : Session W) (edit : Edit W) → Sound s → (m : Makes B s edit t) → NotIn s.state.forest m.new
+  pub new_not_in : (B : Behaviour W) (s t : Session W) (edit : Edit W) → Sound s → (m : Makes B s edit t) → NotIn s.state.forest m.new
   new_not_in B s t edit k m = record {
     distinct = m.distinct;
     ops = λ o h. dead _ (λ l. (let e = new_unpassed s.limits s.passed.ops (live_op s.state) o (m.are_new.ops o h) in let p : s.passed.ops o ≡ true = k.passed.ops o (k.listed.ops o l) in cc));
@@ -77,7 +77,7 @@ module _ {W : Dialect} where
           ops = λ o h. still_live _ s.state.tables.ops m.new.ops o g.ops (listed (k.listed.ops o) (back.ops o h));
           blocks = λ o h. still_live _ s.state.tables.blocks m.new.blocks o g.blocks (listed (k.listed.blocks o) (back.blocks o h));
           regions = λ o h. still_live _ s.state.tables.regions m.new.regions o g.regions (listed (k.listed.regions o) (back.regions o h));
-          values = λ v h. elim (g.live_values v h) [ inl l ↦ g.values v (k.listed.values v l) | inr i ↦ i ];
+          values = λ v h. elim (g.live_values v h) [ inl l ↦ g.values v (k.listed.values v l) | inr i ↦ i.0 ];
         };
         passed = record {
           ops = λ o h. (m.passed.ops o).1 (listed (k.passed.ops o) (was_or_new _ s.state.tables.ops m.new.ops o g.ops h));

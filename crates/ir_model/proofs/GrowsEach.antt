@@ -68,7 +68,7 @@ module _ {N : Ids} {W : Dialect} (s t : State N W) (new : Fresh N) (w : WellForm
         regions = append_none _ _ (ap (λ (c : Counts). c.regions) many);
         numbers = numbers_more d s.tables.values (n ∷ []) ∙ ap (λ ns. map (λ (v : Value N). v.number) s.tables.values ++ ns) (sym alone);
         values = λ v h. In-left v s.tables.values _ h;
-        live_values = λ v h. elim (k.values v h) [ inl i ↦ inl i | inr i ↦ inr (In-right v s.tables.values _ (numbered_in v d (n ∷ []) i.0 i.1)) ];
+        live_values = λ v h. elim (k.values v h) [ inl i ↦ inl i | inr i ↦ inr (In-right v s.tables.values _ (numbered_in v d (n ∷ []) i.0 i.1), rw alone i.1) ];
         uses = λ o u h. inl (k.uses o u h);
       })
 
@@ -298,7 +298,7 @@ module _ {N : Ids} {W : Dialect} (B : Behaviour W) (L : Lawful N) (s t : State N
         regions = append_none _ _ (ap (λ (c : Counts). c.regions) many);
         numbers = numbers_more (of_block d.value) s.tables.values new.numbers;
         values = λ v h. In-left v s.tables.values _ h;
-        live_values = λ v h. elim (kept.values v h) [ inl i ↦ inl i | inr i ↦ inr (In-right v s.tables.values _ (numbered_in v (of_block d.value) new.numbers i.0 i.1)) ];
+        live_values = λ v h. elim (kept.values v h) [ inl i ↦ inl i | inr i ↦ inr (In-right v s.tables.values _ (numbered_in v (of_block d.value) new.numbers i.0 i.1), i.1) ];
         uses = λ o u h. inl (kept.uses o u h);
       })
 

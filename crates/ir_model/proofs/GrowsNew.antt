@@ -143,7 +143,7 @@ module _ {N : Ids} {W : Dialect} (B : Behaviour W) (L : Lawful N) (kind : ℕ) (
     numbers = numbers_more (of_op d.value) s.tables.values new.numbers;
     values = λ v h. In-left v s.tables.values _ h;
     live_values = λ v h. elim (definitions_case L s.forest (length s.store) w d.value B.unknown kind results used targets new.regions dead fresh.regions v.definer) [
-      | inl e ↦ inr (In-right v s.tables.values _ (numbered_in v (of_op d.value) new.numbers e.0 (new_number v.number (rw e.1 at h))))
+      | inl e ↦ (let n = new_number v.number (rw e.1 at h) in inr (In-right v s.tables.values _ (numbered_in v (of_op d.value) new.numbers e.0 n), n))
       | inr e ↦ inl (rw e at h)
     ];
     uses = λ o u h. elim (uses_case L s.forest (length s.store) w d.value B.unknown kind results used targets new.regions dead fresh.regions o) [

@@ -9,4 +9,5 @@ pub mod Edits
 pub mod Views
 pub mod Sessions
 pub mod Soundness
+pub mod Gone
 pub mod Arena

@@ -3,6 +3,7 @@
 //! Each law is the contract of a function that takes and does nothing, for the types of any dialect and any behaviour of theirs.
 
 ghost use Rattle.ir_model.specs.Forest.{Behaviour};
+ghost use Rattle.ir_model.specs.Gone.{GoneForGood, ErasedAreGone};
 ghost use Rattle.ir_model.specs.Soundness.{NewSessionsAreSound, StepsKeepSound, RunsKeepSound, RunsAreWellFormed};
 
 /// A session in which nothing is made yet is sound.
@@ -19,4 +20,10 @@ pub fn steps_keep_sound<Key, Body, Attr, Saved, Aux, Loc>()
 pub fn runs_keep_sound<Key, Body, Attr, Saved, Aux, Loc>()
     ensures sound { (behaviour : Behaviour (record { Key = Key; Body = Body; Attr = Attr; Saved = Saved; Aux = Aux; Loc = Loc })) → RunsKeepSound _ behaviour }
     ensures well_formed { (behaviour : Behaviour (record { Key = Key; Body = Body; Attr = Attr; Saved = Saved; Aux = Aux; Loc = Loc })) → RunsAreWellFormed _ behaviour }
+{}
+
+/// An id or a number that is gone is refused for good: no run makes it live again, and what a run erased or removed is gone.
+pub fn gone_for_good<Key, Body, Attr, Saved, Aux, Loc>()
+    ensures gone { (behaviour : Behaviour (record { Key = Key; Body = Body; Attr = Attr; Saved = Saved; Aux = Aux; Loc = Loc })) → GoneForGood _ behaviour }
+    ensures erased { (behaviour : Behaviour (record { Key = Key; Body = Body; Attr = Attr; Saved = Saved; Aux = Aux; Loc = Loc })) → ErasedAreGone _ behaviour }
 {}
