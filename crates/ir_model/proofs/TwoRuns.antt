@@ -19,7 +19,7 @@ use Rattle.ir_model.proofs.Loops.{Lawful}
 use Rattle.ir_model.proofs.Simulation.{History, NewTo, Alike, RestsOn, RestsOn-more, Alike-more}
 use Rattle.ir_model.proofs.Unique.{Change-unique}
 
-number_tells : Tells eqb
+pub number_tells : Tells eqb
 number_tells a b = (eqb-true a b, eq-eqb a b)
 
 and_both : (p q : Bool) → (p && q) ≡ true → (p ≡ true) × (q ≡ true)

@@ -10,4 +10,5 @@ pub mod Views
 pub mod Sessions
 pub mod Soundness
 pub mod Gone
+pub mod Examples
 pub mod Arena
