@@ -1,13 +1,13 @@
 -- An edit of each kind is made.
 use mathlib.Core.Path.{◌≡◌, refl, sym, ap, ◌∙◌, subst}
-use Rattle.std.proofs.Common.{ℕ, ◌<◌, ◌⊎◌, inl, inr, Bool, true, false, Option, Some, None, List, [], ◌∷◌, ◌++◌, map, cond, arith}
+use Rattle.std.proofs.Common.{ℕ, ◌<◌, inl, inr, Bool, true, false, Option, Some, None, List, [], ◌∷◌, ◌++◌, cond, arith}
 use Rattle.std.specs.Option.{option_map}
 use Rattle.ir_model.specs.Ids.{Fresh}
 use Rattle.ir_model.specs.ContextIds.{context_ids, same_id}
-use Rattle.ir_model.specs.Forest.{Dialect, Behaviour, of_op, of_block, Entity, an_op, a_block, a_region, BlockRecord}
-use Rattle.ir_model.specs.Nesting.{In, list_of, children, IsLinked, ops_of, blocks_of}
+use Rattle.ir_model.specs.Forest.{Dialect, Behaviour, of_op, of_block, an_op, a_block, a_region, BlockRecord}
+use Rattle.ir_model.specs.Nesting.{In, list_of, children, IsLinked}
 use Rattle.ir_model.specs.Changes.{on_op, on_block, on_region, on_ops, on_operands, on_successors, operand, successor}
-use Rattle.ir_model.specs.Edits.{Edit, State, over, no_needs, one_number, one_use, needs, NewType, NewOp, NewBlock, AddRegion, PushResult, PushArgument, InsertResult, InsertArgument, RemoveResult, RemoveArgument, PushOperand, PushSuccessor, InsertOperand, InsertSuccessor, RemoveOperand, RemoveSuccessor, ReplaceOperand, ReplaceSuccessor, ReplaceAllUses, RetargetAll, OpFront, OpBack, OpBefore, OpAfter, UnlinkOp, UnlinkBlock, BlockFront, BlockBack, BlockBefore, BlockAfter, AppendOps, AppendBlocks, MoveRegion, DropOpUses, DropBlockUses, DropRegionUses, EraseOp, EraseBlock, EraseRegion}
+use Rattle.ir_model.specs.Edits.{State, over, no_needs, one_number, one_use, NewType, NewOp, NewBlock, AddRegion, PushResult, PushArgument, InsertResult, InsertArgument, RemoveResult, RemoveArgument, PushOperand, PushSuccessor, InsertOperand, InsertSuccessor, RemoveOperand, RemoveSuccessor, ReplaceOperand, ReplaceSuccessor, ReplaceAllUses, RetargetAll, OpFront, OpBack, OpBefore, OpAfter, UnlinkOp, UnlinkBlock, BlockFront, BlockBack, BlockBefore, BlockAfter, AppendOps, AppendBlocks, MoveRegion, DropOpUses, DropBlockUses, DropRegionUses, EraseOp, EraseBlock, EraseRegion}
 use Rattle.ir_model.specs.declared.ids.ArenaIndex.{ArenaIndex}
 use Rattle.ir_model.specs.Examples.{CanBeMade, one_of_each, EachCanBeMade}
 use Rattle.ir_model.proofs.Nests.{In-append, In-map_back}

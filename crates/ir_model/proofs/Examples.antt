@@ -1,20 +1,20 @@
 -- An edit of each kind that can be made.
 use mathlib.Core.Path.{◌≡◌, refl, sym, ap, ◌∙◌, subst}
-use Rattle.std.proofs.Common.{if◌then◌else◌, ℕ, ◌+◌, ◌<◌, ◌≤◌, ◌≢◌, ◌⊎◌, inl, inr, Bool, true, false, ◌||◌, Option, Some, None, List, [], ◌∷◌, ◌++◌, map, length, take, drop, cond, is_some, arith}
-use Rattle.std.specs.List.{list_any, zip}
+use Rattle.std.proofs.Common.{if◌then◌else◌, ℕ, inl, Bool, true, false, Option, Some, None, List, [], ◌∷◌, ◌++◌, cond, arith}
+use Rattle.std.specs.List.{list_any}
 use Rattle.std.specs.Option.{option_map}
-use Rattle.ir_model.specs.Ids.{Ids, Fresh, Counts}
+use Rattle.ir_model.specs.Ids.{Ids, Fresh}
 use Rattle.ir_model.specs.ContextIds.{context_ids, same_id}
-use Rattle.ir_model.specs.Forest.{Dialect, Behaviour, Definer, of_op, of_block, Entity, an_op, a_block, a_region, OpRecord, BlockRecord, Forest, Named, same_entity}
+use Rattle.ir_model.specs.Forest.{Dialect, Behaviour, of_op, of_block, Entity, an_op, a_block, a_region, OpRecord, Forest, Named, same_entity}
 use Rattle.ir_model.specs.Nesting.{In, Within, itself, below, list_of, children, Inside, IsLinked, IsClosed, names_of, ops_of, blocks_of}
-use Rattle.ir_model.specs.Changes.{put, definition, operand, successor, new_op, new_block, no_uses, DropsUses, Removes, unlist}
-use Rattle.ir_model.specs.Edits.{Edit, State, Condition, Change, needs, answer as reply, these, numbered, place_of, with_key, Unused, NewType, NewOp, NewBlock}
+use Rattle.ir_model.specs.Changes.{put, definition, new_op, new_block, no_uses, DropsUses, Removes, unlist}
+use Rattle.ir_model.specs.Edits.{Edit, State, Condition, Change, needs, answer as reply, numbered, place_of, with_key, Unused, NewType, NewOp, NewBlock}
 use Rattle.ir_model.specs.declared.answer.Answer.{Answer}
 use Rattle.ir_model.specs.declared.ids.ArenaIndex.{ArenaIndex}
 use Rattle.ir_model.specs.Sessions.{Session, Step, Run, IsNewSession}
 use Rattle.ir_model.specs.Examples.{CanBeMade}
 use Rattle.ir_model.proofs.Nests.{In-map_back}
-use Rattle.ir_model.proofs.TwoRuns.{empty, id_tells}
+use Rattle.ir_model.proofs.TwoRuns.{empty}
 use Rattle.ir_model.proofs.Loops.{Lawful}
 use Rattle.ir_model.proofs.KeepsErase.{same_self, same_tells}
 use Rattle.ir_model.proofs.KeepsUses.{named_by, names_are}

@@ -1,22 +1,21 @@
 -- Sessions that hand out ids and numbers in order, with room for more.
-use mathlib.Core.Path.{◌≡◌, refl, sym, ap, ◌∙◌, subst}
-use Rattle.std.proofs.Common.{ℕ, zero, suc, ◌+◌, ◌<◌, ◌≤◌, ◌≢◌, ◌⊎◌, ◌↔◌, inl, inr, Bool, true, false, eqb, Option, Some, None, List, [], ◌∷◌, ◌++◌, length, cond, is_some, IsSome, IsTrue, length-append, arith}
+use mathlib.Core.Path.{◌≡◌, refl}
+use Rattle.std.proofs.Common.{ℕ, zero, suc, ◌+◌, ◌<◌, ◌≤◌, ◌⊎◌, ◌↔◌, inl, inr, Bool, true, false, eqb, Option, None, List, [], ◌∷◌, ◌++◌, length, cond, is_some, IsSome, IsTrue, length-append, arith}
 use Rattle.std.specs.List.{list_any, filter}
-use Rattle.ir_model.specs.Ids.{Fresh, Counts, counts, Distinct, FreshDistinct}
+use Rattle.ir_model.specs.Ids.{Fresh, Counts, Distinct}
 use Rattle.ir_model.specs.ContextIds.{context_ids, same_id}
 use Rattle.ir_model.specs.Forest.{Dialect, Behaviour}
 use Rattle.ir_model.specs.Nesting.{In}
 use Rattle.ir_model.specs.Edits.{Edit, State, Condition, Change, needs, answer as reply}
 use Rattle.ir_model.specs.declared.ids.ArenaIndex.{ArenaIndex}
 use Rattle.ir_model.specs.declared.ids.Limits.{Limits}
-use Rattle.ir_model.specs.Sessions.{Passed, Passes, Session, Beside, Step, made, HasRoom, HasNumbers, HasSlots, TakesSlot, IsNewId, AreNew, live_op, live_block, live_region}
+use Rattle.ir_model.specs.Sessions.{Passed, Session, Beside, Step, made, HasRoom, TakesSlot, IsNewId}
 use Rattle.ir_model.specs.Soundness.{Sound}
 use Rattle.ir_model.proofs.Renaming.{Tells}
-use Rattle.ir_model.proofs.Loops.{Lawful}
 use Rattle.ir_model.proofs.Nests.{In-append, In-left, In-right, Absent-not_in, Distinct-append}
 use Rattle.ir_model.proofs.Filters.{In-filter, In-kept, Distinct-filter}
 use Rattle.ir_model.proofs.KeepsNew.{any_in}
-use Rattle.ir_model.proofs.TwoRuns.{lawful, id_tells, number_tells}
+use Rattle.ir_model.proofs.TwoRuns.{id_tells, number_tells}
 
 pub limits : Limits
 limits = record { values = 100; uses = 100; slots = 100; last_version = 3 }

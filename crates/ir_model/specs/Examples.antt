@@ -1,5 +1,5 @@
 -- One edit of each kind, and what it means that an edit can be made.
-use Rattle.std.specs.Prelude.{ℕ, List, [], ◌∷◌, None}
+use Rattle.std.specs.Prelude.{List, [], ◌∷◌, None}
 use Rattle.ir_model.specs.declared.answer.Answer.{Answer}
 use Rattle.ir_model.specs.Forest.{Dialect, Behaviour}
 use Rattle.ir_model.specs.Nesting.{In}

@@ -10,5 +10,6 @@ pub mod Views
 pub mod Sessions
 pub mod Soundness
 pub mod Gone
+pub mod StepLaws
 pub mod Examples
 pub mod Arena

@@ -3,8 +3,10 @@
 //! Each law is the contract of a function that takes and does nothing, for the types of any dialect and any behaviour of theirs.
 
 ghost use Rattle.ir_model.specs.Forest.{Behaviour};
+ghost use Rattle.ir_model.specs.Examples.{EachCanBeMade};
 ghost use Rattle.ir_model.specs.Gone.{GoneForGood, ErasedAreGone};
 ghost use Rattle.ir_model.specs.Soundness.{NewSessionsAreSound, StepsKeepSound, RunsKeepSound, RunsAreWellFormed};
+ghost use Rattle.ir_model.specs.StepLaws.{ConditionIsTold, RefusedLeaveState, AllLeaveTheRest, ChangesAreOne, MovedHomeStays, VersionsRise};
 
 /// A session in which nothing is made yet is sound.
 pub fn new_sessions_are_sound<Key, Body, Attr, Saved, Aux, Loc>()
@@ -26,4 +28,27 @@ pub fn runs_keep_sound<Key, Body, Attr, Saved, Aux, Loc>()
 pub fn gone_for_good<Key, Body, Attr, Saved, Aux, Loc>()
     ensures gone { (behaviour : Behaviour (record { Key = Key; Body = Body; Attr = Attr; Saved = Saved; Aux = Aux; Loc = Loc })) → GoneForGood _ behaviour }
     ensures erased { (behaviour : Behaviour (record { Key = Key; Body = Body; Attr = Attr; Saved = Saved; Aux = Aux; Loc = Loc })) → ErasedAreGone _ behaviour }
+{}
+
+/// An edit of each kind can be made: a run from a new session leads to one that carries it out.
+pub fn edits_can_be_made<Key, Body, Attr, Saved, Aux, Loc>()
+    ensures { (behaviour : Behaviour (record { Key = Key; Body = Body; Attr = Attr; Saved = Saved; Aux = Aux; Loc = Loc })) → EachCanBeMade _ behaviour }
+{}
+
+/// Each single step tells whether the edit's condition held, and a refusal leaves the state as it was.
+pub fn refusals_change_nothing<Key, Body, Attr, Saved, Aux, Loc>()
+    ensures told { (behaviour : Behaviour (record { Key = Key; Body = Body; Attr = Attr; Saved = Saved; Aux = Aux; Loc = Loc })) → ConditionIsTold _ behaviour }
+    ensures left { (behaviour : Behaviour (record { Key = Key; Body = Body; Attr = Attr; Saved = Saved; Aux = Aux; Loc = Loc })) → RefusedLeaveState _ behaviour }
+    ensures rest { (behaviour : Behaviour (record { Key = Key; Body = Body; Attr = Attr; Saved = Saved; Aux = Aux; Loc = Loc })) → AllLeaveTheRest _ behaviour }
+{}
+
+/// What an edit leaves is settled by the ids and numbers that it made, and a region that is moved to its own operation stays where it is.
+pub fn changes_are_settled<Key, Body, Attr, Saved, Aux, Loc>()
+    ensures one { (behaviour : Behaviour (record { Key = Key; Body = Body; Attr = Attr; Saved = Saved; Aux = Aux; Loc = Loc })) → ChangesAreOne _ behaviour }
+    ensures home { (behaviour : Behaviour (record { Key = Key; Body = Body; Attr = Attr; Saved = Saved; Aux = Aux; Loc = Loc })) → MovedHomeStays _ behaviour }
+{}
+
+/// No id comes twice: a new one has a higher version than each that its slot had before.
+pub fn versions_rise<Key, Body, Attr, Saved, Aux, Loc>()
+    ensures { VersionsRise (record { Key = Key; Body = Body; Attr = Attr; Saved = Saved; Aux = Aux; Loc = Loc }) }
 {}

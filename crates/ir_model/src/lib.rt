@@ -13,7 +13,10 @@ mod laws;
 
 pub use answer::{Answer, Refused};
 pub use ids::{ArenaIndex, Limits};
-pub use laws::{gone_for_good, new_sessions_are_sound, runs_keep_sound, steps_keep_sound};
+pub use laws::{
+    changes_are_settled, edits_can_be_made, gone_for_good, new_sessions_are_sound,
+    refusals_change_nothing, runs_keep_sound, steps_keep_sound, versions_rise,
+};
 
 /// The law on two runs: whatever ids and numbers each run chose, they give the same answers and the same view.
 pub fn choices_unseen<Key: Eq, Body, Attr, Saved, Aux, Loc>()
