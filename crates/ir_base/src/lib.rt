@@ -1,7 +1,27 @@
 //! What needs no context: arenas and handles, lists inside records, names, stores, dictionaries, and the trait of a dialect.
 #![tactic(auto)]
 
+mod arena;
+mod dialects;
 mod error;
+mod identifier;
+pub mod interfaces;
+mod ptr;
+mod room;
+mod storage_uniquer;
+#[cfg(test)]
+mod stores_tests;
+mod tally;
+mod type_handle;
+mod type_store;
 
+pub use arena::Arena;
+pub use dialects::{Dialects, unknown_loc};
 pub use error::CoreError;
-pub use ir_model::{ArenaIndex, Limits};
+pub use identifier::{IdentErr, Identifier, MalformedIdentifierErr};
+pub use ir_model::{Answer, ArenaIndex, Limits, Refused};
+pub use ptr::Ptr;
+pub use room::Room;
+pub use storage_uniquer::UniqueStore;
+pub use type_handle::TypeHandle;
+pub use type_store::TypeStore;

@@ -9,11 +9,11 @@ use Rattle.ir_model.specs.Nesting.{In, list_of, children, IsLinked}
 use Rattle.ir_model.specs.Changes.{on_op, on_block, on_region, on_ops, on_operands, on_successors, operand, successor}
 use Rattle.ir_model.specs.Edits.{State, over, no_needs, one_number, one_use, NewType, NewOp, NewBlock, AddRegion, PushResult, PushArgument, InsertResult, InsertArgument, RemoveResult, RemoveArgument, PushOperand, PushSuccessor, InsertOperand, InsertSuccessor, RemoveOperand, RemoveSuccessor, ReplaceOperand, ReplaceSuccessor, ReplaceAllUses, RetargetAll, OpFront, OpBack, OpBefore, OpAfter, UnlinkOp, UnlinkBlock, BlockFront, BlockBack, BlockBefore, BlockAfter, AppendOps, AppendBlocks, MoveRegion, DropOpUses, DropBlockUses, DropRegionUses, EraseOp, EraseBlock, EraseRegion}
 use Rattle.ir_model.specs.declared.ids.ArenaIndex.{ArenaIndex}
-use Rattle.ir_model.specs.Examples.{CanBeMade, one_of_each, EachCanBeMade}
+use Rattle.ir_model.specs.OneOfEach.{CanBeMade, one_of_each, EachCanBeMade}
 use Rattle.ir_model.proofs.Nests.{In-append, In-map_back}
 use Rattle.ir_model.proofs.TwoRuns.{lawful}
 use Rattle.ir_model.proofs.Roomy.{Fits}
-use Rattle.ir_model.proofs.Examples.{Reached, then_edit, can, id, base, base_passed, reached_base, base_bare, alone, bare_unused, bare_closed, bare_drops, bare_op, bare_block, taken, taken_removes}
+use Rattle.ir_model.proofs.BaseRun.{Reached, then_edit, can, id, base, base_passed, reached_base, base_bare, alone, bare_unused, bare_closed, bare_drops, bare_op, bare_block, taken, taken_removes}
 
 abbrev Every : {A : Type 0} → (A → Type 0) → List A → Type 0
 Every P [] = Unit {0}

@@ -7,7 +7,7 @@ use Rattle.ir_model.specs.Ids.{Ids, Fresh, Counts, counts}
 use Rattle.ir_model.specs.Forest.{Dialect, Behaviour, Definer, of_op, Value, Definition, Operand, Successor, Forest, Named, a_value, the_block}
 use Rattle.ir_model.specs.Nesting.{In, IsLiveNamed, WellFormed}
 use Rattle.ir_model.specs.Changes.{definition, operand, successor}
-use Rattle.ir_model.specs.Edits.{State, StoredType, The, Condition, Change, NewType, NewOp, these, numbered, place_of, with_key, needs}
+use Rattle.ir_model.specs.Edits.{State, StoredType, The, Condition, Change, NewType, NewOp, these, numbered, type_place, with_type, needs}
 use Rattle.ir_model.proofs.Loops.{Lawful}
 use Rattle.ir_model.proofs.Nests.{In-append, In-right, In-left, In-map, Distinct-append}
 use Rattle.ir_model.proofs.KeepsNew.{NewOp-keeps, definitions_case, uses_case}
@@ -33,11 +33,11 @@ module _ {A : Type 0} where
   length_push (y ∷ xs) x = (let k = length_push xs x in omega arith)
 
 module _ {W : Dialect} (B : Behaviour W) where
-  stored_within : (store : List (StoredType W)) (key : W.Key) → (length store ≤ length (with_key B store key)) × (place_of B store key < length (with_key B store key))
+  stored_within : (store : List (StoredType W)) (key : W.Key) → (length store ≤ length (with_type B store key)) × (type_place B store key < length (with_type B store key))
   stored_within store key = by (list_any (λ t. B.same_key t.key key) store) refl
     where
       by : (b : Bool) → list_any (λ t. B.same_key t.key key) store ≡ b
-          → (length store ≤ length (cond b store (store ++ record { key = key; body = B.first_body } ∷ []))) × (place_of B store key < length (cond b store (store ++ record { key = key; body = B.first_body } ∷ [])))
+          → (length store ≤ length (cond b store (store ++ record { key = key; body = B.first_body } ∷ []))) × (type_place B store key < length (cond b store (store ++ record { key = key; body = B.first_body } ∷ [])))
       by true e = (omega arith, found_within _ store e)
       by false e =
           let l = length_push store (record { key = key; body = B.first_body }) in

@@ -189,9 +189,6 @@ module _ {W : Dialect} (B : Behaviour W) where
             (new_to s k.new r.made_s k.are_new r.passed_s) (new_to t m.new r.made_t m.are_new r.passed_t) k.distinct m.distinct (k.enough ∙ sym m.enough) k.change m.change;
       }
 
-  Stepped : (s t : Session W) (a b : Answer) → Type 1
-  Stepped s t a b = (a ≡ b) × Related s t
-
   step : (s t s' t' : Session W) (edit : Edit W) (a b : Answer) → Related s t → Outcome s edit a s' → Outcome t edit b t' → (IsSpared a ⊎ IsSpared b → a ≡ b) → (a ≡ b) × Related s' t'
   step s t s' t' edit a b r (refused c e f) (refused d g h) same = (e ∙ sym g, rw (f, h) r)
   step s t s' t' edit a b r (refused c e f) (spared d g h) same = absurd (c (other_condition s t edit r d))

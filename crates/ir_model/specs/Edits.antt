@@ -1,7 +1,7 @@
 -- The edits of a session: their conditions, needs, answers and changes.
 use Rattle.ir_model.specs.declared.answer.Answer.{Answer}
 use Rattle.ir_model.specs.declared.answer.Answer.TheVariants.{Made, Done}
-use Rattle.std.specs.Prelude.{◌≡◌, ◌≢◌, ℕ, ◌+◌, ◌<◌, ◌≤◌, if◌then◌else◌, List, [], ◌∷◌, ◌++◌, map, length, take, drop, Option, Some, IsSome, slice_get}
+use Rattle.std.specs.Prelude.{Bool, ◌≡◌, ◌≢◌, ℕ, ◌+◌, ◌<◌, ◌≤◌, if◌then◌else◌, List, [], ◌∷◌, ◌++◌, map, length, take, drop, Option, Some, IsSome, slice_get}
 use Rattle.std.specs.List.{insert, remove, list_any, zip, filter_map, position_or_len}
 use Rattle.ir_model.specs.Ids.{Ids, Fresh, Counts}
 use Rattle.ir_model.specs.Forest.{Text, Dialect, Behaviour, Definer, of_op, of_block, Value, Entity, an_op, a_block, a_region, OpRecord, BlockRecord, Forest, Named, a_value, the_block}
@@ -82,14 +82,23 @@ Each P (n ∷ ns) = P n × Each P ns
 abbrev pub these : {A : Type 0} → List A → List ℕ → List A
 these table ns = filter_map (slice_get table) ns
 
+module _ {K : Type 0} (same : K → K → Bool) where
+  -- the place of the key among the keys, and where it is not there the place behind the last
+  abbrev pub place_of : List K → K → ℕ
+  place_of keys key = position_or_len (λ k. same k key) keys
+
+  -- the keys with this one: where it is there they are as before, and else it goes last
+  abbrev pub with_key : List K → K → List K
+  with_key keys key = if list_any (λ k. same k key) keys then keys else keys ++ key ∷ []
+
 module _ {W : Dialect} where
   -- the place of the stored type with this key, and where there is none the place behind the last
-  abbrev pub place_of : Behaviour W → List (StoredType W) → W.Key → ℕ
-  place_of B store key = position_or_len (λ t. B.same_key t.key key) store
+  abbrev pub type_place : Behaviour W → List (StoredType W) → W.Key → ℕ
+  type_place B store key = position_or_len (λ t. B.same_key t.key key) store
 
-  -- the stored types with this key: where it is there they are as before, and else it is appended with the first body
-  abbrev pub with_key : Behaviour W → List (StoredType W) → W.Key → List (StoredType W)
-  with_key B store key = if list_any (λ t. B.same_key t.key key) store then store else store ++ record { key = key; body = B.first_body } ∷ []
+  -- the stored types with this key: where it is there they are as before, and else it goes last with the first body
+  abbrev pub with_type : Behaviour W → List (StoredType W) → W.Key → List (StoredType W)
+  with_type B store key = if list_any (λ t. B.same_key t.key key) store then store else store ++ record { key = key; body = B.first_body } ∷ []
 
 module _ {N : Ids} where
   abbrev pub numbered : Definer N → List N.ValueNumber → List (Value N)
@@ -207,8 +216,8 @@ module _ {N : Ids} {W : Dialect} where
   abbrev pub Change : Behaviour W → State N W → Edit W → Fresh N → State N W → Type 0
   Change B s (NewType key) new t =
       t ≡ record s {
-        store = with_key B s.store key;
-        tables = record (s.tables) { types = s.tables.types ++ place_of B s.store key ∷ [] };
+        store = with_type B s.store key;
+        tables = record (s.tables) { types = s.tables.types ++ type_place B s.store key ∷ [] };
       }
   Change B s (NewOp kind types operands successors regions) new t = The (slice_get new.ops 0) λ o.
       t ≡ record s {

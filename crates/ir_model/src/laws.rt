@@ -3,7 +3,7 @@
 //! Each law is the contract of a function that takes and does nothing, for the types of any dialect and any behaviour of theirs.
 
 ghost use Rattle.ir_model.specs.Forest.{Behaviour};
-ghost use Rattle.ir_model.specs.Examples.{EachCanBeMade};
+ghost use Rattle.ir_model.specs.OneOfEach.{EachCanBeMade};
 ghost use Rattle.ir_model.specs.Gone.{GoneForGood, ErasedAreGone};
 ghost use Rattle.ir_model.specs.Soundness.{NewSessionsAreSound, StepsKeepSound, RunsKeepSound, RunsAreWellFormed};
 ghost use Rattle.ir_model.specs.StepLaws.{ConditionIsTold, RefusedLeaveState, AllLeaveTheRest, ChangesAreOne, MovedHomeStays, VersionsRise};

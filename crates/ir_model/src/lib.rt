@@ -8,10 +8,21 @@ ghost use Rattle.ir_model.specs.Forest.{Dialect};
 ghost use Rattle.ir_model.specs.Sessions.{TwoRuns};
 
 mod answer;
+mod definition_laws;
+#[cfg(test)]
+mod definition_laws_tests;
+mod examples;
 mod ids;
 mod laws;
+#[cfg(test)]
+mod laws_tests;
 
 pub use answer::{Answer, Refused};
+pub use definition_laws::{
+    removal_is_one, replaced_takes_uses, retargeted_takes_uses, sources_apart, subtree_size_is_one,
+    successors_meet_predecessors, unique_names_tell, unlinked_goes_back,
+};
+pub use examples::worked_rows;
 pub use ids::{ArenaIndex, Limits};
 pub use laws::{
     changes_are_settled, edits_can_be_made, gone_for_good, new_sessions_are_sound,

@@ -1,4 +1,4 @@
--- An edit of each kind that can be made.
+-- Runs from a new session to ones in which an edit of each kind can be made.
 use mathlib.Core.Path.{◌≡◌, refl, sym, ap, ◌∙◌, subst}
 use Rattle.std.proofs.Common.{if◌then◌else◌, ℕ, inl, Bool, true, false, Option, Some, None, List, [], ◌∷◌, ◌++◌, cond, arith}
 use Rattle.std.specs.List.{list_any}
@@ -8,11 +8,11 @@ use Rattle.ir_model.specs.ContextIds.{context_ids, same_id}
 use Rattle.ir_model.specs.Forest.{Dialect, Behaviour, of_op, of_block, Entity, an_op, a_block, a_region, OpRecord, Forest, Named, same_entity}
 use Rattle.ir_model.specs.Nesting.{In, Within, itself, below, list_of, children, Inside, IsLinked, IsClosed, names_of, ops_of, blocks_of}
 use Rattle.ir_model.specs.Changes.{put, definition, new_op, new_block, no_uses, DropsUses, Removes, unlist}
-use Rattle.ir_model.specs.Edits.{Edit, State, Condition, Change, needs, answer as reply, numbered, place_of, with_key, Unused, NewType, NewOp, NewBlock}
+use Rattle.ir_model.specs.Edits.{Edit, State, Condition, Change, needs, answer as reply, numbered, type_place, with_type, Unused, NewType, NewOp, NewBlock}
 use Rattle.ir_model.specs.declared.answer.Answer.{Answer}
 use Rattle.ir_model.specs.declared.ids.ArenaIndex.{ArenaIndex}
 use Rattle.ir_model.specs.Sessions.{Session, Step, Run, IsNewSession}
-use Rattle.ir_model.specs.Examples.{CanBeMade}
+use Rattle.ir_model.specs.OneOfEach.{CanBeMade}
 use Rattle.ir_model.proofs.Nests.{In-map_back}
 use Rattle.ir_model.proofs.TwoRuns.{empty}
 use Rattle.ir_model.proofs.Loops.{Lawful}
@@ -172,7 +172,7 @@ module _ {W : Dialect} (B : Behaviour W) where
 
   module _ (key : W.Key) where
     abbrev typed : State context_ids W
-    typed = record (empty {W = W} context_ids) { store = with_key B [] key; tables = record ((empty {W = W} context_ids).tables) { types = place_of B [] key ∷ [] } }
+    typed = record (empty {W = W} context_ids) { store = with_type B [] key; tables = record ((empty {W = W} context_ids).tables) { types = type_place B [] key ∷ [] } }
 
     -- with a result and two regions
     abbrev first_op : State context_ids W

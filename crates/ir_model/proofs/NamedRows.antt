@@ -1,0 +1,172 @@
+-- The facts of the worked examples of names.
+use mathlib.Core.Path.{◌≡◌, refl, sym, ap, ◌∙◌, subst}
+use Rattle.std.proofs.Common.{ℕ, ◌+◌, ◌<◌, ◌^◌, ◌-◌, inl, inr, Bool, true, false, ◌||◌, cond, Option, Some, None, List, [], ◌∷◌, ◌++◌, map, arith}
+use Rattle.std.specs.Prelude.{codes, decimal, MatchOption}
+use Rattle.std.specs.List.{list_any}
+use Rattle.std.specs.Str.{chars}
+use Rattle.std.specs.Ordering.{nat_cmp, eq_by_cmp}
+use Rattle.std.specs.Cmp.Lexicographic.{slice_cmp, nat_list_cmp_total}
+use Rattle.std.specs.FinMap as finite
+use Rattle.std.proofs.lemmas.Fmt.{decimal_digit}
+use Rattle.ir_model.specs.declared.ids.ArenaIndex.{ArenaIndex}
+use Rattle.ir_model.specs.ContextIds.{context_ids, same_id}
+use Rattle.ir_model.specs.Forest.{Text, OpRecord, Operand, Successor, Named, a_value, an_op, a_region, the_block}
+use Rattle.ir_model.specs.Nesting.{In, itself, below, names_of, list_of}
+use Rattle.ir_model.specs.Names.{value_id, block_id, unique_name}
+use Rattle.ir_model.specs.Legaliser.{Given, nothing_given, name_of, IsFree, base, numbered, Chooses, GivesNew, Gives}
+use Rattle.ir_model.specs.SmallForests.{bare}
+use Rattle.ir_model.proofs.Legalisers.{sources_apart, text_itself, gives_named, gives_keeps}
+use Rattle.ir_model.specs.NamedRows.{first, second, UniqueNames, op_of_kind, one_block, EntryBlock, LegaliseClashes}
+
+zero_text : decimal 0 ≡ codes "0"
+zero_text = decimal_digit 0 (omega arith)
+
+one_text : decimal 1 ≡ codes "1"
+one_text = decimal_digit 1 (omega arith)
+
+two_text : decimal 2 ≡ codes "2"
+two_text = decimal_digit 2 (omega arith)
+
+block_one : block_id first ≡ codes "block1v1"
+block_one = ap (λ t. codes "block" ++ (t ++ codes "v" ++ t)) one_text
+
+block_two : block_id second ≡ codes "block2v1"
+block_two = ap (λ t. codes "block" ++ (t ++ codes "v" ++ decimal 1)) two_text ∙ ap (λ t. codes "block2v" ++ t) one_text
+
+value_zero : value_id 0 ≡ codes "v0"
+value_zero = ap (λ t. codes "v" ++ t) zero_text
+
+pub unique_names : UniqueNames
+unique_names = record {
+  unlabelled = block_one;
+  labelled = ap (unique_name (Some (codes "entry"))) block_two;
+  value = ap (unique_name (Some (codes "c0"))) value_zero;
+  like_a_block = ap (unique_name (Some (codes "block1"))) value_zero;
+}
+
+-- what a record names
+abbrev named_by : Option (OpRecord context_ids bare) → List (Named context_ids)
+named_by m = map (λ (p : Operand context_ids). a_value p.value) (list_of (λ r. r.operands) m) ++ map (λ (p : Successor context_ids). the_block p.block) (list_of (λ r. r.successors) m)
+
+-- without a branch nothing is named
+nothing_named : (o b : ArenaIndex) → In (the_block b) (names_of (one_block []) o) → ⊥
+nothing_named o b h = by (same_id o first) (same_id o second) h
+  where
+    by : (s t : Bool) → In (the_block b) (named_by (cond s (Some (op_of_kind 5 [] (first ∷ []))) (cond t (Some (op_of_kind 3 [] [])) None))) → ⊥
+    by true t k = k
+    by false true k = k
+    by false false k = k
+
+pub entry_block : EntryBlock
+entry_block = record {
+  stands = (first, below {c = a_region first} (inl refl) (below {c = an_op first} (inl refl) itself), record { value = _; found = refl; holds = sym block_one }, (first, refl), (second, inl refl));
+  not_without = λ name h. nothing_named h.4.0 h.0 h.4.1;
+}
+
+-- what is given, as a list of pairs
+abbrev names_given : List (Text × Text) → finite.FinMap (slice_cmp nat_cmp) Text
+names_given [] = finite.empty
+names_given (p ∷ pairs) = finite.insert (names_given pairs) p.0 p.1
+
+abbrev given : List (Text × Text) → ℕ → Given
+given pairs counter = record { names = names_given pairs; counter = counter }
+
+abbrev same_text : Text → Text → Bool
+same_text = eq_by_cmp (slice_cmp nat_cmp)
+
+abbrev look_up : List (Text × Text) → Text → Option Text
+look_up [] q = None
+look_up (p ∷ pairs) q = cond (same_text q p.0) (Some p.1) (look_up pairs q)
+
+found : (pairs : List (Text × Text)) (counter : ℕ) (q : Text) → name_of (given pairs counter) q ≡ look_up pairs q
+found [] counter q = finite.get-empty (slice_cmp nat_cmp) q
+found (p ∷ pairs) counter q =
+    finite.get-insert nat_list_cmp_total (names_given pairs) p.0 p.1 q ∙ ap (λ m. cond (same_text q p.0) (Some p.1) m) (found pairs counter q)
+
+-- no pair has the name
+not_found : (pairs : List (Text × Text)) (name q : Text) → list_any (λ p. same_text name p.1) pairs ≡ false → look_up pairs q ≡ Some name → ⊥
+not_found [] name q n h = cc
+not_found (p ∷ pairs) name q n h = at (not_found pairs name q) (same_text q p.0) (same_text name p.1) refl n h
+  where
+    at : (list_any (λ r. same_text name r.1) pairs ≡ false → look_up pairs q ≡ Some name → ⊥) → (t u : Bool) → same_text name p.1 ≡ u
+        → (u || list_any (λ r. same_text name r.1) pairs) ≡ false → cond t (Some p.1) (look_up pairs q) ≡ Some name → ⊥
+    at more true true e n h = cc
+    at more true false e n h = (let s : p.1 ≡ name = cc in let k : same_text name p.1 ≡ true = ap (same_text name) s ∙ text_itself name in cc)
+    at more false true e n h = cc
+    at more false false e n h = more n h
+
+free_by : (pairs : List (Text × Text)) (counter : ℕ) (name : Text) → list_any (λ p. same_text name p.1) pairs ≡ false → IsFree (given pairs counter) name
+free_by pairs counter name none q e = not_found pairs name q none (sym (found pairs counter q) ∙ e)
+
+taken_by : (pairs : List (Text × Text)) (counter : ℕ) (name q : Text) → look_up pairs q ≡ Some name → IsFree (given pairs counter) name → ⊥
+taken_by pairs counter name q e free = free q (found pairs counter q ∙ e)
+
+-- what a call gives a new source
+new_given : (pairs : List (Text × Text)) (counter next : ℕ) (source name : Text) → look_up pairs source ≡ None → Chooses (IsFree (given pairs counter)) counter source name next
+    → Gives (given pairs counter) source name (given ((source, name) ∷ pairs) next)
+new_given pairs counter next source name unknown chosen =
+    subst (λ m. MatchOption m (GivesNew (given pairs counter) source name (given ((source, name) ∷ pairs) next)) (λ known. (name ≡ known) × (given ((source, name) ∷ pairs) next ≡ given pairs counter)))
+    (sym (found pairs counter source ∙ unknown)) (record { chosen = chosen; new_is = refl })
+
+-- its base, where that is free
+gives_base : (pairs : List (Text × Text)) (counter : ℕ) (source name : Text) → look_up pairs source ≡ None → base source ≡ name → list_any (λ p. same_text name p.1) pairs ≡ false
+    → Gives (given pairs counter) source name (given ((source, name) ∷ pairs) counter)
+gives_base pairs counter source name unknown is free = new_given pairs counter counter source name unknown
+    (inl (record { is_free = subst (IsFree (given pairs counter)) (sym is) (free_by pairs counter name free); name_is = sym is; next_is = refl }))
+
+-- its base with the counter, where the base is taken and that is free
+gives_numbered : (pairs : List (Text × Text)) (counter : ℕ) (source text name holder : Text) → look_up pairs source ≡ None → base source ≡ text → look_up pairs holder ≡ Some text
+    → numbered text counter ≡ name → list_any (λ p. same_text name p.1) pairs ≡ false → counter < 2 ^ 64 - 1
+    → Gives (given pairs counter) source name (given ((source, name) ∷ pairs) (counter + 1))
+gives_numbered pairs counter source text name holder unknown is held named free small = new_given pairs counter (counter + 1) source name unknown
+    (inr (record {
+      number = counter;
+      taken = λ f. taken_by pairs counter text holder held (subst (IsFree (given pairs counter)) is f);
+      is_next = record {
+        from = omega arith;
+        is_free = subst (λ t. IsFree (given pairs counter) (numbered t counter)) (sym is) (subst (IsFree (given pairs counter)) (sym named) (free_by pairs counter name free));
+        least = λ d p q. absurd (omega (arith, p, q));
+      };
+      below = small;
+      name_is = sym named ∙ ap (λ t. numbered t counter) (sym is);
+      next_is = refl;
+    }))
+
+hello_dot : base (codes "hello.") ≡ codes "hello_"
+unfolding chars
+hello_dot = refl
+
+empty_base : base (codes "") ≡ codes "_"
+unfolding chars
+empty_base = refl
+
+pub clashes : LegaliseClashes
+clashes = record {
+  given = (
+    _,
+    (
+      _,
+      gives_base [] 0 (codes "hello_") (codes "hello_") refl refl refl,
+      (
+        _,
+        gives_numbered ((codes "hello_", codes "hello_") ∷ []) 0 (codes "hello.") (codes "hello_") (codes "hello__0") (codes "hello_") refl hello_dot refl (ap (λ t. codes "hello__" ++ t) zero_text) refl (omega arith),
+        (
+          _,
+          gives_numbered ((codes "hello.", codes "hello__0") ∷ (codes "hello_", codes "hello_") ∷ []) 1 (codes "hello__0") (codes "hello__0") (codes "hello__0_1") (codes "hello.") refl refl refl (ap (λ t. codes "hello__0_" ++ t) one_text) refl (omega arith),
+          (
+            _,
+            gives_base ((codes "hello__0", codes "hello__0_1") ∷ (codes "hello.", codes "hello__0") ∷ (codes "hello_", codes "hello_") ∷ []) 2 (codes "") (codes "_") refl empty_base refl,
+            (_, gives_numbered ((codes "", codes "_") ∷ (codes "hello__0", codes "hello__0_1") ∷ (codes "hello.", codes "hello__0") ∷ (codes "hello_", codes "hello_") ∷ []) 2 (codes "_") (codes "_") (codes "__2") (codes "") refl refl refl (ap (λ t. codes "__" ++ t) two_text) refl (omega arith), refl),
+          ),
+        ),
+      ),
+    ),
+  );
+  not_twice = λ s r.
+      let one = gives_named (nothing_given 0) r.0 (codes "hello_") (codes "hello_") r.1 in
+      let kept = gives_keeps r.0 r.2.0 (codes "hello.") (codes "hello_") (codes "hello_") (codes "hello_") r.2.1 one in
+      let two = gives_named r.0 r.2.0 (codes "hello.") (codes "hello_") r.2.1 in
+      let same = sources_apart 0 ((codes "hello_", codes "hello_") ∷ (codes "hello.", codes "hello_") ∷ []) r.2.0 (r.0, r.1, (r.2.0, r.2.1, refl)) (codes "hello_") (codes "hello.") (codes "hello_") kept two in
+      let wrong : true ≡ false = ap (same_text (codes "hello_")) same in
+      cc;
+}

@@ -1,0 +1,76 @@
+-- Saved data, auxiliary data and attribute dictionaries.
+use Rattle.std.specs.Prelude.{◌≡◌, ℕ, Bool, true, false, List, [], ◌∷◌, ◌++◌, map, Option, Some, None, bytes_eq, if◌then◌else◌, not, filter}
+use Rattle.std.specs.List.{list_any, position_or_len, find}
+use Rattle.std.specs.Option.{option_map}
+use Rattle.ir_model.specs.declared.ids.ArenaIndex.{ArenaIndex}
+use Rattle.ir_model.specs.ContextIds.{same_id}
+use Rattle.ir_model.specs.Ids.{Distinct}
+use Rattle.ir_model.specs.Forest.{Text, Dialect}
+use Rattle.ir_model.specs.Changes.{put}
+use Rattle.ir_model.specs.Sessions.{Beside}
+
+-- distinct values: a value that is there keeps its place, and another goes last
+module _ {A : Type 0} (same : A → A → Bool) where
+  -- the value is there
+  abbrev pub is_stored : List A → A → Bool
+  is_stored values x = list_any (λ y. same y x) values
+
+  -- the place of the value, and where it is not there the place behind the last
+  abbrev pub place_among : List A → A → ℕ
+  place_among values x = position_or_len (λ y. same y x) values
+
+  -- the values with this one
+  abbrev pub with_value : List A → A → List A
+  with_value values x = if is_stored values x then values else values ++ x ∷ []
+
+  -- no value is the same as an earlier one
+  abbrev pub AreApart : List A → Type 0
+  AreApart [] = Unit {0}
+  AreApart (x ∷ xs) = (is_stored xs x ≡ false) × AreApart xs
+
+-- auxiliary data: a map from indices, and one from names to indices
+module _ {W : Dialect} where
+  -- the data under a new index
+  abbrev pub with_aux : Beside W → ArenaIndex → W.Aux → Beside W
+  with_aux b i data_ = record b {
+    aux = put same_id i data_ b.aux;
+    aux_passed = λ j. if same_id j i then true else b.aux_passed j;
+  }
+
+  -- the data without the entry; the names stay
+  abbrev pub without_aux : Beside W → ArenaIndex → Beside W
+  without_aux b i = record b { aux = λ j. if same_id j i then None else b.aux j }
+
+  -- the name leads to the index, also where it led elsewhere
+  abbrev pub with_aux_name : Beside W → Text → ArenaIndex → Beside W
+  with_aux_name b name i = record b { aux_names = put bytes_eq name i b.aux_names }
+
+-- attribute dictionaries: lists of pairs with distinct keys
+module _ {A : Type 0} where
+  -- the attribute under the key, where there is one
+  abbrev pub attribute_at : List (Text × A) → Text → Option A
+  attribute_at pairs key = option_map (λ p. p.1) (find (λ p. bytes_eq p.0 key) pairs)
+
+  -- a key that is there keeps its place and gets the attribute, and a new one goes last
+  abbrev pub set_attribute : List (Text × A) → Text → A → List (Text × A)
+  set_attribute [] key a = (key, a) ∷ []
+  set_attribute (p ∷ pairs) key a = if bytes_eq p.0 key then (key, a) ∷ pairs else p ∷ set_attribute pairs key a
+
+  -- the pair with the key is taken out, and the rest keep their order
+  abbrev pub without_attribute : List (Text × A) → Text → List (Text × A)
+  without_attribute pairs key = filter (λ p. not (bytes_eq p.0 key)) pairs
+
+  -- no key stands twice
+  abbrev pub HasDistinctKeys : List (Text × A) → Type 0
+  HasDistinctKeys pairs = Distinct (map (λ p. p.0) pairs)
+
+  -- both are there and pass the test, or neither is there
+  abbrev pub SameAttribute : (A → A → Bool) → Option A → Option A → Type 0
+  SameAttribute same None None = Unit {0}
+  SameAttribute same None (Some b) = ⊥
+  SameAttribute same (Some a) None = ⊥
+  SameAttribute same (Some a) (Some b) = same a b ≡ true
+
+  -- the same keys lead to the same attributes, in whatever order
+  abbrev pub SameAttributes : (A → A → Bool) → List (Text × A) → List (Text × A) → Type 0
+  SameAttributes same pairs others = (key : Text) → SameAttribute same (attribute_at pairs key) (attribute_at others key)

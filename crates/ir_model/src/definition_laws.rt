@@ -1,0 +1,51 @@
+//! Laws that speak of the definitions alone: what the crates above may take as given of them.
+//!
+//! Each is the contract of a function that takes and does nothing, for every choice of a dialect's types.
+
+ghost use Rattle.std.specs.Prelude.{ℕ, Bool};
+ghost use Rattle.ir_model.specs.Forest.{Dialect, Behaviour};
+ghost use Rattle.ir_model.specs.DefinitionLaws.{UnlinkedGoesBack, UniqueNamesTell, RemovalIsOne, SubtreeSizeIsOne, ReplacedTakesUses, RetargetedTakesUses, SuccessorsMeetPredecessors, SourcesApart};
+
+/// An operation or block that is unlinked and put back where it stood leaves the forest as it was.
+///
+/// It stood behind another one, or at the front.
+pub fn unlinked_goes_back<Key, Body, Attr, Saved, Aux, Loc>()
+    ensures { UnlinkedGoesBack (record { Key = Key; Body = Body; Attr = Attr; Saved = Saved; Aux = Aux; Loc = Loc }) }
+{}
+
+/// Equal unique names of two values, or of two blocks, are names of one, and no value shares its name with a block.
+///
+/// The given names may be any texts.
+pub fn unique_names_tell<Key, Body, Attr, Saved, Aux, Loc>()
+    ensures { UniqueNamesTell (record { Key = Key; Body = Body; Attr = Attr; Saved = Saved; Aux = Aux; Loc = Loc }) }
+{}
+
+/// What a removal leaves is determined: the forest, the uses in it, and that nothing names what is gone.
+pub fn removal_is_one<Key, Body, Attr, Saved, Aux, Loc>()
+    ensures { RemovalIsOne (record { Key = Key; Body = Body; Attr = Attr; Saved = Saved; Aux = Aux; Loc = Loc }) }
+{}
+
+/// How many entities lie inside one is determined: any two lists of them without repeats are equally long.
+pub fn subtree_size_is_one<Key, Body, Attr, Saved, Aux, Loc>()
+    ensures { SubtreeSizeIsOne (record { Key = Key; Body = Body; Attr = Attr; Saved = Saved; Aux = Aux; Loc = Loc }) }
+{}
+
+/// After all uses of a value were replaced by another value, the first has none and the other has as many as both had.
+pub fn replaced_takes_uses<Key, Body, Attr, Saved, Aux, Loc>()
+    ensures { ReplacedTakesUses (record { Key = Key; Body = Body; Attr = Attr; Saved = Saved; Aux = Aux; Loc = Loc }) }
+{}
+
+/// After all uses of a block were retargeted to another block, the first has none and the other has as many as both had.
+pub fn retargeted_takes_uses<Key, Body, Attr, Saved, Aux, Loc>()
+    ensures { RetargetedTakesUses (record { Key = Key; Body = Body; Attr = Attr; Saved = Saved; Aux = Aux; Loc = Loc }) }
+{}
+
+/// Where each operation with a successor is the terminator of a block, b is among the successors of a exactly where a is among the predecessors of b.
+pub fn successors_meet_predecessors<Key: Eq, Body, Attr, Saved, Aux, Loc>()
+    ensures { (first : Body) (unknown : Loc) (impls : ℕ → ℕ → Bool) → SuccessorsMeetPredecessors (record { Key = Key; Body = Body; Attr = Attr; Saved = Saved; Aux = Aux; Loc = Loc }) (record { same_key = Key.eq; first_body = first; unknown = unknown; op_impls = impls }) }
+{}
+
+/// Whatever calls a legaliser was given, no two sources have one identifier.
+pub fn sources_apart()
+    ensures { SourcesApart }
+{}
