@@ -119,7 +119,7 @@ module _ {W : Dialect} where
           blocks = λ i l n. (r.blocks i (k.passed.blocks i (k.listed.blocks i l)), n);
           regions = λ i l n. (r.regions i (k.passed.regions i (k.listed.regions i l)), n);
           numbers = λ m l n. (
-            let v : Value context_ids = record { definer = l.0; number = m } in
-            (r.numbers m (k.passed.numbers m (In-map (λ (v : Value context_ids). v.number) v s.state.tables.values (k.listed.values v l.1))), n));
+              let v : Value context_ids = record { definer = l.0; number = m } in
+              (r.numbers m (k.passed.numbers m (In-map (λ (v : Value context_ids). v.number) v s.state.tables.values (k.listed.values v l.1))), n));
           uses = λ u l n. (r.uses u (k.passed.uses l.0 u l.1), n);
         }

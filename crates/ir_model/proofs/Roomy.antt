@@ -170,13 +170,22 @@ slot_room : {R : Type 0} (xs : List ArenaIndex) (k : ℕ) (m : ArenaIndex → Op
     → HasRoom 100 (TakesSlot limits (λ i. list_any (λ j. same_id j i) xs) (λ i. IsSome (m i))) k
 unfolding limits
 slot_room xs k m o fits live =
-    let shorter = filter-shorter (λ i. is_some (m i)) xs in
-    (length (filter (λ i. is_some (m i)) xs), (filter (λ i. is_some (m i)) xs, Distinct-filter (λ i. is_some (m i)) xs o.0, λ i. (
-      λ h. inl (In-filter (λ i. is_some (m i)) i xs h).1,
-      λ h. elim h [
-        | inl l ↦ In-kept (λ i. is_some (m i)) i xs (live i l) l
-        | inr p ↦ absurd (let at = o.1 i ((any_iff same_id id_tells xs i).0 p.0) in let late = p.2 in omega arith)
-      ]), refl), omega arith)
+    let shorter = filter-shorter (λ i. is_some (m i)) xs in (
+      length (filter (λ i. is_some (m i)) xs),
+      (
+        filter (λ i. is_some (m i)) xs,
+        Distinct-filter (λ i. is_some (m i)) xs o.0,
+        λ i. (
+          λ h. inl (In-filter (λ i. is_some (m i)) i xs h).1,
+          λ h. elim h [
+            | inl l ↦ In-kept (λ i. is_some (m i)) i xs (live i l) l
+            | inr p ↦ absurd (let at = o.1 i ((any_iff same_id id_tells xs i).0 p.0) in let late = p.2 in omega arith)
+          ],
+        ),
+        refl,
+      ),
+      omega arith,
+    )
 
 new_id : (xs : List ArenaIndex) (k : ℕ) (live : ArenaIndex → Type 0) → InOrderIds xs → length xs + k ≤ 100 → (i : ArenaIndex) → In i (ids_from (length xs) k) → IsNewId limits (λ i. list_any (λ j. same_id j i) xs) live i
 unfolding limits
