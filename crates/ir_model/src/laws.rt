@@ -7,6 +7,7 @@ ghost use Rattle.ir_model.specs.OneOfEach.{EachCanBeMade};
 ghost use Rattle.ir_model.specs.Gone.{GoneForGood, ErasedAreGone};
 ghost use Rattle.ir_model.specs.Soundness.{NewSessionsAreSound, StepsKeepSound, RunsKeepSound, RunsAreWellFormed};
 ghost use Rattle.ir_model.specs.StepLaws.{ConditionIsTold, RefusedLeaveState, AllLeaveTheRest, ChangesAreOne, MovedHomeStays, VersionsRise};
+ghost use Rattle.ir_model.specs.Uniquing.{RunsKeepUniqued, HandlesStay, OneHandle};
 
 /// A session in which nothing is made yet is sound.
 pub fn new_sessions_are_sound<Key, Body, Attr, Saved, Aux, Loc>()
@@ -51,4 +52,11 @@ pub fn changes_are_settled<Key, Body, Attr, Saved, Aux, Loc>()
 /// No id comes twice: a new one has a higher version than each that its slot had before.
 pub fn versions_rise<Key, Body, Attr, Saved, Aux, Loc>()
     ensures { VersionsRise (record { Key = Key; Body = Body; Attr = Attr; Saved = Saved; Aux = Aux; Loc = Loc }) }
+{}
+
+/// Type handles are exact: no run changes the type that one means, or stores a key twice, and so two whose types have one key are one.
+pub fn handles_are_exact<Key, Body, Attr, Saved, Aux, Loc>()
+    ensures uniqued { (behaviour : Behaviour (record { Key = Key; Body = Body; Attr = Attr; Saved = Saved; Aux = Aux; Loc = Loc })) → RunsKeepUniqued _ behaviour }
+    ensures stay { (behaviour : Behaviour (record { Key = Key; Body = Body; Attr = Attr; Saved = Saved; Aux = Aux; Loc = Loc })) → HandlesStay _ behaviour }
+    ensures one { (behaviour : Behaviour (record { Key = Key; Body = Body; Attr = Attr; Saved = Saved; Aux = Aux; Loc = Loc })) → OneHandle _ behaviour }
 {}
