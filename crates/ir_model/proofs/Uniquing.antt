@@ -19,7 +19,7 @@ less_or_not : (i j : ℕ) → (i < j) ⊎ ((i ≡ j) ⊎ (j < i))
 less_or_not i j = elim (cases_eq i j) [ inl e ↦ inr (inl e) | inr n ↦ elim (cases_lt i j) [ inl h ↦ inl h | inr h ↦ inr (inr (omega arith)) ] ]
 
 module _ {A : Type 0} where
-  still_at : (xs ys : List A) (k : ℕ) (x : A) → slice_get xs k ≡ Some x → slice_get (xs ++ ys) k ≡ Some x
+  pub still_at : (xs ys : List A) (k : ℕ) (x : A) → slice_get xs k ≡ Some x → slice_get (xs ++ ys) k ≡ Some x
   still_at [] ys k x e = absurd cc
   still_at (y ∷ xs) ys zero x e = e
   still_at (y ∷ xs) ys (suc k) x e = still_at xs ys k x e
@@ -129,10 +129,12 @@ module _ {W : Dialect} (B : Behaviour W) where
 
   pub runs_keep_uniqued : RunsKeepUniqued W B
   runs_keep_uniqued [] s t answers u r = rw r.1 u
-  runs_keep_uniqued (edit ∷ rest) s t answers u r = runs_keep_uniqued rest r.2 t r.1 (record { keys = elim (step_store edit s r.2 r.0 r.4) [
-    | inl e ↦ subst Apart (sym e) u.keys
-    | inr e ↦ subst Apart (sym e.1) (with_apart s.state.store e.0 u.keys)
-  ] }) r.5
+  runs_keep_uniqued (edit ∷ rest) s t answers u r = runs_keep_uniqued rest r.2 t r.1 (record {
+    keys = elim (step_store edit s r.2 r.0 r.4) [
+      | inl e ↦ subst Apart (sym e) u.keys
+      | inr e ↦ subst Apart (sym e.1) (with_apart s.state.store e.0 u.keys)
+    ];
+  }) r.5
 
   pub handles_stay : HandlesStay W B
   handles_stay [] s t answers r k x e = rw r.1 e
@@ -145,7 +147,7 @@ module _ {W : Dialect} (B : Behaviour W) where
   one_handle symmetric edits s t answers n r i j x y e f same =
       let start : Uniqued B s = record { keys = λ i j x y h e f. absurd (none_some x (subst (λ l. slice_get l i ≡ Some x) n.store e)) } in
       let u = runs_keep_uniqued edits s t answers start r in
-      by (less_or_not i j)  u
+      by (less_or_not i j) u
     where
       by : (i < j) ⊎ ((i ≡ j) ⊎ (j < i)) → Uniqued B t → i ≡ j
       by (inl h) u = absurd (let g : B.same_key x.key y.key ≡ false = u.keys i j x y h e f in cc)

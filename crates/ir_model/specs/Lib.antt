@@ -10,6 +10,7 @@ pub mod Views
 pub mod Sessions
 pub mod Soundness
 pub mod Gone
+pub mod NamesDead
 pub mod Uniquing
 pub mod StepLaws
 pub mod OneOfEach

@@ -32,7 +32,7 @@ module _ {W : Dialect} where
     pub regions : Distinct s.state.tables.regions
     pub numbers : Distinct (map (λ (v : Value context_ids). v.number) s.state.tables.values)
 
-  -- the forest is well formed over the stored types, and the tables name the stored types and all that is live, each once
+  -- the forest is well formed over the stored types, the types that are known are stored, all that is live is listed, once, and what is listed was handed out
   pub record Sound (s : Session W) : Type 0 where
     pub forest : WellFormed s.state.forest (length s.state.store)
     pub stored : (k : ℕ) → In k s.state.tables.types → k < length s.state.store

@@ -5,6 +5,7 @@
 ghost use Rattle.ir_model.specs.Forest.{Behaviour};
 ghost use Rattle.ir_model.specs.OneOfEach.{EachCanBeMade};
 ghost use Rattle.ir_model.specs.Gone.{GoneForGood, ErasedAreGone};
+ghost use Rattle.ir_model.specs.NamesDead.{DeadAreRefused};
 ghost use Rattle.ir_model.specs.Soundness.{NewSessionsAreSound, StepsKeepSound, RunsKeepSound, RunsAreWellFormed};
 ghost use Rattle.ir_model.specs.StepLaws.{ConditionIsTold, RefusedLeaveState, AllLeaveTheRest, ChangesAreOne, MovedHomeStays, VersionsRise};
 ghost use Rattle.ir_model.specs.Uniquing.{RunsKeepUniqued, HandlesStay, OneHandle};
@@ -25,10 +26,11 @@ pub fn runs_keep_sound<Key, Body, Attr, Saved, Aux, Loc>()
     ensures well_formed { (behaviour : Behaviour (record { Key = Key; Body = Body; Attr = Attr; Saved = Saved; Aux = Aux; Loc = Loc })) → RunsAreWellFormed _ behaviour }
 {}
 
-/// An id or a number that is gone is refused for good: no run makes it live again, and what a run erased or removed is gone.
+/// An id or a number that is gone is refused for good: no run makes it live again, what a run erased or removed is gone, and an edit that names it is refused for its condition.
 pub fn gone_for_good<Key, Body, Attr, Saved, Aux, Loc>()
     ensures gone { (behaviour : Behaviour (record { Key = Key; Body = Body; Attr = Attr; Saved = Saved; Aux = Aux; Loc = Loc })) → GoneForGood _ behaviour }
     ensures erased { (behaviour : Behaviour (record { Key = Key; Body = Body; Attr = Attr; Saved = Saved; Aux = Aux; Loc = Loc })) → ErasedAreGone _ behaviour }
+    ensures refused { (behaviour : Behaviour (record { Key = Key; Body = Body; Attr = Attr; Saved = Saved; Aux = Aux; Loc = Loc })) → DeadAreRefused _ behaviour }
 {}
 
 /// An edit of each kind can be made: a run from a new session leads to one that carries it out.

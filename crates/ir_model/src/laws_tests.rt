@@ -2,7 +2,8 @@
 
 use crate::{
     changes_are_settled, edits_can_be_made, gone_for_good, handles_are_exact,
-    new_sessions_are_sound, refusals_change_nothing, runs_keep_sound, steps_keep_sound, versions_rise,
+    new_sessions_are_sound, refusals_change_nothing, runs_keep_sound, steps_keep_sound,
+    versions_rise,
 };
 
 #[test]

@@ -26,7 +26,8 @@ pub use examples::worked_rows;
 pub use ids::{ArenaIndex, Limits};
 pub use laws::{
     changes_are_settled, edits_can_be_made, gone_for_good, handles_are_exact,
-    new_sessions_are_sound, refusals_change_nothing, runs_keep_sound, steps_keep_sound, versions_rise,
+    new_sessions_are_sound, refusals_change_nothing, runs_keep_sound, steps_keep_sound,
+    versions_rise,
 };
 
 /// The law on two runs: whatever ids and numbers each run chose, they give the same answers and the same view.
