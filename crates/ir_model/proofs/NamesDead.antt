@@ -310,10 +310,13 @@ module _ {W : Dialect} (B : Behaviour W) where
   dead_fails edits s t answers edit k r (a_dead_value n v h e dead) c =
       let there = slice_get-in s.state.tables.values n v e in
       let number = λ (x : Value context_ids). x.number in
-      ((gone_for_good B edits s t answers k r).numbers v.number (k.passed.numbers v.number (In-map number v s.state.tables.values there), λ at.
-          let other : Value context_ids = record { definer = at.0; number = v.number } in
-          let same : other ≡ v = same_numbered number s.state.tables.values k.once.numbers other v (k.listed.values other at.1) there refl in
-          dead (subst (λ (x : Value context_ids). IsLiveNamed s.state.forest (a_value x)) same at.1))).1
+      ((gone_for_good B edits s t answers k r).numbers v.number (
+        k.passed.numbers v.number (In-map number v s.state.tables.values there),
+        λ at.
+            let other : Value context_ids = record { definer = at.0; number = v.number } in
+            let same : other ≡ v = same_numbered number s.state.tables.values k.once.numbers other v (k.listed.values other at.1) there refl in
+            dead (subst (λ (x : Value context_ids). IsLiveNamed s.state.forest (a_value x)) same at.1),
+      )).1
       (v.definer, holds_of _ v ((run_keeps edits s t answers r).values n v e) (named_value t.state edit c n h))
 
   pub dead_are_refused : DeadAreRefused W B
