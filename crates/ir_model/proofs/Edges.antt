@@ -15,7 +15,7 @@ use Rattle.ir_model.specs.DefinitionLaws.{SuccessorsMeetPredecessors}
 use Rattle.ir_model.proofs.Loops.{Lawful}
 use Rattle.ir_model.proofs.TwoRuns.{lawful}
 
-got_in : {A : Type 0} (xs : List A) (n : ℕ) (x : A) → slice_get xs n ≡ Some x → In x xs
+pub got_in : {A : Type 0} (xs : List A) (n : ℕ) (x : A) → slice_get xs n ≡ Some x → In x xs
 got_in [] n x e = absurd cc
 got_in (y ∷ ys) zero x e = inl (let s : y ≡ x = cc in sym s)
 got_in (y ∷ ys) (suc n) x e = inr (got_in ys n x e)

@@ -27,7 +27,7 @@ one_text = decimal_digit 1 (omega arith)
 two_text : decimal 2 ≡ codes "2"
 two_text = decimal_digit 2 (omega arith)
 
-block_one : block_id first ≡ codes "block1v1"
+pub block_one : block_id first ≡ codes "block1v1"
 block_one = ap (λ t. codes "block" ++ (t ++ codes "v" ++ t)) one_text
 
 block_two : block_id second ≡ codes "block2v1"

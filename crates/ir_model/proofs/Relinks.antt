@@ -72,10 +72,10 @@ first_in : {A : Type 0} (x : A) (xs : List A) → first_of xs ≡ Some x → (re
 first_in x [] e = absurd cc
 first_in x (y ∷ ys) e = (ys, let s : y ≡ x = cc in cc)
 
-Adjacent-first : {A : Type 0} (x y : A) (xs : List A) → Adjacent x y xs → In x xs
+pub Adjacent-first : {A : Type 0} (x y : A) (xs : List A) → Adjacent x y xs → In x xs
 Adjacent-first x y xs at = subst (In x) (sym at.2) (In-right x at.0 (x ∷ y ∷ at.1) (inl refl))
 
-Adjacent-second : {A : Type 0} (x y : A) (xs : List A) → Adjacent x y xs → In y xs
+pub Adjacent-second : {A : Type 0} (x y : A) (xs : List A) → Adjacent x y xs → In y xs
 Adjacent-second x y xs at = subst (In y) (sym at.2) (In-right y at.0 (x ∷ y ∷ at.1) (inr (inl refl)))
 
 -- maps from ids to lists: each list is itself after a change and one back

@@ -7,7 +7,7 @@ use Rattle.ir_model.specs.Nesting.{In, Inside, itself, below, children, names_of
 use Rattle.ir_model.specs.BlockGraph.{implements, pure_interface}
 use Rattle.ir_model.specs.Dead.{Dead, dead, GoesWith, inside_it, inside_dead}
 use Rattle.ir_model.specs.SmallForests.{Small, n0, n1, n2, n3, same_small, small_ids, bare, behaviour, result, forest, block}
-use Rattle.ir_model.specs.WorkedRows.{AreDead, Sweeps, kept_constant, ring, constant_behind, own_sum, used_elsewhere, used_inside}
+use Rattle.ir_model.specs.WorkedRows.{AreDead, SweptRows, kept_constant, ring, constant_behind, own_sum, used_elsewhere, used_inside}
 
 small_same : (x : Small) → same_small x x ≡ true
 small_same n0 = refl
@@ -176,7 +176,7 @@ with_inside n0 = (λ _. inl refl, λ _. inner_goes)
 with_inside n1 = (λ _. inr (inl refl), λ _. holder_goes)
 with_inside o = (λ d. absurd (not_there used_inside o refl d), λ h. absurd (not_listed o (n0 ∷ n1 ∷ []) refl h))
 
-pub sweeps : Sweeps
+pub sweeps : SweptRows
 sweeps = record {
   constant_stays = constant_stays;
   ring_stays = ring_stays;

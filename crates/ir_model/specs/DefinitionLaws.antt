@@ -1,12 +1,12 @@
 -- Laws that speak of the definitions alone.
-use Rattle.std.specs.Prelude.{◌≡◌, ◌≢◌, ◌↔◌, ℕ, ◌+◌, ◌<◌, ◌^◌, List, ◌∷◌, length, Some}
+use Rattle.std.specs.Prelude.{◌≡◌, ◌≢◌, ◌↔◌, ℕ, ◌+◌, ◌<◌, ◌^◌, List, ◌∷◌, length, Some, Option}
 use Rattle.ir_model.specs.declared.ids.ArenaIndex.{ArenaIndex}
 use Rattle.ir_model.specs.ContextIds.{context_ids, same_id}
 use Rattle.ir_model.specs.Forest.{Text, Dialect, Behaviour, Forest, Value, Entity, an_op, a_block, Named, a_value, the_block, owner}
 use Rattle.ir_model.specs.Nesting.{In, Inside, IsClosed, WellFormed, ops_of, blocks_of}
 use Rattle.ir_model.specs.Changes.{without, put_after, in_blocks, in_regions, on_block, on_region, on_ops, redirect, retarget, Removes}
 use Rattle.ir_model.specs.Uses.{Use, IsUse, AreUses}
-use Rattle.ir_model.specs.Parent.{ComesAfter, first_of}
+use Rattle.ir_model.specs.Parent.{ComesAfter, first_of, IsParent, IsNext, IsPrevious, IsIndex}
 use Rattle.ir_model.specs.BlockGraph.{succs, targets_of, terminator, ArePredecessors}
 use Rattle.ir_model.specs.Subtree.{ListsSubtree}
 use Rattle.ir_model.specs.Legaliser.{Given, nothing_given, name_of, Run}
@@ -56,7 +56,19 @@ module _ {W : Dialect} (f : Forest context_ids W) where
   abbrev pub SizeIsOne : Entity context_ids → Type 0
   SizeIsOne e = (xs ys : List (Entity context_ids)) → ListsSubtree f e xs → ListsSubtree f e ys → length xs ≡ length ys
 
+  -- what is found by searching all lists is found one way
+  pub record AnswersAreOne : Type 0 where
+    pub parent : (x : Entity context_ids) (a b : Option (Entity context_ids)) → IsParent f x a → IsParent f x b → a ≡ b
+    pub next : (x : Entity context_ids) (a b : Option (Entity context_ids)) → IsNext f x a → IsNext f x b → a ≡ b
+    pub previous : (x : Entity context_ids) (a b : Option (Entity context_ids)) → IsPrevious f x a → IsPrevious f x b → a ≡ b
+    pub index : (x : Entity context_ids) (m n : ℕ) → IsIndex f x m → IsIndex f x n → m ≡ n
+    -- the uses are as many in whatever order
+    pub uses : (d : Named context_ids) (us vs : List (Use context_ids)) → AreUses f d us → AreUses f d vs → length us ≡ length vs
+
 module _ (W : Dialect) where
+  abbrev pub SearchesAgree : Type 0
+  SearchesAgree = (f : Forest context_ids W) (keys : ℕ) → WellFormed f keys → AnswersAreOne f
+
   abbrev pub UnlinkedGoesBack : Type 0
   UnlinkedGoesBack = (f : Forest context_ids W) (keys : ℕ) → WellFormed f keys → GoesBack f
 

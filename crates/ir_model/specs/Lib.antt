@@ -28,4 +28,5 @@ pub mod Legaliser
 pub mod SmallForests
 pub mod WorkedRows
 pub mod NamedRows
+pub mod FaultRows
 pub mod DefinitionLaws

@@ -1,32 +1,12 @@
--- Saved data, auxiliary data and attribute dictionaries.
-use Rattle.std.specs.Prelude.{◌≡◌, ℕ, Bool, true, false, List, [], ◌∷◌, ◌++◌, map, Option, Some, None, bytes_eq, if◌then◌else◌, not, filter}
-use Rattle.std.specs.List.{list_any, position_or_len, find}
-use Rattle.std.specs.Option.{option_map}
+-- Auxiliary data and attribute dictionaries. Saved data is a list of distinct values, as the keys of types are: `place_of` and `with_key`.
+use Rattle.std.specs.Prelude.{◌≡◌, Bool, true, List, [], ◌∷◌, Option, Some, None, bytes_eq, if◌then◌else◌}
+use Rattle.std.specs.Map.{keys_of, lookup, remove_entry}
 use Rattle.ir_model.specs.declared.ids.ArenaIndex.{ArenaIndex}
 use Rattle.ir_model.specs.ContextIds.{same_id}
 use Rattle.ir_model.specs.Ids.{Distinct}
 use Rattle.ir_model.specs.Forest.{Text, Dialect}
 use Rattle.ir_model.specs.Changes.{put}
 use Rattle.ir_model.specs.Sessions.{Beside}
-
--- distinct values: a value that is there keeps its place, and another goes last
-module _ {A : Type 0} (same : A → A → Bool) where
-  -- the value is there
-  abbrev pub is_stored : List A → A → Bool
-  is_stored values x = list_any (λ y. same y x) values
-
-  -- the place of the value, and where it is not there the place behind the last
-  abbrev pub place_among : List A → A → ℕ
-  place_among values x = position_or_len (λ y. same y x) values
-
-  -- the values with this one
-  abbrev pub with_value : List A → A → List A
-  with_value values x = if is_stored values x then values else values ++ x ∷ []
-
-  -- no value is the same as an earlier one
-  abbrev pub AreApart : List A → Type 0
-  AreApart [] = Unit {0}
-  AreApart (x ∷ xs) = (is_stored xs x ≡ false) × AreApart xs
 
 -- auxiliary data: a map from indices, and one from names to indices
 module _ {W : Dialect} where
@@ -49,27 +29,26 @@ module _ {W : Dialect} where
 module _ {A : Type 0} where
   -- the attribute under the key, where there is one
   abbrev pub attribute_at : List (Text × A) → Text → Option A
-  attribute_at pairs key = option_map (λ p. p.1) (find (λ p. bytes_eq p.0 key) pairs)
+  attribute_at pairs key = lookup (bytes_eq key) pairs
 
   -- a key that is there keeps its place and gets the attribute, and a new one goes last
   abbrev pub set_attribute : List (Text × A) → Text → A → List (Text × A)
   set_attribute [] key a = (key, a) ∷ []
-  set_attribute (p ∷ pairs) key a = if bytes_eq p.0 key then (key, a) ∷ pairs else p ∷ set_attribute pairs key a
+  set_attribute (p ∷ pairs) key a = if bytes_eq key p.0 then (p.0, a) ∷ pairs else p ∷ set_attribute pairs key a
 
   -- the pair with the key is taken out, and the rest keep their order
   abbrev pub without_attribute : List (Text × A) → Text → List (Text × A)
-  without_attribute pairs key = filter (λ p. not (bytes_eq p.0 key)) pairs
+  without_attribute pairs key = remove_entry (bytes_eq key) pairs
 
   -- no key stands twice
   abbrev pub HasDistinctKeys : List (Text × A) → Type 0
-  HasDistinctKeys pairs = Distinct (map (λ p. p.0) pairs)
+  HasDistinctKeys pairs = Distinct (keys_of pairs)
 
   -- both are there and pass the test, or neither is there
   abbrev pub SameAttribute : (A → A → Bool) → Option A → Option A → Type 0
   SameAttribute same None None = Unit {0}
-  SameAttribute same None (Some b) = ⊥
-  SameAttribute same (Some a) None = ⊥
   SameAttribute same (Some a) (Some b) = same a b ≡ true
+  SameAttribute same _ _ = ⊥
 
   -- the same keys lead to the same attributes, in whatever order
   abbrev pub SameAttributes : (A → A → Bool) → List (Text × A) → List (Text × A) → Type 0

@@ -1,34 +1,32 @@
--- The verifier lists of owners, each joined and without repeats, and the first duplicate among keys.
-use Rattle.std.specs.Prelude.{◌≡◌, ℕ, ◌<◌, Bool, List, [], ◌∷◌, ◌++◌, map, Some, slice_get, nat_eq, if◌then◌else◌}
-use Rattle.ir_model.specs.Changes.{without}
-use Rattle.ir_model.specs.Forest.{Text}
+-- Lists of verifiers and of dictionary keys.
+use Rattle.std.specs.Prelude.{◌≡◌, ◌≢◌, ℕ, ◌<◌, Bool, not, true, List, [], ◌∷◌, ◌++◌, filter, map, length, slice_get, nat_eq, Contains}
+use Rattle.std.specs.List.{flat_map}
+use Rattle.std.specs.Map.{keys_of}
 
--- each item kept at its first place
-abbrev pub kept_first : {A : Type 0} → (A → A → Bool) → List A → List A
-kept_first same [] = []
-kept_first same (x ∷ xs) = x ∷ without same x (kept_first same xs)
+-- each item at its first place alone
+abbrev pub first_places : {X : Type 0} → (X → X → Bool) → List X → List X
+first_places same [] = []
+first_places same (x ∷ xs) = x ∷ filter (λ y. not (same x y)) (first_places same xs)
 
--- the lists of one owner, joined in order
-abbrev pub joined : {A : Type 0} → ℕ → List (ℕ × List A) → List A
-joined owner [] = []
-joined owner (entry ∷ rest) = if nat_eq entry.0 owner then entry.1 ++ joined owner rest else joined owner rest
+-- the lists of an owner, joined in the order in which they were handed in
+abbrev pub joined : List (ℕ × List ℕ) → ℕ → List ℕ
+joined entries owner = flat_map (λ e. e.1) (filter (λ e. nat_eq e.0 owner) entries)
 
--- each owner, in the order of the first entries, with its lists joined and each item kept at its first place
-abbrev pub deduplicated : {A : Type 0} → (A → A → Bool) → List (ℕ × List A) → List (ℕ × List A)
-deduplicated same lists = map (λ owner. (owner, kept_first same (joined owner lists))) (kept_first nat_eq (map (λ entry. entry.0) lists))
+-- the owners in the order of their first entry, with each of their verifiers at its first place
+abbrev pub deduplicated : List (ℕ × List ℕ) → List (ℕ × List ℕ)
+deduplicated entries = map (λ owner. (owner, first_places nat_eq (joined entries owner))) (first_places nat_eq (keys_of entries))
 
--- the key at this place stands at this earlier place
-pub record IsDuplicateAt (keys : List Text) (first second : ℕ) : Type 0 where
-  pub key : Text
-  pub earlier : first < second
-  pub there : slice_get keys first ≡ Some key
-  pub again : slice_get keys second ≡ Some key
+-- no two places below n have one item
+abbrev pub DifferBelow : {X : Type 0} → List X → ℕ → Type 0
+DifferBelow xs n = (first second : ℕ) → first < second → second < n → slice_get xs first ≢ slice_get xs second
 
--- the second is the least place whose key stood earlier, and the first is where it stood
-pub record IsFirstDuplicate (keys : List Text) (first second : ℕ) : Type 0 where
-  pub duplicate : IsDuplicateAt keys first second
-  pub least : (i j : ℕ) → j < second → IsDuplicateAt keys i j → ⊥
+-- the second place is the least whose item stands earlier, and the first is where it stands
+pub record IsFirstRepeat {X : Type 0} (xs : List X) (first second : ℕ) : Type 0 where
+  pub in_order : first < second
+  pub within : second < length xs
+  pub same : slice_get xs first ≡ slice_get xs second
+  pub least : DifferBelow xs second
 
--- no key stands twice
-abbrev pub HasNoDuplicate : List Text → Type 0
-HasNoDuplicate keys = (i j : ℕ) → IsDuplicateAt keys i j → ⊥
+-- before each item of the list stand all its supers
+abbrev pub SupersFirst : (ℕ → ℕ → Bool) → List ℕ → Type 0
+SupersFirst is_super xs = (before after : List ℕ) (item super : ℕ) → xs ≡ before ++ item ∷ after → is_super item super ≡ true → Contains before super

@@ -143,7 +143,7 @@ used_elsewhere = forest (operation 0 (n0 ∷ []) [] [] [] ∷ operation 4 [] (op
 abbrev pub used_inside : Forest small_ids bare
 used_inside = forest (operation 0 (n0 ∷ []) [] [] [] ∷ operation 0 [] [] [] (n0 ∷ []) ∷ operation 4 [] (operand n0 (result n0 n0) ∷ []) [] [] ∷ []) (block (n0 ∷ n1 ∷ []) ∷ block (n2 ∷ []) ∷ []) ((n1 ∷ []) ∷ [])
 
-pub record Sweeps : Type 0 where
+pub record SweptRows : Type 0 where
   pub constant_stays : AreDead kept_constant (n0 ∷ n2 ∷ [])
   pub ring_stays : AreDead ring []
   pub both_go : AreDead constant_behind (n0 ∷ n1 ∷ [])

@@ -4,7 +4,7 @@
 
 ghost use Rattle.std.specs.Prelude.{ℕ, Bool};
 ghost use Rattle.ir_model.specs.Forest.{Dialect, Behaviour};
-ghost use Rattle.ir_model.specs.DefinitionLaws.{UnlinkedGoesBack, UniqueNamesTell, RemovalIsOne, SubtreeSizeIsOne, ReplacedTakesUses, RetargetedTakesUses, SuccessorsMeetPredecessors, SourcesApart};
+ghost use Rattle.ir_model.specs.DefinitionLaws.{UnlinkedGoesBack, UniqueNamesTell, RemovalIsOne, SubtreeSizeIsOne, ReplacedTakesUses, RetargetedTakesUses, SuccessorsMeetPredecessors, SourcesApart, SearchesAgree};
 
 /// An operation or block that is unlinked and put back where it stood leaves the forest as it was.
 ///
@@ -48,4 +48,9 @@ pub fn successors_meet_predecessors<Key: Eq, Body, Attr, Saved, Aux, Loc>()
 /// Whatever calls a legaliser was given, no two sources have one identifier.
 pub fn sources_apart()
     ensures { SourcesApart }
+{}
+
+/// In a well-formed forest a parent, a neighbour and a place are found one way, and a definition has one number of uses.
+pub fn searches_agree<Key, Body, Attr, Saved, Aux, Loc>()
+    ensures { SearchesAgree (record { Key = Key; Body = Body; Attr = Attr; Saved = Saved; Aux = Aux; Loc = Loc }) }
 {}

@@ -1,7 +1,7 @@
 //! Each law is called once, at the types of a small dialect.
 
 use crate::{
-    choices_unseen, removal_is_one, replaced_takes_uses, retargeted_takes_uses, sources_apart,
+    choices_unseen, removal_is_one, replaced_takes_uses, retargeted_takes_uses, searches_agree, sources_apart,
     subtree_size_is_one, successors_meet_predecessors, unique_names_tell, unlinked_goes_back,
     worked_rows,
 };
@@ -16,6 +16,7 @@ fn laws_are_called() {
     replaced_takes_uses::<u32, u8, u8, u8, u8, u8>();
     retargeted_takes_uses::<u32, u8, u8, u8, u8, u8>();
     successors_meet_predecessors::<u32, u8, u8, u8, u8, u8>();
+    searches_agree::<u32, u8, u8, u8, u8, u8>();
     sources_apart();
     worked_rows();
 }

@@ -1,6 +1,7 @@
 use Rattle.ir_model.proofs.WorkedRows.{region_moves, own_result, outside_use, into_itself, preds_twice}
 use Rattle.ir_model.proofs.SweepRows.{sweeps}
 use Rattle.ir_model.proofs.NamedRows.{unique_names, entry_block, clashes}
+use Rattle.ir_model.proofs.FaultRows.{faults_stand}
 use Rattle.ir_model.proofs.examples.worked_rows.Goals as goal
 
 pub returns-clause-region_moves : goal.returns-clause-region_moves
@@ -29,3 +30,6 @@ returns-clause-entry_block c = entry_block
 
 pub returns-clause-legalise_clashes : goal.returns-clause-legalise_clashes
 returns-clause-legalise_clashes c = clashes
+
+pub returns-clause-faults_stand : goal.returns-clause-faults_stand
+returns-clause-faults_stand c = faults_stand
