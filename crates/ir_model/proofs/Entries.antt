@@ -1,7 +1,7 @@
 -- One entry more in a list, or one fewer.
 use mathlib.Core.Path.{◌≡◌, sym}
-use Rattle.std.proofs.Common.{ℕ, zero, suc, ◌<◌, ◌⊎◌, inl, inr, List, [], ◌∷◌, ◌++◌, map, length, arith}
-use Rattle.std.specs.List.{insert, remove}
+use Rattle.std.proofs.Common.{ℕ, zero, suc, ◌⊎◌, inl, inr, List, [], ◌∷◌, ◌++◌, map}
+use Rattle.std.specs.List.{insert}
 use Rattle.ir_model.specs.Ids.{Distinct}
 use Rattle.ir_model.specs.Nesting.{In}
 use Rattle.ir_model.proofs.Nests.{Absent-not_in, not_in-Absent}
@@ -33,11 +33,6 @@ module _ {A : Type 0} where
   AddsOne-insert x [] (suc at) = here
   AddsOne-insert x (y ∷ xs) (suc at) = later (AddsOne-insert x xs at)
 
-  pub remove-AddsOne : (xs : List A) (at : ℕ) → at < length xs → (x : A) × AddsOne x (remove xs at) xs
-  remove-AddsOne [] at h = absurd (omega arith)
-  remove-AddsOne (x ∷ xs) zero h = (x, here)
-  remove-AddsOne (x ∷ xs) (suc at) h = let more = remove-AddsOne xs at (omega arith) in (more.0, later more.1)
-
   pub AddsOne-in : {x : A} {xs ys : List A} (z : A) → AddsOne x xs ys → In z ys → (z ≡ x) ⊎ In z xs
   AddsOne-in z here (inl e) = inl e
   AddsOne-in z here (inr h) = inr h
@@ -55,7 +50,3 @@ module _ {A : Type 0} where
     Absent-not_in y ys (λ h. elim (AddsOne-in y a h) [ inl e ↦ n (inl (sym e)) | inr k ↦ not_in-Absent y xs d.0 k ]),
     AddsOne-distinct a d.1 (λ h. n (inr h)),
   )
-
-  pub AddsOne-fewer : {x : A} {xs ys : List A} → AddsOne x xs ys → Distinct ys → Distinct xs
-  AddsOne-fewer here d = d.1
-  AddsOne-fewer (later {y = y} {xs = xs} {ys = ys} a) d = (Absent-not_in y xs (λ h. not_in-Absent y ys d.0 (AddsOne-still y a h)), AddsOne-fewer a d.1)

@@ -9,7 +9,8 @@ use Rattle.ir_model.specs.Changes.{on_ops, on_regions, but, Removes}
 use Rattle.ir_model.proofs.Loops.{Lawful}
 use Rattle.ir_model.proofs.Nests.{In-map, In-map_back, Distinct-map, NoCycle-fewer, OneList-fewer}
 use Rattle.ir_model.proofs.Keeps.{list_of-map, is_some-map, Distinct-unmap}
-use Rattle.ir_model.proofs.KeepsUses.{In-filter, In-kept, Distinct-filter}
+use Rattle.ir_model.proofs.Parts.{Kept}
+use Rattle.ir_model.proofs.Filters.{In-filter, In-kept, Distinct-filter}
 
 pub same_self : (N : Ids) → Lawful N → (x : Entity N) → same_entity N x x ≡ true
 same_self N L (an_op o) = (L.ops o o).1 refl
@@ -170,7 +171,7 @@ module _ {N : Ids} {W : Dialect} (L : Lawful N) (f g : Forest N W) (e : Entity N
         (at.0, regions_left at.0 r out kept.0 at.1))
   ]
 
-  pub Removes-keeps : IsClosed f e → WellFormed g keys
+  Removes-keeps : IsClosed f e → WellFormed g keys
   Removes-keeps closed = record {
     nested = record {
       one_list = OneList-fewer (children f) (children g) fewer w.nested.one_list;
@@ -185,4 +186,11 @@ module _ {N : Ids} {W : Dialect} (L : Lawful N) (f g : Forest N W) (e : Entity N
     uses_once = λ o. elim (op_parts o) [ inl gone ↦ rw (gone.0, gone.1) tt | inr kept ↦ rw (kept.1, kept.2) (w.uses_once o) ];
     named = λ o d h. let in' = some_name o d h in named_out d (λ v. in'.0 (closed o d in'.1 v)) (w.named o d in'.1);
     known = λ d t h. w.known d t (some_definition (λ x. x.ty) d t h);
+  }
+
+  pub Removes-kept : (new : List N.UseNumber) → IsClosed f e → Kept f g keys new
+  Removes-kept new closed = record {
+    forest = Removes-keeps closed;
+    values = λ v h. some_definition (λ x. x.number) v.definer v.number h;
+    uses = λ o u h. inl (some_use o u h);
   }

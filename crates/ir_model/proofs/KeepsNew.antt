@@ -123,7 +123,7 @@ module _ {N : Ids} {W : Dialect} (L : Lawful N) (f : Forest N W) (keys : ℕ) (w
     | inr e ↦ rw e.1 (w.nested.once (an_op p))
   ]
 
-  definitions_case : (d : Definer N) → ((d ≡ of_op o) × (definitions_of after d ≡ results)) ⊎ (definitions_of after d ≡ definitions_of f d)
+  pub definitions_case : (d : Definer N) → ((d ≡ of_op o) × (definitions_of after d ≡ results)) ⊎ (definitions_of after d ≡ definitions_of f d)
   definitions_case (of_block b) = inr refl
   definitions_case (of_op p) = elim (op_case p) [
     | inl e ↦ inl (ap of_op e.0, rw e.1)
@@ -143,7 +143,7 @@ module _ {N : Ids} {W : Dialect} (L : Lawful N) (f : Forest N W) (keys : ℕ) (w
   abbrev new_names : List (Named N)
   new_names = map (λ p. a_value p.value) operands ++ map (λ p. the_block p.block) successors
 
-  uses_case : (p : N.Op) → ((p ≡ o) × (uses_of after p ≡ new_uses) × (names_of after p ≡ new_names)) ⊎ ((uses_of after p ≡ uses_of f p) × (names_of after p ≡ names_of f p))
+  pub uses_case : (p : N.Op) → ((p ≡ o) × (uses_of after p ≡ new_uses) × (names_of after p ≡ new_names)) ⊎ ((uses_of after p ≡ uses_of f p) × (names_of after p ≡ names_of f p))
   uses_case p = elim (op_case p) [
     | inl e ↦ inl (e.0, rw e.1, rw e.1)
     | inr e ↦ inr (rw e.1, rw e.1)

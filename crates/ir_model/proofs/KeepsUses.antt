@@ -1,77 +1,35 @@
--- Changes of operands keep a forest well formed, and so does taking an operation out of its list.
+-- Changes of operands and successors keep a forest well formed.
 use mathlib.Core.Path.{◌≡◌, refl, sym, ap, ap₂, ◌∙◌, subst}
-use Rattle.std.proofs.Common.{ℕ, ◌⊎◌, inl, inr, Bool, true, false, not, Option, Some, None, List, [], ◌∷◌, ◌++◌, map, cond, is_some}
-use Rattle.std.specs.List.{filter}
+use Rattle.std.proofs.Common.{ℕ, ◌⊎◌, inl, inr, Bool, true, false, Option, Some, None, List, [], ◌∷◌, ◌++◌, map, cond, is_some}
 use Rattle.std.specs.Option.{option_map}
 use Rattle.ir_model.specs.Ids.{Ids, Distinct}
-use Rattle.ir_model.specs.Forest.{Dialect, Definer, of_op, of_block, Value, Entity, an_op, a_block, a_region, OpRecord, BlockRecord, Forest, Operand, Successor, Named, a_value, the_block, same_value}
+use Rattle.ir_model.specs.Forest.{Dialect, Definer, of_op, of_block, Value, Entity, an_op, a_block, a_region, OpRecord, Forest, Operand, Successor, Named, a_value, the_block, same_value}
 use Rattle.ir_model.specs.Nesting.{In, list_of, children, IsLive, IsLiveNamed, WellFormed, uses_of, names_of, regions_of, definitions_of}
-use Rattle.ir_model.specs.Changes.{on_ops, on_operands, in_blocks, without, redirect, redirected}
-use Rattle.ir_model.proofs.Nests.{In-append, In-left, In-right, In-map, In-map_back, Absent-not_in, not_in-Absent, Distinct-map, NoCycle-fewer, OneList-fewer}
-use Rattle.ir_model.proofs.Keeps.{list_of-map, is_some-map, Nested-same, WellFormed-blocks, live_after, Distinct-unmap}
-
-module _ {A : Type 0} where
-  pub In-filter : (t : A → Bool) (x : A) (xs : List A) → In x (filter t xs) → In x xs × (t x ≡ true)
-  In-filter t x [] h = elim h [ ]
-  In-filter t x (y ∷ xs) h = by (In-filter t x xs) (t y) refl h
-    where
-      by : (In x (filter t xs) → In x xs × (t x ≡ true)) → (b : Bool) → t y ≡ b → In x (cond b (y ∷ filter t xs) (filter t xs)) → In x (y ∷ xs) × (t x ≡ true)
-      by more true e (inl s) = (inl s, ap t s ∙ e)
-      by more true e (inr k) = (inr (more k).0, (more k).1)
-      by more false e k = (inr (more k).0, (more k).1)
-
-  pub In-kept : (t : A → Bool) (x : A) (xs : List A) → In x xs → t x ≡ true → In x (filter t xs)
-  In-kept t x [] h e = elim h [ ]
-  In-kept t x (y ∷ xs) h e = by (λ k. In-kept t x xs k e) (t y) refl h
-    where
-      by : (In x xs → In x (filter t xs)) → (b : Bool) → t y ≡ b → In x (y ∷ xs) → In x (cond b (y ∷ filter t xs) (filter t xs))
-      by more true f (inl s) = inl s
-      by more true f (inr k) = inr (more k)
-      by more false f (inl s) = (let g : t x ≡ t y = ap t s in absurd (cc))
-      by more false f (inr k) = more k
-
-  pub Distinct-filter : (t : A → Bool) (xs : List A) → Distinct xs → Distinct (filter t xs)
-  Distinct-filter t [] d = tt
-  Distinct-filter t (x ∷ xs) d = by (Distinct-filter t xs d.1) (t x)
-    where
-      by : Distinct (filter t xs) → (b : Bool) → Distinct (cond b (x ∷ filter t xs) (filter t xs))
-      by more true = (Absent-not_in x (filter t xs) (λ h. not_in-Absent x xs d.0 (In-filter t x xs h).0), more)
-      by more false = more
+use Rattle.ir_model.specs.Changes.{rewrite_all, redirect, redirected, retarget, retargeted, DropsUses, no_uses}
+use Rattle.ir_model.proofs.Nests.{In-append, In-left, In-right}
+use Rattle.ir_model.proofs.Keeps.{list_of-map, is_some-map, Nested-same}
+use Rattle.ir_model.proofs.Parts.{Kept}
 
 module _ {N : Ids} {W : Dialect} where
-  -- where lists of operations only lose members
-  fewer_ops : (f : Forest N W) (keys : ℕ) (t : N.Op → Bool) → WellFormed f keys → WellFormed (in_blocks f (filter t)) keys
-  fewer_ops f keys t w = WellFormed-blocks f _ (λ _. filter t) (λ c. refl) keys w (record {
-    one_list = OneList-fewer (children f) (children g) fewer w.nested.one_list;
-    once = once;
-    live = λ x y h. live_after f _ (λ _. filter t) (λ c. refl) x (w.nested.live x y (fewer x y h));
-    no_cycle = NoCycle-fewer (children f) (children g) fewer w.nested.no_cycle;
-    regions_linked = w.nested.regions_linked;
-  })
+  abbrev pub use_numbers : OpRecord N W → List N.UseNumber
+  use_numbers r = map (λ p. p.use_number) r.operands ++ map (λ p. p.use_number) r.successors
+
+  abbrev pub named_by : OpRecord N W → List (Named N)
+  named_by r = map (λ p. a_value p.value) r.operands ++ map (λ p. the_block p.block) r.successors
+
+  pub uses_are : (f : Forest N W) (o : N.Op) → uses_of f o ≡ list_of use_numbers (f.ops o)
+  uses_are f o = by (f.ops o)
     where
-      g : Forest N W
-      g = in_blocks f (filter t)
+      by : (m : Option (OpRecord N W)) → map (λ p. p.use_number) (list_of (λ r. r.operands) m) ++ map (λ p. p.use_number) (list_of (λ r. r.successors) m) ≡ list_of use_numbers m
+      by None = refl
+      by (Some r) = refl
 
-      fewer : (x y : Entity N) → In x (children (in_blocks f (filter t)) y) → In x (children f y)
-      fewer x (an_op o) h = h
-      fewer x (a_region r) h = h
-      fewer x (a_block b) h = by (f.blocks b) h
-        where
-          by : (m : Option (BlockRecord N W)) → In x (map an_op (list_of (λ r. r.ops) (option_map (on_ops (filter t)) m))) → In x (map an_op (list_of (λ r. r.ops) m))
-          by None k = k
-          by (Some r) k = let at = In-map_back an_op x (filter t r.ops) k in subst (λ z. In z (map an_op r.ops)) (sym at.2) (In-map an_op at.0 r.ops (In-filter t at.0 r.ops at.1).0)
-
-      once : (y : Entity N) → Distinct (children (in_blocks f (filter t)) y)
-      once (an_op o) = w.nested.once (an_op o)
-      once (a_region r) = w.nested.once (a_region r)
-      once (a_block b) = by (f.blocks b) (w.nested.once (a_block b))
-        where
-          by : (m : Option (BlockRecord N W)) → Distinct {A = Entity N} (map an_op (list_of (λ r. r.ops) m)) → Distinct {A = Entity N} (map an_op (list_of (λ r. r.ops) (option_map (on_ops (filter t)) m)))
-          by None d = d
-          by (Some r) d = Distinct-map an_op (λ x y e. cc) (filter t r.ops) (Distinct-filter t r.ops (Distinct-unmap an_op r.ops d))
-
-  pub UnlinkOp-keeps : (f : Forest N W) (keys : ℕ) (o : N.Op) → WellFormed f keys → WellFormed (in_blocks f (without N.same_op o)) keys
-  UnlinkOp-keeps f keys o = fewer_ops f keys (λ y. not (N.same_op y o))
+  pub names_are : (f : Forest N W) (o : N.Op) → names_of f o ≡ list_of named_by (f.ops o)
+  names_are f o = by (f.ops o)
+    where
+      by : (m : Option (OpRecord N W)) → map (λ p. a_value p.value) (list_of (λ r. r.operands) m) ++ map (λ p. the_block p.block) (list_of (λ r. r.successors) m) ≡ list_of named_by m
+      by None = refl
+      by (Some r) = refl
 
   abbrev pub on_uses : (List (Operand N) → List (Operand N)) → (List (Successor N) → List (Successor N)) → OpRecord N W → OpRecord N W
   on_uses G H r = record r { operands = G r.operands; successors = H r.successors }
@@ -103,33 +61,71 @@ module _ {N : Ids} {W : Dialect} where
     named_still (a_value v) h = rw (same_definitions v.definer) h
     named_still (the_block b) h = h
 
-    pub WellFormed-operands : (keys : ℕ) → WellFormed f keys
+    pub kept_uses : (keys : ℕ) (new : List N.UseNumber) → WellFormed f keys
         → ((o p : N.Op) (u : N.UseNumber) → In u (uses_of after o) → In u (uses_of after p) → o ≡ p)
         → ((o : N.Op) → Distinct (uses_of after o))
-        → ((o : N.Op) (d : Named N) → In d (names_of after o) → IsLiveNamed f d) → WellFormed after keys
-    WellFormed-operands keys w uses once named = record {
-      nested = Nested-same f after same_children same_regions live_still (λ r h. h) w.nested;
-      numbers = λ d e n. rw (same_definitions d, same_definitions e) (w.numbers d e n);
-      numbers_once = λ d. rw (same_definitions d) (w.numbers_once d);
-      uses = uses;
-      uses_once = once;
-      named = λ o d h. named_still d (named o d h);
-      known = λ d t. rw (same_definitions d) (w.known d t);
+        → ((o : N.Op) (d : Named N) → In d (names_of after o) → IsLiveNamed f d)
+        → ((o : N.Op) (u : N.UseNumber) → In u (uses_of after o) → In u (uses_of f o) ⊎ In u new) → Kept f after keys new
+    kept_uses keys new w uses once named back = record {
+      forest = record {
+        nested = Nested-same f after same_children same_regions live_still (λ r h. h) w.nested;
+        numbers = λ d e n. rw (same_definitions d, same_definitions e) (w.numbers d e n);
+        numbers_once = λ d. rw (same_definitions d) (w.numbers_once d);
+        uses = uses;
+        uses_once = once;
+        named = λ o d h. named_still d (named o d h);
+        known = λ d t. rw (same_definitions d) (w.known d t);
+      };
+      values = λ v h. rw (same_definitions v.definer) at h;
+      uses = back;
     }
 
-  abbrev uses_in : Option (OpRecord N W) → List N.UseNumber
-  uses_in m = map (λ p. p.use_number) (list_of (λ r. r.operands) m) ++ map (λ p. p.use_number) (list_of (λ r. r.successors) m)
+  -- where each operation's uses are as before, and it names what it named, or d
+  module _ (f : Forest N W) (keys : ℕ) (new : List N.UseNumber) (w : WellFormed f keys) (d : Named N) (live : IsLiveNamed f d) (G : List (Operand N) → List (Operand N)) (H : List (Successor N) → List (Successor N))
+      (numbers : (r : OpRecord N W) → use_numbers (on_uses G H r) ≡ use_numbers r)
+      (names : (r : OpRecord N W) (c : Named N) → In c (named_by (on_uses G H r)) → In c (named_by r) ⊎ (c ≡ d)) where
+    abbrev renamed : Forest N W
+    renamed = record f { ops = rewrite_all (on_uses G H) f.ops }
 
-  -- the lists of operands and of successors, after a change of the operands
-  after_uses : (f : Forest N W) (ops : N.Op → Option (OpRecord N W)) (G : List (Operand N) → List (Operand N)) → ((ps : List (Operand N)) → map (λ p. p.use_number) (G ps) ≡ map (λ p. p.use_number) ps)
-      → (o : N.Op) → ops o ≡ option_map (on_operands G) (f.ops o) → uses_of (record f { ops = ops }) o ≡ uses_of f o
-  after_uses f ops G keeps o shape = ap uses_in shape ∙ by (f.ops o)
-    where
-      by : (m : Option (OpRecord N W)) → uses_in (option_map (on_operands G) m) ≡ uses_in m
-      by None = refl
-      by (Some r) = ap (λ us. us ++ map (λ (p : Successor N). p.use_number) r.successors) (keeps r.operands)
+    same_uses : (o : N.Op) → uses_of renamed o ≡ uses_of f o
+    same_uses o = uses_are renamed o ∙ by (f.ops o) ∙ sym (uses_are f o)
+      where
+        by : (m : Option (OpRecord N W)) → list_of use_numbers (option_map (on_uses G H) m) ≡ list_of use_numbers m
+        by None = refl
+        by (Some r) = numbers r
 
-  module _ (f : Forest N W) (keys : ℕ) (w : WellFormed f keys) (old new : Value N) (live : IsLiveNamed f (a_value new)) where
+    live_names : (o : N.Op) (c : Named N) → In c (names_of renamed o) → IsLiveNamed f c
+    live_names o c h = by (f.ops o) refl (rw (names_are renamed o) at h)
+      where
+        by : (m : Option (OpRecord N W)) → f.ops o ≡ m → In c (list_of named_by (option_map (on_uses G H) m)) → IsLiveNamed f c
+        by None e k = elim k [ ]
+        by (Some r) e k = elim (names r c k) [
+          | inl i ↦ w.named o c (rw (names_are f o, e) i)
+          | inr i ↦ rw i live
+        ]
+
+    renames_kept : Kept f renamed keys new
+    renames_kept = kept_uses f renamed.ops (λ _. G) (λ _. H) (λ o. refl) keys new w
+        (λ o p u. rw (same_uses o, same_uses p) (w.uses o p u)) (λ o. rw (same_uses o) (w.uses_once o)) live_names (λ o u h. inl (rw (same_uses o) at h))
+
+-- all or none
+abbrev kept_or_none : {P Q A : Type 0} → P ⊎ Q → List A → List A
+kept_or_none (inl k) ps = ps
+kept_or_none (inr k) ps = []
+
+-- entries that are rewritten, each under its number
+module _ {E U C : Type 0} (h : E → E) (number : E → U) (name : E → C) (d : C) (keeps : (p : E) → number (h p) ≡ number p) (names : (p : E) → (name (h p) ≡ name p) ⊎ (name (h p) ≡ d)) where
+  same_numbers : (ps : List E) → map number (map h ps) ≡ map number ps
+  same_numbers [] = refl
+  same_numbers (p ∷ ps) = ap₂ (λ u us. u ∷ us) (keeps p) (same_numbers ps)
+
+  names_or : (ps : List E) (c : C) → In c (map name (map h ps)) → In c (map name ps) ⊎ (c ≡ d)
+  names_or [] c k = elim k [ ]
+  names_or (p ∷ ps) c (inl e) = elim (names p) [ inl s ↦ inl (inl (e ∙ s)) | inr s ↦ inr (e ∙ s) ]
+  names_or (p ∷ ps) c (inr k) = elim (names_or ps c k) [ inl i ↦ inl (inr i) | inr i ↦ inr i ]
+
+module _ {N : Ids} where
+  module _ (old new : Value N) where
     redirect_number : (p : Operand N) → (redirected old new p).use_number ≡ p.use_number
     redirect_number p = by (same_value N p.value old)
       where
@@ -137,39 +133,86 @@ module _ {N : Ids} {W : Dialect} where
         by true = refl
         by false = refl
 
-    redirect_numbers : (ps : List (Operand N)) → map (λ p. p.use_number) (map (redirected old new) ps) ≡ map (λ p. p.use_number) ps
-    redirect_numbers [] = refl
-    redirect_numbers (p ∷ ps) = ap₂ (λ u us. u ∷ us) (redirect_number p) (redirect_numbers ps)
-
-    redirect_names : (ps : List (Operand N)) (d : Named N) → In d (map (λ p. a_value p.value) (map (redirected old new) ps)) → In d (map (λ p. a_value p.value) ps) ⊎ (d ≡ a_value new)
-    redirect_names [] d h = elim h [ ]
-    redirect_names (p ∷ ps) d (inl e) = by (same_value N p.value old) e
+    redirect_name : (p : Operand N) → (◌≡◌ {A = Named N} (a_value (redirected old new p).value) (a_value p.value)) ⊎ (◌≡◌ {A = Named N} (a_value (redirected old new p).value) (a_value new))
+    redirect_name p = by (same_value N p.value old)
       where
-        by : (b : Bool) → d ≡ a_value (cond b (record p { value = new }) p).value → In d (map (λ p. a_value p.value) (p ∷ ps)) ⊎ (d ≡ a_value new)
-        by true e = inr e
-        by false e = inl (inl e)
-    redirect_names (p ∷ ps) d (inr h) = elim (redirect_names ps d h) [ inl k ↦ inl (inr k) | inr k ↦ inr k ]
+        by : (b : Bool) → (◌≡◌ {A = Named N} (a_value (cond b (record p { value = new }) p).value) (a_value p.value)) ⊎ (◌≡◌ {A = Named N} (a_value (cond b (record p { value = new }) p).value) (a_value new))
+        by true = inr refl
+        by false = inl refl
 
-    pub ReplaceAllUses-keeps : WellFormed (redirect f old new) keys
-    ReplaceAllUses-keeps = WellFormed-operands f _ (λ _. map (redirected old new)) (λ _ ps. ps) (λ o. refl) keys w
-        (λ o p u. rw (same o, same p) (w.uses o p u))
-        (λ o. rw (same o) (w.uses_once o))
-        named
+  module _ (old new : N.Block) where
+    retarget_number : (p : Successor N) → (retargeted old new p).use_number ≡ p.use_number
+    retarget_number p = by (N.same_block p.block old)
       where
-        same : (o : N.Op) → uses_of (redirect f old new) o ≡ uses_of f o
-        same o = after_uses f (redirect f old new).ops (map (redirected old new)) redirect_numbers o refl
+        by : (b : Bool) → (cond b (record p { block = new }) p).use_number ≡ p.use_number
+        by true = refl
+        by false = refl
 
-        named : (o : N.Op) (d : Named N) → In d (names_of (redirect f old new) o) → IsLiveNamed f d
-        named o d = by (f.ops o) refl
-          where
-            by : (m : Option (OpRecord N W)) → f.ops o ≡ m
-                → In d (map (λ p. a_value p.value) (list_of (λ r. r.operands) (option_map (on_operands (map (redirected old new))) m)) ++ map (λ p. the_block p.block) (list_of (λ r. r.successors) (option_map (on_operands (map (redirected old new))) m)))
-                → IsLiveNamed f d
-            by None e h = elim h [ ]
-            by (Some r) e h = elim (In-append d (map (λ p. a_value p.value) (map (redirected old new) r.operands)) (map (λ p. the_block p.block) r.successors) h) [
-              | inl k ↦ elim (redirect_names r.operands d k) [
-                | inl i ↦ w.named o d (rw e (In-left d _ _ i))
-                | inr i ↦ subst (IsLiveNamed f) (sym i) live
-              ]
-              | inr k ↦ w.named o d (rw e (In-right d (map (λ p. a_value p.value) r.operands) _ k))
-            ]
+    retarget_name : (p : Successor N) → (◌≡◌ {A = Named N} (the_block (retargeted old new p).block) (the_block p.block)) ⊎ (◌≡◌ {A = Named N} (the_block (retargeted old new p).block) (the_block new))
+    retarget_name p = by (N.same_block p.block old)
+      where
+        by : (b : Bool) → (◌≡◌ {A = Named N} (the_block (cond b (record p { block = new }) p).block) (the_block p.block)) ⊎ (◌≡◌ {A = Named N} (the_block (cond b (record p { block = new }) p).block) (the_block new))
+        by true = inr refl
+        by false = inl refl
+
+module _ {N : Ids} {W : Dialect} (f : Forest N W) (keys : ℕ) (new : List N.UseNumber) (w : WellFormed f keys) where
+  pub ReplaceAllUses-kept : (x y : Value N) → IsLiveNamed f (a_value y) → Kept f (redirect f x y) keys new
+  ReplaceAllUses-kept x y live =
+      renames_kept f keys new w (a_value y) live (map (redirected x y)) (λ ps. ps)
+      (λ r. ap (λ us. us ++ map (λ (p : Successor N). p.use_number) r.successors) (same_numbers (redirected x y) (λ (p : Operand N). p.use_number) (λ (p : Operand N). a_value p.value) (a_value y) (redirect_number x y) (redirect_name x y) r.operands))
+      (λ r c h. elim (In-append c _ (map (λ (p : Successor N). the_block p.block) r.successors) h) [
+        | inl k ↦ elim (names_or (redirected x y) (λ (p : Operand N). p.use_number) (λ (p : Operand N). a_value p.value) (a_value y) (redirect_number x y) (redirect_name x y) r.operands c k) [
+          | inl i ↦ inl (In-left c _ _ i)
+          | inr i ↦ inr i
+        ]
+        | inr k ↦ inl (In-right c (map (λ (p : Operand N). a_value p.value) r.operands) _ k)
+      ])
+
+  pub RetargetAll-kept : (b c : N.Block) → IsLiveNamed f (the_block c) → Kept f (retarget f b c) keys new
+  RetargetAll-kept b c live =
+      renames_kept f keys new w (the_block c) live (λ ps. ps) (map (retargeted b c))
+      (λ r. ap (λ us. map (λ (p : Operand N). p.use_number) r.operands ++ us) (same_numbers (retargeted b c) (λ (p : Successor N). p.use_number) (λ (p : Successor N). the_block p.block) (the_block c) (retarget_number b c) (retarget_name b c) r.successors))
+      (λ r d h. elim (In-append d (map (λ (p : Operand N). a_value p.value) r.operands) _ h) [
+        | inl k ↦ inl (In-left d _ _ k)
+        | inr k ↦ elim (names_or (retargeted b c) (λ (p : Successor N). p.use_number) (λ (p : Successor N). the_block p.block) (the_block c) (retarget_number b c) (retarget_name b c) r.successors d k) [
+          | inl i ↦ inl (In-right d (map (λ (p : Operand N). a_value p.value) r.operands) _ i)
+          | inr i ↦ inr i
+        ]
+      ])
+
+  module _ (g : Forest N W) (e : Entity N) (drops : DropsUses f e g) where
+    drops_shape : (o : N.Op) → g.ops o ≡ option_map (on_uses (kept_or_none (drops.either o)) (kept_or_none (drops.either o))) (f.ops o)
+    drops_shape o = by (f.ops o) (drops.either o)
+      where
+        by : (m : Option (OpRecord N W)) (c : (g.ops o ≡ m) ⊎ (g.ops o ≡ option_map no_uses m)) → g.ops o ≡ option_map (on_uses (kept_or_none c) (kept_or_none c)) m
+        by None (inl k) = k
+        by None (inr k) = k
+        by (Some r) (inl k) = k
+        by (Some r) (inr k) = k
+
+    drops_case : (o : N.Op) → ((uses_of g o ≡ uses_of f o) × (names_of g o ≡ names_of f o)) ⊎ ((uses_of g o ≡ []) × (names_of g o ≡ []))
+    drops_case o = elim (drops.either o) [
+      | inl k ↦ inl (uses_are g o ∙ ap (list_of use_numbers) k ∙ sym (uses_are f o), names_are g o ∙ ap (list_of named_by) k ∙ sym (names_are f o))
+      | inr k ↦ inr (uses_are g o ∙ ap (list_of use_numbers) k ∙ no_numbers (f.ops o), names_are g o ∙ ap (list_of named_by) k ∙ no_names (f.ops o))
+    ]
+      where
+        no_numbers : (m : Option (OpRecord N W)) → list_of use_numbers (option_map no_uses m) ≡ []
+        no_numbers None = refl
+        no_numbers (Some r) = refl
+
+        no_names : (m : Option (OpRecord N W)) → list_of named_by (option_map no_uses m) ≡ []
+        no_names None = refl
+        no_names (Some r) = refl
+
+    dropped_kept : Kept f (record f { ops = g.ops }) keys new
+    dropped_kept = kept_uses f g.ops (λ o. kept_or_none (drops.either o)) (λ o. kept_or_none (drops.either o)) drops_shape keys new w
+        (λ o p u h k. w.uses o p u (fewer_uses o u h) (fewer_uses p u k))
+        (λ o. elim (drops_case o) [ inl c ↦ rw c.0 (w.uses_once o) | inr c ↦ rw c.0 tt ])
+        (λ o d h. elim (drops_case o) [ inl c ↦ w.named o d (rw c.1 at h) | inr c ↦ absurd (let k : In {A = Named N} d [] = rw c.1 at h in k) ])
+        (λ o u h. inl (fewer_uses o u h))
+      where
+        fewer_uses : (o : N.Op) (u : N.UseNumber) → In u (uses_of g o) → In u (uses_of f o)
+        fewer_uses o u h = elim (drops_case o) [ inl c ↦ rw c.0 at h | inr c ↦ absurd (let k : In u [] = rw c.0 at h in k) ]
+
+    pub DropsUses-kept : Kept f g keys new
+    DropsUses-kept = subst (λ x. Kept f x keys new) (λ i. record { ops = g.ops; blocks = sym drops.blocks i; regions = sym drops.regions i }) dropped_kept

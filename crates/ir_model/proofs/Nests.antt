@@ -60,7 +60,7 @@ module _ {E : Type 0} (old new : E → List E) where
   OneList lists = (x y z : E) → In x (lists y) → In x (lists z) → y ≡ z
 
   -- fewer edges
-  Within-fewer : ((x y : E) → In x (new y) → In x (old y)) → (e a : E) → Within new e a → Within old e a
+  pub Within-fewer : ((x y : E) → In x (new y) → In x (old y)) → (e a : E) → Within new e a → Within old e a
   Within-fewer fewer e a itself = itself
   Within-fewer fewer e a (below {c = c} h w) = below (fewer a c h) (Within-fewer fewer e c w)
 

@@ -19,7 +19,7 @@ use Rattle.ir_model.proofs.Loops.{Lawful}
 use Rattle.ir_model.proofs.Simulation.{History, NewTo, Alike, RestsOn, RestsOn-more, Alike-more}
 use Rattle.ir_model.proofs.Unique.{Change-unique}
 
-number_tells : Tells eqb
+pub number_tells : Tells eqb
 number_tells a b = (eqb-true a b, eq-eqb a b)
 
 and_both : (p q : Bool) → (p && q) ≡ true → (p ≡ true) × (q ≡ true)
@@ -116,6 +116,13 @@ module _ {W : Dialect} where
     tables = record { types = []; ops = []; blocks = []; regions = []; values = [] };
   }
 
+  pub new_is_empty : (s : Session W) → IsNewSession s → s.state ≡ empty context_ids
+  new_is_empty s n = λ i. record {
+    forest = record { ops = λ x. n.ops x i; blocks = λ x. n.blocks x i; regions = λ x. n.regions x i };
+    store = n.store i;
+    tables = n.tables i;
+  }
+
 module _ {W : Dialect} (B : Behaviour W) where
   -- the edit was refused by its condition, or for want of room or memory, or was made
   data Outcome (s : Session W) (edit : Edit W) (a : Answer) (t : Session W) : Type 0 where
@@ -182,9 +189,6 @@ module _ {W : Dialect} (B : Behaviour W) where
             (new_to s k.new r.made_s k.are_new r.passed_s) (new_to t m.new r.made_t m.are_new r.passed_t) k.distinct m.distinct (k.enough ∙ sym m.enough) k.change m.change;
       }
 
-  Stepped : (s t : Session W) (a b : Answer) → Type 1
-  Stepped s t a b = (a ≡ b) × Related s t
-
   step : (s t s' t' : Session W) (edit : Edit W) (a b : Answer) → Related s t → Outcome s edit a s' → Outcome t edit b t' → (IsSpared a ⊎ IsSpared b → a ≡ b) → (a ≡ b) × Related s' t'
   step s t s' t' edit a b r (refused c e f) (refused d g h) same = (e ∙ sym g, rw (f, h) r)
   step s t s' t' edit a b r (refused c e f) (spared d g h) same = absurd (c (other_condition s t edit r d))
@@ -204,13 +208,6 @@ module _ {W : Dialect} (B : Behaviour W) where
       let one = step s t p.2 q.2 edit p.0 q.0 r (outcome s edit p.0 p.2 p.4) (outcome t edit q.0 q.2 q.4) refusals.0 in
       let more = along_runs rest p.2 q.2 s' t' p.1 q.1 one.1 p.5 q.5 refusals.1 in
       (p.3 ∙ ap (λ x. x ∷ p.1) one.0 ∙ ap (λ xs. q.0 ∷ xs) more.0 ∙ sym q.3, more.1)
-
-  new_is_empty : (s : Session W) → IsNewSession s → s.state ≡ empty context_ids
-  new_is_empty s n = λ i. record {
-    forest = record { ops = λ x. n.ops x i; blocks = λ x. n.blocks x i; regions = λ x. n.regions x i };
-    store = n.store i;
-    tables = n.tables i;
-  }
 
   empty_rests : (s : Session W) → IsNewSession s → RestsOn context_ids (States W) (s.state, [])
   empty_rests s n = rw (new_is_empty s n) (λ p q i. empty (p i))

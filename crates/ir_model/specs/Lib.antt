@@ -8,6 +8,12 @@ pub mod Changes
 pub mod Edits
 pub mod Views
 pub mod Sessions
+pub mod Soundness
+pub mod Gone
+pub mod NamesDead
+pub mod Uniquing
+pub mod StepLaws
+pub mod OneOfEach
 pub mod Arena
 pub mod Parent
 pub mod BlockGraph

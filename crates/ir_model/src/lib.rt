@@ -13,6 +13,9 @@ mod definition_laws;
 mod definition_laws_tests;
 mod examples;
 mod ids;
+mod laws;
+#[cfg(test)]
+mod laws_tests;
 
 pub use answer::{Answer, Refused};
 pub use definition_laws::{
@@ -21,6 +24,11 @@ pub use definition_laws::{
 };
 pub use examples::worked_rows;
 pub use ids::{ArenaIndex, Limits};
+pub use laws::{
+    changes_are_settled, edits_can_be_made, gone_for_good, handles_are_exact,
+    new_sessions_are_sound, refusals_change_nothing, runs_keep_sound, steps_keep_sound,
+    versions_rise,
+};
 
 /// The law on two runs: whatever ids and numbers each run chose, they give the same answers and the same view.
 pub fn choices_unseen<Key: Eq, Body, Attr, Saved, Aux, Loc>()
