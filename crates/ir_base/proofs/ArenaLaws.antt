@@ -1,12 +1,12 @@
 -- What a caller of `Arena` may cite: what each change does to what stands under an id, and which ids were handed out.
-use Rattle.std.proofs.Common.{◌≡◌, ◌≢◌, ◌⊎◌, ◌↔◌, ℕ, zero, suc, ◌+◌, ◌-◌, ◌<◌, ◌≤◌, ◌||◌, nat_eq, Bool, true, false, List, [], ◌∷◌, length, Option, Some, None, IsSome, is_some, IsTrue, refl, sym, ap, subst, ◌∙◌, inl, inr, arith, true≢false}
+use Rattle.std.proofs.Common.{◌≡◌, ◌≢◌, ◌⊎◌, ◌↔◌, ℕ, zero, suc, ◌+◌, ◌-◌, ◌<◌, ◌≤◌, ◌||◌, nat_eq, Bool, true, false, [], length, Some, None, is_some, IsTrue, refl, sym, ap, subst, ◌∙◌, inl, inr, arith, true≢false}
 use Rattle.std.proofs.lemmas.Bool.Decides.{eqb_tells}
-use Rattle.std.proofs.lemmas.Bool.{cases_eq, eq-eqb, ne_eqb}
+use Rattle.std.proofs.lemmas.Bool.{cases_eq, eq-eqb}
 use Rattle.ir_model.specs.declared.ids.ArenaIndex.{ArenaIndex}
 use Rattle.ir_model.specs.declared.ids.Limits.{Limits}
 use Rattle.ir_model.specs.Sessions.{IsNewId}
 use Rattle.ir_base.specs.declared.arena.Slot.{Slot}
-use Rattle.ir_base.specs.ArenaSlots.{had_version, never, slot_in, slot_at, find, put}
+use Rattle.ir_base.specs.ArenaSlots.{had_version, never, slot_in, slot_at, put}
 use Rattle.ir_base.specs.ArenaSound.{IsInRange}
 use Rattle.ir_base.specs.Arena.{Arena, empty, get, IsLive, IsNew, IsWhole, is_passed, fill, cut, miss}
 use Rattle.ir_base.proofs.ArenaSlots.{taken_at, slot_at-place, slot_at-next, length-put, at-put_same, at-put_other, at_zero, at_past, find_vacant, find-put_same, find-put_other}
@@ -191,6 +191,7 @@ module _ {T : Type 0} where
       or_false : (b : Bool) → b ≡ (b || false)
       or_false true = refl
       or_false false = refl
+
       by_version : ((id.slot ≡ length a.slots + 1) × (id.version ≡ 1)) ⊎ ((id.slot ≤ length a.slots) × (1 ≤ (slot_at a.slots id.slot).version) × (id.version ≡ (slot_at a.slots id.slot).version + 2)) → had_version id.version w ≡ (nat_eq w id.version || had_version (slot_at a.slots id.slot).version w)
       by_version (inl end) = rw (end.1, at_past a.slots id.slot (omega (arith, end.0)), had-first, had-none) (or_false (nat_eq w 1))
       by_version (inr reused) = rw reused.2 (had-next (slot_at a.slots id.slot).version w)
@@ -289,3 +290,6 @@ module _ {T : Type 0} where
 
   pub whole-miss : (a : Arena T) → IsWhole a → IsWhole (miss a)
   whole-miss a whole = record { within = whole.within; versions = whole.versions }
+
+-- what a caller's clauses on ids follow from: name it in `using(..)`
+pub ruleset arena_laws = (get-new, get-fill_live, get-fill_new, get-fill_live_other, get-fill_new_other, get-cut, get-cut_other)

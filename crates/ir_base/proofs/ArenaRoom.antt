@@ -1,18 +1,18 @@
 -- The room of an arena, counted by ids: which are live or empty for good, and how many.
-use Rattle.std.proofs.Common.{◌≡◌, ◌≢◌, ◌⊎◌, ◌↔◌, ℕ, zero, suc, ◌+◌, ◌-◌, ◌<◌, ◌≤◌, nat_lt, Bool, true, false, List, [], ◌∷◌, length, Option, Some, None, IsSome, is_some, is_none, ◌&&◌, IsTrue, cond, count_by, refl, sym, ap, subst, ◌∙◌, inl, inr, arith, true≢false}
+use Rattle.std.proofs.Common.{◌≡◌, ◌⊎◌, ℕ, zero, suc, ◌+◌, ◌-◌, ◌<◌, ◌≤◌, nat_lt, Bool, true, false, List, [], ◌∷◌, length, Option, Some, None, is_some, is_none, ◌&&◌, IsTrue, cond, count_by, refl, sym, ap, subst, ◌∙◌, inl, inr, arith, true≢false}
 use Rattle.std.proofs.lemmas.Bool.Decides.{leb_tells, nat_tests}
 use Rattle.std.proofs.lemmas.Bool.{cases_eq}
 use Rattle.std.proofs.lemmas.List.Sums.{sum_by-cons}
 use Rattle.ir_model.specs.declared.ids.ArenaIndex.{ArenaIndex}
 use Rattle.ir_model.specs.declared.ids.Limits.{Limits}
-use Rattle.ir_model.specs.Ids.{Absent, Distinct}
+use Rattle.ir_model.specs.Ids.{Distinct}
 use Rattle.ir_model.specs.Nesting.{In}
 use Rattle.ir_model.specs.Sessions.{Number, HasRoom, LacksRoom, TakesSlot}
 use Rattle.ir_model.proofs.Nests.{Absent-not_in}
 use Rattle.ir_base.specs.declared.arena.Slot.{Slot}
-use Rattle.ir_base.specs.ArenaSlots.{had_version, never, slot_in, slot_at, find, is_taken, is_retired}
-use Rattle.ir_base.specs.Arena.{Arena, get, IsLive, IsWhole, is_passed, arena_len, room}
-use Rattle.ir_base.proofs.ArenaSlots.{taken_at, slot_at-place, slot_at-next, at_zero, at_past, find_at, find_vacant}
+use Rattle.ir_base.specs.ArenaSlots.{slot_in, slot_at, find, is_taken, is_retired}
+use Rattle.ir_base.specs.Arena.{Arena, IsLive, IsWhole, is_passed, arena_len, room}
+use Rattle.ir_base.proofs.ArenaSlots.{taken_at, slot_at-place, at_zero, at_past, find_at}
 use Rattle.ir_base.proofs.ArenaLaws.{had-within, had-itself, had-below, same_id}
 
 module _ {T : Type 0} where
@@ -97,22 +97,27 @@ module _ {T : Type 0} where
     where
       at_none : (n : ℕ) → n ≡ 0 → 1 ≤ (slot_at a.slots n).version → ⊥
       at_none n none some = absurd (omega (arith, some, ap (λ m. (slot_at a.slots m).version) none ∙ ap (λ s. s.version) (at_zero a.slots)))
+
       numbered_at : 1 ≤ (slot_at a.slots x.slot).version → 1 ≤ x.slot
       numbered_at some = elim (cases_eq x.slot 0) [ inl none ↦ absurd (at_none x.slot none some) | inr not_none ↦ omega arith ]
+
       within_at : 1 ≤ (slot_at a.slots x.slot).version → x.slot - 1 < length a.slots
       within_at some = elim (leb_tells x.slot (length a.slots)) [
         | inl eq ↦ omega (arith, eq.1, numbered_at some)
         | inr ne ↦ absurd (omega (arith, some, ap (λ s. s.version) (at_past a.slots x.slot ne.1)))
       ]
+
       top : (slot_in a.slots (x.slot - 1)).version ≤ a.last_version → (x.version ≡ (slot_in a.slots (x.slot - 1)).version) ⊎ (x.version + 2 ≤ (slot_in a.slots (x.slot - 1)).version) → x.version ≡ (slot_in a.slots (x.slot - 1)).version
       top most (inl same) = same
       top most (inr below) = absurd (omega (arith, most, below, dead.2, last))
+
       vacant : find a.slots x ≡ (slot_in a.slots (x.slot - 1)).item → (slot_in a.slots (x.slot - 1)).item ≡ None
       vacant found = by_item (slot_in a.slots (x.slot - 1)).item found
         where
           by_item : (o : Option T) → find a.slots x ≡ o → o ≡ None
           by_item None e = refl
           by_item (Some v) e = absurd (dead.1 (ap is_some e))
+
       retired : (s : Slot T) → s.item ≡ None → a.last_version < s.version + 2 → is_gone a.last_version s ≡ true
       retired s none past = grind (arith, nat_tests)
 
@@ -128,6 +133,7 @@ module _ {T : Type 0} where
     where
       past : (n : ℕ) → x.version ≡ n → nat_lt a.last_version (n + 2) ≡ true → limits.last_version < x.version + 2
       past n at past_is = grind (arith, nat_tests)
+
       by_item : (o : Option T) (n : ℕ) → x.version ≡ n → find a.slots x ≡ o → IsTrue (is_passed a x) → is_gone a.last_version (record { version = n; item = o }) ≡ true → TakesSlot limits (is_passed a) (IsLive a) x
       by_item (Some v) n version found passed is = inl (ap is_some found)
       by_item None n version found passed is = inr (passed, λ live. true≢false (sym live ∙ ap is_some found), past n version is)

@@ -2,3 +2,4 @@ pub mod ArenaSlots
 pub mod ArenaSound
 pub mod Arena
 pub mod ArenaLends
+pub mod SeqLends

@@ -2,9 +2,12 @@
 #![tactic(auto)]
 
 mod arena;
+#[cfg(test)]
+mod arena_tests;
 mod error;
 mod ptr;
 mod room;
+mod seq;
 mod tally;
 
 pub use arena::Arena;
@@ -12,3 +15,4 @@ pub use error::CoreError;
 pub use ir_model::{ArenaIndex, Limits};
 pub use ptr::Ptr;
 pub use room::Room;
+pub use seq::Seq;

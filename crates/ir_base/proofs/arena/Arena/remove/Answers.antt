@@ -1,7 +1,7 @@
-use Rattle.std.proofs.Common.{◌≡◌, ◌+◌, ◌<◌, ◌≤◌, ◌∷◌, [], ◌++◌, length, Some, None, IsSome, OnSome, refl, sym, ap, subst, ◌∙◌, arith}
-use Rattle.std.proofs.lemmas.List.{get_or_read, length_push}
-use Rattle.ir_base.specs.ArenaSlots.{slot_in, never}
-use Rattle.ir_base.proofs.ArenaSlots.{IsTaken, taken_at, put-set, find-put_same}
+use Rattle.std.proofs.Common.{None, refl, sym, ◌∙◌, arith}
+use Rattle.std.proofs.lemmas.List.{get_or_read}
+use Rattle.ir_base.specs.ArenaSlots.{never}
+use Rattle.ir_base.proofs.ArenaSlots.{taken_at, put-set, find-put_same}
 use Rattle.ir_base.proofs.ArenaSound.{taken_counts, vacate_listed, vacate_retired, OnSome-from}
 use Rattle.ir_base.proofs.arena.Arena.remove.Goals as goal
 
