@@ -291,5 +291,30 @@ module _ {T : Type 0} where
   pub whole-miss : (a : Arena T) → IsWhole a → IsWhole (miss a)
   whole-miss a whole = record { within = whole.within; versions = whole.versions }
 
+module _ {T : Type 0} where
+  -- an id that is new after an insertion is another one
+  pub new-apart : (a : Arena T) (id i : ArenaIndex) (v : T) → IsNew a id → IsNew (fill a id v) i → i ≢ id
+  new-apart a id i v new next same =
+      true≢false (sym (ap is_some (get-fill_new a id v new)) ∙ ap (λ j. is_some (get (fill a id v) j)) (sym same) ∙ ap is_some (get-new (fill a id v) i next))
+
+  -- and it might have been handed out before that insertion
+  pub new-before : (limits : Limits) (a : Arena T) (id i : ArenaIndex) (v : T) → IsNew a id → IsNewId limits (is_passed (fill a id v)) (IsLive (fill a id v)) i → IsNewId limits (is_passed a) (IsLive a) i
+  new-before limits a id i v new next = (next.0, next.1, next.2, by_version next.3)
+    where
+      earlier : (j : ArenaIndex) → IsTrue (is_passed a j) → IsTrue (is_passed (fill a id v) j)
+      earlier j had = (passed-fill_new a id j v new).1 (inl had)
+      by_version : ((i.version ≡ 1) × ((j : ArenaIndex) → IsTrue (is_passed (fill a id v) j) → j.slot ≢ i.slot))
+          ⊎ ((l : ArenaIndex) × (l.slot ≡ i.slot) × (i.version ≡ l.version + 2) × IsTrue (is_passed (fill a id v) l) × (IsLive (fill a id v) l → ⊥)
+          × ((j : ArenaIndex) → IsTrue (is_passed (fill a id v) j) → j.slot ≡ i.slot → j.version ≤ l.version))
+          → ((i.version ≡ 1) × ((j : ArenaIndex) → IsTrue (is_passed a j) → j.slot ≢ i.slot))
+          ⊎ ((l : ArenaIndex) × (l.slot ≡ i.slot) × (i.version ≡ l.version + 2) × IsTrue (is_passed a l) × (IsLive a l → ⊥)
+          × ((j : ArenaIndex) → IsTrue (is_passed a j) → j.slot ≡ i.slot → j.version ≤ l.version))
+      by_version (inl first) = inl (first.0, λ j had. first.1 j (earlier j had))
+      by_version (inr (l, slot, version, passed, dead, greatest)) =
+          elim ((passed-fill_new a id l v new).0 passed) [
+            | inl had ↦ inr (l, slot, version, had, λ live. dead (rw (get-fill_new_other a id l v new (λ same. true≢false (sym live ∙ ap (λ j. is_some (get a j)) same ∙ ap is_some (get-new a id new)))) live), λ j was here. greatest j (earlier j was) here)
+            | inr same ↦ absurd (dead (ap (λ j. is_some (get (fill a id v) j)) same ∙ ap is_some (get-fill_new a id v new)))
+          ]
+
 -- what a caller's clauses on ids follow from: name it in `using(..)`
 pub ruleset arena_laws = (get-new, get-fill_live, get-fill_new, get-fill_live_other, get-fill_new_other, get-cut, get-cut_other)

@@ -99,10 +99,140 @@ fn remove_twice(roots: &mut Arena<Root>, root: Ptr<Root>) -> bool
     roots.remove(root).is_none()
 }
 
-// A new arena of roots.
-fn roots(rt: &HostRuntime, slots: u32, last_version: u32) -> Option<Arena<Root>> {
-    if slots == u32::MAX || last_version == 0 {
-        return None;
+// Stores a root that names nothing.
+fn make(roots: &mut Arena<Root>) -> Result<Ptr<Root>, CoreError> {
+    roots.insert_with(|_| Root {
+        first: None,
+        count: 0,
+    })
+}
+
+#[test]
+fn room_follows_each_change(rt: HostRuntime) -> Result<(), Fail> {
+    let mut roots = Arena::new(rt.alloc(), 2, 3);
+    assert_eq!(rt; roots.room(), 2);
+    assert!(rt; roots.is_empty());
+    let first = make(&mut roots)?;
+    assert_eq!(rt; roots.room(), 1);
+    roots.remove(first);
+    assert_eq!(rt; roots.room(), 2);
+    let second = make(&mut roots)?;
+    assert_eq!(rt; roots.room(), 1);
+    roots.remove(second);
+    assert_eq!(rt; roots.room(), 1);
+    make(&mut roots)?;
+    assert_eq!(rt; roots.room(), 0);
+    assert_eq!(rt; roots.len(), 1);
+    assert!(rt; !roots.is_live(first));
+    assert!(rt; !roots.is_live(second));
+    Ok(())
+}
+
+#[test]
+fn a_slot_ends_with_its_last_version(rt: HostRuntime) -> Result<(), Fail> {
+    for (last_version, times) in [(1, 1), (2, 1), (3, 2), (4, 2), (5, 3)] {
+        let mut roots = Arena::new(rt.alloc(), 1, last_version);
+        for _ in 0..times {
+            let root = make(&mut roots)?;
+            assert!(rt; roots.remove(root).is_some());
+        }
+        assert_eq!(rt; make(&mut roots).err(), Some(CoreError::SlotsSpent), "last version {last_version}");
     }
-    Some(Arena::new(rt.alloc(), slots, last_version))
+    let mut none = Arena::new(rt.alloc(), 0, 1);
+    assert_eq!(rt; make(&mut none).err(), Some(CoreError::SlotsSpent));
+    Ok(())
+}
+
+#[test]
+fn versions_go_up_by_two(rt: HostRuntime) -> Result<(), Fail> {
+    let mut roots = Arena::new(rt.alloc(), 1, u32::MAX);
+    let mut passed = Vec::new(rt.alloc());
+    for k in 0..1000u32 {
+        let root = make(&mut roots)?;
+        let version = 2 * k + 1;
+        assert_eq!(rt; format!(in rt.alloc(); "{}", root.index())?, format!(in rt.alloc(); "1v{version}")?);
+        roots.remove(root);
+        passed.push(root)?;
+    }
+    for root in &passed {
+        assert!(rt; !roots.is_live(*root));
+    }
+    Ok(())
+}
+
+#[test]
+fn the_slot_freed_last_is_used_first(rt: HostRuntime) -> Result<(), Fail> {
+    let mut roots = Arena::new(rt.alloc(), 9, 9);
+    let a = make(&mut roots)?;
+    let b = make(&mut roots)?;
+    let c = make(&mut roots)?;
+    roots.remove(a);
+    roots.remove(c);
+    for (slot, version) in [(3, 3), (1, 3), (4, 1)] {
+        assert_eq!(rt; make(&mut roots)?.index(), ArenaIndex { slot, version });
+    }
+    assert!(rt; roots.is_live(b));
+    Ok(())
+}
+
+#[test]
+fn records_are_read_and_written(rt: HostRuntime) -> Result<(), Fail> {
+    let mut pair = Pair {
+        knots: Arena::new(rt.alloc(), 4, 9),
+        roots: Arena::new(rt.alloc(), 4, 9),
+    };
+    let mut links = Seq::new(rt.alloc());
+    links.push(ArenaIndex { slot: 7, version: 1 })?;
+    let knot = insert_knot(&mut pair.knots, links)?;
+    let made = Knot {
+        links: Seq::new(rt.alloc()),
+        me: knot.index(),
+    };
+    let other = insert_made(&mut pair.knots, made)?;
+    assert!(rt; knot != other);
+    assert_eq!(rt; pair.knots.get(knot).map_or(0, |k| k.links.len()), 1);
+    assert_eq!(rt; pair.knots.get(other).map(|k| k.me), Some(knot.index()));
+    let root = insert_root(&mut pair, knot)?;
+    let more = insert_root(&mut pair, other)?;
+    set_count(&mut pair, root, 5);
+    assert_eq!(rt; pair.roots.get(root).map(|r| r.count), Some(5));
+    set_two(&mut pair, root, more, 6);
+    assert_eq!(rt; pair.roots.get(more).map(|r| r.count), Some(6));
+    assert_eq!(rt; pair.roots.get(more).and_then(|r| r.first), Some(other.index()));
+    assert!(rt; remove_twice(&mut pair.roots, root));
+    assert!(rt; pair.roots.get_mut(root).is_none());
+    assert_eq!(rt; pair.roots.len(), 1);
+    Ok(())
+}
+
+#[test]
+fn handles_are_their_indices(rt: HostRuntime) -> Result<(), Fail> {
+    let index = ArenaIndex { slot: 2, version: 3 };
+    let handle = Ptr::<Root>::from_index(index);
+    let same = handle.clone()?;
+    assert!(rt; handle == same);
+    assert_eq!(rt; same.index(), index);
+    assert!(rt; handle != Ptr::from_index(ArenaIndex { slot: 2, version: 5 }));
+    let hasher = BuildHasherDefault::<FoldHasher>::default();
+    assert_eq!(rt; hasher.hash_one(&handle), hasher.hash_one(&same));
+    let zero = ArenaIndex { slot: 0, version: 1 };
+    let roots = Arena::<Root>::new(rt.alloc(), 1, 1);
+    assert!(rt; !roots.is_live(Ptr::from_index(zero)));
+    Ok(())
+}
+
+#[test]
+fn room_is_plain_data(rt: HostRuntime) -> Result<(), Fail> {
+    let room = Room {
+        values: 1,
+        uses: 2,
+        ops: 3,
+        blocks: 4,
+        regions: 5,
+        aux: 6,
+    };
+    let same = room;
+    assert_eq!(rt; room, same);
+    assert_eq!(rt; format!(in rt.alloc(); "{room:?}")?, "Room { values: 1, uses: 2, ops: 3, blocks: 4, regions: 5, aux: 6 }");
+    Ok(())
 }
