@@ -233,6 +233,6 @@ fn room_is_plain_data(rt: HostRuntime) -> Result<(), Fail> {
     };
     let same = room;
     assert_eq!(rt; room, same);
-    assert_eq!(rt; format!(in rt.alloc(); "{room:?}")?, "Room { values: 1, uses: 2, ops: 3, blocks: 4, regions: 5, aux: 6 }");
+    assert_eq!(rt; format!(in rt.alloc(); "{room:?}")?.as_str(), "Room { values: 1, uses: 2, ops: 3, blocks: 4, regions: 5, aux: 6 }");
     Ok(())
 }

@@ -8,6 +8,8 @@ mod error;
 mod ptr;
 mod room;
 mod seq;
+#[cfg(test)]
+mod seq_tests;
 mod tally;
 
 pub use arena::Arena;
