@@ -45,7 +45,7 @@ impl<T> Seq<T> {
     pub fn is_empty(&self) -> bool
         ensures { result ≡ (length self.now == 0) }
     {
-        self.items.len() == 0
+        self.len() == 0
     }
 
     /// The item at `index`, if there is one.
