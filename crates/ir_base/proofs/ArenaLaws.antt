@@ -82,12 +82,12 @@ whole-empty T limit last = record { within = omega arith; versions = λ k below.
 
 module _ {T : Type 0} where
   -- the id of a write is that of a live record, or new: then each other record stays
-  record IsOpen (a : Arena T) (id : ArenaIndex) : Type 0 where
+  pub record IsOpen (a : Arena T) (id : ArenaIndex) : Type 0 where
     pub numbered : 1 ≤ id.slot
     pub within : id.slot ≤ length a.slots + 1
     pub was : ((slot_at a.slots id.slot).version ≡ id.version) ⊎ ((slot_at a.slots id.slot).item ≡ None)
 
-  open_live : (a : Arena T) (id : ArenaIndex) → IsLive a id → IsOpen a id
+  pub open_live : (a : Arena T) (id : ArenaIndex) → IsLive a id → IsOpen a id
   open_live a id live =
       let taken = taken_at a.slots id live in
       record {
@@ -96,7 +96,7 @@ module _ {T : Type 0} where
         was = inl (ap (λ s. s.version) (slot_at-place a.slots id.slot taken.numbered) ∙ taken.version);
       }
 
-  open_new : (a : Arena T) (id : ArenaIndex) → IsNew a id → IsOpen a id
+  pub open_new : (a : Arena T) (id : ArenaIndex) → IsNew a id → IsOpen a id
   open_new a id new = record { numbered = new.numbered; within = within_of new.version; was = inr new.vacant }
     where
       within_of : ((id.slot ≡ length a.slots + 1) × (id.version ≡ 1)) ⊎ ((id.slot ≤ length a.slots) × (1 ≤ (slot_at a.slots id.slot).version) × (id.version ≡ (slot_at a.slots id.slot).version + 2)) → id.slot ≤ length a.slots + 1
