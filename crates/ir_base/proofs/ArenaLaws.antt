@@ -6,6 +6,7 @@ use Rattle.ir_model.specs.declared.ids.ArenaIndex.{ArenaIndex}
 use Rattle.ir_model.specs.declared.ids.Limits.{Limits}
 use Rattle.ir_model.specs.Sessions.{IsNewId}
 use Rattle.ir_base.specs.declared.arena.Slot.{Slot}
+use Rattle.ir_base.specs.declared.ptr.Ptr.{Ptr}
 use Rattle.ir_base.specs.ArenaSlots.{had_version, never, slot_in, slot_at, put}
 use Rattle.ir_base.specs.ArenaSound.{IsInRange}
 use Rattle.ir_base.specs.Arena.{Arena, empty, get, IsLive, IsNew, IsWhole, is_passed, fill, cut, miss}
@@ -65,6 +66,10 @@ had-none v = refl
 
 pub same_id : (p q : ArenaIndex) → p.slot ≡ q.slot → p.version ≡ q.version → p ≡ q
 same_id p q slot version = λ i. record { slot = slot i; version = version i }
+
+-- two handles with one index are equal
+pub same_handle : {T : Type 0} (p q : Ptr T) → p.index ≡ q.index → p ≡ q
+same_handle p q same = λ i. record { index = same i; of = p.of }
 
 empty_at : (T : Type 0) (n : ℕ) → slot_at {T = T} [] n ≡ never
 empty_at T zero = at_zero []
