@@ -1,5 +1,5 @@
 -- What a caller of `Arena` may cite: what each change does to what stands under an id, and which ids were handed out.
-use Rattle.std.proofs.Common.{◌≡◌, ◌≢◌, ◌⊎◌, ◌↔◌, ℕ, zero, suc, ◌+◌, ◌-◌, ◌<◌, ◌≤◌, ◌||◌, nat_eq, Bool, true, false, [], length, Some, None, is_some, IsTrue, refl, sym, ap, subst, ◌∙◌, inl, inr, arith, true≢false}
+use Rattle.std.proofs.Common.{◌≡◌, ◌≢◌, ◌⊎◌, ◌↔◌, ℕ, zero, suc, ◌+◌, ◌*◌, ◌-◌, ◌<◌, ◌≤◌, ◌||◌, nat_eq, Bool, true, false, [], length, Some, None, is_some, IsTrue, refl, sym, ap, subst, ◌∙◌, inl, inr, arith, true≢false}
 use Rattle.std.proofs.lemmas.Bool.Decides.{eqb_tells}
 use Rattle.std.proofs.lemmas.Bool.{cases_eq, eq-eqb}
 use Rattle.ir_model.specs.declared.ids.ArenaIndex.{ArenaIndex}
@@ -63,6 +63,36 @@ had-first v = refl
 had-none : (v : ℕ) → had_version 0 v ≡ false
 unfolding had_version
 had-none v = refl
+
+-- the versions that a slot had are those from 1 to its own that differ from it by an even number
+had-even : (n v : ℕ) → had_version n v ≡ true → (k : ℕ) × (n ≡ v + 2 * k)
+unfolding had_version
+had-even zero v had = absurd (true≢false (sym had))
+had-even (suc zero) v had =
+    elim (eqb_tells v 1) [ inl eq ↦ (0, omega (arith, eq.1)) | inr ne ↦ absurd (true≢false (sym had ∙ ne.0)) ]
+had-even (suc (suc n)) v had =
+    elim (eqb_tells v (suc (suc n))) [
+      | inl eq ↦ (0, omega (arith, eq.1))
+      | inr ne ↦
+          let later = had-even n v (sym (ap (λ b. b || had_version n v) ne.0) ∙ had) in
+          (later.0 + 1, omega (arith, later.1))
+    ]
+
+or_true : (b : Bool) → (b || true) ≡ true
+or_true true = refl
+or_true false = refl
+
+even-had : (v k : ℕ) → 1 ≤ v → had_version (v + 2 * k) v ≡ true
+even-had v zero some = rw (plus_none v) (had-itself v some)
+  where
+    plus_none : (m : ℕ) → m + 2 * 0 ≡ m
+    plus_none m = omega arith
+even-had v (suc k) some =
+    let more : v + 2 * suc k ≡ (v + 2 * k) + 2 = omega arith in
+    ap (λ m. had_version m v) more ∙ had-next (v + 2 * k) v ∙ ap (λ b. nat_eq v (v + 2 * k + 2) || b) (even-had v k some) ∙ or_true (nat_eq v (v + 2 * k + 2))
+
+pub had-exact : (n v : ℕ) → IsTrue (had_version n v) ↔ ((1 ≤ v) × ((k : ℕ) × (n ≡ v + 2 * k)))
+had-exact n v = (λ had. ((had-within n v had).0, had-even n v had), λ even. ap (λ m. had_version m v) even.1.1 ∙ even-had v even.1.0 even.0)
 
 pub same_id : (p q : ArenaIndex) → p.slot ≡ q.slot → p.version ≡ q.version → p ≡ q
 same_id p q slot version = λ i. record { slot = slot i; version = version i }
