@@ -338,6 +338,7 @@ module _ {T : Type 0} where
     where
       earlier : (j : ArenaIndex) → IsTrue (is_passed a j) → IsTrue (is_passed (fill a id v) j)
       earlier j had = (passed-fill_new a id j v new).1 (inl had)
+
       by_version : ((i.version ≡ 1) × ((j : ArenaIndex) → IsTrue (is_passed (fill a id v) j) → j.slot ≢ i.slot))
           ⊎ ((l : ArenaIndex) × (l.slot ≡ i.slot) × (i.version ≡ l.version + 2) × IsTrue (is_passed (fill a id v) l) × (IsLive (fill a id v) l → ⊥)
           × ((j : ArenaIndex) → IsTrue (is_passed (fill a id v) j) → j.slot ≡ i.slot → j.version ≤ l.version))

@@ -1,7 +1,7 @@
 //! Arenas as their callers use them: first callers that are proved from the contracts alone, then tests that run.
 
-ghost use Rattle.std.specs.Prelude.{◌≡◌, ◌≢◌, ◌+◌, ◌↔◌, ◌⊎◌, IfOk, IfSome, IfNone, OnErr, OnOk, Some, None, Err};
-ghost use Rattle.ir_base.specs.Arena.{get, IsLive, fill, cut, room, IsNew};
+ghost use Rattle.std.specs.Prelude.{◌≡◌, ◌≢◌, ◌+◌, ◌↔◌, IfOk, IfSome, IfNone, OnErr, OnOk, Some, None, Err};
+ghost use Rattle.ir_base.specs.Arena.{get, fill, room, IsNew};
 ghost use Rattle.ir_model.specs.declared.ids.ArenaIndex.{ArenaIndex as Index};
 
 use super::{Arena, ArenaIndex, CoreError, Ptr, Room, Seq};
@@ -136,7 +136,11 @@ fn a_slot_ends_with_its_last_version(rt: HostRuntime) -> Result<(), Fail> {
             let root = make(&mut roots)?;
             assert!(rt; roots.remove(root).is_some());
         }
-        assert_eq!(rt; make(&mut roots).err(), Some(CoreError::SlotsSpent), "last version {last_version}");
+        assert_eq!(rt;
+            make(&mut roots).err(),
+            Some(CoreError::SlotsSpent),
+            "last version {last_version}"
+        );
     }
     let mut none = Arena::new(rt.alloc(), 0, 1);
     assert_eq!(rt; make(&mut none).err(), Some(CoreError::SlotsSpent));
@@ -150,7 +154,10 @@ fn versions_go_up_by_two(rt: HostRuntime) -> Result<(), Fail> {
     for k in 0..1000u32 {
         let root = make(&mut roots)?;
         let version = 2 * k + 1;
-        assert_eq!(rt; format!(in rt.alloc(); "{}", root.index())?, format!(in rt.alloc(); "1v{version}")?);
+        assert_eq!(rt;
+            format!(in rt.alloc(); "{}", root.index())?,
+            format!(in rt.alloc(); "1v{version}")?
+        );
         roots.remove(root);
         passed.push(root)?;
     }
@@ -182,7 +189,10 @@ fn records_are_read_and_written(rt: HostRuntime) -> Result<(), Fail> {
         roots: Arena::new(rt.alloc(), 4, 9),
     };
     let mut links = Seq::new(rt.alloc());
-    links.push(ArenaIndex { slot: 7, version: 1 })?;
+    links.push(ArenaIndex {
+        slot: 7,
+        version: 1,
+    })?;
     let knot = insert_knot(&mut pair.knots, links)?;
     let made = Knot {
         links: Seq::new(rt.alloc()),
@@ -198,7 +208,10 @@ fn records_are_read_and_written(rt: HostRuntime) -> Result<(), Fail> {
     assert_eq!(rt; pair.roots.get(root).map(|r| r.count), Some(5));
     set_two(&mut pair, root, more, 6);
     assert_eq!(rt; pair.roots.get(more).map(|r| r.count), Some(6));
-    assert_eq!(rt; pair.roots.get(more).and_then(|r| r.first), Some(other.index()));
+    assert_eq!(rt;
+        pair.roots.get(more).and_then(|r| r.first),
+        Some(other.index())
+    );
     assert!(rt; remove_twice(&mut pair.roots, root));
     assert!(rt; pair.roots.get_mut(root).is_none());
     assert_eq!(rt; pair.roots.len(), 1);
@@ -207,15 +220,27 @@ fn records_are_read_and_written(rt: HostRuntime) -> Result<(), Fail> {
 
 #[test]
 fn handles_are_their_indices(rt: HostRuntime) -> Result<(), Fail> {
-    let index = ArenaIndex { slot: 2, version: 3 };
+    let index = ArenaIndex {
+        slot: 2,
+        version: 3,
+    };
     let handle = Ptr::<Root>::from_index(index);
     let same = handle.clone()?;
     assert!(rt; handle == same);
     assert_eq!(rt; same.index(), index);
-    assert!(rt; handle != Ptr::from_index(ArenaIndex { slot: 2, version: 5 }));
+    assert!(rt;
+        handle
+            != Ptr::from_index(ArenaIndex {
+                slot: 2,
+                version: 5
+            })
+    );
     let hasher = BuildHasherDefault::<FoldHasher>::default();
     assert_eq!(rt; hasher.hash_one(&handle), hasher.hash_one(&same));
-    let zero = ArenaIndex { slot: 0, version: 1 };
+    let zero = ArenaIndex {
+        slot: 0,
+        version: 1,
+    };
     let roots = Arena::<Root>::new(rt.alloc(), 1, 1);
     assert!(rt; !roots.is_live(Ptr::from_index(zero)));
     Ok(())
@@ -233,6 +258,9 @@ fn room_is_plain_data(rt: HostRuntime) -> Result<(), Fail> {
     };
     let same = room;
     assert_eq!(rt; room, same);
-    assert_eq!(rt; format!(in rt.alloc(); "{room:?}")?.as_str(), "Room { values: 1, uses: 2, ops: 3, blocks: 4, regions: 5, aux: 6 }");
+    assert_eq!(rt;
+        format!(in rt.alloc(); "{room:?}")?.as_str(),
+        "Room { values: 1, uses: 2, ops: 3, blocks: 4, regions: 5, aux: 6 }"
+    );
     Ok(())
 }
