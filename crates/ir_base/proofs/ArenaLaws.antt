@@ -9,7 +9,7 @@ use Rattle.ir_base.specs.declared.arena.Slot.{Slot}
 use Rattle.ir_base.specs.declared.ptr.Ptr.{Ptr}
 use Rattle.ir_base.specs.ArenaSlots.{had_version, never, slot_in, slot_at, put}
 use Rattle.ir_base.specs.ArenaSound.{IsInRange}
-use Rattle.ir_base.specs.Arena.{Arena, empty, get, IsLive, IsNew, IsWhole, is_passed, fill, cut, miss}
+use Rattle.ir_base.specs.Arena.{Arena, empty, get, IsLive, IsNextVersion, IsNew, IsWhole, is_passed, fill, cut, miss}
 use Rattle.ir_base.proofs.ArenaSlots.{taken_at, slot_at-place, slot_at-next, length-put, at-put_same, at-put_other, at_zero, at_past, find_vacant, find-put_same, find-put_other}
 
 -- the versions that a slot had
@@ -134,7 +134,7 @@ module _ {T : Type 0} where
   pub open_new : (a : Arena T) (id : ArenaIndex) → IsNew a id → IsOpen a id
   open_new a id new = record { numbered = new.numbered; within = within_of new.version; was = inr new.vacant }
     where
-      within_of : ((id.slot ≡ length a.slots + 1) × (id.version ≡ 1)) ⊎ ((id.slot ≤ length a.slots) × (1 ≤ (slot_at a.slots id.slot).version) × (id.version ≡ (slot_at a.slots id.slot).version + 2)) → id.slot ≤ length a.slots + 1
+      within_of : IsNextVersion a id → id.slot ≤ length a.slots + 1
       within_of (inl end) = omega (arith, end.0)
       within_of (inr reused) = omega (arith, reused.0)
 
@@ -212,7 +212,7 @@ module _ {T : Type 0} where
   pub passed-new : (a : Arena T) (id : ArenaIndex) → IsNew a id → is_passed a id ≡ false
   passed-new a id new = by_version new.version
     where
-      by_version : ((id.slot ≡ length a.slots + 1) × (id.version ≡ 1)) ⊎ ((id.slot ≤ length a.slots) × (1 ≤ (slot_at a.slots id.slot).version) × (id.version ≡ (slot_at a.slots id.slot).version + 2)) → is_passed a id ≡ false
+      by_version : IsNextVersion a id → is_passed a id ≡ false
       by_version (inl end) = ap (λ s. had_version s.version id.version) (at_past a.slots id.slot (omega (arith, end.0))) ∙ had-none id.version
       by_version (inr reused) = past (is_passed a id) refl
         where
@@ -227,7 +227,7 @@ module _ {T : Type 0} where
       or_false true = refl
       or_false false = refl
 
-      by_version : ((id.slot ≡ length a.slots + 1) × (id.version ≡ 1)) ⊎ ((id.slot ≤ length a.slots) × (1 ≤ (slot_at a.slots id.slot).version) × (id.version ≡ (slot_at a.slots id.slot).version + 2)) → had_version id.version w ≡ (nat_eq w id.version || had_version (slot_at a.slots id.slot).version w)
+      by_version : IsNextVersion a id → had_version id.version w ≡ (nat_eq w id.version || had_version (slot_at a.slots id.slot).version w)
       by_version (inl end) = rw (end.1, at_past a.slots id.slot (omega (arith, end.0)), had-first, had-none) (or_false (nat_eq w 1))
       by_version (inr reused) = rw reused.2 (had-next (slot_at a.slots id.slot).version w)
 
@@ -264,7 +264,7 @@ module _ {T : Type 0} where
   new-is_new limits a id slots last new =
       (new.numbered, omega (arith, new.within), omega (arith, new.fits), by_version new.version)
     where
-      by_version : ((id.slot ≡ length a.slots + 1) × (id.version ≡ 1)) ⊎ ((id.slot ≤ length a.slots) × (1 ≤ (slot_at a.slots id.slot).version) × (id.version ≡ (slot_at a.slots id.slot).version + 2))
+      by_version : IsNextVersion a id
           → ((id.version ≡ 1) × ((j : ArenaIndex) → IsTrue (is_passed a j) → j.slot ≢ id.slot))
           ⊎ ((l : ArenaIndex) × (l.slot ≡ id.slot) × (id.version ≡ l.version + 2) × IsTrue (is_passed a l) × (IsLive a l → ⊥)
           × ((j : ArenaIndex) → IsTrue (is_passed a j) → j.slot ≡ id.slot → j.version ≤ l.version))
@@ -313,7 +313,7 @@ module _ {T : Type 0} where
       put-whole a id (record { version = id.version; item = Some v }) a.removals whole at.numbered at.within new.within
       (record { first = first new.version; within = new.fits })
     where
-      first : ((id.slot ≡ length a.slots + 1) × (id.version ≡ 1)) ⊎ ((id.slot ≤ length a.slots) × (1 ≤ (slot_at a.slots id.slot).version) × (id.version ≡ (slot_at a.slots id.slot).version + 2)) → 1 ≤ id.version
+      first : IsNextVersion a id → 1 ≤ id.version
       first (inl end) = omega (arith, end.1)
       first (inr reused) = omega (arith, reused.2)
 

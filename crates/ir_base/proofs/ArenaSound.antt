@@ -11,7 +11,7 @@ use Rattle.ir_base.specs.declared.arena.Slot.{Slot}
 use Rattle.ir_base.specs.ArenaSlots.{is_taken, is_reusable, is_retired, never, slot_in, slot_at, find, put}
 use Rattle.ir_base.specs.ArenaSound.{IsInRange, IsSound}
 use Rattle.ir_base.proofs.ArenaSlots.{IsTaken, slot_at-next, at_past, find-put_same}
-use Rattle.ir_base.specs.Arena.{IsNew, IsWhole, Inserts, room}
+use Rattle.ir_base.specs.Arena.{IsNextVersion, IsNew, IsWhole, Inserts, room}
 
 -- the state of the free list after slot k has become s
 pub record Relisted (free freed : List ℕ) (k n : ℕ) : Type 0 where
@@ -233,7 +233,7 @@ module _ {T : Type 0} where
         found = ap (λ l. find l at) wrote ∙ find-put_same slots at (record { version = at.version; item = Some v }) refl new.numbered (next new.version);
       }
     where
-      next : ((at.slot ≡ length slots + 1) × (at.version ≡ 1)) ⊎ ((at.slot ≤ length slots) × (1 ≤ (slot_at slots at.slot).version) × (at.version ≡ (slot_at slots at.slot).version + 2)) → at.slot ≤ length slots + 1
+      next : IsNextVersion (record { slots = slots; limit = limit; last_version = last; removals = n }) at → at.slot ≤ length slots + 1
       next (inl end) = omega (arith, end.0)
       next (inr reused) = omega (arith, reused.0)
 
