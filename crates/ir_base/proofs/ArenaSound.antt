@@ -8,7 +8,7 @@ use Rattle.std.proofs.Math.Seq.{get_or-append_seam}
 use Rattle.std.proofs.lemmas.List.Sums.{sum_by-set, sum_by_push}
 use Rattle.ir_model.specs.declared.ids.ArenaIndex.{ArenaIndex}
 use Rattle.ir_base.specs.declared.arena.Slot.{Slot}
-use Rattle.ir_base.specs.ArenaSlots.{is_taken, is_reusable, is_retired, never, slot_in, slot_at, find, put}
+use Rattle.ir_base.specs.ArenaSlots.{is_taken, is_reusable, is_retired, never, slot_in, find, put}
 use Rattle.ir_base.specs.ArenaSound.{IsInRange, IsSound}
 use Rattle.ir_base.proofs.ArenaSlots.{IsTaken, slot_at-next, at_past, find-put_same}
 use Rattle.ir_base.specs.Arena.{IsNextVersion, IsNew, IsWhole, Inserts, room}
