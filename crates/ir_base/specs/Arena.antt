@@ -53,14 +53,19 @@ module _ {T : Type 0} where
     pub within : length a.slots ≤ a.limit
     pub versions : (k : ℕ) → k < length a.slots → IsInRange a.last_version (slot_in a.slots k).version
 
+  -- the version is the first of the next slot, or the next of a slot that was handed out
+  abbrev pub IsNextVersion : Arena T → ArenaIndex → Type 0
+  IsNextVersion a id =
+      ((id.slot ≡ length a.slots + 1) × (id.version ≡ 1))
+      ⊎ ((id.slot ≤ length a.slots) × (1 ≤ (slot_at a.slots id.slot).version) × (id.version ≡ (slot_at a.slots id.slot).version + 2))
+
   -- an id that may be handed out next: the first of the next slot, or the next of an empty one
   pub record IsNew (a : Arena T) (id : ArenaIndex) : Type 0 where
     pub numbered : 1 ≤ id.slot
     pub within : id.slot ≤ a.limit
     pub fits : id.version ≤ a.last_version
     pub vacant : (slot_at a.slots id.slot).item ≡ None
-    pub version : ((id.slot ≡ length a.slots + 1) × (id.version ≡ 1)) ⊎ ((id.slot ≤ length a.slots)
-        × (1 ≤ (slot_at a.slots id.slot).version) × (id.version ≡ (slot_at a.slots id.slot).version + 2))
+    pub version : IsNextVersion a id
 
   -- the arena with a record under an id
   abbrev pub fill : Arena T → ArenaIndex → T → Arena T

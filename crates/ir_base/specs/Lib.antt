@@ -6,3 +6,4 @@ pub mod Identifier
 pub mod IdentErr
 pub mod IdentifierText
 pub mod Stores
+pub mod SeqLends

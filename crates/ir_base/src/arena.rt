@@ -183,7 +183,10 @@ impl<T> Arena<T> {
     ///
     /// # Errors
     /// `SlotsSpent` where the arena has no room, and else `OutOfMemory` where it had to grow and couldn't. Then nothing has changed.
-    pub fn insert_with<F: FnOnce(Ptr<T>) -> T + Drop>(&mut self, make: F) -> Result<Ptr<T>, CoreError>
+    pub fn insert_with<F: FnOnce(Ptr<T>) -> T + Drop>(
+        &mut self,
+        make: F,
+    ) -> Result<Ptr<T>, CoreError>
     where
         T: Drop,
         requires { F.IsAlwaysCallable make }
@@ -231,11 +234,11 @@ impl<T> Arena<T> {
         ensures absent { IfNone result (self.new ≡ miss self.old) }
     {
         let id = ptr.index;
-        if !self.is_live(ptr) {
-            self.removals = self.removals.next();
+        let live = self.is_live(ptr);
+        self.removals = self.removals.next();
+        if !live {
             return None;
         }
-        self.removals = self.removals.next();
         let place = id.slot - 1;
         let item = self.slots[place as usize].item.take();
         self.len -= 1;

@@ -3,6 +3,8 @@
 
 mod arena;
 mod dialects;
+#[cfg(test)]
+mod arena_tests;
 mod error;
 mod identifier;
 pub mod interfaces;
@@ -11,6 +13,9 @@ mod room;
 mod storage_uniquer;
 #[cfg(test)]
 mod stores_tests;
+mod seq;
+#[cfg(test)]
+mod seq_tests;
 mod tally;
 mod type_handle;
 mod type_store;
@@ -25,3 +30,4 @@ pub use room::Room;
 pub use storage_uniquer::UniqueStore;
 pub use type_handle::TypeHandle;
 pub use type_store::TypeStore;
+pub use seq::Seq;
