@@ -2,3 +2,10 @@ pub mod ArenaSlots
 pub mod ArenaSound
 pub mod ArenaLaws
 pub mod ArenaRoom
+pub mod ListArena
+pub mod ListChains
+pub mod ListEdits
+pub mod ListRecords
+pub mod ListPlaces
+pub mod ListWalks
+pub mod ListRehome

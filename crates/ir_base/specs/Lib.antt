@@ -2,3 +2,5 @@ pub mod ArenaSlots
 pub mod ArenaSound
 pub mod Arena
 pub mod ArenaLends
+pub mod Lists
+pub mod Walks

@@ -3,6 +3,8 @@
 
 mod arena;
 mod error;
+pub mod linked_list;
+mod list_iter;
 mod ptr;
 mod room;
 mod tally;
@@ -10,5 +12,6 @@ mod tally;
 pub use arena::Arena;
 pub use error::CoreError;
 pub use ir_model::{ArenaIndex, Limits};
+pub use list_iter::Iter;
 pub use ptr::Ptr;
 pub use room::Room;
