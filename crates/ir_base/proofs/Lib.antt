@@ -9,3 +9,4 @@ pub mod ListRecords
 pub mod ListPlaces
 pub mod ListWalks
 pub mod ListRehome
+pub mod ListLaws

@@ -48,10 +48,10 @@ module _ {T : Type 0} where
   in-map f (x ∷ xs) zero = refl
   in-map f (x ∷ xs) (suc k) = in-map f xs k
 
-  at-map : (f : T → T) (slots : List (Slot T)) (n : ℕ) → slot_at (map (map_slot f) slots) n ≡ map_slot f (slot_at slots n)
+  pub slot_at-map : (f : T → T) (slots : List (Slot T)) (n : ℕ) → slot_at (map (map_slot f) slots) n ≡ map_slot f (slot_at slots n)
   unfolding slot_at
-  at-map f slots zero = refl
-  at-map f slots (suc k) = in-map f slots k
+  slot_at-map f slots zero = refl
+  slot_at-map f slots (suc k) = in-map f slots k
 
   cond-map : (f : T → T) (b : Bool) (o : Option T) → cond b (option_map f o) None ≡ option_map f (cond b o None)
   cond-map f true o = refl
@@ -60,7 +60,7 @@ module _ {T : Type 0} where
   pub get-map_records : (f : T → T) (a : Arena T) (id : ArenaIndex) → get (map_records f a) id ≡ option_map f (get a id)
   unfolding find
   get-map_records f a id =
-      ap (λ (s : Slot T). cond (eqb s.version id.version) s.item None) (at-map f a.slots id.slot)
+      ap (λ (s : Slot T). cond (eqb s.version id.version) s.item None) (slot_at-map f a.slots id.slot)
       ∙ cond-map f (eqb (slot_at a.slots id.slot).version id.version) (slot_at a.slots id.slot).item
 
   -- a place has one live id at most

@@ -19,6 +19,13 @@ module _ {T A : Type 0} where
         (ap (option_map view) (get-fill_live s i w (live-at s i x e)) ∙ ap Some is ∙ sym (change-here f i (seen view s) (view x) (ap (option_map view) e)))
     | inr ne ↦ ap (option_map view) (get-fill_live_other s i j w (live-at s i x e) (λ e. ne (sym e))) ∙ sym (change-other f i (seen view s) j ne) ])
 
+-- a write that leaves what is read leaves all that is seen
+pub seen-same : {T A : Type 0} (view : T → A) (s : Arena T) (i : ArenaIndex) (x w : T) → get s i ≡ Some x → view w ≡ view x → seen view (fill s i w) ≡ seen view s
+seen-same view s i x w e is = heap_ext _ _ (λ j. elim (id_cases i j) [
+    inl same ↦ subst (λ j. seen view (fill s i w) j ≡ seen view s j) same
+      (ap (option_map view) (get-fill_live s i w (live-at s i x e)) ∙ ap Some is ∙ sym (ap (option_map view) e))
+  | inr ne ↦ ap (option_map view) (get-fill_live_other s i j w (live-at s i x e) (λ e. ne (sym e))) ])
+
 -- the arenas are the same but for what each of two edits changes
 pub SameBut-trans : {T : Type 0} (clear : T → T) (s t u : Arena T) → SameBut clear s t → SameBut clear t u → SameBut clear s u
 SameBut-trans clear s t u p q = q ∙ p

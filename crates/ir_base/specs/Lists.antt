@@ -1,10 +1,10 @@
 -- What a contract says of lists inside records: the links of a node, the ends of a container, and the lists that they make.
-use Rattle.std.specs.Prelude.{◌≡◌, ◌≢◌, ◌⊎◌, ℕ, Bool, false, cond, List, [], ◌∷◌, map, Option, Some, None, IsSome}
+use Rattle.std.specs.Prelude.{◌≡◌, ◌≢◌, ◌⊎◌, ◌↔◌, Bool, false, cond, List, [], ◌∷◌, map, Option, Some, None, IsSome}
 use Rattle.std.specs.Option.{option_map}
 use Rattle.ir_model.specs.declared.ids.ArenaIndex.{ArenaIndex}
 use Rattle.ir_model.specs.ContextIds.{same_id}
 use Rattle.ir_base.specs.declared.arena.Slot.{Slot}
-use Rattle.ir_base.specs.Arena.{Arena, get}
+use Rattle.ir_base.specs.Arena.{Arena, get, IsLive, is_passed, arena_len, room}
 
 -- the neighbours of a node, and the container whose list it is in
 pub record Links : Type 0 where
@@ -145,3 +145,13 @@ map_records f a = record a { slots = map (map_slot f) a.slots }
 -- the arenas are the same but for what `clear` clears in each record
 abbrev pub SameBut : {T : Type 0} → (T → T) → Arena T → Arena T → Type 0
 SameBut clear old new = map_records clear new ≡ map_records clear old
+
+-- the arenas have handed out the same ids, of which the same are live, and have the same room
+pub record SameIds {T : Type 0} (old new : Arena T) : Type 0 where
+  pub live : (id : ArenaIndex) → IsLive new id ↔ IsLive old id
+  pub passed : (id : ArenaIndex) → is_passed new id ≡ is_passed old id
+  pub room : room new ≡ room old
+  pub len : arena_len new ≡ arena_len old
+  pub limit : new.limit ≡ old.limit
+  pub last_version : new.last_version ≡ old.last_version
+  pub removals : new.removals ≡ old.removals

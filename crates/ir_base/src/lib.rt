@@ -5,6 +5,7 @@ mod arena;
 mod error;
 pub mod linked_list;
 mod list_iter;
+pub mod list_laws;
 mod ptr;
 mod room;
 mod tally;
