@@ -1,6 +1,7 @@
 -- What a caller of the list functions may cite: what a list's nodes are, which changes of the arenas keep the lists, and what the edits leave.
-use Rattle.std.proofs.Common.{◌≡◌, ◌≢◌, ◌⊎◌, ◌↔◌, ℕ, ◌+◌, ◌-◌, zero, suc, Bool, true, false, cond, List, [], ◌∷◌, ◌++◌, length, map, Option, Some, None, IsSome, IsTrue, is_some, count_by, refl, sym, ap, ◌∙◌, subst, inl, inr, rules, arith}
+use Rattle.std.proofs.Common.{◌≡◌, ◌≢◌, ◌⊎◌, ◌↔◌, ℕ, ◌+◌, ◌-◌, zero, suc, Bool, true, false, cond, List, [], ◌∷◌, ◌++◌, length, map, Option, Some, None, IsSome, IsTrue, is_some, is_none, nat_lt, ◌&&◌, count_by, refl, sym, ap, ◌∙◌, subst, inl, inr, rules, arith}
 use Rattle.std.specs.Option.{option_map}
+use Rattle.std.proofs.lemmas.List.Sums.{sum_by-cons}
 use Rattle.ir_model.specs.declared.ids.ArenaIndex.{ArenaIndex}
 use Rattle.ir_base.specs.declared.arena.Slot.{Slot}
 use Rattle.ir_base.specs.ArenaSlots.{is_taken, is_retired, had_version, slot_at}
@@ -179,22 +180,23 @@ module _ {T : Type 0} (clear : T → T) where
   some-map None = refl
   some-map (Some x) = refl
 
+  none-map : (o : Option T) → is_none (option_map clear o) ≡ is_none o
+  none-map None = refl
+  none-map (Some x) = refl
+
+  count-map : (p : Slot T → Bool) → ((s : Slot T) → p (map_slot clear s) ≡ p s) → (slots : List (Slot T)) → count_by p (map (map_slot clear) slots) ≡ count_by p slots
+  count-map p same [] = refl
+  count-map p same (s ∷ rest) =
+      sum_by-cons (λ s. cond (p s) 1 0) (map_slot clear s) (map (map_slot clear) rest)
+      ∙ ap (λ b. cond b 1 0 + count_by p (map (map_slot clear) rest)) (same s)
+      ∙ ap (λ n. cond (p s) 1 0 + n) (count-map p same rest)
+      ∙ sym (sum_by-cons (λ s. cond (p s) 1 0) s rest)
+
   taken-map : (slots : List (Slot T)) → count_by is_taken (map (map_slot clear) slots) ≡ count_by is_taken slots
-  taken-map [] = refl
-  taken-map (s ∷ rest) = by_item s.item s.version (taken-map rest)
-    where
-      by_item : (o : Option T) (v : ℕ) → count_by is_taken (map (map_slot clear) rest) ≡ count_by is_taken rest
-          → count_by is_taken (map_slot clear (record { version = v; item = o }) ∷ map (map_slot clear) rest) ≡ count_by is_taken (record { version = v; item = o } ∷ rest)
-      by_item None v e = omega (arith, e)
-      by_item (Some x) v e = omega (arith, e)
+  taken-map slots = count-map is_taken (λ s. some-map s.item) slots
 
   retired-map : (last : ℕ) (slots : List (Slot T)) → count_by (is_retired last) (map (map_slot clear) slots) ≡ count_by (is_retired last) slots
-  retired-map last [] = refl
-  retired-map last (s ∷ rest) = ap (λ b. cond b 1 0 + count_by (is_retired last) (map (map_slot clear) rest)) (one s.item s.version) ∙ ap (λ n. cond (is_retired last s) 1 0 + n) (retired-map last rest)
-    where
-      one : (o : Option T) (v : ℕ) → is_retired last (map_slot clear (record { version = v; item = o })) ≡ is_retired last (record { version = v; item = o })
-      one None v = refl
-      one (Some x) v = refl
+  retired-map last slots = count-map (is_retired last) (λ s. ap (λ b. b && nat_lt last (s.version + 2)) (none-map s.item)) slots
 
   room-map : (a : Arena T) → room (map_records clear a) ≡ room a
   room-map a = rw (taken-map a.slots, retired-map a.last_version a.slots)
