@@ -86,6 +86,17 @@ module _ {h : Heap Links} {r : Heap Ends} {lists : ArenaIndex → List ArenaInde
   pub last-live : (c : ArenaIndex) (a b : List ArenaIndex) (y : ArenaIndex) → lists c ≡ a ++ b → last_or None a ≡ Some y → (m : Links) × (h y ≡ Some m)
   last-live c a b y e is = let t = chain-at h c None (lists c) None y (l.chains c) (rw e (IsIn-left y a b (last-IsIn a y is))) in (t.0, t.1)
 
+-- a linked node stands in the list of its container
+pub linked-place : {h : Heap Links} {r : Heap Ends} {lists : ArenaIndex → List ArenaIndex} → AreLists h r lists → (x : ArenaIndex) → IsLinked h x → (c : ArenaIndex) × Place h r lists x c
+linked-place {h} {r} {lists} l x k = of_links (h x) refl k
+  where
+    of_container : (m : Links) → h x ≡ Some m → (o : Option ArenaIndex) → m.container ≡ o → IsSome o → (c : ArenaIndex) × Place h r lists x c
+    of_container m e None none some = absurd (search (rules, some))
+    of_container m e (Some c) is some = (c, place l x c m e is)
+    of_links : (o : Option Links) → h x ≡ o → IsSome (container_in o) → (c : ArenaIndex) × Place h r lists x c
+    of_links None e some = absurd (search (rules, some))
+    of_links (Some m) e some = of_container m e m.container refl some
+
 -- an index that is live where there is one
 pub IfSome-live : {T A : Type 0} (view : T → A) (s : Arena T) (o : Option ArenaIndex) → ((y : ArenaIndex) → o ≡ Some y → (m : A) × (seen view s y ≡ Some m)) → IfSome o (λ i. IsLive s i)
 IfSome-live view s None f = search rules

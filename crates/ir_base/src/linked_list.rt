@@ -188,6 +188,7 @@ pub fn insert_at_front<T: LinkedList, C: ContainsLinkedList<T>>(
     requires container_live { IsLive containers.old container.index }
     ensures lists { (lists : ArenaIndex → List ArenaIndex) → AreLists (seen T.links nodes.old) (seen C.ends containers.old) lists
         → AreLists (seen T.links nodes.new) (seen C.ends containers.new) (with_list lists container.index (node.index ∷ lists container.index)) }
+    ensures well_formed { AreWellFormed (seen T.links nodes.new) (seen C.ends containers.new) }
     ensures nodes_rest { SameBut (λ x. T.with_links x unlinked) nodes.old nodes.new }
     ensures containers_rest { SameBut (λ x. C.with_ends x no_ends) containers.old containers.new }
 {
@@ -215,6 +216,7 @@ pub fn insert_at_back<T: LinkedList, C: ContainsLinkedList<T>>(
     requires container_live { IsLive containers.old container.index }
     ensures lists { (lists : ArenaIndex → List ArenaIndex) → AreLists (seen T.links nodes.old) (seen C.ends containers.old) lists
         → AreLists (seen T.links nodes.new) (seen C.ends containers.new) (with_list lists container.index (lists container.index ++ node.index ∷ [])) }
+    ensures well_formed { AreWellFormed (seen T.links nodes.new) (seen C.ends containers.new) }
     ensures nodes_rest { SameBut (λ x. T.with_links x unlinked) nodes.old nodes.new }
     ensures containers_rest { SameBut (λ x. C.with_ends x no_ends) containers.old containers.new }
 {
@@ -242,6 +244,7 @@ pub fn insert_after<T: LinkedList, C: ContainsLinkedList<T>>(
     requires mark_linked { IsLinked (seen T.links nodes.old) mark.index }
     ensures lists { (lists : ArenaIndex → List ArenaIndex) (c : ArenaIndex) (a b : List ArenaIndex) → AreLists (seen T.links nodes.old) (seen C.ends containers.old) lists → lists c ≡ a ++ mark.index ∷ b
         → AreLists (seen T.links nodes.new) (seen C.ends containers.new) (with_list lists c (a ++ mark.index ∷ node.index ∷ b)) }
+    ensures well_formed { AreWellFormed (seen T.links nodes.new) (seen C.ends containers.new) }
     ensures nodes_rest { SameBut (λ x. T.with_links x unlinked) nodes.old nodes.new }
     ensures containers_rest { SameBut (λ x. C.with_ends x no_ends) containers.old containers.new }
 {
@@ -271,6 +274,7 @@ pub fn insert_before<T: LinkedList, C: ContainsLinkedList<T>>(
     requires mark_linked { IsLinked (seen T.links nodes.old) mark.index }
     ensures lists { (lists : ArenaIndex → List ArenaIndex) (c : ArenaIndex) (a b : List ArenaIndex) → AreLists (seen T.links nodes.old) (seen C.ends containers.old) lists → lists c ≡ a ++ mark.index ∷ b
         → AreLists (seen T.links nodes.new) (seen C.ends containers.new) (with_list lists c (a ++ node.index ∷ mark.index ∷ b)) }
+    ensures well_formed { AreWellFormed (seen T.links nodes.new) (seen C.ends containers.new) }
     ensures nodes_rest { SameBut (λ x. T.with_links x unlinked) nodes.old nodes.new }
     ensures containers_rest { SameBut (λ x. C.with_ends x no_ends) containers.old containers.new }
 {
@@ -297,6 +301,7 @@ pub fn unlink<T: LinkedList, C: ContainsLinkedList<T>>(
     requires node_linked { IsLinked (seen T.links nodes.old) node.index }
     ensures lists { (lists : ArenaIndex → List ArenaIndex) (c : ArenaIndex) (a b : List ArenaIndex) → AreLists (seen T.links nodes.old) (seen C.ends containers.old) lists → lists c ≡ a ++ node.index ∷ b
         → AreLists (seen T.links nodes.new) (seen C.ends containers.new) (with_list lists c (a ++ b)) }
+    ensures well_formed { AreWellFormed (seen T.links nodes.new) (seen C.ends containers.new) }
     ensures nodes_rest { SameBut (λ x. T.with_links x unlinked) nodes.old nodes.new }
     ensures containers_rest { SameBut (λ x. C.with_ends x no_ends) containers.old containers.new }
 {
@@ -358,6 +363,7 @@ pub fn append_linked_list<T: LinkedList, C: ContainsLinkedList<T>>(
     requires two { donee.index ≢ donor.index }
     ensures lists { (lists : ArenaIndex → List ArenaIndex) → AreLists (seen T.links nodes.old) (seen C.ends containers.old) lists
         → AreLists (seen T.links nodes.new) (seen C.ends containers.new) (with_list (with_list lists donee.index (lists donee.index ++ lists donor.index)) donor.index []) }
+    ensures well_formed { AreWellFormed (seen T.links nodes.new) (seen C.ends containers.new) }
     ensures nodes_rest { SameBut (λ x. T.with_links x unlinked) nodes.old nodes.new }
     ensures containers_rest { SameBut (λ x. C.with_ends x no_ends) containers.old containers.new }
 {

@@ -47,17 +47,22 @@ set_containers-requires g c =
     joined-list (seen g.T.LinkedList.links c.args.nodes.now) (seen g.T.LinkedList.links c.set_next_of.new.nodes) (seen ends c.args.containers.now) c.requires.well_formed.0 c.args.donee.index c.args.donor.index c.get_tail-tail.result c.get_head-first.result
       l c.requires.two first tail (rw (c.set_next_of.ensures.links, c.set_prev_of.ensures.links))
 
-pub returns : goal.returns
-returns g c =
+pub returns-clause-lists : goal.returns-clause-lists
+returns-clause-lists g c lists l =
     let links = g.T.LinkedList.links in
     let ends = g.C.ContainsLinkedList.ends in
-    record {
-      lists = λ lists l. AreLists-joined (seen links c.args.nodes.now) (seen links c.set_next_of.new.nodes) (seen links c.set_containers.new.nodes) (seen ends c.args.containers.now) (seen ends c.set_ends-2.new.containers)
-        lists c.args.donee.index c.args.donor.index (ends c.record_at-to.result.now) (ends c.record_at-from.result.now) c.get_head-head.result c.get_tail-tail.result c.get_head-first.result c.get_tail-last.result
-        l c.requires.two (ap (option_map ends) c.record_at-to.ensures) (ap (option_map ends) c.record_at-from.ensures)
-        c.get_head-head.ensures c.get_tail-tail.ensures c.get_head-first.ensures c.get_tail-last.ensures
-        (rw (c.set_next_of.ensures.links, c.set_prev_of.ensures.links)) c.set_containers.ensures.moved
-        (rw (c.set_ends-2.ensures.ends, c.set_ends.ensures.ends, c.or.ensures, c.or-2.ensures, c.set_next_of.ensures.ends, c.set_prev_of.ensures.ends));
-      nodes_rest = c.set_containers.ensures.rest ∙ c.set_next_of.ensures.nodes_rest ∙ c.set_prev_of.ensures.nodes_rest;
-      containers_rest = c.set_ends-2.ensures.rest ∙ c.set_ends.ensures.rest ∙ c.set_next_of.ensures.containers_rest ∙ c.set_prev_of.ensures.containers_rest;
-    }
+    AreLists-joined (seen links c.args.nodes.now) (seen links c.set_next_of.new.nodes) (seen links c.set_containers.new.nodes) (seen ends c.args.containers.now) (seen ends c.set_ends-2.new.containers)
+      lists c.args.donee.index c.args.donor.index (ends c.record_at-to.result.now) (ends c.record_at-from.result.now) c.get_head-head.result c.get_tail-tail.result c.get_head-first.result c.get_tail-last.result
+      l c.requires.two (ap (option_map ends) c.record_at-to.ensures) (ap (option_map ends) c.record_at-from.ensures)
+      c.get_head-head.ensures c.get_tail-tail.ensures c.get_head-first.ensures c.get_tail-last.ensures
+      (rw (c.set_next_of.ensures.links, c.set_prev_of.ensures.links)) c.set_containers.ensures.moved
+      (rw (c.set_ends-2.ensures.ends, c.set_ends.ensures.ends, c.or.ensures, c.or-2.ensures, c.set_next_of.ensures.ends, c.set_prev_of.ensures.ends))
+
+pub returns-clause-well_formed : goal.returns-clause-well_formed
+returns-clause-well_formed g c = (_, returns-clause-lists g c c.requires.well_formed.0 c.requires.well_formed.1)
+
+pub returns-clause-nodes_rest : goal.returns-clause-nodes_rest
+returns-clause-nodes_rest g c = c.set_containers.ensures.rest ∙ c.set_next_of.ensures.nodes_rest ∙ c.set_prev_of.ensures.nodes_rest
+
+pub returns-clause-containers_rest : goal.returns-clause-containers_rest
+returns-clause-containers_rest g c = c.set_ends-2.ensures.rest ∙ c.set_ends.ensures.rest ∙ c.set_next_of.ensures.containers_rest ∙ c.set_prev_of.ensures.containers_rest
