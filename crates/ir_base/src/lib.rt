@@ -4,6 +4,8 @@
 mod arena;
 mod error;
 pub mod linked_list;
+#[cfg(test)]
+mod linked_list_tests;
 mod list_iter;
 pub mod list_laws;
 mod ptr;

@@ -11,7 +11,7 @@ use crate::{Arena, ArenaIndex, Ptr};
 use std::alloc::AllocError;
 use std::marker::Model;
 
-/// The nodes of a piece of a list, from both ends. It stands for pliron's `LinkedListIterator`.
+/// The nodes of a piece of a list, from both ends. It stands for pliron's `Iter`.
 ///
 /// A contract sees it as the list of the nodes that are left.
 pub struct Iter<'a, T: LinkedList> {
