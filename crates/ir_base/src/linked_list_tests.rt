@@ -182,12 +182,12 @@ impl ContainsLinkedList<Part> for Root {
 }
 
 // Stores a record that was made before.
-fn store<R: Drop>(arena: &mut Arena<R>, record: R) -> Result<Ptr<R>, CoreError>
-    ensures filled { IfOk result (λ ptr. arena.new ≡ fill arena.old ptr.index record) }
+fn store<R: Drop>(arena: &mut Arena<R>, value: R) -> Result<Ptr<R>, CoreError>
+    ensures filled { IfOk result (λ ptr. arena.new ≡ fill arena.old ptr.index value) }
     ensures new_id { IfOk result (λ ptr. IsNew arena.old ptr.index) }
     ensures err { OnErr result (arena.new ≡ arena.old) }
 {
-    arena.insert_with(move |_: Ptr<R>| record)
+    arena.insert_with(move |_: Ptr<R>| value)
 }
 
 /// Two arenas whose lists are well formed. Its calls answer false where a condition doesn't hold, and then change nothing.
