@@ -40,7 +40,7 @@ module _ {T : Type 0} where
       let item : Some (clear w) ≡ option_map clear old.item = ap Some same ∙ ap (option_map clear) (sym e ∙ t.found) in
       let slot : map_slot clear s ≡ map_slot clear old = λ i. record { version = sym t.version i; item = item i } in
       let slots : map (map_slot clear) (put a.slots id.slot s) ≡ map (map_slot clear) a.slots =
-        ap (map (map_slot clear)) (put-place a.slots id.slot s t.numbered) ∙ map-put_in (map_slot clear) a.slots (id.slot - 1) s t.within slot in
+      ap (map (map_slot clear)) (put-place a.slots id.slot s t.numbered) ∙ map-put_in (map_slot clear) a.slots (id.slot - 1) s t.within slot in
       λ i. record a { slots = slots i }
 
   in-map : (f : T → T) (slots : List (Slot T)) (k : ℕ) → slot_in (map (map_slot f) slots) k ≡ map_slot f (slot_in slots k)
@@ -72,9 +72,10 @@ module _ {T : Type 0} where
 
   apart_places : (a : Arena T) (x : ArenaIndex) (xs : List ArenaIndex) → (IsIn x xs → ⊥) → IsLive a x → ((q : ArenaIndex) → IsIn q xs → IsLive a q) → AllByRecursion (λ n. eqb (place_of x) n ≡ false) (map place_of xs)
   apart_places a x [] out lx live = tt
-  apart_places a x (y ∷ ys) out lx live =
-      (ne_eqb (place_of x) (place_of y) (λ e. out (inl (same_live a x y lx (live y (inl refl)) e))),
-       apart_places a x ys (λ i. out (inr i)) lx (λ q i. live q (inr i)))
+  apart_places a x (y ∷ ys) out lx live = (
+    ne_eqb (place_of x) (place_of y) (λ e. out (inl (same_live a x y lx (live y (inl refl)) e))),
+    apart_places a x ys (λ i. out (inr i)) lx (λ q i. live q (inr i)),
+  )
 
   distinct_places : (a : Arena T) (xs : List ArenaIndex) → AreApart xs → ((q : ArenaIndex) → IsIn q xs → IsLive a q) → IsDistinct eqb (map place_of xs)
   unfolding IsDistinct
@@ -85,8 +86,9 @@ module _ {T : Type 0} where
   places_below : (a : Arena T) (xs : List ArenaIndex) (n : ℕ) → ((q : ArenaIndex) → IsIn q xs → IsLive a q) → list_any (eqb n) (map place_of xs) ≡ true → n < length a.slots
   places_below a [] n live e = cc
   places_below a (x ∷ xs) n live e = elim (cases_eq n (place_of x)) [
-      inl same ↦ let t = taken_at a.slots x (live x (inl refl)) in omega (arith, t.within, same)
-    | inr ne ↦ places_below a xs n (λ q i. live q (inr i)) (rw (ne_eqb n (place_of x) ne) at e) ]
+    | inl same ↦ let t = taken_at a.slots x (live x (inl refl)) in omega (arith, t.within, same)
+    | inr ne ↦ places_below a xs n (λ q i. live q (inr i)) (rw (ne_eqb n (place_of x) ne) at e)
+  ]
 
   -- there are no more live ids than slots
   pub live-fit : (a : Arena T) (xs : List ArenaIndex) → AreApart xs → ((q : ArenaIndex) → IsIn q xs → IsLive a q) → length xs ≤ length a.slots

@@ -16,10 +16,12 @@ id_same i = rw (eq-eqb i.slot i.slot refl, eq-eqb i.version i.version refl)
 
 pub id_cases : (i j : ArenaIndex) → (i ≡ j) ⊎ (i ≡ j → ⊥)
 id_cases i j = elim (cases_eq i.slot j.slot) [
-    inl s ↦ elim (cases_eq i.version j.version) [
-        inl v ↦ inl (λ k. record { slot = s k; version = v k })
-      | inr ne ↦ inr (λ e. ne (ap (λ (x : ArenaIndex). x.version) e)) ]
-  | inr ne ↦ inr (λ e. ne (ap (λ (x : ArenaIndex). x.slot) e)) ]
+  | inl s ↦ elim (cases_eq i.version j.version) [
+    | inl v ↦ inl (λ k. record { slot = s k; version = v k })
+    | inr ne ↦ inr (λ e. ne (ap (λ (x : ArenaIndex). x.version) e))
+  ]
+  | inr ne ↦ inr (λ e. ne (ap (λ (x : ArenaIndex). x.slot) e))
+]
 
 pub same_id-true : (i j : ArenaIndex) → same_id i j ≡ true → i ≡ j
 same_id-true i j e =
@@ -113,8 +115,8 @@ chain-unique h c d p q (x ∷ xs) (y ∷ ys) k l e =
 
 pub chain-apart : (h : Heap Links) (c : ArenaIndex) (p : Option ArenaIndex) (xs : List ArenaIndex) → IsChain h c p xs None → AreApart xs
 chain-apart h c p [] k = tt
-chain-apart h c p (x ∷ xs) k =
-    (λ i.
+chain-apart h c p (x ∷ xs) k = (
+  λ i.
       let s = IsIn-split x xs i in
       let whole : IsChain h c p (x ∷ xs) None = k in
       let tail = chain-split h c (Some x) s.0 (x ∷ s.1) None (rw s.2 at k.1) in
@@ -122,7 +124,8 @@ chain-apart h c p (x ∷ xs) k =
       let l = ap length (e ∙ refl) in
       let m = ap length s.2 in
       omega (arith, length-append s.0 (x ∷ s.1), l, m),
-     chain-apart h c (Some x) xs k.1)
+  chain-apart h c (Some x) xs k.1,
+)
 
 pub apart-left : (xs ys : List ArenaIndex) → AreApart (xs ++ ys) → AreApart xs
 apart-left [] ys a = tt
@@ -144,13 +147,15 @@ chain-same h h' c p (x ∷ xs) n s k = (s x (inl refl) ∙ k.0, chain-same h h' 
 
 pub chain-set_prev : (h : Heap Links) (c : ArenaIndex) (p q : Option ArenaIndex) (xs : List ArenaIndex) (n : Option ArenaIndex) → AreApart xs → IsChain h c p xs n → IsChain (change (with_prev q) (head_or None xs) h) c q xs n
 chain-set_prev h c p q [] n a k = tt
-chain-set_prev h c p q (x ∷ xs) n a k =
-    (change-here (with_prev q) x h (linked p (head_or n xs) c) k.0,
-     chain-same h (change (with_prev q) (Some x) h) c (Some x) xs n (λ y i. change-other (with_prev q) x h y (λ e. a.0 (rw (← e) at i))) k.1)
+chain-set_prev h c p q (x ∷ xs) n a k = (
+  change-here (with_prev q) x h (linked p (head_or n xs) c) k.0,
+  chain-same h (change (with_prev q) (Some x) h) c (Some x) xs n (λ y i. change-other (with_prev q) x h y (λ e. a.0 (rw (← e) at i))) k.1,
+)
 
 pub chain-set_next : (h : Heap Links) (c : ArenaIndex) (p : Option ArenaIndex) (xs : List ArenaIndex) (n m : Option ArenaIndex) → AreApart xs → IsChain h c p xs n → IsChain (change (with_next m) (last_or None xs) h) c p xs m
 chain-set_next h c p [] n m a k = tt
 chain-set_next h c p (x ∷ []) n m a k = (change-here (with_next m) x h (linked p n c) k.0, tt)
-chain-set_next h c p (x ∷ (y ∷ ys)) n m a k =
-    (change-other (with_next m) (last_of y ys) h x (λ e. a.0 (subst (λ z. IsIn z (y ∷ ys)) e (last_of-IsIn y ys))) ∙ k.0,
-     chain-set_next h c (Some x) (y ∷ ys) n m a.1 k.1)
+chain-set_next h c p (x ∷ (y ∷ ys)) n m a k = (
+  change-other (with_next m) (last_of y ys) h x (λ e. a.0 (subst (λ z. IsIn z (y ∷ ys)) e (last_of-IsIn y ys))) ∙ k.0,
+  chain-set_next h c (Some x) (y ∷ ys) n m a.1 k.1,
+)

@@ -36,9 +36,10 @@ pub relink-sides : (h : Heap Links) (c d : ArenaIndex) (a b : List ArenaIndex) (
 relink-sides h c d a b m p v w apa apb dis ka kb =
     let mid : Heap Links = change (with_prev w) (head_or None b) h in
     let ka2 : IsChain mid c None a m = chain-same h mid c None a m (λ y i. change-apart (with_prev w) (head_or None b) h y (λ e. dis y i (head-IsIn b y e))) ka in
-    let kb2 : IsChain mid d w b None = chain-set_prev h d p w b None apb kb in
-    (chain-set_next mid c None a m v apa ka2,
-     chain-same mid (relink h a b v w) d w b None (λ y i. change-apart (with_next v) (last_or None a) mid y (λ e. dis y (last-IsIn a y e) i)) kb2)
+    let kb2 : IsChain mid d w b None = chain-set_prev h d p w b None apb kb in (
+      chain-set_next mid c None a m v apa ka2,
+      chain-same mid (relink h a b v w) d w b None (λ y i. change-apart (with_next v) (last_or None a) mid y (λ e. dis y (last-IsIn a y e) i)) kb2,
+    )
 
 pub reend-here : (r : Heap Ends) (c : ArenaIndex) (a b : List ArenaIndex) (m q v w : Option ArenaIndex) → r c ≡ Some (record { head = head_or m a; tail = last_or q b })
     → reend r c a b v w c ≡ Some (record { head = head_or v a; tail = last_or w b })
@@ -87,20 +88,25 @@ pub AreLists-with_list : (h h' : Heap Links) (r r' : Heap Ends) (lists : ArenaIn
     → AreLists h' r' (with_list lists c xs)
 AreLists-with_list h h' r r' lists c xs e l live chain ends others frame covered = record {
   chains = λ k. elim (id_cases c k) [
-    inl same ↦ subst (λ k. IsChain h' k None (with_list lists c xs k) None) same (rw (with_list-here lists c xs) chain)
-  | inr ne ↦ rw (with_list-other lists c xs k ne) (chain-same h h' k None (lists k) None (λ y i. frame k y ne i) (l.chains k)) ];
+    | inl same ↦ subst (λ k. IsChain h' k None (with_list lists c xs k) None) same (rw (with_list-here lists c xs) chain)
+    | inr ne ↦ rw (with_list-other lists c xs k ne) (chain-same h h' k None (lists k) None (λ y i. frame k y ne i) (l.chains k))
+  ];
   ends = λ k f is. elim (id_cases c k) [
-    inl same ↦ subst (λ k. r' k ≡ Some f → f ≡ ends_of (with_list lists c xs k)) same (λ is. rw (with_list-here lists c xs) (Some-inj _ _ (sym is ∙ ends))) is
-  | inr ne ↦ rw (with_list-other lists c xs k ne) (l.ends k f (sym (others k ne) ∙ is)) ];
+    | inl same ↦ subst (λ k. r' k ≡ Some f → f ≡ ends_of (with_list lists c xs k)) same (λ is. rw (with_list-here lists c xs) (Some-inj _ _ (sym is ∙ ends))) is
+    | inr ne ↦ rw (with_list-other lists c xs k ne) (l.ends k f (sym (others k ne) ∙ is))
+  ];
   absent = λ k is. elim (id_cases c k) [
-    inl same ↦ let bad : Some (ends_of xs) ≡ None = sym ends ∙ ap r' same ∙ is in cc
-  | inr ne ↦ rw (with_list-other lists c xs k ne) (l.absent k (sym (others k ne) ∙ is)) ];
+    | inl same ↦ let bad : Some (ends_of xs) ≡ None = sym ends ∙ ap r' same ∙ is in cc
+    | inr ne ↦ rw (with_list-other lists c xs k ne) (l.absent k (sym (others k ne) ∙ is))
+  ];
   covers = λ y m is. elim (covered y m is) [
-    inl u ↦ inl u
-  | inr (inl i) ↦ inr (c, rw (with_list-here lists c xs) i)
-  | inr (inr t) ↦ elim (l.covers y m (sym t.1 ∙ is)) [
-      inl u ↦ inl u
-    | inr s ↦ inr (s.0, rw (with_list-other lists c xs s.0 (λ same. t.0 (rw (← same) at s.1))) s.1) ] ];
+    | inl u ↦ inl u
+    | inr (inl i) ↦ inr (c, rw (with_list-here lists c xs) i)
+    | inr (inr t) ↦ elim (l.covers y m (sym t.1 ∙ is)) [
+      | inl u ↦ inl u
+      | inr s ↦ inr (s.0, rw (with_list-other lists c xs s.0 (λ same. t.0 (rw (← same) at s.1))) s.1)
+    ]
+  ];
 }
 
 pub last_or-start : (w : Option ArenaIndex) (x : ArenaIndex) (b : List ArenaIndex) → last_or w (x ∷ b) ≡ last_or (Some x) b
@@ -120,8 +126,9 @@ relink-live h a b v w x l na nb e = relink-other h a b v w x na nb ∙ e
 pub IsIn-either : (y : ArenaIndex) (xs : List ArenaIndex) → IsIn y xs ⊎ (IsIn y xs → ⊥)
 IsIn-either y [] = inr (λ i. i)
 IsIn-either y (x ∷ xs) = elim (id_cases y x) [
-    inl e ↦ inl (inl e)
-  | inr ne ↦ elim (IsIn-either y xs) [ inl i ↦ inl (inr i) | inr ni ↦ inr (λ o. elim o [ inl e ↦ ne e | inr i ↦ ni i ]) ] ]
+  | inl e ↦ inl (inl e)
+  | inr ne ↦ elim (IsIn-either y xs) [ inl i ↦ inl (inr i) | inr ni ↦ inr (λ o. elim o [ inl e ↦ ne e | inr i ↦ ni i ]) ]
+]
 
 pub AreLists-link : (h : Heap Links) (r : Heap Ends) (lists : ArenaIndex → List ArenaIndex) (c : ArenaIndex) (a b : List ArenaIndex) (x : ArenaIndex) (e : Ends)
     → AreLists h r lists → lists c ≡ a ++ b → r c ≡ Some e → h x ≡ Some unlinked
@@ -150,13 +157,15 @@ AreLists-link h r lists c a b x e l is live u =
     let ends : reend r c a b (Some x) (Some x) c ≡ Some (ends_of (a ++ x ∷ b)) = rw (head_or-append None a (x ∷ b), last_or-append None a (x ∷ b), last_or-start (last_or None a) x b) after in
     let elsewhere : (k y : ArenaIndex) → (c ≡ k → ⊥) → IsIn y (lists k) → IsIn y (a ++ b) → ⊥ = λ k y ne i j. ne (lists-apart l y c k (rw is j) i) in
     AreLists-with_list h new r (reend r c a b (Some x) (Some x)) lists c (a ++ x ∷ b) e l live whole ends
-      (λ k ne. reend-other r c a b (Some x) (Some x) k ne)
-      (λ k y ne i. keep y (λ e. unlinked-apart l x u k (rw e i)) ∙ relink-other h a b (Some x) (Some x) y (λ j. elsewhere k y ne i (IsIn-left y a b j)) (λ j. elsewhere k y ne i (IsIn-right y a b j)))
-      (λ y m n. elim (id_cases x y) [
-          inl same ↦ inr (inl (IsIn-right y a (x ∷ b) (inl (sym same))))
-        | inr ne ↦ elim (IsIn-either y (a ++ b)) [
-            inl i ↦ elim (IsIn-cases y a b i) [ inl j ↦ inr (inl (IsIn-left y a (x ∷ b) j)) | inr j ↦ inr (inl (IsIn-right y a (x ∷ b) (inr j))) ]
-          | inr ni ↦ inr (inr (λ i. ni (rw (← is) i), keep y ne ∙ relink-other h a b (Some x) (Some x) y (λ j. ni (IsIn-left y a b j)) (λ j. ni (IsIn-right y a b j)))) ] ])
+    (λ k ne. reend-other r c a b (Some x) (Some x) k ne)
+    (λ k y ne i. keep y (λ e. unlinked-apart l x u k (rw e i)) ∙ relink-other h a b (Some x) (Some x) y (λ j. elsewhere k y ne i (IsIn-left y a b j)) (λ j. elsewhere k y ne i (IsIn-right y a b j)))
+    (λ y m n. elim (id_cases x y) [
+      | inl same ↦ inr (inl (IsIn-right y a (x ∷ b) (inl (sym same))))
+      | inr ne ↦ elim (IsIn-either y (a ++ b)) [
+        | inl i ↦ elim (IsIn-cases y a b i) [ inl j ↦ inr (inl (IsIn-left y a (x ∷ b) j)) | inr j ↦ inr (inl (IsIn-right y a (x ∷ b) (inr j))) ]
+        | inr ni ↦ inr (inr (λ i. ni (rw (← is) i), keep y ne ∙ relink-other h a b (Some x) (Some x) y (λ j. ni (IsIn-left y a b j)) (λ j. ni (IsIn-right y a b j))))
+      ]
+    ])
 
 pub AreLists-unlink : (h : Heap Links) (r : Heap Ends) (lists : ArenaIndex → List ArenaIndex) (c : ArenaIndex) (a b : List ArenaIndex) (x : ArenaIndex) (e : Ends)
     → AreLists h r lists → lists c ≡ a ++ x ∷ b → r c ≡ Some e
@@ -187,15 +196,18 @@ AreLists-unlink h r lists c a b x e l is live =
     let ends : reend r c a b v w c ≡ Some (ends_of (a ++ b)) = rw (head_or-append None a b, last_or-append None a b) after in
     let elsewhere : (k y : ArenaIndex) → (c ≡ k → ⊥) → IsIn y (lists k) → IsIn y (a ++ x ∷ b) → ⊥ = λ k y ne i j. ne (lists-apart l y c k (rw is j) i) in
     AreLists-with_list h new r (reend r c a b v w) lists c (a ++ b) e l live whole ends
-      (λ k ne. reend-other r c a b v w k ne)
-      (λ k y ne i. keep y (λ e. elsewhere k y ne i (IsIn-right y a (x ∷ b) (inl (sym e)))) ∙ relink-other h a b v w y (λ j. elsewhere k y ne i (IsIn-left y a (x ∷ b) j)) (λ j. elsewhere k y ne i (IsIn-right y a (x ∷ b) (inr j))))
-      (λ y m n. elim (id_cases x y) [
-          inl same ↦ inl (Some-inj _ _ (sym n ∙ subst (λ z. new z ≡ Some unlinked) same here))
-        | inr ne ↦ elim (IsIn-either y (a ++ b)) [
-            inl i ↦ inr (inl i)
-          | inr ni ↦ inr (inr (
-              λ i. elim (IsIn-cases y a (x ∷ b) (rw (← is) i)) [ inl j ↦ ni (IsIn-left y a b j) | inr j ↦ elim j [ inl e ↦ ne (sym e) | inr k ↦ ni (IsIn-right y a b k) ] ],
-              keep y ne ∙ relink-other h a b v w y (λ j. ni (IsIn-left y a b j)) (λ j. ni (IsIn-right y a b j)))) ] ])
+    (λ k ne. reend-other r c a b v w k ne)
+    (λ k y ne i. keep y (λ e. elsewhere k y ne i (IsIn-right y a (x ∷ b) (inl (sym e)))) ∙ relink-other h a b v w y (λ j. elsewhere k y ne i (IsIn-left y a (x ∷ b) j)) (λ j. elsewhere k y ne i (IsIn-right y a (x ∷ b) (inr j))))
+    (λ y m n. elim (id_cases x y) [
+      | inl same ↦ inl (Some-inj _ _ (sym n ∙ subst (λ z. new z ≡ Some unlinked) same here))
+      | inr ne ↦ elim (IsIn-either y (a ++ b)) [
+        | inl i ↦ inr (inl i)
+        | inr ni ↦ inr (inr (
+          λ i. elim (IsIn-cases y a (x ∷ b) (rw (← is) i)) [ inl j ↦ ni (IsIn-left y a b j) | inr j ↦ elim j [ inl e ↦ ne (sym e) | inr k ↦ ni (IsIn-right y a b k) ] ],
+          keep y ne ∙ relink-other h a b v w y (λ j. ni (IsIn-left y a b j)) (λ j. ni (IsIn-right y a b j)),
+        ))
+      ]
+    ])
 
 -- what the code leaves, where left and right are the neighbours that it was given
 abbrev pub heap_linked : Heap Links → ArenaIndex → ArenaIndex → Option ArenaIndex → Option ArenaIndex → Heap Links

@@ -27,6 +27,7 @@ container-is_in {h} {r} {lists} l c x = (λ e. found (h x) refl e, λ i. in-link
         at : (a : List ArenaIndex) → IsIn x (a ++ x ∷ b)
         at [] = inl refl
         at (y ∷ ys) = inr (at ys)
+
     found : (o : Option Links) → h x ≡ o → container_of h x ≡ Some c → IsIn x (lists c)
     found None e k = absurd (no_container e k)
       where
@@ -63,6 +64,7 @@ AreLists-empty {T} {C} links ends limit last other_limit other_last = record {
   where
     nothing_at : (c : ArenaIndex) (e : Ends) → seen ends (empty other_limit other_last) c ≡ Some e → ⊥
     nothing_at c e is = let none : seen ends (empty other_limit other_last) c ≡ None = ap (option_map ends) (get-empty C other_limit other_last c) in cc
+
     nothing_of : (x : ArenaIndex) (l : Links) → seen links (empty limit last) x ≡ Some l → ⊥
     nothing_of x l is = let none : seen links (empty limit last) x ≡ None = ap (option_map links) (get-empty T limit last x) in cc
 
@@ -82,13 +84,15 @@ module _ {T : Type 0} (links : T → Links) (nodes : Arena T) (r : Heap Ends) (l
   pub AreLists-fill_new : (id : ArenaIndex) (v : T) → IsNew nodes id → links v ≡ unlinked → AreLists (seen links (fill nodes id v)) r lists
   AreLists-fill_new id v new free =
       AreLists-nodes (seen links nodes) (seen links (fill nodes id v)) r lists l
-        (λ c y i. same y (λ e. unused c (subst (λ z. IsIn z (lists c)) (sym e) i)))
-        (λ y m e. elim (id_cases id y) [
-            inl here ↦ inl (Some-inj _ _ (sym e ∙ sym (ap (seen links (fill nodes id v)) here) ∙ ap (option_map links) (get-fill_new nodes id v new) ∙ ap Some free))
-          | inr ne ↦ inr (same y ne) ])
+      (λ c y i. same y (λ e. unused c (subst (λ z. IsIn z (lists c)) (sym e) i)))
+      (λ y m e. elim (id_cases id y) [
+        | inl here ↦ inl (Some-inj _ _ (sym e ∙ sym (ap (seen links (fill nodes id v)) here) ∙ ap (option_map links) (get-fill_new nodes id v new) ∙ ap Some free))
+        | inr ne ↦ inr (same y ne)
+      ])
     where
       same : (y : ArenaIndex) → (id ≡ y → ⊥) → seen links (fill nodes id v) y ≡ seen links nodes y
       same y ne = ap (option_map links) (get-fill_new_other nodes id y v new (λ e. ne (sym e)))
+
       unused : (c : ArenaIndex) → IsIn id (lists c) → ⊥
       unused c i =
           let s = chain-at (seen links nodes) c None (lists c) None id (l.chains c) i in
@@ -99,13 +103,15 @@ module _ {T : Type 0} (links : T → Links) (nodes : Arena T) (r : Heap Ends) (l
   pub AreLists-cut_node : (id : ArenaIndex) → IsLive nodes id → (IsLinked (seen links nodes) id → ⊥) → AreLists (seen links (cut nodes id)) r lists
   AreLists-cut_node id live free =
       AreLists-nodes (seen links nodes) (seen links (cut nodes id)) r lists l
-        (λ c y i. same y (λ e. free (in-is_linked l c id (subst (λ z. IsIn z (lists c)) (sym e) i))))
-        (λ y m e. elim (id_cases id y) [
-            inl here ↦ absurd (gone y m here e)
-          | inr ne ↦ inr (same y ne) ])
+      (λ c y i. same y (λ e. free (in-is_linked l c id (subst (λ z. IsIn z (lists c)) (sym e) i))))
+      (λ y m e. elim (id_cases id y) [
+        | inl here ↦ absurd (gone y m here e)
+        | inr ne ↦ inr (same y ne)
+      ])
     where
       same : (y : ArenaIndex) → (id ≡ y → ⊥) → seen links (cut nodes id) y ≡ seen links nodes y
       same y ne = ap (option_map links) (get-cut_other nodes id y live (λ e. ne (sym e)))
+
       gone : (y : ArenaIndex) (m : Links) → id ≡ y → seen links (cut nodes id) y ≡ Some m → ⊥
       gone y m here e =
           let none : seen links (cut nodes id) y ≡ None = sym (ap (seen links (cut nodes id)) here) ∙ ap (option_map links) (get-cut nodes id live) in
@@ -120,16 +126,19 @@ module _ {C : Type 0} (ends : C → Ends) (h : Heap Links) (containers : Arena C
   AreLists-fill_container id v new free = record {
     chains = l.chains;
     ends = λ c e is. elim (id_cases id c) [
-        inl here ↦ Some-inj _ _ (sym is ∙ sym (ap (seen ends (fill containers id v)) here) ∙ ap (option_map ends) (get-fill_new containers id v new) ∙ ap Some (free ∙ ap ends_of (sym (ap lists (sym here) ∙ none))))
-      | inr ne ↦ l.ends c e (sym (same c ne) ∙ is) ];
+      | inl here ↦ Some-inj _ _ (sym is ∙ sym (ap (seen ends (fill containers id v)) here) ∙ ap (option_map ends) (get-fill_new containers id v new) ∙ ap Some (free ∙ ap ends_of (sym (ap lists (sym here) ∙ none))))
+      | inr ne ↦ l.ends c e (sym (same c ne) ∙ is)
+    ];
     absent = λ c is. elim (id_cases id c) [
-        inl here ↦ ap lists (sym here) ∙ none
-      | inr ne ↦ l.absent c (sym (same c ne) ∙ is) ];
+      | inl here ↦ ap lists (sym here) ∙ none
+      | inr ne ↦ l.absent c (sym (same c ne) ∙ is)
+    ];
     covers = l.covers;
   }
     where
       none : lists id ≡ []
       none = l.absent id (ap (option_map ends) (get-new containers id new))
+
       same : (c : ArenaIndex) → (id ≡ c → ⊥) → seen ends (fill containers id v) c ≡ seen ends containers c
       same c ne = ap (option_map ends) (get-fill_new_other containers id c v new (λ e. ne (sym e)))
 
@@ -137,16 +146,19 @@ module _ {C : Type 0} (ends : C → Ends) (h : Heap Links) (containers : Arena C
   AreLists-cut_container id live none = record {
     chains = l.chains;
     ends = λ c e is. elim (id_cases id c) [
-        inl here ↦ absurd (gone c e here is)
-      | inr ne ↦ l.ends c e (sym (same c ne) ∙ is) ];
+      | inl here ↦ absurd (gone c e here is)
+      | inr ne ↦ l.ends c e (sym (same c ne) ∙ is)
+    ];
     absent = λ c is. elim (id_cases id c) [
-        inl here ↦ ap lists (sym here) ∙ none
-      | inr ne ↦ l.absent c (sym (same c ne) ∙ is) ];
+      | inl here ↦ ap lists (sym here) ∙ none
+      | inr ne ↦ l.absent c (sym (same c ne) ∙ is)
+    ];
     covers = l.covers;
   }
     where
       same : (c : ArenaIndex) → (id ≡ c → ⊥) → seen ends (cut containers id) c ≡ seen ends containers c
       same c ne = ap (option_map ends) (get-cut_other containers id c live (λ e. ne (sym e)))
+
       gone : (c : ArenaIndex) (e : Ends) → id ≡ c → seen ends (cut containers id) c ≡ Some e → ⊥
       gone c e here is =
           let none : seen ends (cut containers id) c ≡ None = sym (ap (seen ends (cut containers id)) here) ∙ ap (option_map ends) (get-cut containers id live) in

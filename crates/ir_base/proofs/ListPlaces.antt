@@ -37,8 +37,9 @@ in-is_linked {h} a c x i = some_of (container_of h x) c (in-linked a c x i)
 -- a live node that is not linked has empty links
 pub unlinked-links : {h : Heap Links} {r : Heap Ends} {lists : ArenaIndex → List ArenaIndex} → AreLists h r lists → (x : ArenaIndex) (m : Links) → h x ≡ Some m → (IsLinked h x → ⊥) → h x ≡ Some unlinked
 unlinked-links l x m e out = elim (l.covers x m e) [
-    inl u ↦ e ∙ ap Some u
-  | inr s ↦ absurd (out (in-is_linked l s.0 x s.1)) ]
+  | inl u ↦ e ∙ ap Some u
+  | inr s ↦ absurd (out (in-is_linked l s.0 x s.1))
+]
 
 pub unlinked-node : {T : Type 0} (links : T → Links) (nodes : Arena T) (r : Heap Ends) (x : ArenaIndex) → AreWellFormed (seen links nodes) r → IsLive nodes x → (IsLinked (seen links nodes) x → ⊥) → seen links nodes x ≡ Some unlinked
 unlinked-node links nodes r x w live out = let s = seen-from_live links nodes x live in unlinked-links w.1 x s.0 s.1 out
@@ -73,12 +74,13 @@ module _ {h : Heap Links} {r : Heap Ends} {lists : ArenaIndex → List ArenaInde
 
   pub place : (x c : ArenaIndex) (m : Links) → h x ≡ Some m → m.container ≡ Some c → Place h r lists x c
   place x c m e k = elim (l.covers x m e) [
-      inl u ↦ let bad : None ≡ Some c = sym (ap (λ (m : Links). m.container) u) ∙ k in cc
+    | inl u ↦ let bad : None ≡ Some c = sym (ap (λ (m : Links). m.container) u) ∙ k in cc
     | inr s ↦
         let t = chain-at h s.0 None (lists s.0) None x (l.chains s.0) s.1 in
         let same : m ≡ t.0 = Some-inj _ _ (sym e ∙ t.1) in
         let cs : s.0 ≡ c = Some-inj _ _ (sym t.2 ∙ sym (ap (λ (m : Links). m.container) same) ∙ k) in
-        place-in x c (subst (λ d. IsIn x (lists d)) cs s.1) ]
+        place-in x c (subst (λ d. IsIn x (lists d)) cs s.1)
+  ]
 
   pub first-live : (c : ArenaIndex) (a b : List ArenaIndex) (y : ArenaIndex) → lists c ≡ a ++ b → head_or None b ≡ Some y → (m : Links) × (h y ≡ Some m)
   first-live c a b y e is = let t = chain-at h c None (lists c) None y (l.chains c) (rw e (IsIn-right y a b (head-IsIn b y is))) in (t.0, t.1)
@@ -93,6 +95,7 @@ linked-place {h} {r} {lists} l x k = of_links (h x) refl k
     of_container : (m : Links) → h x ≡ Some m → (o : Option ArenaIndex) → m.container ≡ o → IsSome o → (c : ArenaIndex) × Place h r lists x c
     of_container m e None none some = absurd (search (rules, some))
     of_container m e (Some c) is some = (c, place l x c m e is)
+
     of_links : (o : Option Links) → h x ≡ o → IsSome (container_in o) → (c : ArenaIndex) × Place h r lists x c
     of_links None e some = absurd (search (rules, some))
     of_links (Some m) e some = of_container m e m.container refl some

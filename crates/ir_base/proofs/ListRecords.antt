@@ -11,20 +11,21 @@ use Rattle.ir_base.proofs.ListChains.{id_cases, change-here, change-other}
 heap_ext : {A : Type 0} (f g : Heap A) → ((j : ArenaIndex) → f j ≡ g j) → f ≡ g
 heap_ext f g h = λ i j. h j i
 
-
 module _ {T A : Type 0} where
   pub seen-fill : (view : T → A) (f : A → A) (s : Arena T) (i : ArenaIndex) (x w : T) → get s i ≡ Some x → view w ≡ f (view x) → seen view (fill s i w) ≡ change f (Some i) (seen view s)
   seen-fill view f s i x w e is = heap_ext _ _ (λ j. elim (id_cases i j) [
-      inl same ↦ subst (λ j. seen view (fill s i w) j ≡ change f (Some i) (seen view s) j) same
+    | inl same ↦ subst (λ j. seen view (fill s i w) j ≡ change f (Some i) (seen view s) j) same
         (ap (option_map view) (get-fill_live s i w (live-at s i x e)) ∙ ap Some is ∙ sym (change-here f i (seen view s) (view x) (ap (option_map view) e)))
-    | inr ne ↦ ap (option_map view) (get-fill_live_other s i j w (live-at s i x e) (λ e. ne (sym e))) ∙ sym (change-other f i (seen view s) j ne) ])
+    | inr ne ↦ ap (option_map view) (get-fill_live_other s i j w (live-at s i x e) (λ e. ne (sym e))) ∙ sym (change-other f i (seen view s) j ne)
+  ])
 
 -- a write that leaves what is read leaves all that is seen
 pub seen-same : {T A : Type 0} (view : T → A) (s : Arena T) (i : ArenaIndex) (x w : T) → get s i ≡ Some x → view w ≡ view x → seen view (fill s i w) ≡ seen view s
 seen-same view s i x w e is = heap_ext _ _ (λ j. elim (id_cases i j) [
-    inl same ↦ subst (λ j. seen view (fill s i w) j ≡ seen view s j) same
+  | inl same ↦ subst (λ j. seen view (fill s i w) j ≡ seen view s j) same
       (ap (option_map view) (get-fill_live s i w (live-at s i x e)) ∙ ap Some is ∙ sym (ap (option_map view) e))
-  | inr ne ↦ ap (option_map view) (get-fill_live_other s i j w (live-at s i x e) (λ e. ne (sym e))) ])
+  | inr ne ↦ ap (option_map view) (get-fill_live_other s i j w (live-at s i x e) (λ e. ne (sym e)))
+])
 
 -- the arenas are the same but for what each of two edits changes
 pub SameBut-trans : {T : Type 0} (clear : T → T) (s t u : Arena T) → SameBut clear s t → SameBut clear t u → SameBut clear s u
@@ -60,7 +61,7 @@ module _ {T : Type 0} (links : T → Links) (with_links : T → Links → T) (ge
   set-three x y z w a b c p q r =
       let ly : links y ≡ record (links x) { next = a } = ap links p ∙ get_put _ _ in
       let z2 : z ≡ with_links x (record { next = a; prev = b; container = (links x).container }) =
-        q ∙ ap (λ (l : Links). with_links y (record l { prev = b })) ly ∙ ap (λ v. with_links v (record { next = a; prev = b; container = (links x).container })) p ∙ put_put _ _ _ in
+      q ∙ ap (λ (l : Links). with_links y (record l { prev = b })) ly ∙ ap (λ v. with_links v (record { next = a; prev = b; container = (links x).container })) p ∙ put_put _ _ _ in
       let lz : links z ≡ record { next = a; prev = b; container = (links x).container } = ap links z2 ∙ get_put _ _ in
       r ∙ ap (λ (l : Links). with_links z (record l { container = c })) lz ∙ ap (λ v. with_links v (record { next = a; prev = b; container = c })) z2 ∙ put_put _ _ _
 

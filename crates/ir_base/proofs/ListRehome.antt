@@ -21,9 +21,10 @@ rehome-push c (y ∷ ys) x h = rehome-push c ys x (change (with_container c) (So
 pub chain-rehome : (c d : ArenaIndex) (p : Option ArenaIndex) (xs : List ArenaIndex) (n : Option ArenaIndex) (h : Heap Links) → AreApart xs → IsChain h d p xs n → IsChain (rehome c xs h) c p xs n
 chain-rehome c d p [] n h a k = tt
 chain-rehome c d p (x ∷ xs) n h a k =
-    let h2 : Heap Links = change (with_container c) (Some x) h in
-    (rehome-other c xs h2 x a.0 ∙ change-here (with_container c) x h (linked p (head_or n xs) d) k.0,
-     chain-rehome c d (Some x) xs n h2 a.1 (chain-same h h2 d (Some x) xs n (λ y i. change-other (with_container c) x h y (λ e. a.0 (subst (λ z. IsIn z xs) (sym e) i))) k.1))
+    let h2 : Heap Links = change (with_container c) (Some x) h in (
+      rehome-other c xs h2 x a.0 ∙ change-here (with_container c) x h (linked p (head_or n xs) d) k.0,
+      chain-rehome c d (Some x) xs n h2 a.1 (chain-same h h2 d (Some x) xs n (λ y i. change-other (with_container c) x h y (λ e. a.0 (subst (λ z. IsIn z xs) (sym e) i))) k.1),
+    )
 
 -- a step of the walk
 pub record Step (start now : Heap Links) (first : Option ArenaIndex) (c node : ArenaIndex) (w : Walked start now first (Some node) c) : Type 0 where
@@ -86,8 +87,8 @@ todo-chain {start} {now} {first} {current} {c} w =
     let k : IsChain start w.whole.owner w.whole.before (w.done ++ w.todo) None = subst (λ ys. IsChain start w.whole.owner w.whole.before ys None) w.splits w.whole.chain in
     let apart : AreApart (w.done ++ w.todo) = chain-apart start w.whole.owner w.whole.before _ k in
     chain-same start now w.whole.owner (last_or w.whole.before w.done) w.todo None
-      (λ y i. ap (λ (h : Heap Links). h y) w.moved ∙ rehome-other c w.done start y (λ j. apart-both y w.done w.todo apart j i))
-      (chain-split start w.whole.owner w.whole.before w.done w.todo None k).1
+    (λ y i. ap (λ (h : Heap Links). h y) w.moved ∙ rehome-other c w.done start y (λ j. apart-both y w.done w.todo apart j i))
+    (chain-split start w.whole.owner w.whole.before w.done w.todo None k).1
 
 pub todo-piece : {T : Type 0} (links : T → Links) (start : Heap Links) (first current : Option ArenaIndex) (c : ArenaIndex) (nodes : Arena T) (w : Walked start (seen links nodes) first current c) → piece links nodes current None ≡ w.todo
 todo-piece links start first current c nodes w =
@@ -133,34 +134,45 @@ AreLists-join h h' r r' lists c d e f l ne is rc rd ro =
     let kb : IsChain (rehome c b mid) c w b None = chain-rehome c d w b None mid apb sides.1 in
     let whole : IsChain h' c None (a ++ b) None = rw is (chain-join (rehome c b mid) c None a b None ka kb) in
     let far : (y : ArenaIndex) → (IsIn y a → ⊥) → (IsIn y b → ⊥) → h' y ≡ h y = λ y na nb.
-      ap (λ (h : Heap Links). h y) is ∙ rehome-other c b mid y nb ∙ relink-other h a b v w y na nb in
+    ap (λ (h : Heap Links). h y) is ∙ rehome-other c b mid y nb ∙ relink-other h a b v w y na nb in
     let new-c : new c ≡ a ++ b = with_list-other (with_list lists c (a ++ b)) d [] c (λ e. ne (sym e)) ∙ with_list-here lists c (a ++ b) in
     let new-d : new d ≡ [] = with_list-here (with_list lists c (a ++ b)) d [] in
     let new-k : (k : ArenaIndex) → (c ≡ k → ⊥) → (d ≡ k → ⊥) → new k ≡ lists k = λ k nc nd. with_list-other (with_list lists c (a ++ b)) d [] k nd ∙ with_list-other lists c (a ++ b) k nc in
     record {
       chains = λ k. elim (id_cases c k) [
-        inl same ↦ subst (λ k. IsChain h' k None (new k) None) same (subst (λ xs. IsChain h' c None xs None) (sym new-c) whole)
-      | inr nc ↦ elim (id_cases d k) [
-          inl same ↦ subst (λ k. IsChain h' k None (new k) None) same (subst (λ xs. IsChain h' d None xs None) (sym new-d) tt)
-        | inr nd ↦ subst (λ xs. IsChain h' k None xs None) (sym (new-k k nc nd))
-            (chain-same h h' k None (lists k) None (λ y i. far y (λ j. nc (lists-apart l y c k j i)) (λ j. nd (lists-apart l y d k j i))) (l.chains k)) ] ];
+        | inl same ↦ subst (λ k. IsChain h' k None (new k) None) same (subst (λ xs. IsChain h' c None xs None) (sym new-c) whole)
+        | inr nc ↦ elim (id_cases d k) [
+          | inl same ↦ subst (λ k. IsChain h' k None (new k) None) same (subst (λ xs. IsChain h' d None xs None) (sym new-d) tt)
+          | inr nd ↦ subst (λ xs. IsChain h' k None xs None) (sym (new-k k nc nd))
+              (chain-same h h' k None (lists k) None (λ y i. far y (λ j. nc (lists-apart l y c k j i)) (λ j. nd (lists-apart l y d k j i))) (l.chains k))
+        ]
+      ];
       ends = λ k g at_k. elim (id_cases c k) [
-        inl same ↦ Some-inj _ _ (sym at_k ∙ ap r' (sym same) ∙ rc) ∙ ap ends_of (sym new-c ∙ ap new same)
-      | inr nc ↦ elim (id_cases d k) [
-          inl same ↦ Some-inj _ _ (sym at_k ∙ ap r' (sym same) ∙ rd) ∙ ap ends_of (sym new-d ∙ ap new same)
-        | inr nd ↦ l.ends k g (sym (ro k nc nd) ∙ at_k) ∙ ap ends_of (sym (new-k k nc nd)) ] ];
+        | inl same ↦ Some-inj _ _ (sym at_k ∙ ap r' (sym same) ∙ rc) ∙ ap ends_of (sym new-c ∙ ap new same)
+        | inr nc ↦ elim (id_cases d k) [
+          | inl same ↦ Some-inj _ _ (sym at_k ∙ ap r' (sym same) ∙ rd) ∙ ap ends_of (sym new-d ∙ ap new same)
+          | inr nd ↦ l.ends k g (sym (ro k nc nd) ∙ at_k) ∙ ap ends_of (sym (new-k k nc nd))
+        ]
+      ];
       absent = λ k at_k. elim (id_cases c k) [
-        inl same ↦ let bad : Some (ends_of (a ++ b)) ≡ None = sym rc ∙ ap r' same ∙ at_k in cc
-      | inr nc ↦ elim (id_cases d k) [
-          inl same ↦ let bad : Some (ends_of []) ≡ None = sym rd ∙ ap r' same ∙ at_k in cc
-        | inr nd ↦ new-k k nc nd ∙ l.absent k (sym (ro k nc nd) ∙ at_k) ] ];
+        | inl same ↦ let bad : Some (ends_of (a ++ b)) ≡ None = sym rc ∙ ap r' same ∙ at_k in cc
+        | inr nc ↦ elim (id_cases d k) [
+          | inl same ↦ let bad : Some (ends_of []) ≡ None = sym rd ∙ ap r' same ∙ at_k in cc
+          | inr nd ↦ new-k k nc nd ∙ l.absent k (sym (ro k nc nd) ∙ at_k)
+        ]
+      ];
       covers = λ y m at_y. elim (IsIn-either y (a ++ b)) [
-        inl i ↦ inr (c, subst (λ xs. IsIn y xs) (sym new-c) i)
-      | inr n ↦ elim (l.covers y m (sym (far y (λ i. n (IsIn-left y a b i)) (λ i. n (IsIn-right y a b i))) ∙ at_y)) [
-          inl u ↦ inl u
-        | inr s ↦ inr (s.0, subst (λ xs. IsIn y xs) (sym (new-k s.0
-              (λ e. n (IsIn-left y a b (subst (λ k. IsIn y (lists k)) (sym e) s.1)))
-              (λ e. n (IsIn-right y a b (subst (λ k. IsIn y (lists k)) (sym e) s.1))))) s.1) ] ];
+        | inl i ↦ inr (c, subst (λ xs. IsIn y xs) (sym new-c) i)
+        | inr n ↦ elim (l.covers y m (sym (far y (λ i. n (IsIn-left y a b i)) (λ i. n (IsIn-right y a b i))) ∙ at_y)) [
+          | inl u ↦ inl u
+          | inr s ↦ inr (
+            s.0,
+            subst (λ xs. IsIn y xs) (sym (new-k s.0
+                (λ e. n (IsIn-left y a b (subst (λ k. IsIn y (lists k)) (sym e) s.1)))
+                (λ e. n (IsIn-right y a b (subst (λ k. IsIn y (lists k)) (sym e) s.1))))) s.1,
+          )
+        ]
+      ];
     }
 
 -- what `append_linked_list` reads and leaves
@@ -192,7 +204,7 @@ or-tail a (y ∷ ys) = sym (last_or-append None a (y ∷ ys))
 abbrev pub joined_ends : Heap Ends → ArenaIndex → ArenaIndex → Option ArenaIndex → Option ArenaIndex → Option ArenaIndex → Option ArenaIndex → Heap Ends
 joined_ends r c d head tail first last =
     change (λ _. no_ends) (Some d) (change (λ _. record { head = option_or head first; tail = option_or last tail }) (Some c)
-      (change (with_head first) (unless tail c) (change (with_tail tail) (unless first c) r)))
+    (change (with_head first) (unless tail c) (change (with_tail tail) (unless first c) r)))
 
 same-ends : (e : Ends) (xs : List ArenaIndex) → e.head ≡ head_or None xs → e.tail ≡ last_or None xs → e ≡ ends_of xs
 same-ends e xs p q = λ i. record { head = p i; tail = q i }
@@ -230,8 +242,8 @@ AreLists-joined h h2 h' r r' lists c d e f head tail first last l ne rc rd he ta
     let live2 = change-live (with_head first) (unless tail c) one c live1.0 live1.1 in
     let at_c : r' c ≡ Some both = ap (λ (q : Heap Ends). q c) ends ∙ change-other (λ _. no_ends) d three c (λ e. ne (sym e)) ∙ change-here (λ _. both) c two live2.0 live2.1 in
     let keep : (k : ArenaIndex) → (c ≡ k → ⊥) → three k ≡ r k = λ k nc.
-      change-other (λ _. both) c two k nc ∙ change-apart (with_head first) (unless tail c) one k (unless-other tail c k nc) ∙ change-apart (with_tail tail) (unless first c) r k (unless-other first c k nc) in
+    change-other (λ _. both) c two k nc ∙ change-apart (with_head first) (unless tail c) one k (unless-other tail c k nc) ∙ change-apart (with_tail tail) (unless first c) r k (unless-other first c k nc) in
     let at_d : r' d ≡ Some no_ends = ap (λ (q : Heap Ends). q d) ends ∙ change-here (λ _. no_ends) d three f (keep d ne ∙ rd) in
     let both_is : both ≡ ends_of (lists c ++ lists d) = same-ends both (lists c ++ lists d) (rw (he2, fi2) (or-head (lists c) (lists d))) (rw (la2, ta2) (or-tail (lists c) (lists d))) in
     AreLists-join h h' r r' lists c d e f l ne (moved ∙ ap (rehome c (lists d)) linked) (at_c ∙ ap Some both_is) at_d
-      (λ k nc nd. ap (λ (q : Heap Ends). q k) ends ∙ change-other (λ _. no_ends) d three k nd ∙ keep k nc)
+    (λ k nc nd. ap (λ (q : Heap Ends). q k) ends ∙ change-other (λ _. no_ends) d three k nd ∙ keep k nc)

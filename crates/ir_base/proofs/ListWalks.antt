@@ -120,8 +120,16 @@ back-nodes h room x c before after next back [] k a f b w =
 back-nodes h room x c before after next back (z ∷ zs) k a f b w =
     let s = chain-split h c before (z ∷ zs) (x ∷ []) after k in
     let piece : IsPiece h room next (Some (last_of z zs)) = record {
-      container = c; before = before; after = Some x; nodes = z ∷ zs; chain = s.0; apart = apart-left (z ∷ zs) (x ∷ []) a;
-      fits = omega (arith, length-append zs (x ∷ [])); begins = b; ends = refl } in
+      container = c;
+      before = before;
+      after = Some x;
+      nodes = z ∷ zs;
+      chain = s.0;
+      apart = apart-left (z ∷ zs) (x ∷ []) a;
+      fits = omega (arith, length-append zs (x ∷ []));
+      begins = b;
+      ends = refl;
+    } in
     record {
       links = linked (Some (last_of z zs)) after c;
       here = s.1.0;
@@ -148,8 +156,8 @@ pub take-back : {h : Heap Links} {room : ℕ} {x : ArenaIndex} {next back : Opti
 take-back {h} {room} {x} {next} {back} w is =
     let s = last-cases w.nodes x (sym is ∙ w.ends) in
     back-nodes h room x w.container w.before w.after next back s.0
-      (subst (λ xs. IsChain h w.container w.before xs w.after) s.1 w.chain) (subst AreApart s.1 w.apart)
-      (subst (λ (xs : List ArenaIndex). length xs ≤ room) s.1 w.fits) (w.begins ∙ ap (head_or None) s.1) (piece-items w ∙ s.1)
+    (subst (λ xs. IsChain h w.container w.before xs w.after) s.1 w.chain) (subst AreApart s.1 w.apart)
+    (subst (λ (xs : List ArenaIndex). length xs ≤ room) s.1 w.fits) (w.begins ∙ ap (head_or None) s.1) (piece-items w ∙ s.1)
 
 no-last : (xs : List ArenaIndex) → None ≡ last_or None xs → xs ≡ []
 no-last [] e = refl
@@ -162,7 +170,7 @@ piece-empty-back {h} {room} {next} {back} w is = piece-items w ∙ no-last w.nod
 pub chain-fits : {T : Type 0} (links : T → Links) (nodes : Arena T) (c : ArenaIndex) (p : Option ArenaIndex) (xs : List ArenaIndex) → IsChain (seen links nodes) c p xs None → length xs ≤ length nodes.slots
 chain-fits links nodes c p xs k =
     live-fit nodes xs (chain-apart (seen links nodes) c p xs k)
-      (λ q i. let s = chain-at (seen links nodes) c p xs None q k i in live-from_seen links nodes q s.0 s.1)
+    (λ q i. let s = chain-at (seen links nodes) c p xs None q k i in live-from_seen links nodes q s.0 s.1)
 
 -- a chain to its end is the piece from its first node on
 pub piece-all : {T : Type 0} (links : T → Links) (nodes : Arena T) (c : ArenaIndex) (p : Option ArenaIndex) (xs : List ArenaIndex) → IsChain (seen links nodes) c p xs None → piece links nodes (head_or None xs) None ≡ xs
@@ -176,6 +184,13 @@ list_of-is links ends nodes containers lists l = lists-walk (length nodes.slots)
 abbrev pub list-piece : {T : Type 0} (links : T → Links) (nodes : Arena T) (r : Heap Ends) (lists : ArenaIndex → List ArenaIndex) (c : ArenaIndex) (head tail : Option ArenaIndex)
     → AreLists (seen links nodes) r lists → head ≡ head_or None (lists c) → tail ≡ last_or None (lists c) → IsPiece (seen links nodes) (length nodes.slots) head tail
 list-piece links nodes r lists c head tail l he ta = record {
-  container = c; before = None; after = None; nodes = lists c; chain = l.chains c; apart = chain-apart (seen links nodes) c None (lists c) (l.chains c);
-  fits = chain-fits links nodes c None (lists c) (l.chains c); begins = he; ends = ta;
+  container = c;
+  before = None;
+  after = None;
+  nodes = lists c;
+  chain = l.chains c;
+  apart = chain-apart (seen links nodes) c None (lists c) (l.chains c);
+  fits = chain-fits links nodes c None (lists c) (l.chains c);
+  begins = he;
+  ends = ta;
 }

@@ -163,7 +163,10 @@ impl<T> Arena<T> {
     ///
     /// # Errors
     /// `SlotsSpent` where the arena has no room, and else `OutOfMemory` where it had to grow and couldn't. Then nothing has changed.
-    pub fn insert_with<F: FnOnce(Ptr<T>) -> T + Drop>(&mut self, make: F) -> Result<Ptr<T>, CoreError>
+    pub fn insert_with<F: FnOnce(Ptr<T>) -> T + Drop>(
+        &mut self,
+        make: F,
+    ) -> Result<Ptr<T>, CoreError>
     where
         T: Drop,
         requires { F.IsAlwaysCallable make }

@@ -18,6 +18,7 @@ use crate::{Arena, ArenaIndex, Ptr};
 /// Its links are three indices, and each setter changes the one that it names and nothing else.
 pub trait LinkedList {
     ghost links: { Self → Links };
+
     ghost with_links: { Self → Links → Self };
 
     /// The node after this one.
@@ -40,7 +41,9 @@ pub trait LinkedList {
         ensures { self.new ≡ with_links self.old (record (links self.old) { container = container }) };
 
     ghost get_put: { (x : Self) (l : Links) → links (with_links x l) ≡ l };
+
     ghost put_put: { (x : Self) (l m : Links) → with_links (with_links x l) m ≡ with_links x m };
+
     ghost put_get: { (x : Self) → with_links x (links x) ≡ x };
 }
 
@@ -49,6 +52,7 @@ pub trait LinkedList {
 /// The ends of its list are two indices, and each setter changes the one that it names and nothing else.
 pub trait ContainsLinkedList<T> {
     ghost ends: { Self → Ends };
+
     ghost with_ends: { Self → Ends → Self };
 
     /// The first node of the list.
@@ -65,7 +69,9 @@ pub trait ContainsLinkedList<T> {
         ensures { self.new ≡ with_ends self.old (record (ends self.old) { tail = tail }) };
 
     ghost get_put: { (x : Self) (e : Ends) → ends (with_ends x e) ≡ e };
+
     ghost put_put: { (x : Self) (e f : Ends) → with_ends (with_ends x e) f ≡ with_ends x f };
+
     ghost put_get: { (x : Self) → with_ends x (ends x) ≡ x };
 }
 
@@ -193,14 +199,7 @@ pub fn insert_at_front<T: LinkedList, C: ContainsLinkedList<T>>(
     ensures containers_rest { SameBut (λ x. C.with_ends x no_ends) containers.old containers.new }
 {
     let head = record_at(containers, container.index).get_head();
-    link_between(
-        nodes,
-        containers,
-        node.index,
-        container.index,
-        None,
-        head,
-    );
+    link_between(nodes, containers, node.index, container.index, None, head);
 }
 
 /// Puts an unlinked node at the back of a container's list. It stands for pliron's `insert_at_back`.
@@ -221,14 +220,7 @@ pub fn insert_at_back<T: LinkedList, C: ContainsLinkedList<T>>(
     ensures containers_rest { SameBut (λ x. C.with_ends x no_ends) containers.old containers.new }
 {
     let tail = record_at(containers, container.index).get_tail();
-    link_between(
-        nodes,
-        containers,
-        node.index,
-        container.index,
-        tail,
-        None,
-    );
+    link_between(nodes, containers, node.index, container.index, tail, None);
 }
 
 /// Puts an unlinked node right after a linked one. It stands for pliron's `insert_after`.
@@ -249,7 +241,7 @@ pub fn insert_after<T: LinkedList, C: ContainsLinkedList<T>>(
     ensures containers_rest { SameBut (λ x. C.with_ends x no_ends) containers.old containers.new }
 {
     let place = record_at(nodes, mark.index);
-    let next = place.get_next();
+    let after = place.get_next();
     let container = place.get_container().unwrap();
     link_between(
         nodes,
@@ -257,7 +249,7 @@ pub fn insert_after<T: LinkedList, C: ContainsLinkedList<T>>(
         node.index,
         container,
         Some(mark.index),
-        next,
+        after,
     );
 }
 
@@ -279,14 +271,14 @@ pub fn insert_before<T: LinkedList, C: ContainsLinkedList<T>>(
     ensures containers_rest { SameBut (λ x. C.with_ends x no_ends) containers.old containers.new }
 {
     let place = record_at(nodes, mark.index);
-    let prev = place.get_prev();
+    let before = place.get_prev();
     let container = place.get_container().unwrap();
     link_between(
         nodes,
         containers,
         node.index,
         container,
-        prev,
+        before,
         Some(mark.index),
     );
 }
@@ -375,12 +367,7 @@ pub fn append_linked_list<T: LinkedList, C: ContainsLinkedList<T>>(
     let tail = to.get_tail();
     set_prev_of(nodes, containers, donee.index, first, tail);
     set_next_of(nodes, containers, donee.index, tail, first);
-    set_ends(
-        containers,
-        donee.index,
-        head.or(first),
-        last.or(tail),
-    );
+    set_ends(containers, donee.index, head.or(first), last.or(tail));
     set_ends(containers, donor.index, None, None);
     set_containers(nodes, first, donee.index);
 }

@@ -12,7 +12,7 @@ between-requires g c =
     let live = ap (option_map ends) c.record_at-record.ensures in
     let l = c.requires.well_formed.1 in
     list-piece g.T.LinkedList.links c.args.nodes.now (seen ends c.args.containers.now) c.requires.well_formed.0 c.args.container.index c.get_head.result c.get_tail.result l
-      (head-read l c.args.container.index e c.get_head.result live c.get_head.ensures) (tail-read l c.args.container.index e c.get_tail.result live c.get_tail.ensures)
+    (head-read l c.args.container.index e c.get_head.result live c.get_head.ensures) (tail-read l c.args.container.index e c.get_tail.result live c.get_tail.ensures)
 
 pub returns : goal.returns
 returns g c lists l =
@@ -20,4 +20,4 @@ returns g c lists l =
     let e : Ends = ends c.record_at-record.result.now in
     let live = ap (option_map ends) c.record_at-record.ensures in
     c.between.ensures ∙ piece-items (list-piece g.T.LinkedList.links c.args.nodes.now (seen ends c.args.containers.now) lists c.args.container.index c.get_head.result c.get_tail.result l
-      (head-read l c.args.container.index e c.get_head.result live c.get_head.ensures) (tail-read l c.args.container.index e c.get_tail.result live c.get_tail.ensures))
+    (head-read l c.args.container.index e c.get_head.result live c.get_head.ensures) (tail-read l c.args.container.index e c.get_tail.result live c.get_tail.ensures))

@@ -40,8 +40,8 @@ loop-current-preserved g c =
     let here = ap (option_map L.links) (get-fill_live c.loop-current.nodes node y (live-at c.loop-current.nodes node x found)) in
     record {
       walked = walk-more h now (seen L.links (fill c.loop-current.nodes node y)) c.args.first c.get_next-current.result c.args.container node w
-        (put-seen L.links L.with_links laws.get_put laws.put_put c.loop-current.nodes node x y (with_container c.args.container) found c.set_container.ensures)
-        (λ l is. c.get_next-current.ensures ∙ ap (λ (m : Links). m.next) (Some-inj _ _ (sym here ∙ is)));
+          (put-seen L.links L.with_links laws.get_put laws.put_put c.loop-current.nodes node x y (with_container c.args.container) found c.set_container.ensures)
+          (λ l is. c.get_next-current.ensures ∙ ap (λ (m : Links). m.next) (Some-inj _ _ (sym here ∙ is)));
       rest = put-rest L.links L.with_links laws.get_put laws.put_put c.loop-current.nodes node x y _ unlinked found c.set_container.ensures ∙ c.loop-current.invariant.rest;
     }
 
@@ -59,9 +59,9 @@ loop-current-smaller g c =
     let w : Walked h now c.args.first (Some node) c.args.container = subst (λ (o : Option ArenaIndex). Walked h now c.args.first o c.args.container) c.in-Some.is c.loop-current.invariant.walked in
     let here = ap (option_map L.links) (get-fill_live c.loop-current.nodes node y (live-at c.loop-current.nodes node x found)) in
     subst (λ (o : Option ArenaIndex). length (piece L.links (fill c.loop-current.nodes node y) next None) < length (piece L.links c.loop-current.nodes o None)) (sym c.in-Some.is)
-      (walk-smaller L.links h c.args.first next c.args.container node c.loop-current.nodes (fill c.loop-current.nodes node y) w
-        (put-seen L.links L.with_links laws.get_put laws.put_put c.loop-current.nodes node x y (with_container c.args.container) found c.set_container.ensures)
-        (λ l is. c.get_next-current.ensures ∙ ap (λ (m : Links). m.next) (Some-inj _ _ (sym here ∙ is))))
+    (walk-smaller L.links h c.args.first next c.args.container node c.loop-current.nodes (fill c.loop-current.nodes node y) w
+    (put-seen L.links L.with_links laws.get_put laws.put_put c.loop-current.nodes node x y (with_container c.args.container) found c.set_container.ensures)
+    (λ l is. c.get_next-current.ensures ∙ ap (λ (m : Links). m.next) (Some-inj _ _ (sym here ∙ is))))
 
 pub returns : goal.returns
 returns g c =

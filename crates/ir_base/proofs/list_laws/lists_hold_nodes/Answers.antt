@@ -11,7 +11,7 @@ returns g c = record {
   linked = λ nodes containers lists l x. linked-is_in l x;
   apart = λ nodes containers lists l k. list-apart l k;
   live = λ nodes containers lists l k x i.
-    let s = chain-at (seen g.T.LinkedList.links nodes) k None (lists k) None x (l.chains k) i in
-    let e = root-live l k x i in
-    (live-from_seen g.T.LinkedList.links nodes x s.0 s.1, live-from_seen g.C.ContainsLinkedList.ends containers k e.0 e.1);
+      let s = chain-at (seen g.T.LinkedList.links nodes) k None (lists k) None x (l.chains k) i in
+      let e = root-live l k x i in
+      (live-from_seen g.T.LinkedList.links nodes x s.0 s.1, live-from_seen g.C.ContainsLinkedList.ends containers k e.0 e.1);
 }

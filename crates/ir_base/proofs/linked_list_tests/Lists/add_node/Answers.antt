@@ -17,4 +17,4 @@ kept index links old new r v (Err e) filled fresh same free w = subst (λ a. Are
 pub invariant_of-self : goal.invariant_of-self
 invariant_of-self g c =
     kept (λ p. p.index) g.T.LinkedList.links c.self.inside.nodes c.store.new.arena (seen g.C.ContainsLinkedList.ends c.self.inside.containers) c.args.node c.store.result
-      c.store.ensures.filled c.store.ensures.new_id c.store.ensures.err c.requires c.self.invariant
+    c.store.ensures.filled c.store.ensures.new_id c.store.ensures.err c.requires c.self.invariant

@@ -35,7 +35,7 @@ returns-else-eq g c =
     let prev : c.get_prev-self-inside.result ≡ t.links.prev = c.get_prev-self-inside.ensures ∙ sym (ap (λ (l : Links). l.prev) here) in
     let rest : walk_to room h it.next c.get_prev-self-inside.result ≡ t.rest = rw prev more.1 in
     let items : c.args.self.now ≡ walk_to room h it.next c.get_prev-self-inside.result ++ c.from_index-node.result.index ∷ [] =
-      sym c.self.view_is ∙ t.items ∙ ap (λ (ys : List ArenaIndex). ys ++ x ∷ []) (sym rest) ∙ ap (λ (y : ArenaIndex). walk_to room h it.next c.get_prev-self-inside.result ++ y ∷ []) (sym c.from_index-node.ensures) in
+    sym c.self.view_is ∙ t.items ∙ ap (λ (ys : List ArenaIndex). ys ++ x ∷ []) (sym rest) ∙ ap (λ (y : ArenaIndex). walk_to room h it.next c.get_prev-self-inside.result ++ y ∷ []) (sym c.from_index-node.ensures) in
     let less : length (walk_to room h it.next c.get_prev-self-inside.result) < length c.args.self.now =
-      omega (arith, ap length items, length-append (walk_to room h it.next c.get_prev-self-inside.result) (c.from_index-node.result.index ∷ [])) in
+    omega (arith, ap length items, length-append (walk_to room h it.next c.get_prev-self-inside.result) (c.from_index-node.result.index ∷ [])) in
     record { steps = items; goes = record { on = λ _. (tt, tt, less); keeps = tt; rests = λ _. tt } }

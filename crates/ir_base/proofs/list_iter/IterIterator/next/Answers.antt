@@ -35,6 +35,6 @@ returns-else-eq g c =
     let next : c.get_next-self-inside.result ≡ t.links.next = c.get_next-self-inside.ensures ∙ sym (ap (λ (l : Links). l.next) here) in
     let rest : walk_to room h c.get_next-self-inside.result it.next_back ≡ t.rest = rw next more.1 in
     let items : c.args.self.now ≡ c.from_index-node.result.index ∷ walk_to room h c.get_next-self-inside.result it.next_back =
-      sym c.self.view_is ∙ t.items ∙ ap (λ (ys : List ArenaIndex). x ∷ ys) (sym rest) ∙ ap (λ (y : ArenaIndex). y ∷ walk_to room h c.get_next-self-inside.result it.next_back) (sym c.from_index-node.ensures) in
+    sym c.self.view_is ∙ t.items ∙ ap (λ (ys : List ArenaIndex). x ∷ ys) (sym rest) ∙ ap (λ (y : ArenaIndex). y ∷ walk_to room h c.get_next-self-inside.result it.next_back) (sym c.from_index-node.ensures) in
     let less : length (walk_to room h c.get_next-self-inside.result it.next_back) < length c.args.self.now = omega (arith, ap length items) in
     record { steps = items; goes = record { on = λ _. (tt, tt, less); keeps = tt; rests = λ _. tt } }
