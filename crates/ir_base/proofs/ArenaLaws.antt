@@ -1,12 +1,13 @@
 -- What a caller of `Arena` may cite: what each change does to what stands under an id, and which ids were handed out.
-use Rattle.std.proofs.Common.{◌≡◌, ◌≢◌, ◌⊎◌, ◌↔◌, ℕ, zero, suc, ◌+◌, ◌-◌, ◌<◌, ◌≤◌, ◌||◌, nat_eq, Bool, true, false, List, [], ◌∷◌, length, Option, Some, None, IsSome, is_some, IsTrue, refl, sym, ap, subst, ◌∙◌, inl, inr, arith, true≢false}
+use Rattle.std.proofs.Common.{◌≡◌, ◌≢◌, ◌⊎◌, ◌↔◌, ℕ, zero, suc, ◌+◌, ◌*◌, ◌-◌, ◌<◌, ◌≤◌, ◌||◌, nat_eq, Bool, true, false, [], length, Some, None, is_some, IsTrue, refl, sym, ap, subst, ◌∙◌, inl, inr, arith, true≢false}
 use Rattle.std.proofs.lemmas.Bool.Decides.{eqb_tells}
-use Rattle.std.proofs.lemmas.Bool.{cases_eq, eq-eqb, ne_eqb}
+use Rattle.std.proofs.lemmas.Bool.{cases_eq, eq-eqb}
 use Rattle.ir_model.specs.declared.ids.ArenaIndex.{ArenaIndex}
 use Rattle.ir_model.specs.declared.ids.Limits.{Limits}
 use Rattle.ir_model.specs.Sessions.{IsNewId}
 use Rattle.ir_base.specs.declared.arena.Slot.{Slot}
-use Rattle.ir_base.specs.ArenaSlots.{had_version, never, slot_in, slot_at, find, put}
+use Rattle.ir_base.specs.declared.ptr.Ptr.{Ptr}
+use Rattle.ir_base.specs.ArenaSlots.{had_version, never, slot_in, slot_at, put}
 use Rattle.ir_base.specs.ArenaSound.{IsInRange}
 use Rattle.ir_base.specs.Arena.{Arena, empty, get, IsLive, IsNew, IsWhole, is_passed, fill, cut, miss}
 use Rattle.ir_base.proofs.ArenaSlots.{taken_at, slot_at-place, slot_at-next, length-put, at-put_same, at-put_other, at_zero, at_past, find_vacant, find-put_same, find-put_other}
@@ -63,8 +64,42 @@ had-none : (v : ℕ) → had_version 0 v ≡ false
 unfolding had_version
 had-none v = refl
 
+-- the versions that a slot had are those from 1 to its own that differ from it by an even number
+had-even : (n v : ℕ) → had_version n v ≡ true → (k : ℕ) × (n ≡ v + 2 * k)
+unfolding had_version
+had-even zero v had = absurd (true≢false (sym had))
+had-even (suc zero) v had =
+    elim (eqb_tells v 1) [ inl eq ↦ (0, omega (arith, eq.1)) | inr ne ↦ absurd (true≢false (sym had ∙ ne.0)) ]
+had-even (suc (suc n)) v had =
+    elim (eqb_tells v (suc (suc n))) [
+      | inl eq ↦ (0, omega (arith, eq.1))
+      | inr ne ↦
+          let later = had-even n v (sym (ap (λ b. b || had_version n v) ne.0) ∙ had) in
+          (later.0 + 1, omega (arith, later.1))
+    ]
+
+or_true : (b : Bool) → (b || true) ≡ true
+or_true true = refl
+or_true false = refl
+
+even-had : (v k : ℕ) → 1 ≤ v → had_version (v + 2 * k) v ≡ true
+even-had v zero some = rw (plus_none v) (had-itself v some)
+  where
+    plus_none : (m : ℕ) → m + 2 * 0 ≡ m
+    plus_none m = omega arith
+even-had v (suc k) some =
+    let more : v + 2 * suc k ≡ (v + 2 * k) + 2 = omega arith in
+    ap (λ m. had_version m v) more ∙ had-next (v + 2 * k) v ∙ ap (λ b. nat_eq v (v + 2 * k + 2) || b) (even-had v k some) ∙ or_true (nat_eq v (v + 2 * k + 2))
+
+pub had-exact : (n v : ℕ) → IsTrue (had_version n v) ↔ ((1 ≤ v) × ((k : ℕ) × (n ≡ v + 2 * k)))
+had-exact n v = (λ had. ((had-within n v had).0, had-even n v had), λ even. ap (λ m. had_version m v) even.1.1 ∙ even-had v even.1.0 even.0)
+
 pub same_id : (p q : ArenaIndex) → p.slot ≡ q.slot → p.version ≡ q.version → p ≡ q
 same_id p q slot version = λ i. record { slot = slot i; version = version i }
+
+-- two handles with one index are equal
+pub same_handle : {T : Type 0} (p q : Ptr T) → p.index ≡ q.index → p ≡ q
+same_handle p q same = λ i. record { index = same i; of = p.of }
 
 empty_at : (T : Type 0) (n : ℕ) → slot_at {T = T} [] n ≡ never
 empty_at T zero = at_zero []
@@ -82,12 +117,12 @@ whole-empty T limit last = record { within = omega arith; versions = λ k below.
 
 module _ {T : Type 0} where
   -- the id of a write is that of a live record, or new: then each other record stays
-  record IsOpen (a : Arena T) (id : ArenaIndex) : Type 0 where
+  pub record IsOpen (a : Arena T) (id : ArenaIndex) : Type 0 where
     pub numbered : 1 ≤ id.slot
     pub within : id.slot ≤ length a.slots + 1
     pub was : ((slot_at a.slots id.slot).version ≡ id.version) ⊎ ((slot_at a.slots id.slot).item ≡ None)
 
-  open_live : (a : Arena T) (id : ArenaIndex) → IsLive a id → IsOpen a id
+  pub open_live : (a : Arena T) (id : ArenaIndex) → IsLive a id → IsOpen a id
   open_live a id live =
       let taken = taken_at a.slots id live in
       record {
@@ -96,7 +131,7 @@ module _ {T : Type 0} where
         was = inl (ap (λ s. s.version) (slot_at-place a.slots id.slot taken.numbered) ∙ taken.version);
       }
 
-  open_new : (a : Arena T) (id : ArenaIndex) → IsNew a id → IsOpen a id
+  pub open_new : (a : Arena T) (id : ArenaIndex) → IsNew a id → IsOpen a id
   open_new a id new = record { numbered = new.numbered; within = within_of new.version; was = inr new.vacant }
     where
       within_of : ((id.slot ≡ length a.slots + 1) × (id.version ≡ 1)) ⊎ ((id.slot ≤ length a.slots) × (1 ≤ (slot_at a.slots id.slot).version) × (id.version ≡ (slot_at a.slots id.slot).version + 2)) → id.slot ≤ length a.slots + 1
@@ -191,6 +226,7 @@ module _ {T : Type 0} where
       or_false : (b : Bool) → b ≡ (b || false)
       or_false true = refl
       or_false false = refl
+
       by_version : ((id.slot ≡ length a.slots + 1) × (id.version ≡ 1)) ⊎ ((id.slot ≤ length a.slots) × (1 ≤ (slot_at a.slots id.slot).version) × (id.version ≡ (slot_at a.slots id.slot).version + 2)) → had_version id.version w ≡ (nat_eq w id.version || had_version (slot_at a.slots id.slot).version w)
       by_version (inl end) = rw (end.1, at_past a.slots id.slot (omega (arith, end.0)), had-first, had-none) (or_false (nat_eq w 1))
       by_version (inr reused) = rw reused.2 (had-next (slot_at a.slots id.slot).version w)
@@ -289,3 +325,32 @@ module _ {T : Type 0} where
 
   pub whole-miss : (a : Arena T) → IsWhole a → IsWhole (miss a)
   whole-miss a whole = record { within = whole.within; versions = whole.versions }
+
+module _ {T : Type 0} where
+  -- an id that is new after an insertion is another one
+  pub new-apart : (a : Arena T) (id i : ArenaIndex) (v : T) → IsNew a id → IsNew (fill a id v) i → i ≢ id
+  new-apart a id i v new next same =
+      true≢false (sym (ap is_some (get-fill_new a id v new)) ∙ ap (λ j. is_some (get (fill a id v) j)) (sym same) ∙ ap is_some (get-new (fill a id v) i next))
+
+  -- and it might have been handed out before that insertion
+  pub new-before : (limits : Limits) (a : Arena T) (id i : ArenaIndex) (v : T) → IsNew a id → IsNewId limits (is_passed (fill a id v)) (IsLive (fill a id v)) i → IsNewId limits (is_passed a) (IsLive a) i
+  new-before limits a id i v new next = (next.0, next.1, next.2, by_version next.3)
+    where
+      earlier : (j : ArenaIndex) → IsTrue (is_passed a j) → IsTrue (is_passed (fill a id v) j)
+      earlier j had = (passed-fill_new a id j v new).1 (inl had)
+
+      by_version : ((i.version ≡ 1) × ((j : ArenaIndex) → IsTrue (is_passed (fill a id v) j) → j.slot ≢ i.slot))
+          ⊎ ((l : ArenaIndex) × (l.slot ≡ i.slot) × (i.version ≡ l.version + 2) × IsTrue (is_passed (fill a id v) l) × (IsLive (fill a id v) l → ⊥)
+          × ((j : ArenaIndex) → IsTrue (is_passed (fill a id v) j) → j.slot ≡ i.slot → j.version ≤ l.version))
+          → ((i.version ≡ 1) × ((j : ArenaIndex) → IsTrue (is_passed a j) → j.slot ≢ i.slot))
+          ⊎ ((l : ArenaIndex) × (l.slot ≡ i.slot) × (i.version ≡ l.version + 2) × IsTrue (is_passed a l) × (IsLive a l → ⊥)
+          × ((j : ArenaIndex) → IsTrue (is_passed a j) → j.slot ≡ i.slot → j.version ≤ l.version))
+      by_version (inl first) = inl (first.0, λ j had. first.1 j (earlier j had))
+      by_version (inr (l, slot, version, passed, dead, greatest)) =
+          elim ((passed-fill_new a id l v new).0 passed) [
+            | inl had ↦ inr (l, slot, version, had, λ live. dead (rw (get-fill_new_other a id l v new (λ same. true≢false (sym live ∙ ap (λ j. is_some (get a j)) same ∙ ap is_some (get-new a id new)))) live), λ j was here. greatest j (earlier j was) here)
+            | inr same ↦ absurd (dead (ap (λ j. is_some (get (fill a id v) j)) same ∙ ap is_some (get-fill_new a id v new)))
+          ]
+
+-- what a caller's clauses on ids follow from: name it in `using(..)`
+pub ruleset arena_laws = (get-new, get-fill_live, get-fill_new, get-fill_live_other, get-fill_new_other, get-cut, get-cut_other)

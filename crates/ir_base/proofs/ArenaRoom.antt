@@ -1,19 +1,19 @@
 -- The room of an arena, counted by ids: which are live or empty for good, and how many.
-use Rattle.std.proofs.Common.{◌≡◌, ◌≢◌, ◌⊎◌, ◌↔◌, ℕ, zero, suc, ◌+◌, ◌-◌, ◌<◌, ◌≤◌, nat_lt, Bool, true, false, List, [], ◌∷◌, length, Option, Some, None, IsSome, is_some, is_none, ◌&&◌, IsTrue, cond, count_by, refl, sym, ap, subst, ◌∙◌, inl, inr, arith, true≢false}
+use Rattle.std.proofs.Common.{◌≡◌, ◌⊎◌, ◌↔◌, ℕ, zero, suc, ◌+◌, ◌-◌, ◌<◌, ◌≤◌, nat_lt, Bool, true, false, List, [], ◌∷◌, length, Option, Some, None, IsSome, is_some, is_none, ◌&&◌, IsTrue, cond, count_by, refl, sym, ap, subst, ◌∙◌, inl, inr, arith, true≢false}
 use Rattle.std.proofs.lemmas.Bool.Decides.{leb_tells, nat_tests}
 use Rattle.std.proofs.lemmas.Bool.{cases_eq}
 use Rattle.std.proofs.lemmas.List.Sums.{sum_by-cons}
 use Rattle.ir_model.specs.declared.ids.ArenaIndex.{ArenaIndex}
 use Rattle.ir_model.specs.declared.ids.Limits.{Limits}
-use Rattle.ir_model.specs.Ids.{Absent, Distinct}
+use Rattle.ir_model.specs.Ids.{Distinct}
 use Rattle.ir_model.specs.Nesting.{In}
 use Rattle.ir_model.specs.Sessions.{Number, HasRoom, LacksRoom, TakesSlot}
 use Rattle.ir_model.proofs.Nests.{Absent-not_in}
 use Rattle.ir_base.specs.declared.arena.Slot.{Slot}
-use Rattle.ir_base.specs.ArenaSlots.{had_version, never, slot_in, slot_at, find, is_taken, is_retired}
-use Rattle.ir_base.specs.Arena.{Arena, get, IsLive, IsWhole, is_passed, arena_len, room}
-use Rattle.ir_base.proofs.ArenaSlots.{taken_at, slot_at-place, slot_at-next, at_zero, at_past, find_at, find_vacant}
-use Rattle.ir_base.proofs.ArenaLaws.{had-within, had-itself, had-below, same_id}
+use Rattle.ir_base.specs.ArenaSlots.{slot_in, slot_at, find, put_in, put, is_taken, is_retired}
+use Rattle.ir_base.specs.Arena.{Arena, get, fill, cut, IsLive, IsNew, IsWhole, is_passed, arena_len, room}
+use Rattle.ir_base.proofs.ArenaSlots.{taken_at, slot_at-place, slot_at-next, put-place, at_zero, at_past, find_at}
+use Rattle.ir_base.proofs.ArenaLaws.{had-within, had-itself, had-below, same_id, open_live, open_new}
 
 module _ {T : Type 0} where
   -- whether a slot has a record, or is empty for good
@@ -97,22 +97,27 @@ module _ {T : Type 0} where
     where
       at_none : (n : ℕ) → n ≡ 0 → 1 ≤ (slot_at a.slots n).version → ⊥
       at_none n none some = absurd (omega (arith, some, ap (λ m. (slot_at a.slots m).version) none ∙ ap (λ s. s.version) (at_zero a.slots)))
+
       numbered_at : 1 ≤ (slot_at a.slots x.slot).version → 1 ≤ x.slot
       numbered_at some = elim (cases_eq x.slot 0) [ inl none ↦ absurd (at_none x.slot none some) | inr not_none ↦ omega arith ]
+
       within_at : 1 ≤ (slot_at a.slots x.slot).version → x.slot - 1 < length a.slots
       within_at some = elim (leb_tells x.slot (length a.slots)) [
         | inl eq ↦ omega (arith, eq.1, numbered_at some)
         | inr ne ↦ absurd (omega (arith, some, ap (λ s. s.version) (at_past a.slots x.slot ne.1)))
       ]
+
       top : (slot_in a.slots (x.slot - 1)).version ≤ a.last_version → (x.version ≡ (slot_in a.slots (x.slot - 1)).version) ⊎ (x.version + 2 ≤ (slot_in a.slots (x.slot - 1)).version) → x.version ≡ (slot_in a.slots (x.slot - 1)).version
       top most (inl same) = same
       top most (inr below) = absurd (omega (arith, most, below, dead.2, last))
+
       vacant : find a.slots x ≡ (slot_in a.slots (x.slot - 1)).item → (slot_in a.slots (x.slot - 1)).item ≡ None
       vacant found = by_item (slot_in a.slots (x.slot - 1)).item found
         where
           by_item : (o : Option T) → find a.slots x ≡ o → o ≡ None
           by_item None e = refl
           by_item (Some v) e = absurd (dead.1 (ap is_some e))
+
       retired : (s : Slot T) → s.item ≡ None → a.last_version < s.version + 2 → is_gone a.last_version s ≡ true
       retired s none past = grind (arith, nat_tests)
 
@@ -128,6 +133,7 @@ module _ {T : Type 0} where
     where
       past : (n : ℕ) → x.version ≡ n → nat_lt a.last_version (n + 2) ≡ true → limits.last_version < x.version + 2
       past n at past_is = grind (arith, nat_tests)
+
       by_item : (o : Option T) (n : ℕ) → x.version ≡ n → find a.slots x ≡ o → IsTrue (is_passed a x) → is_gone a.last_version (record { version = n; item = o }) ≡ true → TakesSlot limits (is_passed a) (IsLive a) x
       by_item (Some v) n version found passed is = inl (ap is_some found)
       by_item None n version found passed is = inr (passed, λ live. true≢false (sym live ∙ ap is_some found), past n version is)
@@ -161,3 +167,59 @@ module _ {T : Type 0} where
   pub lacks-room : (limits : Limits) (a : Arena T) (n : ℕ) → limits.slots ≡ a.limit → limits.last_version ≡ a.last_version → IsWhole a → room a < n → LacksRoom limits.slots (TakesSlot limits (is_passed a) (IsLive a)) n
   lacks-room limits a n slots last whole few =
       (a.limit - room a, takes-number limits a last whole, omega (arith, slots, few, room-splits a whole))
+
+module _ {T : Type 0} where
+  -- what a slot adds to the count of the live records
+  abbrev taken_by : Slot T → ℕ
+  taken_by s = cond (is_taken s) 1 0
+
+  -- a write of a slot that was there changes the count by that slot alone
+  len-put_in : (slots : List (Slot T)) (k : ℕ) (s : Slot T) → k ≤ length slots → count_by is_taken (put_in slots k s) + taken_by (slot_in slots k) ≡ count_by is_taken slots + taken_by s
+  len-put_in [] zero s within = omega (arith, sum_by-cons taken_by s [])
+  len-put_in [] (suc k) s within = absurd (omega arith)
+  len-put_in (x ∷ xs) zero s within =
+      omega (arith, sum_by-cons taken_by s xs, sum_by-cons taken_by x xs)
+  len-put_in (x ∷ xs) (suc k) s within =
+      omega (arith, sum_by-cons taken_by x (put_in xs k s), sum_by-cons taken_by x xs, len-put_in xs k s (omega arith))
+
+  len-put : (slots : List (Slot T)) (n : ℕ) (s : Slot T) → 1 ≤ n → n ≤ length slots + 1 → count_by is_taken (put slots n s) + taken_by (slot_at slots n) ≡ count_by is_taken slots + taken_by s
+  len-put slots n s numbered within = rw (put-place slots n s numbered, slot_at-place slots n numbered) (len-put_in slots (n - 1) s (omega arith))
+
+  taken-one : (a : Arena T) (id : ArenaIndex) → IsLive a id → taken_by (slot_at a.slots id.slot) ≡ 1
+  taken-one a id live =
+      let taken = taken_at a.slots id live in
+      let some : IsSome (slot_at a.slots id.slot).item = rw (slot_at-place a.slots id.slot taken.numbered) taken.some in
+      rw some refl
+
+  -- how many records are live after each change
+  pub len-fill_new : (a : Arena T) (id : ArenaIndex) (v : T) → IsNew a id → arena_len (fill a id v) ≡ arena_len a + 1
+  len-fill_new a id v new =
+      let at = open_new a id new in
+      let vacant : taken_by (slot_at a.slots id.slot) ≡ 0 = rw new.vacant refl in
+      omega (arith, len-put a.slots id.slot (record { version = id.version; item = Some v }) at.numbered at.within, vacant)
+
+  pub len-fill_live : (a : Arena T) (id : ArenaIndex) (v : T) → IsLive a id → arena_len (fill a id v) ≡ arena_len a
+  len-fill_live a id v live =
+      let at = open_live a id live in
+      omega (arith, len-put a.slots id.slot (record { version = id.version; item = Some v }) at.numbered at.within, taken-one a id live)
+
+  pub len-cut : (a : Arena T) (id : ArenaIndex) → IsLive a id → arena_len (cut a id) + 1 ≡ arena_len a
+  len-cut a id live =
+      let at = open_live a id live in
+      omega (arith, len-put a.slots id.slot (record { version = id.version; item = None }) at.numbered at.within, taken-one a id live)
+
+  none-counts : (slots : List (Slot T)) → ((k : ℕ) → k < length slots → (slot_in slots k).item ≡ None) → count_by is_taken slots ≡ 0
+  none-counts [] none = refl
+  none-counts (s ∷ rest) none =
+      let first : taken_by s ≡ 0 = rw (none 0 (omega arith)) refl in
+      omega (arith, sum_by-cons taken_by s rest, first, none-counts rest (λ k below. none (suc k) (omega arith)))
+
+  -- an arena has no record exactly where nothing stands under any id
+  pub len-none : (a : Arena T) → (arena_len a ≡ 0) ↔ ((id : ArenaIndex) → get a id ≡ None)
+  len-none a = (λ none id. nothing none id (get a id) refl, λ none. none-counts a.slots (λ k below. sym (find_at a.slots (record { slot = k + 1; version = (slot_in a.slots k).version }) (ap (λ s. s.version) (slot_at-next a.slots k)) ∙ ap (λ s. s.item) (slot_at-next a.slots k)) ∙ none (record { slot = k + 1; version = (slot_in a.slots k).version })))
+    where
+      nothing : arena_len a ≡ 0 → (id : ArenaIndex) → (o : Option T) → get a id ≡ o → get a id ≡ None
+      nothing none id None is = is
+      nothing none id (Some v) is =
+          let at = open_live a id (ap is_some is) in
+          absurd (omega (arith, none, len-put a.slots id.slot (record { version = id.version; item = None }) at.numbered at.within, taken-one a id (ap is_some is)))

@@ -1,18 +1,17 @@
 -- How each change of the slots keeps an arena sound.
-use Rattle.std.proofs.Common.{◌≡◌, ◌≢◌, ◌⊎◌, ℕ, zero, suc, ◌+◌, ◌-◌, ◌<◌, ◌≤◌, nat_eq, nat_le, nat_lt, Bool, true, false, List, [], ◌∷◌, ◌++◌, length, get_or, set, Option, Some, None, is_some, is_none, IsSome, OnSome, cond, count_by, slice_get, refl, sym, ap, subst, ◌∙◌, inl, inr, arith, length-set, length-append, true≢false}
-use Rattle.std.proofs.lemmas.Bool.Decides.{eqb_tells, leb_tells, nat_tests}
+use Rattle.std.proofs.Common.{◌≡◌, ◌≢◌, ◌⊎◌, ℕ, ◌+◌, ◌-◌, ◌<◌, ◌≤◌, nat_eq, nat_le, nat_lt, Bool, true, false, List, [], ◌∷◌, ◌++◌, length, set, Option, Some, None, IsSome, OnSome, cond, count_by, refl, sym, ap, subst, ◌∙◌, inl, inr, arith, length-set}
+use Rattle.std.proofs.lemmas.Bool.Decides.{leb_tells, nat_tests}
 use Rattle.std.proofs.lemmas.Bool.{cases_eq, eq-eqb, ne_eqb}
-use Rattle.std.proofs.lemmas.List.{get_or-set_same, get_or-set_other, get_or_past, length_push}
+use Rattle.std.proofs.lemmas.List.{get_or-set_same, get_or-set_other, length_push}
 use Rattle.std.proofs.Math.ListN.{get_or-append}
 use Rattle.std.proofs.Math.Seq.{get_or-append_seam}
 use Rattle.std.proofs.lemmas.List.Sums.{sum_by-set, sum_by_push}
-use Rattle.std.proofs.lemmas.Option.{slice_get-get_or, slice_get_within, get_or_from_slice_get}
 use Rattle.ir_model.specs.declared.ids.ArenaIndex.{ArenaIndex}
 use Rattle.ir_base.specs.declared.arena.Slot.{Slot}
 use Rattle.ir_base.specs.ArenaSlots.{is_taken, is_reusable, is_retired, never, slot_in, slot_at, find, put}
 use Rattle.ir_base.specs.ArenaSound.{IsInRange, IsSound}
 use Rattle.ir_base.proofs.ArenaSlots.{IsTaken, slot_at-next, at_past, find-put_same}
-use Rattle.ir_base.specs.Arena.{Arena, IsNew, IsWhole, Inserts, room}
+use Rattle.ir_base.specs.Arena.{IsNew, IsWhole, Inserts, room}
 
 -- the state of the free list after slot k has become s
 pub record Relisted (free freed : List ℕ) (k n : ℕ) : Type 0 where
@@ -54,6 +53,7 @@ module _ {T : Type 0} where
         where
           not_less : (a b : ℕ) → b ≤ a → nat_lt a b ≡ false
           not_less a b le = grind (arith, nat_tests)
+
           less : (a b : ℕ) → a < b → nat_lt a b ≡ true
           less a b lt = grind (arith, nat_tests)
 
@@ -82,6 +82,7 @@ module _ {T : Type 0} where
             | inl same ↦ rw (same, get_or-set_same slots k s never within) range
             | inr differs ↦ rw (get_or-set_other slots k j s never differs) (sound.versions j below)
           ]
+
       by_slot : (j : ℕ) → j < length slots → count_by (nat_eq j) freed ≡ u last (slot_in (set slots k s) j)
       by_slot j below =
           elim (cases_eq j k) [
@@ -184,8 +185,10 @@ module _ {T : Type 0} where
             | inl same ↦ rw (same, get_or-append_seam slots (record { version = 1; item = Some w }) [] never) (record { first = omega arith; within = sound.starts })
             | inr differs ↦ rw (get_or-append slots (record { version = 1; item = Some w } ∷ []) never j (omega arith)) (sound.versions j (omega arith))
           ]
+
       unlisted : (j : ℕ) → count_by (nat_eq j) freed ≡ 0
       unlisted j = ap (count_by (nat_eq j)) emptied
+
       by_slot : (j : ℕ) → j < length slots + 1 → count_by (nat_eq j) freed ≡ u last (slot_in (slots ++ record { version = 1; item = Some w } ∷ []) j)
       by_slot j below =
           elim (cases_eq j (length slots)) [

@@ -214,11 +214,11 @@ impl<T> Arena<T> {
         ensures absent { IfNone result (self.new ≡ miss self.old) }
     {
         let id = ptr.index;
-        if !self.is_live(ptr) {
-            self.removals = self.removals.next();
+        let live = self.is_live(ptr);
+        self.removals = self.removals.next();
+        if !live {
             return None;
         }
-        self.removals = self.removals.next();
         let place = id.slot - 1;
         let item = self.slots[place as usize].item.take();
         self.len -= 1;

@@ -2,6 +2,8 @@
 #![tactic(auto)]
 
 mod arena;
+#[cfg(test)]
+mod arena_tests;
 mod error;
 pub mod linked_list;
 #[cfg(test)]
@@ -10,6 +12,9 @@ mod list_iter;
 pub mod list_laws;
 mod ptr;
 mod room;
+mod seq;
+#[cfg(test)]
+mod seq_tests;
 mod tally;
 
 pub use arena::Arena;
@@ -18,3 +23,4 @@ pub use ir_model::{ArenaIndex, Limits};
 pub use list_iter::Iter;
 pub use ptr::Ptr;
 pub use room::Room;
+pub use seq::Seq;

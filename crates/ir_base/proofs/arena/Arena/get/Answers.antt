@@ -1,5 +1,5 @@
-use Rattle.std.proofs.Common.{◌≡◌, ◌+◌, ◌-◌, ◌≤◌, refl, sym, ap, subst, ◌∙◌, arith}
-use Rattle.ir_base.specs.ArenaSlots.{slot_at, slot_in, never}
+use Rattle.std.proofs.Common.{◌≡◌, ◌+◌, sym, ap, ◌∙◌, arith}
+use Rattle.ir_base.specs.ArenaSlots.{slot_at, never}
 use Rattle.ir_base.proofs.ArenaSlots.{find_at, find_not_at, find_past, find_zero, slot_at-next}
 use Rattle.ir_base.proofs.arena.Arena.get.Goals as goal
 

@@ -1,10 +1,10 @@
-use Rattle.std.proofs.Common.{◌≡◌, ◌+◌, ◌<◌, ◌≤◌, ◌∷◌, [], ◌++◌, length, length-set, Some, IsSome, refl, sym, ap, subst, ◌∙◌, arith}
+use Rattle.std.proofs.Common.{◌≡◌, ◌+◌, ◌<◌, ◌≤◌, [], length, length-set, Some, sym, ap, ◌∙◌, arith}
 use Rattle.std.proofs.lemmas.List.{get_or_read, length_push}
 use Rattle.std.specs.Vec.{vec_capacity}
 use Rattle.std.proofs.lemmas.Grind.{common_steps}
 use Rattle.ir_base.specs.ArenaSlots.{slot_in, never}
-use Rattle.ir_base.proofs.ArenaSlots.{put_in-set, put_in-push, put-next, find-put_same}
-use Rattle.ir_base.proofs.ArenaSound.{IsOffered, offered, reusable_is, offered_is_new, end_is_new, inserts_is, IsSound-reuse, IsSound-extend, whole_is, room_is}
+use Rattle.ir_base.proofs.ArenaSlots.{put_in-set, put_in-push, put-next}
+use Rattle.ir_base.proofs.ArenaSound.{offered, reusable_is, offered_is_new, end_is_new, inserts_is, IsSound-reuse, IsSound-extend, whole_is, room_is}
 use Rattle.ir_base.proofs.arena.Arena.insert_with.Goals as goal
 
 pub index-requires : goal.index-requires

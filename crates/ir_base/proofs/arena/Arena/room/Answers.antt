@@ -1,5 +1,4 @@
 use Rattle.std.proofs.Common.{arith}
-use Rattle.ir_base.proofs.ArenaSound.{room_is}
 use Rattle.ir_base.proofs.arena.Arena.room.Goals as goal
 
 pub returns-clause-value : goal.returns-clause-value

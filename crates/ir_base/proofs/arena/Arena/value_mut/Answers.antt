@@ -1,4 +1,4 @@
-use Rattle.std.proofs.Common.{IsSome, refl, sym, ap, subst, ◌∙◌, arith}
+use Rattle.std.proofs.Common.{refl, arith}
 use Rattle.std.proofs.lemmas.List.{get_or_read}
 use Rattle.ir_base.specs.ArenaSlots.{never}
 use Rattle.ir_base.proofs.ArenaSlots.{taken_at, put-set}
