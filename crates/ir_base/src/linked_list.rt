@@ -1,6 +1,6 @@
 //! Lists inside records: a node names its neighbours and its container, and a container names the ends of its list.
 //!
-//! Nodes lie in one arena and containers in another, and they name one another by index. A record may be both, as a block is a node of its region's list and the container of its operations. Well formed means that the links and ends are those of lists, one for each container, in which no node stands twice, and that every other node's links are empty. Each call here is one edit of those lists. It changes no other list and no other field of any record, and takes no memory.
+//! Nodes lie in one arena and containers in another, and they name one another by index. A record may be both, as a block is a node of its region's list and the container of its operations. Well formed means that the links and ends are those of lists, one for each container, in which no node stands twice, and that every other node's links are empty. Each call here asks for well-formed lists and is one edit of them. It keeps them well formed, changes no other list and no other field of any record, and takes no memory. What else may be relied on, `list_laws` says.
 
 ghost use Rattle.std.specs.Prelude.{◌≡◌, ◌≢◌, ◌++◌, ◌∷◌, ◌↔◌, [], List, Option, Some, None, IfSome, IsSome, IsTrue};
 ghost use Rattle.std.specs.Borrow.{sem};
@@ -38,7 +38,8 @@ pub trait LinkedList {
         ensures { self.new ≡ with_links self.old (record (links self.old) { prev = prev }) };
     /// Sets the container in whose list this node is.
     fn set_container(&mut self, container: Option<ArenaIndex>)
-        ensures { self.new ≡ with_links self.old (record (links self.old) { container = container }) };
+        ensures { self.new
+            ≡ with_links self.old (record (links self.old) { container = container }) };
 
     ghost get_put: { (x : Self) (l : Links) → links (with_links x l) ≡ l };
 
@@ -109,7 +110,8 @@ fn set_next_of<T: LinkedList, C: ContainsLinkedList<T>>(
     requires left_live { IfSome left (λ i. IsLive nodes.old i) }
     requires container_live { IsLive containers.old container }
     ensures links { seen T.links nodes.new ≡ change (with_next next) left (seen T.links nodes.old) }
-    ensures ends { seen C.ends containers.new ≡ change (with_head next) (unless left container) (seen C.ends containers.old) }
+    ensures ends { seen C.ends containers.new
+        ≡ change (with_head next) (unless left container) (seen C.ends containers.old) }
     ensures nodes_rest { SameBut (λ x. T.with_links x unlinked) nodes.old nodes.new }
     ensures containers_rest { SameBut (λ x. C.with_ends x no_ends) containers.old containers.new }
 {
@@ -129,8 +131,10 @@ fn set_prev_of<T: LinkedList, C: ContainsLinkedList<T>>(
 )
     requires right_live { IfSome right (λ i. IsLive nodes.old i) }
     requires container_live { IsLive containers.old container }
-    ensures links { seen T.links nodes.new ≡ change (with_prev prev) right (seen T.links nodes.old) }
-    ensures ends { seen C.ends containers.new ≡ change (with_tail prev) (unless right container) (seen C.ends containers.old) }
+    ensures links { seen T.links nodes.new
+        ≡ change (with_prev prev) right (seen T.links nodes.old) }
+    ensures ends { seen C.ends containers.new
+        ≡ change (with_tail prev) (unless right container) (seen C.ends containers.old) }
     ensures nodes_rest { SameBut (λ x. T.with_links x unlinked) nodes.old nodes.new }
     ensures containers_rest { SameBut (λ x. C.with_ends x no_ends) containers.old containers.new }
 {
@@ -149,7 +153,8 @@ fn set_links<T: LinkedList>(
     container: Option<ArenaIndex>,
 )
     requires { IsLive nodes.old node }
-    ensures links { seen T.links nodes.new ≡ change (λ _. record { next = next; prev = prev; container = container }) (Some node) (seen T.links nodes.old) }
+    ensures links { seen T.links nodes.new
+        ≡ change (λ _. record { next = next; prev = prev; container = container }) (Some node) (seen T.links nodes.old) }
     ensures rest { SameBut (λ x. T.with_links x unlinked) nodes.old nodes.new }
 {
     let record = record_mut(nodes, node);
@@ -171,8 +176,13 @@ fn link_between<T: LinkedList, C: ContainsLinkedList<T>>(
     requires left_live { IfSome left (λ i. IsLive nodes.old i) }
     requires right_live { IfSome right (λ i. IsLive nodes.old i) }
     requires container_live { IsLive containers.old container }
-    ensures links { seen T.links nodes.new ≡ change (λ _. linked left right container) (Some node) (change (with_next (Some node)) left (change (with_prev (Some node)) right (seen T.links nodes.old))) }
-    ensures ends { seen C.ends containers.new ≡ change (with_head (Some node)) (unless left container) (change (with_tail (Some node)) (unless right container) (seen C.ends containers.old)) }
+    ensures links { seen T.links nodes.new
+        ≡ change (λ _. linked left right container) (Some node)
+        (change (with_next (Some node)) left
+        (change (with_prev (Some node)) right (seen T.links nodes.old))) }
+    ensures ends { seen C.ends containers.new
+        ≡ change (with_head (Some node)) (unless left container)
+        (change (with_tail (Some node)) (unless right container) (seen C.ends containers.old)) }
     ensures nodes_rest { SameBut (λ x. T.with_links x unlinked) nodes.old nodes.new }
     ensures containers_rest { SameBut (λ x. C.with_ends x no_ends) containers.old containers.new }
 {
@@ -182,6 +192,8 @@ fn link_between<T: LinkedList, C: ContainsLinkedList<T>>(
 }
 
 /// Puts an unlinked node at the front of a container's list. It stands for pliron's `insert_at_front`.
+///
+/// It asks for a live node that is in no list and a live container, which `is_linked` and `Arena::is_live` test.
 pub fn insert_at_front<T: LinkedList, C: ContainsLinkedList<T>>(
     nodes: &mut Arena<T>,
     containers: &mut Arena<C>,
@@ -192,8 +204,10 @@ pub fn insert_at_front<T: LinkedList, C: ContainsLinkedList<T>>(
     requires node_live { IsLive nodes.old node.index }
     requires node_unlinked { ¬ IsLinked (seen T.links nodes.old) node.index }
     requires container_live { IsLive containers.old container.index }
-    ensures lists { (lists : ArenaIndex → List ArenaIndex) → AreLists (seen T.links nodes.old) (seen C.ends containers.old) lists
-        → AreLists (seen T.links nodes.new) (seen C.ends containers.new) (with_list lists container.index (node.index ∷ lists container.index)) }
+    ensures lists { (lists : ArenaIndex → List ArenaIndex)
+        → AreLists (seen T.links nodes.old) (seen C.ends containers.old) lists
+        → AreLists (seen T.links nodes.new) (seen C.ends containers.new)
+        (with_list lists container.index (node.index ∷ lists container.index)) }
     ensures well_formed { AreWellFormed (seen T.links nodes.new) (seen C.ends containers.new) }
     ensures nodes_rest { SameBut (λ x. T.with_links x unlinked) nodes.old nodes.new }
     ensures containers_rest { SameBut (λ x. C.with_ends x no_ends) containers.old containers.new }
@@ -203,6 +217,8 @@ pub fn insert_at_front<T: LinkedList, C: ContainsLinkedList<T>>(
 }
 
 /// Puts an unlinked node at the back of a container's list. It stands for pliron's `insert_at_back`.
+///
+/// It asks for a live node that is in no list and a live container, which `is_linked` and `Arena::is_live` test.
 pub fn insert_at_back<T: LinkedList, C: ContainsLinkedList<T>>(
     nodes: &mut Arena<T>,
     containers: &mut Arena<C>,
@@ -213,8 +229,10 @@ pub fn insert_at_back<T: LinkedList, C: ContainsLinkedList<T>>(
     requires node_live { IsLive nodes.old node.index }
     requires node_unlinked { ¬ IsLinked (seen T.links nodes.old) node.index }
     requires container_live { IsLive containers.old container.index }
-    ensures lists { (lists : ArenaIndex → List ArenaIndex) → AreLists (seen T.links nodes.old) (seen C.ends containers.old) lists
-        → AreLists (seen T.links nodes.new) (seen C.ends containers.new) (with_list lists container.index (lists container.index ++ node.index ∷ [])) }
+    ensures lists { (lists : ArenaIndex → List ArenaIndex)
+        → AreLists (seen T.links nodes.old) (seen C.ends containers.old) lists
+        → AreLists (seen T.links nodes.new) (seen C.ends containers.new)
+        (with_list lists container.index (lists container.index ++ node.index ∷ [])) }
     ensures well_formed { AreWellFormed (seen T.links nodes.new) (seen C.ends containers.new) }
     ensures nodes_rest { SameBut (λ x. T.with_links x unlinked) nodes.old nodes.new }
     ensures containers_rest { SameBut (λ x. C.with_ends x no_ends) containers.old containers.new }
@@ -224,6 +242,8 @@ pub fn insert_at_back<T: LinkedList, C: ContainsLinkedList<T>>(
 }
 
 /// Puts an unlinked node right after a linked one. It stands for pliron's `insert_after`.
+///
+/// It asks for a live node that is in no list and a mark that is in one, which `is_linked` and `Arena::is_live` test.
 pub fn insert_after<T: LinkedList, C: ContainsLinkedList<T>>(
     nodes: &mut Arena<T>,
     containers: &mut Arena<C>,
@@ -234,8 +254,11 @@ pub fn insert_after<T: LinkedList, C: ContainsLinkedList<T>>(
     requires node_live { IsLive nodes.old node.index }
     requires node_unlinked { ¬ IsLinked (seen T.links nodes.old) node.index }
     requires mark_linked { IsLinked (seen T.links nodes.old) mark.index }
-    ensures lists { (lists : ArenaIndex → List ArenaIndex) (c : ArenaIndex) (a b : List ArenaIndex) → AreLists (seen T.links nodes.old) (seen C.ends containers.old) lists → lists c ≡ a ++ mark.index ∷ b
-        → AreLists (seen T.links nodes.new) (seen C.ends containers.new) (with_list lists c (a ++ mark.index ∷ node.index ∷ b)) }
+    ensures lists { (lists : ArenaIndex → List ArenaIndex) (c : ArenaIndex) (a b : List ArenaIndex)
+        → AreLists (seen T.links nodes.old) (seen C.ends containers.old) lists
+        → lists c ≡ a ++ mark.index ∷ b
+        → AreLists (seen T.links nodes.new) (seen C.ends containers.new)
+        (with_list lists c (a ++ mark.index ∷ node.index ∷ b)) }
     ensures well_formed { AreWellFormed (seen T.links nodes.new) (seen C.ends containers.new) }
     ensures nodes_rest { SameBut (λ x. T.with_links x unlinked) nodes.old nodes.new }
     ensures containers_rest { SameBut (λ x. C.with_ends x no_ends) containers.old containers.new }
@@ -254,6 +277,8 @@ pub fn insert_after<T: LinkedList, C: ContainsLinkedList<T>>(
 }
 
 /// Puts an unlinked node right before a linked one. It stands for pliron's `insert_before`.
+///
+/// It asks for a live node that is in no list and a mark that is in one, which `is_linked` and `Arena::is_live` test.
 pub fn insert_before<T: LinkedList, C: ContainsLinkedList<T>>(
     nodes: &mut Arena<T>,
     containers: &mut Arena<C>,
@@ -264,8 +289,11 @@ pub fn insert_before<T: LinkedList, C: ContainsLinkedList<T>>(
     requires node_live { IsLive nodes.old node.index }
     requires node_unlinked { ¬ IsLinked (seen T.links nodes.old) node.index }
     requires mark_linked { IsLinked (seen T.links nodes.old) mark.index }
-    ensures lists { (lists : ArenaIndex → List ArenaIndex) (c : ArenaIndex) (a b : List ArenaIndex) → AreLists (seen T.links nodes.old) (seen C.ends containers.old) lists → lists c ≡ a ++ mark.index ∷ b
-        → AreLists (seen T.links nodes.new) (seen C.ends containers.new) (with_list lists c (a ++ node.index ∷ mark.index ∷ b)) }
+    ensures lists { (lists : ArenaIndex → List ArenaIndex) (c : ArenaIndex) (a b : List ArenaIndex)
+        → AreLists (seen T.links nodes.old) (seen C.ends containers.old) lists
+        → lists c ≡ a ++ mark.index ∷ b
+        → AreLists (seen T.links nodes.new) (seen C.ends containers.new)
+        (with_list lists c (a ++ node.index ∷ mark.index ∷ b)) }
     ensures well_formed { AreWellFormed (seen T.links nodes.new) (seen C.ends containers.new) }
     ensures nodes_rest { SameBut (λ x. T.with_links x unlinked) nodes.old nodes.new }
     ensures containers_rest { SameBut (λ x. C.with_ends x no_ends) containers.old containers.new }
@@ -284,6 +312,8 @@ pub fn insert_before<T: LinkedList, C: ContainsLinkedList<T>>(
 }
 
 /// Takes a linked node out of its list, and clears its links. It stands for pliron's `unlink`.
+///
+/// It asks for a node that is in a list, which `is_linked` tests.
 pub fn unlink<T: LinkedList, C: ContainsLinkedList<T>>(
     nodes: &mut Arena<T>,
     containers: &mut Arena<C>,
@@ -291,8 +321,11 @@ pub fn unlink<T: LinkedList, C: ContainsLinkedList<T>>(
 )
     requires well_formed { AreWellFormed (seen T.links nodes.old) (seen C.ends containers.old) }
     requires node_linked { IsLinked (seen T.links nodes.old) node.index }
-    ensures lists { (lists : ArenaIndex → List ArenaIndex) (c : ArenaIndex) (a b : List ArenaIndex) → AreLists (seen T.links nodes.old) (seen C.ends containers.old) lists → lists c ≡ a ++ node.index ∷ b
-        → AreLists (seen T.links nodes.new) (seen C.ends containers.new) (with_list lists c (a ++ b)) }
+    ensures lists { (lists : ArenaIndex → List ArenaIndex) (c : ArenaIndex) (a b : List ArenaIndex)
+        → AreLists (seen T.links nodes.old) (seen C.ends containers.old) lists
+        → lists c ≡ a ++ node.index ∷ b
+        → AreLists (seen T.links nodes.new) (seen C.ends containers.new)
+        (with_list lists c (a ++ b)) }
     ensures well_formed { AreWellFormed (seen T.links nodes.new) (seen C.ends containers.new) }
     ensures nodes_rest { SameBut (λ x. T.with_links x unlinked) nodes.old nodes.new }
     ensures containers_rest { SameBut (λ x. C.with_ends x no_ends) containers.old containers.new }
@@ -313,7 +346,9 @@ fn set_containers<T: LinkedList>(
     container: ArenaIndex,
 )
     requires { IsListFrom (seen T.links nodes.old) first container }
-    ensures moved { (owner : ArenaIndex) (before : Option ArenaIndex) (list : List ArenaIndex) → IsChain (seen T.links nodes.old) owner before list None → first ≡ head_or None list → seen T.links nodes.new ≡ rehome container list (seen T.links nodes.old) }
+    ensures moved { (owner : ArenaIndex) (before : Option ArenaIndex) (list : List ArenaIndex)
+        → IsChain (seen T.links nodes.old) owner before list None → first ≡ head_or None list
+        → seen T.links nodes.new ≡ rehome container list (seen T.links nodes.old) }
     ensures rest { SameBut (λ x. T.with_links x unlinked) nodes.old nodes.new }
 {
     let mut current = first;
@@ -332,7 +367,8 @@ fn set_ends<T, C: ContainsLinkedList<T>>(
     tail: Option<ArenaIndex>,
 )
     requires { IsLive containers.old container }
-    ensures ends { seen C.ends containers.new ≡ change (λ _. record { head = head; tail = tail }) (Some container) (seen C.ends containers.old) }
+    ensures ends { seen C.ends containers.new
+        ≡ change (λ _. record { head = head; tail = tail }) (Some container) (seen C.ends containers.old) }
     ensures rest { SameBut (λ x. C.with_ends x no_ends) containers.old containers.new }
 {
     let record = record_mut(containers, container);
@@ -342,7 +378,7 @@ fn set_ends<T, C: ContainsLinkedList<T>>(
 
 /// Moves the nodes of the donor to the back of the donee's list, and leaves the donor empty. It stands for pliron's `append_linked_list`.
 ///
-/// The ends are joined once, and one walk over the moved nodes gives them their container.
+/// The ends are joined once, and one walk over the moved nodes gives them their container. It asks for two live containers that differ, which `Arena::is_live` and their indices tell.
 pub fn append_linked_list<T: LinkedList, C: ContainsLinkedList<T>>(
     nodes: &mut Arena<T>,
     containers: &mut Arena<C>,
@@ -353,8 +389,10 @@ pub fn append_linked_list<T: LinkedList, C: ContainsLinkedList<T>>(
     requires donee_live { IsLive containers.old donee.index }
     requires donor_live { IsLive containers.old donor.index }
     requires two { donee.index ≢ donor.index }
-    ensures lists { (lists : ArenaIndex → List ArenaIndex) → AreLists (seen T.links nodes.old) (seen C.ends containers.old) lists
-        → AreLists (seen T.links nodes.new) (seen C.ends containers.new) (with_list (with_list lists donee.index (lists donee.index ++ lists donor.index)) donor.index []) }
+    ensures lists { (lists : ArenaIndex → List ArenaIndex)
+        → AreLists (seen T.links nodes.old) (seen C.ends containers.old) lists
+        → AreLists (seen T.links nodes.new) (seen C.ends containers.new)
+        (with_list (with_list lists donee.index (lists donee.index ++ lists donor.index)) donor.index []) }
     ensures well_formed { AreWellFormed (seen T.links nodes.new) (seen C.ends containers.new) }
     ensures nodes_rest { SameBut (λ x. T.with_links x unlinked) nodes.old nodes.new }
     ensures containers_rest { SameBut (λ x. C.with_ends x no_ends) containers.old containers.new }
@@ -383,6 +421,8 @@ pub fn is_linked<T: LinkedList>(nodes: &Arena<T>, node: Ptr<T>) -> bool
 }
 
 /// The nodes of a container's list, from both ends. It stands for pliron's `iter`.
+///
+/// It asks for a live container, which `Arena::is_live` tests.
 pub fn iter<'a, T: LinkedList, C: ContainsLinkedList<T>>(
     nodes: &'a Arena<T>,
     containers: &Arena<C>,
@@ -390,7 +430,9 @@ pub fn iter<'a, T: LinkedList, C: ContainsLinkedList<T>>(
 ) -> Iter<'a, T>
     requires well_formed { AreWellFormed (seen T.links nodes.now) (seen C.ends containers.now) }
     requires container_live { IsLive containers.now container.index }
-    ensures { (lists : ArenaIndex → List ArenaIndex) → AreLists (seen T.links nodes.now) (seen C.ends containers.now) lists → result ≡ lists container.index }
+    ensures { (lists : ArenaIndex → List ArenaIndex)
+        → AreLists (seen T.links nodes.now) (seen C.ends containers.now) lists
+        → result ≡ lists container.index }
 {
     let record = record_at(containers, container.index);
     Iter::between(nodes, record.get_head(), record.get_tail())

@@ -287,6 +287,16 @@ impl<T: LinkedList, C: ContainsLinkedList<T>> Lists<T, C> {
         true
     }
 
+    // Puts the nodes at the back in this order, as far as each may be put there.
+    fn put_all(&mut self, nodes: &[Ptr<T>], container: Ptr<C>) -> bool {
+        for node in nodes {
+            if !self.put_back(*node, container) {
+                return false;
+            }
+        }
+        true
+    }
+
     // The nodes of a container in order, and none where it is dead.
     fn forward(&self, alloc: Global, container: Ptr<C>) -> Result<Vec<ArenaIndex>, AllocError> {
         let mut found = Vec::new(alloc);
@@ -380,6 +390,24 @@ fn is_list<T: LinkedList, C: ContainsLinkedList<T>>(
     Ok(found.as_slice() == forward.as_slice() && found_backward.as_slice() == backward.as_slice())
 }
 
+/// Whether the links of a live node are empty.
+fn has_no_links(nodes: &Arena<Node>, node: Ptr<Node>) -> bool {
+    match nodes.get(node) {
+        Some(found) => found.next.is_none() && found.prev.is_none() && found.container.is_none(),
+        None => false,
+    }
+}
+
+/// What a live node has beside its links.
+fn payload_of(nodes: &Arena<Node>, node: Ptr<Node>) -> Option<u64> {
+    Some(nodes.get(node)?.payload)
+}
+
+/// What a live part has beside its links and ends.
+fn name_of(parts: &Arena<Part>, part: Ptr<Part>) -> Option<u64> {
+    Some(parts.get(part)?.name)
+}
+
 /// Four nodes with the payloads 1 to 4.
 fn four_nodes(lists: &mut Nodes) -> Result<[Ptr<Node>; 4], CoreError> {
     let first = lists.add_node(a_node(1))?;
@@ -440,12 +468,9 @@ fn list_unlinks(rt: HostRuntime) -> Result<(), Fail> {
     assert!(rt; is_list(&lists, rt.alloc(), root, &[n4])?);
     assert!(rt; lists.take_out(n4));
     assert!(rt; is_list(&lists, rt.alloc(), root, &[])?);
-    for node in [n1, n2, n4] {
-        let record = lists.nodes.get(node).ok_or("dead")?;
-        assert!(rt; record.next.is_none());
-        assert!(rt; record.prev.is_none());
-        assert!(rt; record.container.is_none());
-    }
+    assert!(rt; has_no_links(&lists.nodes, n1));
+    assert!(rt; has_no_links(&lists.nodes, n2));
+    assert!(rt; has_no_links(&lists.nodes, n4));
     Ok(())
 }
 
@@ -472,31 +497,46 @@ fn list_append(rt: HostRuntime) -> Result<(), Fail> {
     let donee = lists.add_container(a_part(7))?;
     let donor = lists.add_container(a_part(8))?;
     let [n1, n2, n3, n4] = four_nodes(&mut lists)?;
+    assert!(rt; lists.put_all(&[n1, n2], donee));
+    assert!(rt; lists.put_all(&[n3, n4], donor));
+    assert!(rt; lists.append(donee, donor));
+    assert!(rt; is_list(&lists, rt.alloc(), donee, &[n1, n2, n3, n4])?);
+    assert!(rt; is_list(&lists, rt.alloc(), donor, &[])?);
+    assert_eq!(rt; payload_of(&lists.nodes, n3), Some(3));
+    assert_eq!(rt; name_of(&lists.containers, donee), Some(7));
+    assert_eq!(rt; name_of(&lists.containers, donor), Some(8));
+    Ok(())
+}
+
+#[test]
+fn list_append_to_nothing(rt: HostRuntime) -> Result<(), Fail> {
+    let mut lists = Nodes::new(rt.alloc());
+    let donee = lists.add_container(a_part(7))?;
+    let donor = lists.add_container(a_part(8))?;
     assert!(rt; lists.append(donee, donor));
     assert!(rt; is_list(&lists, rt.alloc(), donee, &[])?);
     assert!(rt; is_list(&lists, rt.alloc(), donor, &[])?);
+    let n1 = lists.add_node(a_node(1))?;
     assert!(rt; lists.put_back(n1, donor));
     assert!(rt; lists.append(donee, donor));
     assert!(rt; is_list(&lists, rt.alloc(), donee, &[n1])?);
     assert!(rt; is_list(&lists, rt.alloc(), donor, &[])?);
-    assert!(rt; lists.put_back(n2, donee));
-    assert!(rt; lists.put_back(n3, donor));
+    Ok(())
+}
+
+#[test]
+fn list_append_then_unlink(rt: HostRuntime) -> Result<(), Fail> {
+    let mut lists = Nodes::new(rt.alloc());
+    let donee = lists.add_container(a_part(7))?;
+    let donor = lists.add_container(a_part(8))?;
+    let [n1, n2, n3, n4] = four_nodes(&mut lists)?;
+    assert!(rt; lists.put_all(&[n1, n2, n3], donee));
     assert!(rt; lists.put_back(n4, donor));
-    assert!(rt; lists.append(donee, donor));
-    assert!(rt; is_list(&lists, rt.alloc(), donee, &[n1, n2, n3, n4])?);
-    assert!(rt; is_list(&lists, rt.alloc(), donor, &[])?);
-    assert!(rt; lists.take_out(n4));
-    assert!(rt; lists.put_front(n4, donor));
     assert!(rt; lists.append(donee, donor));
     assert!(rt; is_list(&lists, rt.alloc(), donee, &[n1, n2, n3, n4])?);
     assert!(rt; lists.take_out(n3));
     assert!(rt; lists.take_out(n4));
     assert!(rt; is_list(&lists, rt.alloc(), donee, &[n1, n2])?);
-    for (node, payload) in [(n1, 1), (n2, 2), (n3, 3), (n4, 4)] {
-        assert_eq!(rt; lists.nodes.get(node).ok_or("dead")?.payload, payload);
-    }
-    assert_eq!(rt; lists.containers.get(donee).ok_or("dead")?.name, 7);
-    assert_eq!(rt; lists.containers.get(donor).ok_or("dead")?.name, 8);
     Ok(())
 }
 
@@ -511,12 +551,8 @@ fn list_of_lists(rt: HostRuntime) -> Result<(), Fail> {
     assert!(rt; parts.put_before(first, second));
     assert!(rt; is_list(&parts, rt.alloc(), root, &[first, second])?);
     assert_eq!(rt; parts.containers.get(root).ok_or("dead")?.name, 9);
-    for (part, name) in [(first, 7), (second, 8)] {
-        let record = parts.nodes.get(part).ok_or("dead")?;
-        assert_eq!(rt; record.name, name);
-        assert!(rt; record.get_head().is_none());
-        assert!(rt; record.get_tail().is_none());
-    }
+    assert_eq!(rt; name_of(&parts.nodes, first), Some(7));
+    assert_eq!(rt; name_of(&parts.nodes, second), Some(8));
     Ok(())
 }
 
