@@ -360,8 +360,20 @@ type Nodes = Lists<Node, Part>;
 /// Parts in the lists of roots.
 type Parts = Lists<Part, Root>;
 
-/// Whether the container's list is this one from both ends, and each of its nodes names the container.
+/// Whether the container's list is this one from both ends, and each of its nodes names the container. It is not where memory is refused.
 fn is_list<T: LinkedList, C: ContainsLinkedList<T>>(
+    lists: &Lists<T, C>,
+    alloc: Global,
+    container: Ptr<C>,
+    expected: &[Ptr<T>],
+) -> bool {
+    match compare_list(lists, alloc, container, expected) {
+        Ok(same) => same,
+        Err(_) => false,
+    }
+}
+
+fn compare_list<T: LinkedList, C: ContainsLinkedList<T>>(
     lists: &Lists<T, C>,
     alloc: Global,
     container: Ptr<C>,
@@ -408,36 +420,61 @@ fn name_of(parts: &Arena<Part>, part: Ptr<Part>) -> Option<u64> {
     Some(parts.get(part)?.name)
 }
 
-/// Four nodes with the payloads 1 to 4.
-fn four_nodes(lists: &mut Nodes) -> Result<[Ptr<Node>; 4], CoreError> {
-    let first = lists.add_node(a_node(1))?;
-    let second = lists.add_node(a_node(2))?;
-    let third = lists.add_node(a_node(3))?;
-    let fourth = lists.add_node(a_node(4))?;
-    Ok([first, second, third, fourth])
+/// Two parts with the names 7 and 8, and four nodes with the payloads 1 to 4, all unlinked.
+#[derive(Drop)]
+struct Fixture {
+    lists: Nodes,
+    donee: Ptr<Part>,
+    donor: Ptr<Part>,
+    nodes: [Ptr<Node>; 4],
+}
+
+impl Fixture {
+    fn new(alloc: Global) -> Result<Fixture, CoreError> {
+        let mut lists = Nodes::new(alloc);
+        let donee = lists.add_container(a_part(7))?;
+        let donor = lists.add_container(a_part(8))?;
+        let first = lists.add_node(a_node(1))?;
+        let second = lists.add_node(a_node(2))?;
+        let third = lists.add_node(a_node(3))?;
+        let fourth = lists.add_node(a_node(4))?;
+        let nodes = [first, second, third, fourth];
+        Ok(Fixture {
+            lists,
+            donee,
+            donor,
+            nodes,
+        })
+    }
 }
 
 #[test]
 fn list_inserts(rt: HostRuntime) -> Result<(), Fail> {
-    let mut lists = Nodes::new(rt.alloc());
-    let root = lists.add_container(a_part(7))?;
-    let [n1, n2, n3, n4] = four_nodes(&mut lists)?;
+    let Fixture {
+        mut lists,
+        donee: root,
+        donor: _,
+        nodes: [n1, n2, n3, n4],
+    } = Fixture::new(rt.alloc())?;
     assert!(rt; lists.put_front(n1, root));
     assert!(rt; lists.put_after(n2, n1));
     assert!(rt; lists.put_after(n4, n2));
-    assert!(rt; is_list(&lists, rt.alloc(), root, &[n1, n2, n4])?);
+    assert!(rt; is_list(&lists, rt.alloc(), root, &[n1, n2, n4]));
     assert!(rt; !is_linked(&lists.nodes, n3));
     assert!(rt; lists.put_before(n3, n1));
-    assert!(rt; is_list(&lists, rt.alloc(), root, &[n3, n1, n2, n4])?);
+    assert!(rt; is_list(&lists, rt.alloc(), root, &[n3, n1, n2, n4]));
     Ok(())
 }
 
 // Front and back by turns take each node once, and a copy goes on by itself.
 #[test]
 fn list_inserts_from_both_ends(rt: HostRuntime) -> Result<(), Fail> {
-    let mut lists = Nodes::new(rt.alloc());
-    let root = lists.add_container(a_part(7))?;
-    let [n1, n2, _, n4] = four_nodes(&mut lists)?;
+    let Fixture {
+        mut lists,
+        donee: root,
+        donor: _,
+        nodes: [n1, n2, _, n4],
+    } = Fixture::new(rt.alloc())?;
     assert!(rt; lists.put_front(n1, root));
     assert!(rt; lists.put_after(n2, n1));
     assert!(rt; lists.put_after(n4, n2));
@@ -455,19 +492,22 @@ fn list_inserts_from_both_ends(rt: HostRuntime) -> Result<(), Fail> {
 
 #[test]
 fn list_unlinks(rt: HostRuntime) -> Result<(), Fail> {
-    let mut lists = Nodes::new(rt.alloc());
-    let root = lists.add_container(a_part(7))?;
-    let [n1, n2, _, n4] = four_nodes(&mut lists)?;
+    let Fixture {
+        mut lists,
+        donee: root,
+        donor: _,
+        nodes: [n1, n2, _, n4],
+    } = Fixture::new(rt.alloc())?;
     assert!(rt; lists.put_back(n1, root));
     assert!(rt; lists.put_back(n4, root));
     assert!(rt; lists.put_before(n2, n4));
-    assert!(rt; is_list(&lists, rt.alloc(), root, &[n1, n2, n4])?);
+    assert!(rt; is_list(&lists, rt.alloc(), root, &[n1, n2, n4]));
     assert!(rt; lists.take_out(n2));
-    assert!(rt; is_list(&lists, rt.alloc(), root, &[n1, n4])?);
+    assert!(rt; is_list(&lists, rt.alloc(), root, &[n1, n4]));
     assert!(rt; lists.take_out(n1));
-    assert!(rt; is_list(&lists, rt.alloc(), root, &[n4])?);
+    assert!(rt; is_list(&lists, rt.alloc(), root, &[n4]));
     assert!(rt; lists.take_out(n4));
-    assert!(rt; is_list(&lists, rt.alloc(), root, &[])?);
+    assert!(rt; is_list(&lists, rt.alloc(), root, &[]));
     assert!(rt; has_no_links(&lists.nodes, n1));
     assert!(rt; has_no_links(&lists.nodes, n2));
     assert!(rt; has_no_links(&lists.nodes, n4));
@@ -476,9 +516,12 @@ fn list_unlinks(rt: HostRuntime) -> Result<(), Fail> {
 
 #[test]
 fn list_conditions(rt: HostRuntime) -> Result<(), Fail> {
-    let mut lists = Nodes::new(rt.alloc());
-    let root = lists.add_container(a_part(7))?;
-    let [n1, n2, n3, _] = four_nodes(&mut lists)?;
+    let Fixture {
+        mut lists,
+        donee: root,
+        donor: _,
+        nodes: [n1, n2, n3, _],
+    } = Fixture::new(rt.alloc())?;
     assert!(rt; lists.put_front(n1, root));
     assert!(rt; !lists.put_front(n1, root));
     assert!(rt; !lists.put_back(n1, root));
@@ -487,21 +530,23 @@ fn list_conditions(rt: HostRuntime) -> Result<(), Fail> {
     assert!(rt; !lists.put_before(n2, n3));
     assert!(rt; !lists.put_after(n1, n1));
     assert!(rt; !lists.append(root, root));
-    assert!(rt; is_list(&lists, rt.alloc(), root, &[n1])?);
+    assert!(rt; is_list(&lists, rt.alloc(), root, &[n1]));
     Ok(())
 }
 
 #[test]
 fn list_append(rt: HostRuntime) -> Result<(), Fail> {
-    let mut lists = Nodes::new(rt.alloc());
-    let donee = lists.add_container(a_part(7))?;
-    let donor = lists.add_container(a_part(8))?;
-    let [n1, n2, n3, n4] = four_nodes(&mut lists)?;
+    let Fixture {
+        mut lists,
+        donee,
+        donor,
+        nodes: [n1, n2, n3, n4],
+    } = Fixture::new(rt.alloc())?;
     assert!(rt; lists.put_all(&[n1, n2], donee));
     assert!(rt; lists.put_all(&[n3, n4], donor));
     assert!(rt; lists.append(donee, donor));
-    assert!(rt; is_list(&lists, rt.alloc(), donee, &[n1, n2, n3, n4])?);
-    assert!(rt; is_list(&lists, rt.alloc(), donor, &[])?);
+    assert!(rt; is_list(&lists, rt.alloc(), donee, &[n1, n2, n3, n4]));
+    assert!(rt; is_list(&lists, rt.alloc(), donor, &[]));
     assert_eq!(rt; payload_of(&lists.nodes, n3), Some(3));
     assert_eq!(rt; name_of(&lists.containers, donee), Some(7));
     assert_eq!(rt; name_of(&lists.containers, donor), Some(8));
@@ -510,33 +555,37 @@ fn list_append(rt: HostRuntime) -> Result<(), Fail> {
 
 #[test]
 fn list_append_to_nothing(rt: HostRuntime) -> Result<(), Fail> {
-    let mut lists = Nodes::new(rt.alloc());
-    let donee = lists.add_container(a_part(7))?;
-    let donor = lists.add_container(a_part(8))?;
+    let Fixture {
+        mut lists,
+        donee,
+        donor,
+        nodes: [n1, _, _, _],
+    } = Fixture::new(rt.alloc())?;
     assert!(rt; lists.append(donee, donor));
-    assert!(rt; is_list(&lists, rt.alloc(), donee, &[])?);
-    assert!(rt; is_list(&lists, rt.alloc(), donor, &[])?);
-    let n1 = lists.add_node(a_node(1))?;
+    assert!(rt; is_list(&lists, rt.alloc(), donee, &[]));
+    assert!(rt; is_list(&lists, rt.alloc(), donor, &[]));
     assert!(rt; lists.put_back(n1, donor));
     assert!(rt; lists.append(donee, donor));
-    assert!(rt; is_list(&lists, rt.alloc(), donee, &[n1])?);
-    assert!(rt; is_list(&lists, rt.alloc(), donor, &[])?);
+    assert!(rt; is_list(&lists, rt.alloc(), donee, &[n1]));
+    assert!(rt; is_list(&lists, rt.alloc(), donor, &[]));
     Ok(())
 }
 
 #[test]
 fn list_append_then_unlink(rt: HostRuntime) -> Result<(), Fail> {
-    let mut lists = Nodes::new(rt.alloc());
-    let donee = lists.add_container(a_part(7))?;
-    let donor = lists.add_container(a_part(8))?;
-    let [n1, n2, n3, n4] = four_nodes(&mut lists)?;
+    let Fixture {
+        mut lists,
+        donee,
+        donor,
+        nodes: [n1, n2, n3, n4],
+    } = Fixture::new(rt.alloc())?;
     assert!(rt; lists.put_all(&[n1, n2, n3], donee));
     assert!(rt; lists.put_back(n4, donor));
     assert!(rt; lists.append(donee, donor));
-    assert!(rt; is_list(&lists, rt.alloc(), donee, &[n1, n2, n3, n4])?);
+    assert!(rt; is_list(&lists, rt.alloc(), donee, &[n1, n2, n3, n4]));
     assert!(rt; lists.take_out(n3));
     assert!(rt; lists.take_out(n4));
-    assert!(rt; is_list(&lists, rt.alloc(), donee, &[n1, n2])?);
+    assert!(rt; is_list(&lists, rt.alloc(), donee, &[n1, n2]));
     Ok(())
 }
 
@@ -549,7 +598,7 @@ fn list_of_lists(rt: HostRuntime) -> Result<(), Fail> {
     let second = parts.add_node(a_part(8))?;
     assert!(rt; parts.put_back(second, root));
     assert!(rt; parts.put_before(first, second));
-    assert!(rt; is_list(&parts, rt.alloc(), root, &[first, second])?);
+    assert!(rt; is_list(&parts, rt.alloc(), root, &[first, second]));
     assert_eq!(rt; parts.containers.get(root).ok_or("dead")?.name, 9);
     assert_eq!(rt; name_of(&parts.nodes, first), Some(7));
     assert_eq!(rt; name_of(&parts.nodes, second), Some(8));
