@@ -1,5 +1,5 @@
 -- What a write, an insertion or a removal of one record leaves of an arena.
-use Rattle.std.proofs.Common.{◌≡◌, ◌≢◌, ◌⊎◌, ℕ, zero, suc, ◌+◌, ◌-◌, ◌<◌, ◌≤◌, eqb, Bool, true, false, cond, List, [], ◌∷◌, length, map, Option, Some, None, IsSome, refl, sym, ap, ◌∙◌, subst, inl, inr, arith, rules}
+use Rattle.std.proofs.Common.{◌≡◌, ℕ, zero, suc, ◌-◌, ◌<◌, ◌≤◌, eqb, Bool, true, false, cond, List, [], ◌∷◌, length, map, Option, Some, None, IsSome, refl, sym, ap, ◌∙◌, inl, inr, arith, rules}
 use Rattle.std.specs.List.{IsDistinct, AllByRecursion, list_any}
 use Rattle.std.proofs.lemmas.Map.Steps.{length-le_from_distinct_below}
 use Rattle.std.proofs.lemmas.Bool.{cases_eq, ne_eqb}
@@ -8,7 +8,7 @@ use Rattle.std.specs.Option.{option_map}
 use Rattle.ir_model.specs.declared.ids.ArenaIndex.{ArenaIndex}
 use Rattle.ir_base.specs.declared.arena.Slot.{Slot}
 use Rattle.ir_base.specs.ArenaSlots.{slot_in, slot_at, find, put_in, put}
-use Rattle.ir_base.specs.Arena.{Arena, get, fill, cut, IsLive, IsNew}
+use Rattle.ir_base.specs.Arena.{Arena, get, fill, IsLive}
 use Rattle.ir_base.specs.Lists.{IsIn, map_slot, map_records}
 use Rattle.ir_base.specs.Walks.{AreApart}
 use Rattle.ir_base.proofs.ArenaSlots.{taken_at, put-place}

@@ -1,10 +1,8 @@
-use Rattle.std.proofs.Common.{◌≡◌, ◌⊎◌, ◌+◌, ◌<◌, ◌&&◌, Bool, true, false, eqb, List, [], ◌∷◌, ◌++◌, length, Option, Some, None, refl, sym, ap, ◌∙◌, subst, inl, inr, arith, length-append, append-nil, append_assoc}
-use Rattle.std.specs.Prelude.{◌≢◌}
+use Rattle.std.proofs.Common.{◌≡◌, ◌⊎◌, ◌&&◌, Bool, true, false, eqb, List, [], ◌∷◌, ◌++◌, length, Option, Some, None, refl, sym, ap, ◌∙◌, subst, inl, inr, arith, length-append, append-nil}
 use Rattle.std.proofs.lemmas.Bool.{cases_eq, eq-eqb, eqb-true}
 use Rattle.ir_model.specs.declared.ids.ArenaIndex.{ArenaIndex}
 use Rattle.ir_model.specs.ContextIds.{same_id}
-use Rattle.std.specs.Option.{option_map}
-use Rattle.ir_base.specs.Lists.{Links, Ends, unlinked, linked, Heap, is_at, change, with_next, with_prev, with_head, with_tail, unless, head_or, last_of, last_or, ends_of, IsIn, IsChain, AreLists, with_list}
+use Rattle.ir_base.specs.Lists.{Links, linked, Heap, change, with_next, with_prev, head_or, last_of, last_or, IsIn, IsChain}
 use Rattle.ir_base.specs.Walks.{AreApart}
 
 pub Some-inj : {A : Type 0} (a b : A) → Some a ≡ Some b → a ≡ b

@@ -1,7 +1,7 @@
 -- What the edits of the links make of the lists.
 use Rattle.std.proofs.Common.{◌≡◌, ◌⊎◌, List, [], ◌∷◌, ◌++◌, Option, Some, None, refl, sym, ap, ◌∙◌, subst, inl, inr}
 use Rattle.ir_model.specs.declared.ids.ArenaIndex.{ArenaIndex}
-use Rattle.ir_base.specs.Lists.{Links, Ends, unlinked, linked, Heap, is_at, change, with_next, with_prev, with_head, with_tail, unless, head_or, last_of, last_or, ends_of, IsIn, IsChain, AreLists, with_list}
+use Rattle.ir_base.specs.Lists.{Links, Ends, unlinked, linked, Heap, change, with_next, with_prev, with_head, with_tail, unless, head_or, last_or, ends_of, IsIn, IsChain, AreLists, with_list}
 use Rattle.ir_base.specs.Walks.{AreApart}
 use Rattle.ir_base.proofs.ListChains.{Some-inj, id_same, id_cases, id_differs, change-other, change-here, head_or-append, last_or-append, IsIn-left, IsIn-right, IsIn-cases, last_of-IsIn, chain-split, chain-join, chain-at, chain-apart, apart-left, apart-right, apart-both, chain-same, chain-set_prev, chain-set_next}
 

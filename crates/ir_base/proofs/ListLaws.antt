@@ -1,19 +1,18 @@
 -- What a caller of the list functions may cite: what a list's nodes are, which changes of the arenas keep the lists, and what the edits leave.
-use Rattle.std.proofs.Common.{◌≡◌, ◌≢◌, ◌⊎◌, ◌↔◌, ℕ, ◌+◌, ◌-◌, zero, suc, Bool, true, false, cond, List, [], ◌∷◌, ◌++◌, length, map, Option, Some, None, IsSome, IsTrue, is_some, is_none, nat_lt, ◌&&◌, count_by, refl, sym, ap, ◌∙◌, subst, inl, inr, rules, arith}
+use Rattle.std.proofs.Common.{◌≡◌, ◌⊎◌, ◌↔◌, ℕ, ◌+◌, Bool, cond, List, [], ◌∷◌, ◌++◌, map, Option, Some, None, IsSome, is_some, is_none, nat_lt, ◌&&◌, count_by, refl, sym, ap, ◌∙◌, subst, inl, inr, rules}
 use Rattle.std.specs.Option.{option_map}
 use Rattle.std.proofs.lemmas.List.Sums.{sum_by-cons}
 use Rattle.ir_model.specs.declared.ids.ArenaIndex.{ArenaIndex}
 use Rattle.ir_base.specs.declared.arena.Slot.{Slot}
-use Rattle.ir_base.specs.ArenaSlots.{is_taken, is_retired, had_version, slot_at}
+use Rattle.ir_base.specs.ArenaSlots.{is_taken, is_retired, had_version}
 use Rattle.ir_base.specs.Arena.{Arena, get, fill, cut, empty, IsLive, IsNew, is_passed, arena_len, room}
-use Rattle.ir_base.specs.Lists.{seen, Links, Ends, Heap, unlinked, linked, no_ends, head_or, last_or, ends_of, IsIn, IsChain, AreLists, with_list, container_of, IsLinked, map_slot, map_records, SameBut, SameIds}
+use Rattle.ir_base.specs.Lists.{seen, Links, Ends, Heap, unlinked, no_ends, head_or, ends_of, IsIn, AreLists, container_in, container_of, IsLinked, map_slot, map_records, SameBut, SameIds}
 use Rattle.ir_base.specs.Walks.{AreApart}
-use Rattle.ir_base.proofs.ArenaLaws.{get-empty, get-new, get-fill_live, get-fill_live_other, get-fill_new, get-fill_new_other, get-cut, get-cut_other}
-use Rattle.ir_base.proofs.ListArena.{live-at, slot_at-map}
+use Rattle.ir_base.proofs.ArenaLaws.{get-empty, get-new, get-fill_new, get-fill_new_other, get-cut, get-cut_other}
+use Rattle.ir_base.proofs.ListArena.{slot_at-map}
 use Rattle.ir_base.proofs.ListChains.{Some-inj, id_cases, chain-at, chain-same, chain-apart}
-use Rattle.ir_base.proofs.ListEdits.{with_list-here, with_list-other, lists-apart}
 use Rattle.ir_base.proofs.ListRecords.{seen-same, SameBut-get}
-use Rattle.ir_base.proofs.ListPlaces.{in-linked, in-is_linked, live-from_seen, place, root-live}
+use Rattle.ir_base.proofs.ListPlaces.{in-linked, in-is_linked, place}
 
 -- ---- what the lists are
 
@@ -34,7 +33,7 @@ container-is_in {h} {r} {lists} l c x = (λ e. found (h x) refl e, λ i. in-link
         no_container : h x ≡ None → container_of h x ≡ Some c → ⊥
         no_container e k = cc
     found (Some m) e k =
-        let p = place l x c m e (sym (ap Rattle.ir_base.specs.Lists.container_in e) ∙ k) in
+        let p = place l x c m e (sym (ap container_in e) ∙ k) in
         middle (lists c) p.before p.after p.splits
 
 pub linked-is_in : {h : Heap Links} {r : Heap Ends} {lists : ArenaIndex → List ArenaIndex} → AreLists h r lists → (x : ArenaIndex) → IsLinked h x ↔ ((c : ArenaIndex) × IsIn x (lists c))

@@ -4,8 +4,8 @@ use Rattle.std.specs.Prelude.{IfSome}
 use Rattle.std.specs.Option.{option_map}
 use Rattle.ir_model.specs.declared.ids.ArenaIndex.{ArenaIndex}
 use Rattle.ir_base.specs.Arena.{Arena, get, IsLive}
-use Rattle.ir_base.specs.Lists.{seen, Links, Ends, unlinked, linked, Heap, head_or, last_of, last_or, ends_of, IsIn, IsChain, AreLists, AreWellFormed, container_in, container_of, IsLinked}
-use Rattle.ir_base.proofs.ListChains.{Some-inj, IsIn-left, IsIn-right, last_of-IsIn, chain-split, chain-at, IsIn-split, head_or-append, last_or-append}
+use Rattle.ir_base.specs.Lists.{seen, Links, Ends, unlinked, linked, Heap, head_or, last_or, IsIn, IsChain, AreLists, AreWellFormed, container_in, container_of, IsLinked}
+use Rattle.ir_base.proofs.ListChains.{Some-inj, IsIn-left, IsIn-right, chain-split, chain-at, IsIn-split}
 use Rattle.ir_base.proofs.ListEdits.{head-IsIn, last-IsIn}
 
 -- an id is live where something is seen of it

@@ -1,9 +1,9 @@
 -- What a write of one record does to what is seen of an arena.
-use Rattle.std.proofs.Common.{◌≡◌, ◌⊎◌, List, Option, Some, None, IsSome, rules, refl, sym, ap, ◌∙◌, subst, inl, inr}
+use Rattle.std.proofs.Common.{◌≡◌, Option, Some, None, IsSome, rules, sym, ap, ◌∙◌, subst, inl, inr}
 use Rattle.std.specs.Option.{option_map}
 use Rattle.ir_model.specs.declared.ids.ArenaIndex.{ArenaIndex}
 use Rattle.ir_base.specs.Arena.{Arena, get, fill, IsLive}
-use Rattle.ir_base.specs.Lists.{Links, Ends, Heap, seen, change, map_records, SameBut}
+use Rattle.ir_base.specs.Lists.{Links, Ends, Heap, seen, change, SameBut}
 use Rattle.ir_base.proofs.ListArena.{live-at, map_records-fill, get-map_records}
 use Rattle.ir_base.proofs.ArenaLaws.{get-fill_live, get-fill_live_other}
 use Rattle.ir_base.proofs.ListChains.{id_cases, change-here, change-other}

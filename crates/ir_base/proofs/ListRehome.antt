@@ -1,11 +1,11 @@
 -- Nodes that move to another container, and two lists joined.
-use Rattle.std.proofs.Common.{◌≡◌, ◌⊎◌, ℕ, ◌<◌, ◌≤◌, Bool, true, false, cond, List, [], ◌∷◌, ◌++◌, length, Option, Some, None, refl, sym, ap, ◌∙◌, subst, inl, inr, arith, append-nil, append_assoc, length-append}
+use Rattle.std.proofs.Common.{◌≡◌, ◌<◌, Bool, true, false, cond, List, [], ◌∷◌, ◌++◌, length, Option, Some, None, refl, sym, ap, ◌∙◌, subst, inl, inr, arith, append-nil, append_assoc}
 use Rattle.std.specs.Option.{option_map, option_or}
 use Rattle.ir_model.specs.declared.ids.ArenaIndex.{ArenaIndex}
 use Rattle.ir_base.specs.Arena.{Arena}
-use Rattle.ir_base.specs.Lists.{seen, Links, Ends, unlinked, linked, no_ends, is_at, unless, with_next, with_prev, with_head, with_tail, Heap, change, head_or, last_of, last_or, ends_of, IsIn, IsChain, AreLists, with_list, with_container, rehome}
+use Rattle.ir_base.specs.Lists.{seen, Links, Ends, linked, no_ends, is_at, unless, with_next, with_prev, with_head, with_tail, Heap, change, head_or, last_or, ends_of, IsIn, IsChain, AreLists, with_list, with_container, rehome}
 use Rattle.ir_base.specs.Walks.{AreApart, IsListFrom, Walked, piece}
-use Rattle.ir_base.proofs.ListChains.{Some-inj, id_cases, change-other, change-here, apart-both, apart-right, chain-split, chain-join, chain-same, chain-apart, chain-unique, IsIn-left, IsIn-right, IsIn-cases, last_or-append}
+use Rattle.ir_base.proofs.ListChains.{Some-inj, id_cases, change-other, change-here, apart-both, chain-split, chain-join, chain-same, chain-apart, chain-unique, IsIn-left, IsIn-right, last_or-append}
 use Rattle.ir_base.proofs.ListEdits.{change-apart, relink, relink-sides, relink-other, lists-apart, with_list-here, with_list-other, IsIn-either}
 use Rattle.ir_base.proofs.ListWalks.{piece-all}
 

@@ -1,10 +1,10 @@
 -- What a walk by the links finds.
-use Rattle.std.proofs.Common.{◌≡◌, ◌⊎◌, ℕ, suc, zero, ◌+◌, ◌<◌, ◌≤◌, Bool, true, false, cond, List, [], ◌∷◌, ◌++◌, length, Option, Some, None, IsSome, refl, sym, ap, ◌∙◌, subst, inl, inr, arith, rules, length-append}
-use Rattle.std.specs.Option.{option_map, option_eq}
+use Rattle.std.proofs.Common.{◌≡◌, ℕ, suc, zero, ◌≤◌, Bool, true, false, cond, List, [], ◌∷◌, ◌++◌, length, Option, Some, None, refl, sym, ap, ◌∙◌, subst, inl, arith, length-append}
+use Rattle.std.specs.Option.{option_eq}
 use Rattle.ir_model.specs.declared.ids.ArenaIndex.{ArenaIndex}
 use Rattle.ir_model.specs.ContextIds.{same_id}
 use Rattle.ir_base.specs.Arena.{Arena}
-use Rattle.ir_base.specs.Lists.{seen, Links, Ends, Heap, is_at, IsIn, IsChain, linked, head_or, last_or, last_of, ends_of, AreLists}
+use Rattle.ir_base.specs.Lists.{seen, Links, Ends, Heap, IsIn, IsChain, linked, head_or, last_or, last_of, AreLists}
 use Rattle.ir_base.specs.Walks.{AreApart, next_in, head_in, walk_to, piece, list_of, IsPiece}
 use Rattle.ir_base.proofs.ListArena.{live-fit}
 use Rattle.ir_base.proofs.ListChains.{Some-inj, id_same, id_differs, same_id-true, last_of-IsIn, chain-apart, chain-at, chain-split, apart-left, apart-both}

@@ -1,7 +1,7 @@
-use Rattle.std.proofs.Common.{◌≡◌, ◌++◌, ◌∷◌, [], sym, ap, ◌∙◌, Some, None, refl, Option, List, rules}
+use Rattle.std.proofs.Common.{[], sym, ap, ◌∙◌, refl}
 use Rattle.std.specs.Option.{option_map}
 use Rattle.ir_base.specs.Lists.{seen}
-use Rattle.ir_base.specs.Lists.{Ends, Links, Heap, AreLists, unlinked, no_ends, change, with_next, with_prev}
+use Rattle.ir_base.specs.Lists.{unlinked, no_ends}
 use Rattle.ir_base.proofs.ListRecords.{SameBut-live}
 use Rattle.ir_base.proofs.ListPlaces.{IfSome-live, IfSome-same, first-live, last-live}
 use Rattle.std.proofs.lemmas.List.{append-nil}

@@ -1,7 +1,7 @@
-use Rattle.std.proofs.Common.{◌≡◌, ◌++◌, ◌∷◌, [], sym, ap, ◌∙◌, Some, None, Option, List, append_assoc, rules, refl}
+use Rattle.std.proofs.Common.{◌++◌, ◌∷◌, [], sym, ap, ◌∙◌, Some, None, refl}
 use Rattle.std.specs.Option.{option_map}
 use Rattle.ir_base.specs.Lists.{seen}
-use Rattle.ir_base.specs.Lists.{Ends, Links, Heap, AreLists, last_or, head_or, unlinked, no_ends}
+use Rattle.ir_base.specs.Lists.{Links, Heap}
 use Rattle.ir_base.proofs.ListEdits.{AreLists-linked}
 use Rattle.ir_base.proofs.ListChains.{last_or-append}
 use Rattle.ir_base.proofs.ListPlaces.{linked-place, unlinked-node, stands, read_links, split-links, split-after, root-live, IfSome-live, live-from_seen, IsIn-middle}

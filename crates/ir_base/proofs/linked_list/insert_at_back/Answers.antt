@@ -1,7 +1,7 @@
-use Rattle.std.proofs.Common.{◌≡◌, ◌++◌, ◌∷◌, [], sym, ap, ◌∙◌, Some, None, Option, List, append-nil, rules}
+use Rattle.std.proofs.Common.{◌≡◌, [], sym, ap, ◌∙◌, Some, None, append-nil}
 use Rattle.std.specs.Option.{option_map}
 use Rattle.ir_base.specs.Lists.{seen}
-use Rattle.ir_base.specs.Lists.{Ends, Links, Heap, AreLists, last_or}
+use Rattle.ir_base.specs.Lists.{Ends, last_or}
 use Rattle.ir_base.proofs.ListEdits.{AreLists-link}
 use Rattle.ir_base.proofs.ListPlaces.{unlinked-node, last-live, IfSome-live}
 use Rattle.ir_base.proofs.linked_list.insert_at_back.Goals as goal

@@ -1,7 +1,7 @@
-use Rattle.std.proofs.Common.{◌≡◌, ◌++◌, ◌∷◌, [], sym, ap, ◌∙◌, Some, None, Option, List, refl, rules}
+use Rattle.std.proofs.Common.{◌≡◌, [], sym, ap, ◌∙◌, Some, None, refl}
 use Rattle.std.specs.Option.{option_map}
 use Rattle.ir_base.specs.Lists.{seen}
-use Rattle.ir_base.specs.Lists.{Ends, Links, Heap, AreLists, head_or}
+use Rattle.ir_base.specs.Lists.{Ends, head_or}
 use Rattle.ir_base.proofs.ListEdits.{AreLists-link}
 use Rattle.ir_base.proofs.ListPlaces.{unlinked-node, first-live, IfSome-live}
 use Rattle.ir_base.proofs.linked_list.insert_at_front.Goals as goal

@@ -1,4 +1,4 @@
-use Rattle.std.proofs.Common.{◌≡◌, ap, ◌∙◌, List}
+use Rattle.std.proofs.Common.{ap, ◌∙◌}
 use Rattle.std.specs.Option.{option_map}
 use Rattle.ir_base.specs.Lists.{Ends, seen}
 use Rattle.ir_base.proofs.ListRehome.{head-read, tail-read}

@@ -1,5 +1,4 @@
-use Rattle.std.proofs.Common.{◌≡◌, ◌∙◌}
-use Rattle.ir_base.specs.Arena.{IsLive}
+use Rattle.std.proofs.Common.{◌∙◌}
 use Rattle.ir_base.specs.Lists.{unlinked, no_ends}
 use Rattle.ir_base.proofs.ListRecords.{SameBut-live}
 use Rattle.ir_base.proofs.ListPlaces.{IfSome-same}

@@ -1,5 +1,5 @@
-use Rattle.std.proofs.Common.{◌≡◌, Some}
-use Rattle.ir_base.specs.Lists.{Ends, change, no_ends}
+use Rattle.std.proofs.Common.{◌≡◌}
+use Rattle.ir_base.specs.Lists.{Ends, no_ends}
 use Rattle.ir_base.proofs.ListRecords.{put-seen, put-rest, set-two}
 use Rattle.ir_base.proofs.linked_list.set_ends.Goals as goal
 

@@ -1,5 +1,5 @@
-use Rattle.std.proofs.Common.{rules, ◌≡◌, refl, sym, ap, ◌∙◌, Some, None}
-use Rattle.ir_base.specs.Lists.{Links, change, unlinked}
+use Rattle.std.proofs.Common.{◌≡◌}
+use Rattle.ir_base.specs.Lists.{Links, unlinked}
 use Rattle.ir_base.proofs.ListRecords.{put-seen, put-rest, set-three}
 use Rattle.ir_base.proofs.linked_list.set_links.Goals as goal
 

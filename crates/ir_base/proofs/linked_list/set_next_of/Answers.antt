@@ -1,5 +1,5 @@
-use Rattle.std.proofs.Common.{rules, ◌≡◌, refl, sym, ap, ◌∙◌, Some, None}
-use Rattle.ir_base.specs.Lists.{Links, Ends, change, with_next, with_head, unless, unlinked, no_ends}
+use Rattle.std.proofs.Common.{refl}
+use Rattle.ir_base.specs.Lists.{with_next, with_head, unlinked, no_ends}
 use Rattle.ir_base.proofs.ListRecords.{put-seen, put-rest}
 use Rattle.ir_base.proofs.linked_list.set_next_of.Goals as goal
 

@@ -1,7 +1,7 @@
-use Rattle.std.proofs.Common.{◌≡◌, ◌++◌, ◌∷◌, [], sym, ap, ◌∙◌, Some, None, Option, List, rules}
+use Rattle.std.proofs.Common.{ap, ◌∙◌}
 use Rattle.std.specs.Option.{option_map}
 use Rattle.ir_base.specs.Lists.{seen}
-use Rattle.ir_base.specs.Lists.{Ends, Links, Heap, AreLists, last_or, head_or, unlinked, no_ends}
+use Rattle.ir_base.specs.Lists.{Links, Heap, unlinked, no_ends}
 use Rattle.ir_base.proofs.ListEdits.{AreLists-unlink}
 use Rattle.ir_base.proofs.ListRecords.{SameBut-live}
 use Rattle.ir_base.proofs.ListPlaces.{linked-place, stands, read_links, split-links, root-live, IfSome-live, IfSome-same, live-from_seen, IsIn-middle}

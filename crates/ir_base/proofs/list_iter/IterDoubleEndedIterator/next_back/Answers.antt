@@ -1,8 +1,8 @@
-use Rattle.std.proofs.Common.{◌≡◌, ◌<◌, ◌∷◌, ◌++◌, [], length-append, sym, ap, ◌∙◌, subst, arith, length, List, Some}
+use Rattle.std.proofs.Common.{◌≡◌, ◌<◌, ◌∷◌, ◌++◌, [], length-append, sym, ap, ◌∙◌, arith, length, List}
 use Rattle.std.specs.Option.{option_map}
 use Rattle.ir_model.specs.declared.ids.ArenaIndex.{ArenaIndex}
 use Rattle.ir_base.specs.Lists.{seen, Links, Heap}
-use Rattle.ir_base.specs.Walks.{walk_to, IsPiece}
+use Rattle.ir_base.specs.Walks.{walk_to}
 use Rattle.ir_base.proofs.ListChains.{Some-inj}
 use Rattle.ir_base.proofs.ListPlaces.{live-from_seen}
 use Rattle.ir_base.proofs.ListWalks.{take-back, other-option}
