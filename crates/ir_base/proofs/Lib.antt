@@ -4,3 +4,11 @@ pub mod ArenaLaws
 pub mod ArenaRoom
 pub mod IdentifierLemmas
 pub mod StoreLemmas
+pub mod ListArena
+pub mod ListChains
+pub mod ListEdits
+pub mod ListRecords
+pub mod ListPlaces
+pub mod ListWalks
+pub mod ListRehome
+pub mod ListLaws

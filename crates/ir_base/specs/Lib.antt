@@ -6,4 +6,6 @@ pub mod Identifier
 pub mod IdentErr
 pub mod IdentifierText
 pub mod Stores
+pub mod Lists
+pub mod Walks
 pub mod SeqLends

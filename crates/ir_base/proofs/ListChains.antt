@@ -1,0 +1,159 @@
+use Rattle.std.proofs.Common.{◌≡◌, ◌⊎◌, ◌&&◌, Bool, true, false, eqb, List, [], ◌∷◌, ◌++◌, length, Option, Some, None, refl, sym, ap, ◌∙◌, subst, inl, inr, arith, length-append, append-nil}
+use Rattle.std.proofs.lemmas.Bool.{cases_eq, eq-eqb, eqb-true}
+use Rattle.ir_model.specs.declared.ids.ArenaIndex.{ArenaIndex}
+use Rattle.ir_model.specs.ContextIds.{same_id}
+use Rattle.ir_base.specs.Lists.{Links, linked, Heap, change, with_next, with_prev, head_or, last_of, last_or, IsIn, IsChain}
+use Rattle.ir_base.specs.Walks.{AreApart}
+
+pub Some-inj : {A : Type 0} (a b : A) → Some a ≡ Some b → a ≡ b
+Some-inj a b e = cc
+
+-- two ids are the same, or they differ
+pub id_same : (i : ArenaIndex) → same_id i i ≡ true
+id_same i = rw (eq-eqb i.slot i.slot refl, eq-eqb i.version i.version refl)
+
+pub id_cases : (i j : ArenaIndex) → (i ≡ j) ⊎ (i ≡ j → ⊥)
+id_cases i j = elim (cases_eq i.slot j.slot) [
+  | inl s ↦ elim (cases_eq i.version j.version) [
+    | inl v ↦ inl (λ k. record { slot = s k; version = v k })
+    | inr ne ↦ inr (λ e. ne (ap (λ (x : ArenaIndex). x.version) e))
+  ]
+  | inr ne ↦ inr (λ e. ne (ap (λ (x : ArenaIndex). x.slot) e))
+]
+
+pub same_id-true : (i j : ArenaIndex) → same_id i j ≡ true → i ≡ j
+same_id-true i j e =
+    let both = and_both (eqb i.slot j.slot) (eqb i.version j.version) e in
+    λ k. record { slot = eqb-true i.slot j.slot both.0 k; version = eqb-true i.version j.version both.1 k }
+  where
+    and_both : (p q : Bool) → (p && q) ≡ true → (p ≡ true) × (q ≡ true)
+    and_both true q e = (refl, e)
+    and_both false q e = (e, absurd (cc))
+
+pub id_differs : (i j : ArenaIndex) → (i ≡ j → ⊥) → same_id i j ≡ false
+id_differs i j ne = not_true (same_id i j) (λ e. ne (same_id-true i j e))
+  where
+    not_true : (b : Bool) → (b ≡ true → ⊥) → b ≡ false
+    not_true true n = absurd (n refl)
+    not_true false n = refl
+
+-- change
+pub change-other : {A : Type 0} (f : A → A) (i : ArenaIndex) (h : Heap A) (j : ArenaIndex) → (i ≡ j → ⊥) → change f (Some i) h j ≡ h j
+change-other f i h j ne = rw (id_differs i j ne)
+
+pub change-here : {A : Type 0} (f : A → A) (i : ArenaIndex) (h : Heap A) (a : A) → h i ≡ Some a → change f (Some i) h i ≡ Some (f a)
+change-here f i h a e = rw (id_same i, e)
+
+-- ends
+pub head_or-append : (d : Option ArenaIndex) (xs ys : List ArenaIndex) → head_or d (xs ++ ys) ≡ head_or (head_or d ys) xs
+head_or-append d [] ys = refl
+head_or-append d (x ∷ xs) ys = refl
+
+pub last_of-append : (x : ArenaIndex) (xs : List ArenaIndex) (y : ArenaIndex) (ys : List ArenaIndex) → last_of x (xs ++ y ∷ ys) ≡ last_of y ys
+last_of-append x [] y ys = refl
+last_of-append x (z ∷ zs) y ys = last_of-append z zs y ys
+
+pub last_or-append : (d : Option ArenaIndex) (xs ys : List ArenaIndex) → last_or d (xs ++ ys) ≡ last_or (last_or d xs) ys
+last_or-append d xs [] = rw append-nil
+last_or-append d [] (y ∷ ys) = refl
+last_or-append d (x ∷ xs) (y ∷ ys) = ap Some (last_of-append x xs y ys)
+
+-- membership
+pub IsIn-left : (x : ArenaIndex) (xs ys : List ArenaIndex) → IsIn x xs → IsIn x (xs ++ ys)
+IsIn-left x [] ys h = absurd h
+IsIn-left x (z ∷ zs) ys (inl e) = inl e
+IsIn-left x (z ∷ zs) ys (inr h) = inr (IsIn-left x zs ys h)
+
+pub IsIn-right : (x : ArenaIndex) (xs ys : List ArenaIndex) → IsIn x ys → IsIn x (xs ++ ys)
+IsIn-right x [] ys h = h
+IsIn-right x (z ∷ zs) ys h = inr (IsIn-right x zs ys h)
+
+pub IsIn-cases : (x : ArenaIndex) (xs ys : List ArenaIndex) → IsIn x (xs ++ ys) → IsIn x xs ⊎ IsIn x ys
+IsIn-cases x [] ys h = inr h
+IsIn-cases x (z ∷ zs) ys (inl e) = inl (inl e)
+IsIn-cases x (z ∷ zs) ys (inr h) = elim (IsIn-cases x zs ys h) [ inl k ↦ inl (inr k) | inr k ↦ inr k ]
+
+pub last_of-IsIn : (x : ArenaIndex) (xs : List ArenaIndex) → IsIn (last_of x xs) (x ∷ xs)
+last_of-IsIn x [] = inl refl
+last_of-IsIn x (y ∷ ys) = inr (last_of-IsIn y ys)
+
+pub IsIn-split : (x : ArenaIndex) (xs : List ArenaIndex) → IsIn x xs → (us : List ArenaIndex) × (vs : List ArenaIndex) × (xs ≡ us ++ x ∷ vs)
+IsIn-split x [] h = absurd h
+IsIn-split x (z ∷ zs) (inl e) = ([], zs, ap (λ y. y ∷ zs) (sym e))
+IsIn-split x (z ∷ zs) (inr h) = let r = IsIn-split x zs h in (z ∷ r.0, r.1, ap (λ ys. z ∷ ys) r.2)
+
+-- chains
+module _ (h : Heap Links) (c : ArenaIndex) where
+  pub chain-split : (p : Option ArenaIndex) (xs ys : List ArenaIndex) (n : Option ArenaIndex) → IsChain h c p (xs ++ ys) n → IsChain h c p xs (head_or n ys) × IsChain h c (last_or p xs) ys n
+  chain-split p [] ys n k = (tt, k)
+  chain-split p (x ∷ []) ys n k = ((k.0, tt), k.1)
+  chain-split p (x ∷ (z ∷ zs)) ys n k = let r = chain-split (Some x) (z ∷ zs) ys n k.1 in ((k.0, r.0), r.1)
+
+  pub chain-join : (p : Option ArenaIndex) (xs ys : List ArenaIndex) (n : Option ArenaIndex) → IsChain h c p xs (head_or n ys) → IsChain h c (last_or p xs) ys n → IsChain h c p (xs ++ ys) n
+  chain-join p [] ys n k l = l
+  chain-join p (x ∷ []) ys n k l = (k.0, l)
+  chain-join p (x ∷ (z ∷ zs)) ys n k l = (k.0, chain-join (Some x) (z ∷ zs) ys n k.1 l)
+
+  pub chain-at : (p : Option ArenaIndex) (xs : List ArenaIndex) (n : Option ArenaIndex) (y : ArenaIndex) → IsChain h c p xs n → IsIn y xs → (l : Links) × (h y ≡ Some l) × (l.container ≡ Some c)
+  chain-at p [] n y k i = absurd i
+  chain-at p (x ∷ xs) n y k (inl e) = (linked p (head_or n xs) c, rw e k.0, refl)
+  chain-at p (x ∷ xs) n y k (inr i) = chain-at (Some x) xs n y k.1 i
+
+-- the links from a node on determine the rest of its chain
+pub chain-unique : (h : Heap Links) (c d : ArenaIndex) (p q : Option ArenaIndex) (xs ys : List ArenaIndex) → IsChain h c p xs None → IsChain h d q ys None → head_or None xs ≡ head_or None ys → xs ≡ ys
+chain-unique h c d p q [] [] k l e = refl
+chain-unique h c d p q [] (y ∷ ys) k l e = cc
+chain-unique h c d p q (x ∷ xs) [] k l e = cc
+chain-unique h c d p q (x ∷ xs) (y ∷ ys) k l e =
+    let same : x ≡ y = cc in
+    let links : linked p (head_or None xs) c ≡ linked q (head_or None ys) d = Some-inj _ _ (sym k.0 ∙ ap h same ∙ l.0) in
+    let nexts : head_or None xs ≡ head_or None ys = ap (λ (l : Links). l.next) links in
+    let rest : xs ≡ ys = chain-unique h c d (Some x) (Some y) xs ys k.1 l.1 nexts in
+    cc
+
+pub chain-apart : (h : Heap Links) (c : ArenaIndex) (p : Option ArenaIndex) (xs : List ArenaIndex) → IsChain h c p xs None → AreApart xs
+chain-apart h c p [] k = tt
+chain-apart h c p (x ∷ xs) k = (
+  λ i.
+      let s = IsIn-split x xs i in
+      let whole : IsChain h c p (x ∷ xs) None = k in
+      let tail = chain-split h c (Some x) s.0 (x ∷ s.1) None (rw s.2 at k.1) in
+      let e : x ∷ xs ≡ x ∷ s.1 = chain-unique h c c p (last_or (Some x) s.0) (x ∷ xs) (x ∷ s.1) k tail.1 refl in
+      let l = ap length (e ∙ refl) in
+      let m = ap length s.2 in
+      omega (arith, length-append s.0 (x ∷ s.1), l, m),
+  chain-apart h c (Some x) xs k.1,
+)
+
+pub apart-left : (xs ys : List ArenaIndex) → AreApart (xs ++ ys) → AreApart xs
+apart-left [] ys a = tt
+apart-left (x ∷ xs) ys a = (λ i. a.0 (IsIn-left x xs ys i), apart-left xs ys a.1)
+
+pub apart-right : (xs ys : List ArenaIndex) → AreApart (xs ++ ys) → AreApart ys
+apart-right [] ys a = a
+apart-right (x ∷ xs) ys a = apart-right xs ys a.1
+
+pub apart-both : (x : ArenaIndex) (xs ys : List ArenaIndex) → AreApart (xs ++ ys) → IsIn x xs → IsIn x ys → ⊥
+apart-both x [] ys a i j = i
+apart-both x (z ∷ zs) ys a (inl e) j = a.0 (IsIn-right z zs ys (rw e at j))
+apart-both x (z ∷ zs) ys a (inr i) j = apart-both x zs ys a.1 i j
+
+-- a change elsewhere leaves a chain
+pub chain-same : (h h' : Heap Links) (c : ArenaIndex) (p : Option ArenaIndex) (xs : List ArenaIndex) (n : Option ArenaIndex) → ((y : ArenaIndex) → IsIn y xs → h' y ≡ h y) → IsChain h c p xs n → IsChain h' c p xs n
+chain-same h h' c p [] n s k = tt
+chain-same h h' c p (x ∷ xs) n s k = (s x (inl refl) ∙ k.0, chain-same h h' c (Some x) xs n (λ y i. s y (inr i)) k.1)
+
+pub chain-set_prev : (h : Heap Links) (c : ArenaIndex) (p q : Option ArenaIndex) (xs : List ArenaIndex) (n : Option ArenaIndex) → AreApart xs → IsChain h c p xs n → IsChain (change (with_prev q) (head_or None xs) h) c q xs n
+chain-set_prev h c p q [] n a k = tt
+chain-set_prev h c p q (x ∷ xs) n a k = (
+  change-here (with_prev q) x h (linked p (head_or n xs) c) k.0,
+  chain-same h (change (with_prev q) (Some x) h) c (Some x) xs n (λ y i. change-other (with_prev q) x h y (λ e. a.0 (rw (← e) at i))) k.1,
+)
+
+pub chain-set_next : (h : Heap Links) (c : ArenaIndex) (p : Option ArenaIndex) (xs : List ArenaIndex) (n m : Option ArenaIndex) → AreApart xs → IsChain h c p xs n → IsChain (change (with_next m) (last_or None xs) h) c p xs m
+chain-set_next h c p [] n m a k = tt
+chain-set_next h c p (x ∷ []) n m a k = (change-here (with_next m) x h (linked p n c) k.0, tt)
+chain-set_next h c p (x ∷ (y ∷ ys)) n m a k = (
+  change-other (with_next m) (last_of y ys) h x (λ e. a.0 (subst (λ z. IsIn z (y ∷ ys)) e (last_of-IsIn y ys))) ∙ k.0,
+  chain-set_next h c (Some x) (y ∷ ys) n m a.1 k.1,
+)
