@@ -1,1 +1,2 @@
 pub mod IdentifierLemmas
+pub mod LegaliserLemmas

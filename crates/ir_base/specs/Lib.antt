@@ -1,3 +1,6 @@
 pub mod Identifier
 pub mod IdentErr
 pub mod IdentifierText
+pub mod Legaliser
+pub mod LegaliserTables
+pub mod LegaliserFields

@@ -3,7 +3,9 @@
 
 mod error;
 mod identifier;
+mod legaliser;
 
 pub use error::CoreError;
 pub use identifier::{IdentErr, Identifier, MalformedIdentifierErr};
 pub use ir_model::{ArenaIndex, Limits};
+pub use legaliser::Legaliser;
