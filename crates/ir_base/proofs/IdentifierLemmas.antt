@@ -1,11 +1,11 @@
 -- What holds of the texts that are identifiers.
-use Rattle.std.proofs.Common.{◌≡◌, ℕ, ◌+◌, ◌<◌, ◌^◌, ◌%◌, ◌++◌, List, [], ◌∷◌, true, ◌||◌, ◌&&◌, refl, arith, rules}
+use Rattle.std.proofs.Common.{◌≡◌, ℕ, ◌+◌, ◌<◌, ◌^◌, ◌%◌, ◌++◌, List, [], ◌∷◌, true, refl, arith}
 use Rattle.std.proofs.lemmas.Grind.{common_steps}
 use Rattle.std.proofs.lemmas.List.Folds.{list_all-append}
 use Rattle.std.proofs.lemmas.Fmt.{decimal_by_steps}
 use Rattle.std.specs.Fmt.{decimal}
 use Rattle.std.specs.List.{list_all}
-use Rattle.ir_base.specs.Identifier.{can_start, can_continue, is_identifier, IsIdentifier}
+use Rattle.ir_base.specs.Identifier.{can_start, can_continue, IsIdentifier}
 
 -- what may stand first may stand further on
 pub can_start-can_continue : (b : ℕ) → can_start b ≡ true → can_continue b ≡ true

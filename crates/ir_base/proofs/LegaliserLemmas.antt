@@ -1,12 +1,12 @@
 -- What holds of a legaliser's tables, and of the names that it gives.
-use Rattle.std.proofs.Common.{◌≡◌, ◌≢◌, ℕ, ◌+◌, ◌<◌, ◌^◌, ◌++◌, List, [], ◌∷◌, map, length, Bool, true, false, cond, if◌then◌else◌, ◌==◌, ◌&&◌, Option, None, Some, MatchOption, Result, Ok, Err, IfOk, OnOk, ◌⊎◌, inl, inr, ◌↔◌, string_bytes, String, nat_eq, refl, sym, ◌∙◌, ap, subst, arith, rules}
+use Rattle.std.proofs.Common.{◌≡◌, ◌≢◌, ℕ, ◌<◌, ◌^◌, ◌++◌, List, [], ◌∷◌, map, length, Bool, true, false, cond, if◌then◌else◌, ◌==◌, Option, None, Some, MatchOption, Result, Ok, Err, IfOk, OnOk, ◌⊎◌, inl, inr, string_bytes, String, refl, sym, ◌∙◌, ap, subst, arith}
 use Rattle.std.proofs.lemmas.Grind.{common_steps}
 use Rattle.std.proofs.lemmas.Slice.Eq.{bytes_eq-Decides}
 use Rattle.std.proofs.lemmas.Map.Text.{is_eq-slice_cmp}
 use Rattle.std.proofs.lemmas.Bool.{false_from_ne_true, cond-true, cond-false}
 use Rattle.std.proofs.lemmas.List.{map-append}
 use Rattle.std.specs.List.{list_all}
-use Rattle.std.specs.Str.{chars, bytes_eq}
+use Rattle.std.specs.Str.{bytes_eq}
 use Rattle.std.specs.Char.{is_ascii_alphabetic, is_ascii_alphanumeric}
 use Rattle.std.specs.Fmt.{decimal}
 use Rattle.std.specs.Ordering.{nat_cmp, is_eq}
@@ -16,8 +16,8 @@ use Rattle.std.specs.HashMap.{HashMap, get_by_text}
 use Rattle.std.specs.FinMap as finite
 use Rattle.ir_base.specs.declared.error.CoreError.{CoreError}
 use Rattle.ir_base.specs.declared.error.CoreError.TheVariants.{OutOfMemory, CounterSpent, SlotsSpent}
-use Rattle.ir_base.specs.Identifier.{can_start, can_continue, is_identifier, IsIdentifier}
-use Rattle.ir_base.specs.Legaliser.{Given, name_of, give, kept, replaced, base, numbered, IsFree, IsNext, ChoosesBase, ChoosesNumbered, Chooses, GivesNew, Gives, HasNoName, SpentOnlyWhere}
+use Rattle.ir_base.specs.Identifier.{can_start, can_continue, IsIdentifier}
+use Rattle.ir_base.specs.Legaliser.{Given, name_of, give, kept, replaced, numbered, IsFree, Chooses, GivesNew, Gives, HasNoName, SpentOnlyWhere}
 use Rattle.ir_base.specs.LegaliserTables.{source_at, AreInverse, ArePaired, given_by}
 use Rattle.ir_base.proofs.IdentifierLemmas.{is_identifier-append, decimal-can_continue}
 

@@ -4,8 +4,10 @@
 mod error;
 mod identifier;
 mod legaliser;
+mod names;
 
 pub use error::CoreError;
 pub use identifier::{IdentErr, Identifier, MalformedIdentifierErr};
 pub use ir_model::{ArenaIndex, Limits};
 pub use legaliser::Legaliser;
+pub use names::{AttrId, AttrName, DialectName, OpId, OpName, TypeId, TypeName};

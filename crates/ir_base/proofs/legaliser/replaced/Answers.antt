@@ -1,11 +1,10 @@
-use Rattle.std.proofs.Common.{◌≡◌, ◌≢◌, ◌++◌, ◌∷◌, [], ◌==◌, Bool, true, false, String, string_bytes, rules, arith, List, ℕ, length, ap, sym, ◌∙◌}
+use Rattle.std.proofs.Common.{◌≡◌, ◌≢◌, ◌++◌, ◌∷◌, [], ◌==◌, Bool, true, false, String, string_bytes, rules, arith, length, sym, ◌∙◌}
 use Rattle.std.proofs.lemmas.Grind.{common_steps}
 use Rattle.std.specs.String.{string_len}
 use Rattle.std.proofs.lemmas.Iterator.{YieldsList-from_chars}
 use Rattle.std.proofs.lemmas.Iterator.Consumers.{YieldsList-end}
 use Rattle.std.specs.Str.{chars}
-use Rattle.ir_base.specs.Legaliser.{replaced}
-use Rattle.ir_base.proofs.LegaliserLemmas.{stand_ins, map-same, replaced-none, replaced-some}
+use Rattle.ir_base.proofs.LegaliserLemmas.{map-same, replaced-none, replaced-some}
 use Rattle.ir_base.proofs.legaliser.replaced.Goals as goal
 use Rattle.ir_base.proofs.legaliser.replaced.Goals.{then-is_empty+in_ok-push-2, else-is_empty}
 

@@ -26,11 +26,11 @@ returns-in_err-name-clause-refused c =
     let is : c.from_residual-in_err-name.result ≡ Err c.in_err-name.field-0.0 = search rules in
     rw is
     (SpentOnlyWhere-along (HasNoName (λ text. source_at c.self.inside.sources text ≡ None) c.self.inside.counter c.args.source.now) (IsSpent c.args.self.now c.args.source.now) c.in_err-name.field-0.0
-        (λ spent. record {
-            unknown = name_in c.self.inside.names c.self.inside.sources c.self.inside.counter c.args.self.now c.self.view_is c.args.source.now ∙ none;
-            no_name = HasNoName-in c.self.inside.names c.self.inside.sources c.self.inside.counter c.args.self.now c.self.view_is c.self.invariant c.args.source.now spent;
-        })
-        c.in_err-name.ensures.refused)
+    (λ spent. record {
+      unknown = name_in c.self.inside.names c.self.inside.sources c.self.inside.counter c.args.self.now c.self.view_is c.args.source.now ∙ none;
+      no_name = HasNoName-in c.self.inside.names c.self.inside.sources c.self.inside.counter c.args.self.now c.self.view_is c.self.invariant c.args.source.now spent;
+    })
+    c.in_err-name.ensures.refused)
 
 pub returns-clause-given : goal.returns-clause-given
 returns-clause-given c =
