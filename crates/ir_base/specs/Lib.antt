@@ -4,3 +4,4 @@ pub mod IdentifierText
 pub mod Legaliser
 pub mod LegaliserTables
 pub mod LegaliserFields
+pub mod NameLaws
