@@ -375,3 +375,6 @@ impl fmt::Display for OpId {
         write!(f, "{}.{}", self.dialect, self.name)
     }
 }
+
+#[cfg(test)]
+mod tests;
