@@ -1,75 +1,83 @@
 // Worked identifiers, and each call with ample memory.
-use crate::{IdentErr, Identifier, ident};
+use crate::{IdentErr, Identifier, MalformedIdentifierErr, ident};
+use std::alloc::{AllocError, Global};
 use std::collections::HashMap;
-use std::convert::AsStr;
 use std::test::Fail;
 
 #[test]
 fn identifier_equality(rt: HostRuntime) -> Result<(), Fail> {
     let alloc = rt.alloc();
-    let borrowed = ident!("foo");
     let owned = Identifier::try_new(String::from_str(alloc, "foo")?)?;
-    assert!(rt; borrowed == owned);
-
+    assert!(rt; owned == ident!("foo"));
     let mut map = HashMap::new(alloc);
-    let _ = map.insert(borrowed, 1)?;
-    let _ = map.insert(owned, 2)?;
-    assert_eq!(rt; map.len(), 1);
-    assert_eq!(rt; map.get(&ident!("foo")).copied(), Some(2));
+    let _ = map.insert(ident!("foo"), 1)?;
+    assert_eq!(rt; map.get(&owned).copied(), Some(1));
+    Ok(())
+}
 
+#[test]
+fn identifier_order(rt: HostRuntime) {
     assert!(rt; ident!("z") > ident!("a"));
     assert!(rt; ident!("a") < ident!("aa"));
     assert!(rt; !Identifier::is_valid("1b"));
+}
 
-    let joined = ident!("a").join(alloc, &ident!("_1"))?;
-    assert_eq!(rt; joined.as_str(), "a_1");
-    assert!(rt; joined == ident!("a_1"));
+#[test]
+fn identifier_join(rt: HostRuntime) -> Result<(), Fail> {
+    let joined = ident!("a").join(rt.alloc(), &ident!("_1"))?;
+    assert!(rt; joined.as_str() == "a_1");
     Ok(())
 }
 
 #[test]
-fn identifiers_are_copied(rt: HostRuntime) -> Result<(), Fail> {
+fn owned_identifier(rt: HostRuntime) -> Result<(), Fail> {
     let alloc = rt.alloc();
-    let copied = Identifier::from_text(alloc, "op_1")?;
-    assert!(rt; copied.clone()? == copied);
-    assert!(rt; ident!("op_1").clone()? == copied);
-    assert_eq!(rt; AsStr::as_str(&copied), "op_1");
-    assert_eq!(rt; format!(in alloc; "<{copied}>")?.as_str(), "<op_1>");
-    assert_eq!(rt; format!(in alloc; "{copied:?}")?.as_str(), "op_1");
-    assert_eq!(rt; copied.into_text(alloc)?.as_str(), "op_1");
-    assert_eq!(rt; ident!("op_1").into_text(alloc)?.as_str(), "op_1");
+    let owned = Identifier::from_text(alloc, "op_1")?;
+    assert!(rt; owned.clone()? == owned);
+    assert!(rt; format!(in alloc; "<{owned}>")?.as_str() == "<op_1>");
+    assert!(rt; owned.into_text(alloc)?.as_str() == "op_1");
+    Ok(())
+}
 
+#[test]
+fn borrowed_identifier(rt: HostRuntime) -> Result<(), Fail> {
+    let alloc = rt.alloc();
+    let borrowed = ident!("op_1");
+    assert!(rt; borrowed.clone()? == borrowed);
     let converted: Identifier = String::from_str(alloc, "op_1")?.try_into()?;
-    assert!(rt; converted == ident!("op_1"));
+    assert!(rt; converted == borrowed);
+    assert!(rt; borrowed.into_text(alloc)?.as_str() == "op_1");
+    Ok(())
+}
+
+fn is_handed_back(alloc: Global, text: &str) -> Result<bool, AllocError> {
+    match Identifier::try_new(String::from_str(alloc, text)?) {
+        Ok(_) => Ok(false),
+        Err(malformed) => Ok(malformed.0.as_str() == text),
+    }
+}
+
+#[test]
+fn malformed_texts(rt: HostRuntime) -> Result<(), Fail> {
+    let alloc = rt.alloc();
+    assert!(rt; is_handed_back(alloc, "")?);
+    assert!(rt; is_handed_back(alloc, "hi12.")?);
+    assert!(rt; is_handed_back(alloc, "12ab")?);
+    assert!(rt; is_handed_back(alloc, ".a12ab")?);
+    assert!(rt; is_handed_back(alloc, "é")?);
+    assert!(rt; !is_handed_back(alloc, "hi12")?);
+    assert!(rt; !is_handed_back(alloc, "A12ab")?);
     Ok(())
 }
 
 #[test]
-fn malformed_texts_are_handed_back(rt: HostRuntime) -> Result<(), Fail> {
+fn fault_texts(rt: HostRuntime) -> Result<(), Fail> {
     let alloc = rt.alloc();
-    for text in ["", "1b", "a b", "a.", "é", "aé"] {
-        match Identifier::try_new(String::from_str(alloc, text)?) {
-            Ok(_) => assert!(rt; false, "{text}"),
-            Err(malformed) => {
-                assert_eq!(rt; malformed.0.as_str(), text);
-                assert_eq!(rt;
-                    format!(in alloc; "{malformed}")?.as_str(),
-                    format!(in alloc; "Malformed identifier {text}")?.as_str()
-                );
-            }
-        }
-        match Identifier::from_text(alloc, text) {
-            Ok(_) => assert!(rt; false, "{text}"),
-            Err(error) => {
-                assert!(rt; matches!(&error, IdentErr::MalformedIdentifierErr(_)));
-                assert_eq!(rt;
-                    format!(in alloc; "{error}")?.as_str(),
-                    format!(in alloc; "Malformed identifier {text}")?.as_str()
-                );
-            }
-        }
-    }
-    let wanting = IdentErr::OutOfMemory;
-    assert_eq!(rt; format!(in alloc; "{wanting}")?.as_str(), "out of memory");
+    let malformed = MalformedIdentifierErr(String::from_str(alloc, "1b")?);
+    assert!(rt; format!(in alloc; "{malformed}")?.as_str() == "Malformed identifier 1b");
+    let error = IdentErr::from(malformed);
+    assert!(rt; format!(in alloc; "{error}")?.as_str() == "Malformed identifier 1b");
+    let error = IdentErr::OutOfMemory;
+    assert!(rt; format!(in alloc; "{error}")?.as_str() == "out of memory");
     Ok(())
 }
