@@ -62,6 +62,8 @@ impl Legaliser {
     }
 
     /// The identifier of a source text: the one that it was given before, else a new one.
+    ///
+    /// `OutOfMemory` where a growth was refused, `CounterSpent` where the source is new, its base is taken and no number from the counter to below `usize::MAX` makes a name that is free. After either nothing has changed.
     pub fn legalise(&mut self, source: &str) -> Result<Identifier, CoreError>
         ensures given { IfOk result (λ name. Gives self.old source.now name self.new) }
         ensures unchanged { OnErr result (self.new ≡ self.old) }
@@ -99,7 +101,7 @@ impl Legaliser {
         Ok(name)
     }
 
-    /// A copy of the source that was given this name, if any was.
+    /// A copy of the source that was given this name, if any was. `OutOfMemory` where there is no room for the copy.
     pub fn source_name(&self, name: &Identifier) -> Result<Option<String>, CoreError>
         ensures found { IfOk result (λ found. IfSome found (λ source. name_of self.now (string_bytes source) ≡ Some name.now)) }
         ensures none { IfOk result (λ found. IfNone found (IsFree self.now name.now)) }

@@ -27,7 +27,7 @@ impl Model for TypeName {
 }
 
 impl TypeName {
-    /// A copy of a text, as a type's name. Where there is no memory for the copy, that is told of any text.
+    /// A copy of a text, as a type's name. `OutOfMemory` where there is no room for the copy, whatever the text; else a text that is no identifier is handed back.
     pub fn try_new(alloc: Global, text: &str) -> Result<Self, IdentErr>
         ensures text { IfOk result (λ name. name ≡ text.now) }
         ensures valid { OnOk result (IsIdentifier text.now) }
