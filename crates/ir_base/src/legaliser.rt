@@ -1,7 +1,7 @@
 //! A legaliser gives each source text an identifier of its own.
 //!
 //! A contract sees a `Legaliser` as the map from each source to the identifier that it was given, with a counter that makes clashing names differ.
-ghost use Rattle.std.specs.Prelude.{◌≡◌, ◌<◌, ◌-◌, ◌^◌, ℕ, List, None, Some, IfOk, IfErr, OnOk, OnErr, IfSome, IfNone, IsOkUnless, string_bytes, if◌then◌else◌};
+ghost use Rattle.std.specs.Prelude.{◌≡◌, ℕ, List, None, Some, IfOk, IfErr, OnOk, OnErr, IfSome, IfNone, IsOkUnless, string_bytes, if◌then◌else◌};
 ghost use Rattle.std.specs.Char.{is_ascii_alphabetic, is_ascii_alphanumeric};
 ghost use Rattle.std.specs.Str.{chars, bytes_eq};
 ghost use Rattle.std.specs.Map.{update};
