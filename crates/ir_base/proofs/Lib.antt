@@ -12,3 +12,5 @@ pub mod ListPlaces
 pub mod ListWalks
 pub mod ListRehome
 pub mod ListLaws
+pub mod LegaliserLemmas
+pub mod NameLawLemmas

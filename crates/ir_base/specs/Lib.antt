@@ -9,3 +9,7 @@ pub mod Stores
 pub mod Lists
 pub mod Walks
 pub mod SeqLends
+pub mod Legaliser
+pub mod LegaliserTables
+pub mod LegaliserFields
+pub mod NameLaws

@@ -133,7 +133,7 @@ impl Identifier {
         ensures handed_back { IfErr result (λ e. e.0 ≡ text) }
     {
         if Identifier::is_valid(text.as_str()) {
-            Ok(Identifier(Text::Owned(text)))
+            Ok(Identifier::from_valid(text))
         } else {
             Err(MalformedIdentifierErr(text))
         }
@@ -147,7 +147,15 @@ impl Identifier {
         Identifier(Text::Borrowed(text))
     }
 
-    /// A copy of a text, as an identifier. Where there is no memory for the copy, that is told of any text.
+    // The identifier of a text that is known to be one.
+    pub(crate) fn from_valid(text: String) -> Self
+        requires { IsIdentifier (string_bytes text) }
+        ensures { result ≡ string_bytes text }
+    {
+        Identifier(Text::Owned(text))
+    }
+
+    /// A copy of a text, as an identifier. `OutOfMemory` where there is no room for the copy, whatever the text; else a text that is no identifier is handed back.
     pub fn from_text(alloc: Global, text: &str) -> Result<Self, IdentErr>
         ensures text { IfOk result (λ identifier. identifier ≡ text.now) }
         ensures valid { OnOk result (IsIdentifier text.now) }
@@ -156,17 +164,19 @@ impl Identifier {
         Ok(Identifier::try_new(String::from_str(alloc, text)?)?)
     }
 
-    /// This text followed by the other. Stands for pliron's `+`.
+    /// This text followed by the other. `OutOfMemory` where there is no room for the two.
+    ///
+    /// Stands for pliron's `+`.
     pub fn join(&self, alloc: Global, other: &Identifier) -> Result<Identifier, CoreError>
         ensures text { IfOk result (λ joined. joined ≡ self.now ++ other.now) }
         ensures refused { IsOkUnless result CoreError.OutOfMemory }
     {
         let mut text = String::from_str(alloc, self.as_str())?;
         text.push_str(other.as_str())?;
-        Ok(Identifier(Text::Owned(text)))
+        Ok(Identifier::from_valid(text))
     }
 
-    /// The text, copied only where it is borrowed.
+    /// The text, copied only where it is borrowed; `OutOfMemory` where there is no room for the copy.
     pub fn into_text(self, alloc: Global) -> Result<String, CoreError>
         ensures text { IfOk result (λ text. string_bytes text ≡ self) }
         ensures refused { IsOkUnless result CoreError.OutOfMemory }

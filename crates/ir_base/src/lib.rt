@@ -24,6 +24,9 @@ mod seq_tests;
 mod tally;
 mod type_handle;
 mod type_store;
+mod legaliser;
+mod name_laws;
+mod names;
 
 pub use arena::Arena;
 pub use dialects::{Dialects, unknown_loc};
@@ -38,3 +41,13 @@ pub use storage_uniquer::UniqueStore;
 pub use type_handle::TypeHandle;
 pub use type_store::TypeStore;
 pub use seq::Seq;
+pub use legaliser::Legaliser;
+pub use names::{AttrId, AttrName, DialectName, OpId, OpName, TypeId, TypeName};
+
+/// Laws about the definitions that the contracts cite.
+pub mod laws {
+    pub use crate::name_laws::{
+        identifiers_compare_as_texts, identifiers_follow_the_rule, joins_are_identifiers,
+        legalised_names_differ, sources_come_back,
+    };
+}

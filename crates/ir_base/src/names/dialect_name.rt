@@ -1,0 +1,87 @@
+//! The name of a dialect.
+ghost use Rattle.std.specs.Prelude.{◌≡◌, ◌↔◌, IfOk, IfErr, IsOk, OnOk, MatchResult, Some, string_bytes};
+ghost use Rattle.ir_base.specs.Identifier.{IsIdentifier};
+ghost use Rattle.ir_base.specs.IdentErr.{IsReason};
+
+use crate::identifier::{IdentErr, Identifier, MalformedIdentifierErr};
+use std::alloc::Global;
+use std::convert::{AsRef, AsStr};
+use std::fmt;
+use std::marker::Model;
+
+/// The name of a dialect.
+///
+/// Stands for pliron's `dialect::DialectName`.
+#[derive(Clone, Debug, Drop, PartialEq, Eq, Hash)]
+pub struct DialectName(Identifier);
+
+impl Model for DialectName {
+    ghost use Rattle.std.specs.Prelude.{List, ℕ};
+
+    ghost Value = { List ℕ };
+
+    ghost view = { λ name. name.0 };
+
+    ghost inverse = { λ text. record { 0 = text } };
+}
+
+impl DialectName {
+    /// A copy of a text, as a dialect's name. `OutOfMemory` where there is no room for the copy, whatever the text; else a text that is no identifier is handed back.
+    pub fn try_new(alloc: Global, text: &str) -> Result<Self, IdentErr>
+        ensures text { IfOk result (λ name. name ≡ text.now) }
+        ensures valid { OnOk result (IsIdentifier text.now) }
+        ensures refused { IfErr result (IsReason text.now) }
+    {
+        Ok(DialectName(Identifier::from_text(alloc, text)?))
+    }
+}
+
+impl AsStr for DialectName {
+    ghost text = { λ name. name };
+
+    fn as_str(&self) -> &str {
+        self.0.as_str()
+    }
+}
+
+impl AsRef<Identifier> for DialectName {
+    fn as_ref(&self) -> &Identifier
+        ensures { result.now ≡ self.now }
+    {
+        &self.0
+    }
+}
+
+impl From<Identifier> for DialectName {
+    ghost from_gives = { λ identifier name. name ≡ identifier };
+
+    fn from(identifier: Identifier) -> DialectName {
+        DialectName(identifier)
+    }
+}
+
+impl From<DialectName> for Identifier {
+    ghost from_gives = { λ name identifier. identifier ≡ name };
+
+    fn from(named: DialectName) -> Identifier {
+        named.0
+    }
+}
+
+impl TryFrom<String> for DialectName {
+    type Error = MalformedIdentifierErr;
+
+    ghost try_from_gives = { λ text r. (IsOk r ↔ IsIdentifier (string_bytes text)) × MatchResult r (λ name. name ≡ string_bytes text) (λ e. e.0 ≡ text) };
+
+    fn try_from(text: String) -> Result<DialectName, MalformedIdentifierErr> {
+        Ok(DialectName(Identifier::try_new(text)?))
+    }
+}
+
+impl fmt::Display for DialectName {
+    ghost output = { λ name. Some name };
+
+    fn fmt<W: fmt::Write>(&self, f: &mut fmt::Formatter<W>) -> fmt::Result {
+        f.write_str(self.as_str())
+    }
+}
