@@ -1,2 +1,4 @@
+pub mod GroupLemmas
 pub mod IdentifierLemmas
 pub mod StoreLemmas
+pub mod VerifierLemmas

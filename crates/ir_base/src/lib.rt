@@ -10,6 +10,9 @@ mod storage_uniquer;
 mod stores_tests;
 mod type_handle;
 mod type_store;
+mod verifier_lists;
+#[cfg(test)]
+mod verifier_lists_tests;
 
 pub use dialects::{Dialects, unknown_loc};
 pub use error::CoreError;
@@ -18,3 +21,6 @@ pub use ir_model::{ArenaIndex, Limits};
 pub use storage_uniquer::UniqueStore;
 pub use type_handle::TypeHandle;
 pub use type_store::TypeStore;
+pub use verifier_lists::{
+    DictKeyId, DuplicateKey, collect_deduped_interface_verifiers, verify_dict_keys,
+};

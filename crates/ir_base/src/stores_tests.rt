@@ -18,6 +18,7 @@ fn interning(rt: HostRuntime) -> Result<(), Fail> {
     assert_eq!(rt; store.get(&8), None);
     assert_eq!(rt; store.get_index(first).copied(), Some(32));
     assert_eq!(rt; store.get_index(2).copied(), None);
+    assert_eq!(rt; store.as_slice(), [32, 64].as_slice());
     Ok(())
 }
 
