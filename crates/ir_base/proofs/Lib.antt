@@ -1,4 +1,6 @@
 pub mod GroupLemmas
 pub mod IdentifierLemmas
+pub mod LegaliserLemmas
+pub mod NameLawLemmas
 pub mod StoreLemmas
 pub mod VerifierLemmas

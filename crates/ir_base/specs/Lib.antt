@@ -1,5 +1,9 @@
 pub mod Identifier
 pub mod IdentErr
 pub mod IdentifierText
+pub mod Legaliser
+pub mod LegaliserTables
+pub mod LegaliserFields
+pub mod NameLaws
 pub mod Stores
 pub mod VerifierLists

@@ -133,7 +133,7 @@ impl Identifier {
         ensures handed_back { IfErr result (λ e. e.0 ≡ text) }
     {
         if Identifier::is_valid(text.as_str()) {
-            Ok(Identifier(Text::Owned(text)))
+            Ok(Identifier::from_valid(text))
         } else {
             Err(MalformedIdentifierErr(text))
         }
@@ -145,6 +145,14 @@ impl Identifier {
         ensures { result ≡ text.now }
     {
         Identifier(Text::Borrowed(text))
+    }
+
+    // The identifier of a text that is known to be one.
+    pub(crate) fn from_valid(text: String) -> Self
+        requires { IsIdentifier (string_bytes text) }
+        ensures { result ≡ string_bytes text }
+    {
+        Identifier(Text::Owned(text))
     }
 
     /// A copy of a text, as an identifier. Where there is no memory for the copy, that is told of any text.
@@ -163,7 +171,7 @@ impl Identifier {
     {
         let mut text = String::from_str(alloc, self.as_str())?;
         text.push_str(other.as_str())?;
-        Ok(Identifier(Text::Owned(text)))
+        Ok(Identifier::from_valid(text))
     }
 
     /// The text, copied only where it is borrowed.
