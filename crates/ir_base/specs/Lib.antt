@@ -7,3 +7,4 @@ pub mod LegaliserFields
 pub mod NameLaws
 pub mod Stores
 pub mod VerifierLists
+pub mod Attributes

@@ -1,10 +1,11 @@
 //! Attributes, the questions that a dialect answers of them, and dictionaries of them.
-ghost use Rattle.std.specs.Prelude.{◌≡◌, ◌&&◌, ℕ, Bool, false, Option, Some, is_some, nat_eq, if◌then◌else◌, None, IfOk, IfErr};
+ghost use Rattle.std.specs.Prelude.{◌≡◌, ◌&&◌, ℕ, Bool, true, false, Option, Some, is_some, nat_eq, IfOk, IfErr};
 ghost use Rattle.std.specs.Option.{option_copied, option_copied_mut};
 ghost use Rattle.ir_base.specs.declared.interfaces.TheConstants.{OUTLINED_ATTRIBUTE};
 ghost use Rattle.ir_base.specs.declared.error.CoreError.TheVariants.{OutOfMemory};
 ghost use Rattle.std.specs.Borrow.{sem, LendsIf};
 
+pub use crate::attribute_dict::AttributeDict;
 use crate::dialects::Dialects;
 use crate::error::CoreError;
 use crate::interfaces;
@@ -52,6 +53,9 @@ pub trait Attribute<D: Dialects>: Eq {
 
     // Two values are equal exactly where their attributes are.
     ghost equal_attrs: { (a b : Self) → D.Attr.eq (attr_of a) (attr_of b) ≡ Self.eq a b };
+
+    // A value that was put is there.
+    ghost written: { (x : D.Attr) (a : Self) → is_some (value_of x) ≡ true → value_of (with_value x a) ≡ Some a };
 
     // Another value keeps the kind.
     ghost keeps_kind: { (x : D.Attr) (a : Self) → D.attr_kind_of (with_value x a) ≡ D.attr_kind_of x };

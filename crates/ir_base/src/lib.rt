@@ -2,6 +2,7 @@
 #![tactic(auto)]
 
 pub mod attribute;
+mod attribute_dict;
 mod dialects;
 mod error;
 mod identifier;
