@@ -1,3 +1,4 @@
+pub mod CopyLemmas
 pub mod GroupLemmas
 pub mod IdentifierLemmas
 pub mod LegaliserLemmas

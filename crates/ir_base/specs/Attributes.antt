@@ -1,7 +1,8 @@
 -- Attribute dictionaries: lists of pairs of a key's text and an attribute, with distinct keys.
-use Rattle.std.specs.Prelude.{◌≡◌, ℕ, Bool, true, not, ◌&&◌, ◌||◌, nat_eq, List, filter, Option, Some, None, if◌then◌else◌}
+use Rattle.std.specs.Prelude.{◌≡◌, ℕ, Bool, true, not, ◌&&◌, ◌||◌, nat_eq, List, [], ◌∷◌, filter, Option, Some, None, if◌then◌else◌}
 use Rattle.std.specs.List.{AllZip}
 use Rattle.std.specs.Map.{lookup, remove_entry}
+use Rattle.std.specs.HashMap.{entries_eq}
 use Rattle.std.specs.Cmp.Lexicographic.{pointwise}
 use Rattle.indexmap.specs.IndexMap.{insert_entry}
 
@@ -34,3 +35,11 @@ module _ {A : Type 0} where
   -- the pairs whose attribute isn't to be outlined, or all of them
   abbrev pub kept_pairs : (A → Bool) → Bool → List (List ℕ × A) → List (List ℕ × A)
   kept_pairs outlined all pairs = filter (λ p. all || not (outlined p.1)) pairs
+
+  -- the attribute's kind implements outlined attributes, and the dialect says that it is to be outlined
+  abbrev pub is_outlined : (A → ℕ) → (ℕ → ℕ → Bool) → (A → Bool) → A → Bool
+  is_outlined kind_of impls outline attr = impls (kind_of attr) 4 && outline attr
+
+  -- at each key of either, both have an attribute and the two are equal
+  abbrev pub same_pairs : (A → A → Bool) → List (List ℕ × A) → List (List ℕ × A) → Bool
+  same_pairs same d e = entries_eq same_key (λ p q. same p.1 q.1) d e

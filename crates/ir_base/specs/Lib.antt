@@ -8,3 +8,4 @@ pub mod NameLaws
 pub mod Stores
 pub mod VerifierLists
 pub mod Attributes
+pub mod AttributeLaws

@@ -2,6 +2,8 @@
 #![tactic(auto)]
 
 pub mod attribute;
+#[cfg(test)]
+mod attribute_tests;
 mod attribute_dict;
 mod dialects;
 mod error;
