@@ -66,10 +66,10 @@ module _ {A : Type 0} (outlined : A → Bool) (all : Bool) (es : List (List ℕ 
         → new ≡ insert_entry same_key m.entries key copy → AreCopies same (kept_pairs outlined all (take (i + 1) es)) new
     copy-kept new key copy keeps is_key equal inserted =
         let absent : get same_key m k ≡ None
-            = none-copies (same_key k) same (kept_pairs outlined all (take i es)) m.entries so_far (none-filter (same_key k) (λ p. all || not (outlined p.1)) (take i es) key_new) in
+        = none-copies (same_key k) same (kept_pairs outlined all (take i es)) m.entries so_far (none-filter (same_key k) (λ p. all || not (outlined p.1)) (take i es) key_new) in
         let last : new ≡ m.entries ++ (k, copy) ∷ [] = inserted ∙ ap (λ q. insert_entry same_key m.entries q copy) is_key ∙ insert_entry-new same_key m k copy absent in
         let kept : kept_pairs outlined all (take (i + 1) es) ≡ kept_pairs outlined all (take i es) ++ (k, a) ∷ []
-            = kept-more ∙ ap (λ b. kept_pairs outlined all (take i es) ++ cond b ((k, a) ∷ []) []) keeps in
+        = kept-more ∙ ap (λ b. kept_pairs outlined all (take i es) ++ cond b ((k, a) ∷ []) []) keeps in
         subst (λ l. AreCopies same l new) (sym kept)
         (subst (AreCopies same (kept_pairs outlined all (take i es) ++ (k, a) ∷ [])) (sym last)
         (copies-push same (kept_pairs outlined all (take i es)) m.entries (k, a) (k, copy) so_far (refl, equal)))

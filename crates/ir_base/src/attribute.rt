@@ -65,7 +65,7 @@ pub trait Attribute<D: Dialects>: Eq {
         ensures id { IfOk result (λ id. id ≡ D.attr_id_of KIND) }
         ensures error { IfErr result (λ error. error ≡ OutOfMemory) }
     {
-        D::attr_id(alloc, Self::KIND)
+        Self::get_attr_id_static(alloc)
     }
 
     /// The id of such attributes. `OutOfMemory` where a growth was refused.

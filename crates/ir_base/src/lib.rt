@@ -2,9 +2,9 @@
 #![tactic(auto)]
 
 pub mod attribute;
+mod attribute_dict;
 #[cfg(test)]
 mod attribute_tests;
-mod attribute_dict;
 mod dialects;
 mod error;
 mod identifier;
