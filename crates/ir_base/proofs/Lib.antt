@@ -5,3 +5,4 @@ pub mod LegaliserLemmas
 pub mod NameLawLemmas
 pub mod StoreLemmas
 pub mod VerifierLemmas
+pub mod SuperLemmas

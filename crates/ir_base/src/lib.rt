@@ -13,6 +13,7 @@ mod legaliser;
 mod name_laws;
 mod names;
 mod storage_uniquer;
+mod store_laws;
 #[cfg(test)]
 mod stores_tests;
 mod type_handle;
@@ -34,6 +35,7 @@ pub mod laws {
         identifiers_compare_as_texts, identifiers_follow_the_rule, joins_are_identifiers,
         legalised_names_differ, sources_come_back,
     };
+    pub use crate::store_laws::supers_stay_first;
 }
 
 pub use storage_uniquer::UniqueStore;
