@@ -1,6 +1,6 @@
 -- Copies of attribute dictionaries.
-use Rattle.std.proofs.Common.{◌≡◌, ℕ, ◌+◌, ◌<◌, Bool, true, false, cond, not, ◌||◌, List, [], ◌∷◌, ◌++◌, filter, take, drop, length, get_or, slice_get, Option, Some, None, is_some, unwrap_or, zero, suc, refl, sym, ap, subst, ◌∙◌, true≢false, add-one}
-use Rattle.std.specs.List.{AllZip, IsDistinct}
+use Rattle.std.proofs.Common.{◌≡◌, ℕ, ◌+◌, Bool, true, false, cond, not, ◌||◌, List, [], ◌∷◌, ◌++◌, filter, take, slice_get, Some, None, is_some, unwrap_or, zero, suc, refl, sym, ap, subst, ◌∙◌, true≢false}
+use Rattle.std.specs.List.{IsDistinct}
 use Rattle.std.specs.Map.{keys_of, lookup}
 use Rattle.std.specs.Cmp.Lexicographic.{nat_list_eq_equiv}
 use Rattle.std.proofs.lemmas.List.{take_more, append-nil}
