@@ -6,3 +6,4 @@ pub mod NameLawLemmas
 pub mod StoreLemmas
 pub mod VerifierLemmas
 pub mod SuperLemmas
+pub mod PlaceLemmas
