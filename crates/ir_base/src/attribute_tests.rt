@@ -219,9 +219,9 @@ impl Attribute<Small> for Int {
 
     ghost equal_attrs = { λ a b. refl };
 
-    ghost written = { λ x a. elim x [ Number _ ↦ λ _. refl | Letter _ ↦ λ e. absurd (true≢false (sym e)) | Hidden _ ↦ λ e. absurd (true≢false (sym e)) ] };
+    ghost written = { elim [ Number _ ↦ λ a e. refl | Letter _ ↦ λ a e. absurd (true≢false (sym e)) | Hidden _ ↦ λ a e. absurd (true≢false (sym e)) ] };
 
-    ghost keeps_kind = { λ x a. elim x [ Number _ ↦ refl | Letter _ ↦ refl | Hidden _ ↦ refl ] };
+    ghost keeps_kind = { elim [ Number _ ↦ λ a. refl | Letter _ ↦ λ a. refl | Hidden _ ↦ λ a. refl ] };
 }
 
 impl Attribute<Small> for Outlined {
@@ -263,9 +263,9 @@ impl Attribute<Small> for Outlined {
 
     ghost equal_attrs = { λ a b. refl };
 
-    ghost written = { λ x a. elim x [ Number _ ↦ λ e. absurd (true≢false (sym e)) | Letter _ ↦ λ e. absurd (true≢false (sym e)) | Hidden _ ↦ λ _. refl ] };
+    ghost written = { elim [ Number _ ↦ λ a e. absurd (true≢false (sym e)) | Letter _ ↦ λ a e. absurd (true≢false (sym e)) | Hidden _ ↦ λ a e. refl ] };
 
-    ghost keeps_kind = { λ x a. elim x [ Number _ ↦ refl | Letter _ ↦ refl | Hidden _ ↦ refl ] };
+    ghost keeps_kind = { elim [ Number _ ↦ λ a. refl | Letter _ ↦ λ a. refl | Hidden _ ↦ λ a. refl ] };
 }
 
 fn number_of(value: u64) -> Int {
@@ -308,7 +308,8 @@ fn dictionaries(rt: HostRuntime) -> Result<(), Fail> {
     assert_eq!(rt; read, Some(7));
     let taken = one.remove(&Identifier::new("b"));
     assert_eq!(rt; taken, Some(SmallAttr::Hidden(Outlined { letter: 1 })));
-    assert_eq!(rt; one.iter().count(), 1);
+    assert_eq!(rt; one.iter().next().is_some(), true);
+    assert_eq!(rt; one.len(), 1);
     Ok(())
 }
 
