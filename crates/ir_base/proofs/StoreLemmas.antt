@@ -43,7 +43,7 @@ module _ {K : Type 0} (eq : K → K → Bool) (laws : IsEquivalence eq) where
 
     module _ (absent : false ≡ is_some (get eq m key)) (body : B) (new : List (K × B)) (inserted : new ≡ insert_entry eq m.entries key body) where
       -- a key that isn't there goes last
-      goes_last : new ≡ pairs ++ (key, body) ∷ []
+      pub goes_last : new ≡ pairs ++ (key, body) ∷ []
       goes_last = inserted ∙ insert_entry-new eq m key body (none_there (get eq m key) absent) ∙ ap (λ es. es ++ (key, body) ∷ []) at
 
       pub keys-new : keys_of new ≡ with_key eq (keys_of pairs) key

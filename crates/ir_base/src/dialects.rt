@@ -2,9 +2,13 @@
 ghost use Rattle.std.specs.Prelude.{◌≡◌, ℕ, Bool, true, Option, is_some, IfOk, IfErr};
 ghost use Rattle.ir_base.specs.declared.interfaces.TheConstants.{TYPED_ATTRIBUTE};
 ghost use Rattle.ir_base.specs.declared.error.CoreError.TheVariants.{OutOfMemory};
+ghost use Rattle.ir_base.specs.declared.names.AttrId.{AttrId};
+ghost use Rattle.ir_base.specs.declared.names.OpId.{OpId};
+ghost use Rattle.ir_base.specs.declared.names.TypeId.{TypeId};
 ghost use Rattle.ir_base.specs.declared.type_handle.TypeHandle.{TypeHandle};
 
 use crate::error::CoreError;
+use crate::names::{AttrId, OpId, TypeId};
 use crate::type_handle::TypeHandle;
 use std::alloc::Global;
 use std::hash::Hash;
@@ -50,6 +54,12 @@ pub trait Dialects: Drop {
 
     ghost attr_type_of: { Self.Attr → Option TypeHandle };
 
+    ghost op_id_of: { ℕ → OpId };
+
+    ghost attr_id_of: { ℕ → AttrId };
+
+    ghost type_id_of: { ℕ → TypeId };
+
     /// Whether operations of this kind implement this interface.
     fn op_impls(kind: u32, interface: u32) -> bool
         ensures { result ≡ op_impls_of kind interface };
@@ -89,6 +99,21 @@ pub trait Dialects: Drop {
     /// An attribute that is equal to this one. `OutOfMemory` where a growth was refused.
     fn copy_attr(alloc: Global, attr: &Self::Attr) -> Result<Self::Attr, CoreError>
         ensures equal { IfOk result (λ copy. Self.Attr.eq copy attr.now ≡ true) }
+        ensures error { IfErr result (λ error. error ≡ OutOfMemory) };
+
+    /// The id of operations of this kind. `OutOfMemory` where a growth was refused.
+    fn op_id(alloc: Global, kind: u32) -> Result<OpId, CoreError>
+        ensures id { IfOk result (λ id. id ≡ op_id_of kind) }
+        ensures error { IfErr result (λ error. error ≡ OutOfMemory) };
+
+    /// The id of attributes of this kind. `OutOfMemory` where a growth was refused.
+    fn attr_id(alloc: Global, kind: u32) -> Result<AttrId, CoreError>
+        ensures id { IfOk result (λ id. id ≡ attr_id_of kind) }
+        ensures error { IfErr result (λ error. error ≡ OutOfMemory) };
+
+    /// The id of types of this kind. `OutOfMemory` where a growth was refused.
+    fn type_id(alloc: Global, kind: u32) -> Result<TypeId, CoreError>
+        ensures id { IfOk result (λ id. id ≡ type_id_of kind) }
         ensures error { IfErr result (λ error. error ≡ OutOfMemory) };
 
     // The default location is the unknown one.

@@ -2,6 +2,10 @@
 #![tactic(auto)]
 
 mod arena;
+pub mod attribute;
+mod attribute_dict;
+#[cfg(test)]
+mod attribute_tests;
 mod dialects;
 #[cfg(test)]
 mod arena_tests;
@@ -15,7 +19,11 @@ mod list_iter;
 pub mod list_laws;
 mod ptr;
 mod room;
+mod legaliser;
+mod name_laws;
+mod names;
 mod storage_uniquer;
+mod store_laws;
 #[cfg(test)]
 mod stores_tests;
 mod seq;
@@ -24,9 +32,9 @@ mod seq_tests;
 mod tally;
 mod type_handle;
 mod type_store;
-mod legaliser;
-mod name_laws;
-mod names;
+mod verifier_lists;
+#[cfg(test)]
+mod verifier_lists_tests;
 
 pub use arena::Arena;
 pub use dialects::{Dialects, unknown_loc};
@@ -50,4 +58,12 @@ pub mod laws {
         identifiers_compare_as_texts, identifiers_follow_the_rule, joins_are_identifiers,
         legalised_names_differ, sources_come_back,
     };
+    pub use crate::store_laws::{equal_places_for_equal_values, supers_stay_first};
 }
+
+pub use storage_uniquer::UniqueStore;
+pub use type_handle::TypeHandle;
+pub use type_store::TypeStore;
+pub use verifier_lists::{
+    DictKeyId, DuplicateKey, collect_deduped_interface_verifiers, verify_dict_keys,
+};

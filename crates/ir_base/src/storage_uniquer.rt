@@ -71,6 +71,13 @@ impl<T: Eq + Hash> UniqueStore<T> {
         self.values.get_index(place)
     }
 
+    /// The values in the order in which they came.
+    pub fn as_slice(&self) -> &[T]
+        ensures { result.now ≡ self.now }
+    {
+        self.values.as_slice()
+    }
+
     /// The place of the value that is equal to this one; where there is none, this one is put last.
     ///
     /// The value that came first stays, and the other is dropped. `OutOfMemory` comes only for a value that isn't there yet, and changes nothing.

@@ -1,6 +1,6 @@
 //! Stores: values and keys are kept once, and keep their places.
-use crate::error::CoreError;
 use crate::storage_uniquer::UniqueStore;
+use crate::store_laws::{equal_places_for_equal_values, supers_stay_first};
 use crate::type_store::TypeStore;
 use std::test::Fail;
 
@@ -18,6 +18,9 @@ fn interning(rt: HostRuntime) -> Result<(), Fail> {
     assert_eq!(rt; store.get(&8), None);
     assert_eq!(rt; store.get_index(first).copied(), Some(32));
     assert_eq!(rt; store.get_index(2).copied(), None);
+    assert_eq!(rt; store.as_slice(), [32, 64].as_slice());
+    equal_places_for_equal_values::<u32>();
+    supers_stay_first();
     Ok(())
 }
 

@@ -1,0 +1,167 @@
+//! Dictionaries of attributes.
+ghost use Rattle.std.specs.Prelude.{◌≡◌, ◌↔◌, ◌&&◌, ◌<◌, [], length, true, not, filter, None, IsTrue, IfOk, IfErr, OnOk, OnErr, option_and_then};
+ghost use Rattle.std.specs.Option.{option_copied, option_copied_mut};
+ghost use Rattle.std.specs.List.{IsDistinct};
+ghost use Rattle.std.specs.Map.{keys_of};
+ghost use Rattle.std.specs.Map.Iter.{ShowsInOrder, deref_pair};
+ghost use Rattle.ir_base.specs.declared.error.CoreError.TheVariants.{OutOfMemory};
+ghost use Rattle.ir_base.specs.declared.interfaces.TheConstants.{OUTLINED_ATTRIBUTE};
+ghost use Rattle.ir_base.specs.Attributes.{same_key, attr_at, with_attr, without_key, passing, is_outlined, kept_pairs, same_pairs, AreCopies};
+ghost use Rattle.ir_base.specs.AttributeLaws.{same_pairs-laws, same_pairs-equivalence};
+
+use crate::attribute::{Attribute, attr_impls, attr_should_outline};
+use crate::dialects::Dialects;
+use crate::error::CoreError;
+use crate::identifier::Identifier;
+use crate::interfaces::AttrInterfaceMarker;
+use indexmap::IndexMap;
+use indexmap::map::Iter;
+use std::alloc::Global;
+use std::marker::Model;
+
+/// A list of pairs of a key and an attribute, with distinct keys.
+///
+/// A new key goes last, and a key that is there keeps its place. It stands for pliron's `AttributeDict`.
+#[derive(Drop)]
+pub struct AttributeDict<D: Dialects> {
+    pairs: IndexMap<Identifier, D::Attr>,
+}
+
+impl<D: Dialects> Model for AttributeDict<D> {
+    ghost use Rattle.std.specs.Prelude.{List, ℕ};
+
+    ghost Value = { List (List ℕ × D.Attr) };
+
+    ghost view = { λ d. d.pairs.entries };
+}
+
+impl<D: Dialects> AttributeDict<D> {
+    /// A dictionary without pairs, which takes no memory yet.
+    pub fn new(alloc: Global) -> Self
+        ensures { result ≡ [] }
+    {
+        AttributeDict {
+            pairs: IndexMap::new(alloc),
+        }
+    }
+
+    /// How many pairs there are.
+    pub fn len(&self) -> usize
+        ensures count { result ≡ length self.now }
+        ensures distinct { IsDistinct same_key (keys_of self.now) }
+    {
+        self.pairs.len()
+    }
+
+    /// Whether there is no pair.
+    pub fn is_empty(&self) -> bool
+        ensures { IsTrue result ↔ (self.now ≡ []) }
+    {
+        self.pairs.is_empty()
+    }
+
+    /// The value of the attribute at the key, where there is one of the kind of `T`.
+    pub fn get<T: Attribute<D>>(&self, key: &Identifier) -> Option<&T>
+        ensures { option_copied result ≡ option_and_then T.value_of (attr_at self.now key.now) }
+    {
+        let attr = self.pairs.get(key)?;
+        T::of_attr(attr)
+    }
+
+    /// The value of the attribute at the key, to write, where there is one of the kind of `T`.
+    pub fn get_mut<T: Attribute<D>>(&mut self, key: &Identifier) -> Option<&mut T>
+        ensures { option_copied_mut result ≡ option_and_then T.value_of (attr_at self.old key.now) }
+    {
+        let attr = self.pairs.get_mut(key)?;
+        T::of_attr_mut(attr)
+    }
+
+    /// The attribute at the key, where there is one whose kind implements the interface.
+    pub fn get_as<I: AttrInterfaceMarker>(&self, key: &Identifier) -> Option<&D::Attr>
+        ensures { option_copied result ≡ passing (λ attr. D.attr_impls_of (D.attr_kind_of attr) I.NUMBER) (attr_at self.now key.now) }
+    {
+        let attr = self.pairs.get(key)?;
+        if attr_impls::<I, D>(attr) {
+            Some(attr)
+        } else {
+            None
+        }
+    }
+
+    /// Puts the attribute that stands for the value at the key. The one before is dropped.
+    ///
+    /// `OutOfMemory` comes only for a key that isn't there yet, and changes nothing.
+    pub fn set<T: Attribute<D>>(&mut self, key: Identifier, value: T) -> Result<(), CoreError>
+        ensures set { OnOk result (self.new ≡ with_attr self.old key (T.attr_of value)) }
+        ensures error { IfErr result (λ error. error ≡ OutOfMemory) }
+        ensures unchanged { OnErr result (self.new ≡ self.old) }
+        ensures only_new { OnErr result (attr_at self.old key ≡ None) }
+    {
+        self.pairs.insert(key, value.into_attr())?;
+        Ok(())
+    }
+
+    /// Takes the pair at the key away, and hands its attribute back. The rest keep their order.
+    pub fn remove(&mut self, key: &Identifier) -> Option<D::Attr>
+        ensures value { result ≡ attr_at self.old key.now }
+        ensures rest { self.new ≡ without_key self.old key.now }
+    {
+        self.pairs.shift_remove(key)
+    }
+
+    /// The pairs in their order.
+    pub fn iter(&self) -> Iter<'_, Identifier, D::Attr>
+        ensures rest { result ≡ self.now }
+        ensures runs { ShowsInOrder (deref_pair {K = Identifier} {X = D.Attr}) }
+    {
+        self.pairs.iter()
+    }
+
+    // Copies the pairs in their order: all of them, or those whose attribute isn't to be outlined.
+    fn copy_pairs(&self, all: bool) -> Result<Self, CoreError>
+        ensures copies { IfOk result (AreCopies D.Attr.eq (kept_pairs (is_outlined D.attr_kind_of D.attr_impls_of D.attr_outline_of) all self.now)) }
+        ensures error { IfErr result (λ error. error ≡ OutOfMemory) }
+    {
+        let alloc = *self.pairs.allocator();
+        let mut pairs = IndexMap::new(alloc);
+        for place in 0..self.pairs.len() {
+            if let Some((key, attr)) = self.pairs.get_index(place) {
+                if all || !attr_should_outline::<D>(attr) {
+                    pairs.insert(key.clone()?, D::copy_attr(alloc, attr)?)?;
+                }
+            }
+        }
+        Ok(AttributeDict { pairs })
+    }
+
+    /// A dictionary with the same keys in the same order, and equal attributes. `OutOfMemory` where a growth was refused.
+    pub fn clone(&self) -> Result<Self, CoreError>
+        ensures copies { IfOk result (AreCopies D.Attr.eq self.now) }
+        ensures error { IfErr result (λ error. error ≡ OutOfMemory) }
+    {
+        self.copy_pairs(true)
+    }
+
+    /// As `clone`, without the pairs whose attribute is to be outlined.
+    pub fn clone_skip_outlined(&self) -> Result<Self, CoreError>
+        ensures copies { IfOk result (AreCopies D.Attr.eq (filter (λ p. not (is_outlined D.attr_kind_of D.attr_impls_of D.attr_outline_of p.1)) self.now)) }
+        ensures error { IfErr result (λ error. error ≡ OutOfMemory) }
+    {
+        self.copy_pairs(false)
+    }
+}
+
+/// Two dictionaries are equal where they have the same keys with equal attributes, in any order.
+impl<D: Dialects> PartialEq for AttributeDict<D> {
+    ghost eq = { same_pairs D.Attr.eq };
+
+    ghost laws = { same_pairs-laws D.Attr.eq D.Attr.Eq.laws };
+
+    fn eq(&self, other: &AttributeDict<D>) -> bool {
+        self.pairs == other.pairs
+    }
+}
+
+impl<D: Dialects> Eq for AttributeDict<D> {
+    ghost laws = { same_pairs-equivalence D.Attr.eq D.Attr.Eq.laws };
+}
