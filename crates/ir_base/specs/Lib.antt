@@ -13,7 +13,6 @@ pub mod Legaliser
 pub mod LegaliserTables
 pub mod LegaliserFields
 pub mod NameLaws
-pub mod Stores
 pub mod VerifierLists
 pub mod Attributes
 pub mod AttributeLaws

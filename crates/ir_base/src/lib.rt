@@ -2,33 +2,31 @@
 #![tactic(auto)]
 
 mod arena;
-pub mod attribute;
-mod attribute_dict;
-#[cfg(test)]
-mod attribute_tests;
-mod dialects;
 #[cfg(test)]
 mod arena_tests;
+pub mod attribute;
+mod attribute_dict;
+mod dialects;
 mod error;
 mod identifier;
 pub mod interfaces;
+mod legaliser;
 pub mod linked_list;
 #[cfg(test)]
 mod linked_list_tests;
 mod list_iter;
 pub mod list_laws;
-mod ptr;
-mod room;
-mod legaliser;
 mod name_laws;
 mod names;
+mod ptr;
+mod room;
+mod seq;
+#[cfg(test)]
+mod seq_tests;
 mod storage_uniquer;
 mod store_laws;
 #[cfg(test)]
 mod stores_tests;
-mod seq;
-#[cfg(test)]
-mod seq_tests;
 mod tally;
 mod type_handle;
 mod type_store;
@@ -41,16 +39,18 @@ pub use dialects::{Dialects, unknown_loc};
 pub use error::CoreError;
 pub use identifier::{IdentErr, Identifier, MalformedIdentifierErr};
 pub use ir_model::{Answer, ArenaIndex, Limits, Refused};
-pub use ir_model::{ArenaIndex, Limits};
+pub use legaliser::Legaliser;
 pub use list_iter::Iter;
+pub use names::{AttrId, AttrName, DialectName, OpId, OpName, TypeId, TypeName};
 pub use ptr::Ptr;
 pub use room::Room;
+pub use seq::Seq;
 pub use storage_uniquer::UniqueStore;
 pub use type_handle::TypeHandle;
 pub use type_store::TypeStore;
-pub use seq::Seq;
-pub use legaliser::Legaliser;
-pub use names::{AttrId, AttrName, DialectName, OpId, OpName, TypeId, TypeName};
+pub use verifier_lists::{
+    DictKeyId, DuplicateKey, collect_deduped_interface_verifiers, verify_dict_keys,
+};
 
 /// Laws about the definitions that the contracts cite.
 pub mod laws {
@@ -60,10 +60,3 @@ pub mod laws {
     };
     pub use crate::store_laws::{equal_places_for_equal_values, supers_stay_first};
 }
-
-pub use storage_uniquer::UniqueStore;
-pub use type_handle::TypeHandle;
-pub use type_store::TypeStore;
-pub use verifier_lists::{
-    DictKeyId, DuplicateKey, collect_deduped_interface_verifiers, verify_dict_keys,
-};

@@ -41,6 +41,10 @@ pub struct Limits {
 }
 
 impl Default for Limits {
+    ghost use Rattle.std.specs.Prelude.{◌≡◌};
+
+    ghost is_default = { λ l. l ≡ record { values = 18446744073709551615; uses = 18446744073709551615; slots = 4294967294; last_version = 4294967295 } };
+
     /// All that fits: value and use numbers 0 to 2^64 - 2, slots 1 to 4,294,967,294, versions to 4,294,967,295.
     fn default() -> Self {
         Limits {
