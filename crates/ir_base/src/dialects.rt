@@ -2,9 +2,9 @@
 ghost use Rattle.std.specs.Prelude.{◌≡◌, ℕ, Bool, true, Option, is_some, IfOk, IfErr};
 ghost use Rattle.ir_base.specs.declared.interfaces.TheConstants.{TYPED_ATTRIBUTE};
 ghost use Rattle.ir_base.specs.declared.error.CoreError.TheVariants.{OutOfMemory};
-ghost use Rattle.ir_base.specs.declared.names.AttrId.{AttrId};
-ghost use Rattle.ir_base.specs.declared.names.OpId.{OpId};
-ghost use Rattle.ir_base.specs.declared.names.TypeId.{TypeId};
+ghost use Rattle.ir_base.specs.declared.names.attr_name.AttrId.{AttrId};
+ghost use Rattle.ir_base.specs.declared.names.op_name.OpId.{OpId};
+ghost use Rattle.ir_base.specs.declared.names.type_name.TypeId.{TypeId};
 ghost use Rattle.ir_base.specs.declared.type_handle.TypeHandle.{TypeHandle};
 
 use crate::error::CoreError;
