@@ -6,6 +6,8 @@ mod arena;
 mod arena_tests;
 pub mod attribute;
 mod attribute_dict;
+#[cfg(test)]
+mod attribute_tests;
 mod dialects;
 mod error;
 mod identifier;
