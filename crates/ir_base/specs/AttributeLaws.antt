@@ -60,8 +60,8 @@ module _ {A : Type 0} (input : A → HashWrites) where
   by_key-equal same respects d e h =
       ap (λ m. fed.slice (λ p. fed.str p.0 ++ p.1) (entries m))
       (same_map key_total same_text _ _ (λ q.
-        get-from_entries key_total (map (λ p. (p.0, input p.1)) d) q ∙ find-map q d ∙ alike (attr_at d q) (attr_at e q) (get_from_hash_map_eq same_key same nat_list_eq_equiv (hash_map d (tt {0}) 0) (hash_map e (tt {0}) 0) h q)
-        ∙ sym (get-from_entries key_total (map (λ p. (p.0, input p.1)) e) q ∙ find-map q e)))
+      get-from_entries key_total (map (λ p. (p.0, input p.1)) d) q ∙ find-map q d ∙ alike (attr_at d q) (attr_at e q) (get_from_hash_map_eq same_key same nat_list_eq_equiv (hash_map d (tt {0}) 0) (hash_map e (tt {0}) 0) h q)
+      ∙ sym (get-from_entries key_total (map (λ p. (p.0, input p.1)) e) q ∙ find-map q e)))
     where
       alike : (x y : Option A) → option_eq same x y ≡ true → option_map input x ≡ option_map input y
       alike None None g = refl

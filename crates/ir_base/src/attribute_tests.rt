@@ -10,8 +10,10 @@ use crate::error::CoreError;
 use crate::identifier::Identifier;
 use crate::interfaces::{OutlinedAttr, TypedAttrInterface};
 use crate::names::{AttrId, AttrName, DialectName, OpId, OpName, TypeId, TypeName};
+use crate::store_laws::equal_dictionaries_hash_equally;
 use crate::type_handle::TypeHandle;
 use std::alloc::Global;
+use std::hash::{DefaultHasher, Hash, Hasher};
 use std::test::Fail;
 
 /// An attribute of the small dialect.
@@ -380,6 +382,21 @@ fn equal_in_any_order(rt: HostRuntime) -> Result<(), Fail> {
     assert!(rt; one == other);
     other.set(Identifier::new("a"), number_of(2))?;
     assert!(rt; one != other);
+    Ok(())
+}
+
+fn hash_of(dict: &AttributeDict<Small>) -> u64 {
+    let mut state = DefaultHasher::new();
+    dict.hash(&mut state);
+    state.finish()
+}
+
+#[test]
+fn hashes_of_equal_dictionaries(rt: HostRuntime) -> Result<(), Fail> {
+    let one = number_first(rt.alloc())?;
+    let other = letter_first(rt.alloc())?;
+    assert_eq!(rt; hash_of(&one), hash_of(&other));
+    equal_dictionaries_hash_equally::<Small>();
     Ok(())
 }
 
