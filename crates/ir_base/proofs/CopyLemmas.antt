@@ -48,14 +48,18 @@ split_at (y ∷ ys) (suc i) x e = let r = split_at ys i x e in (r.0, ap (λ l. y
 
 module _ {A : Type 0} (outlined : A → Bool) (all : Bool) (es : List (List ℕ × A)) (unique : IsDistinct same_key (keys_of es))
     (i : ℕ) (k : List ℕ) (a : A) (at : Some (k, a) ≡ slice_get es i) where
+  -- the pairs up to the one at i, and that one
+  pub pairs-more : take (i + 1) es ≡ take i es ++ (k, a) ∷ []
+  pairs-more = take_more es i (k, a) (slice_get_within es i (k, a) (sym at)) ∙ ap (λ e. take i es ++ e ∷ []) (get_or_from_slice_get es i (k, a) (k, a) (sym at))
+
   -- the kept pairs with the one at i
   kept-more : kept_pairs outlined all (take (i + 1) es) ≡ kept_pairs outlined all (take i es) ++ cond (all || not (outlined a)) ((k, a) ∷ []) []
   kept-more =
-      ap (kept_pairs outlined all) (take_more es i (k, a) (slice_get_within es i (k, a) (sym at)) ∙ ap (λ e. take i es ++ e ∷ []) (get_or_from_slice_get es i (k, a) (k, a) (sym at)))
+      ap (kept_pairs outlined all) pairs-more
       ∙ filter-append (λ (p : List ℕ × A). all || not (outlined p.1)) (take i es) ((k, a) ∷ [])
 
   -- its key isn't among those before it
-  key_new : lookup (same_key k) (take i es) ≡ None
+  pub key_new : lookup (same_key k) (take i es) ≡ None
   key_new =
       let parts = split_at es i (k, a) at in
       absent_before nat_list_eq_equiv (take i es) parts.0 (k, a) (subst (λ l. IsDistinct same_key (keys_of l)) parts.1 unique)

@@ -19,3 +19,4 @@ pub mod NameLawLemmas
 pub mod VerifierLemmas
 pub mod SuperLemmas
 pub mod PlaceLemmas
+pub mod HashLemmas

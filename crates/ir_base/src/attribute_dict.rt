@@ -1,13 +1,13 @@
 //! Dictionaries of attributes.
-ghost use Rattle.std.specs.Prelude.{◌≡◌, ◌↔◌, ◌&&◌, ◌<◌, [], length, true, not, filter, None, IsTrue, IfOk, IfErr, OnOk, OnErr, option_and_then};
+ghost use Rattle.std.specs.Prelude.{◌≡◌, ◌↔◌, ◌&&◌, ◌<◌, [], length, true, not, filter, None, IsTrue, IfOk, IfErr, OnOk, OnErr, option_and_then, option_map};
 ghost use Rattle.std.specs.Option.{option_copied, option_copied_mut};
 ghost use Rattle.std.specs.List.{IsDistinct};
 ghost use Rattle.std.specs.Map.{keys_of};
 ghost use Rattle.std.specs.Map.Iter.{ShowsInOrder, deref_pair};
 ghost use Rattle.ir_base.specs.declared.error.CoreError.TheVariants.{OutOfMemory};
 ghost use Rattle.ir_base.specs.declared.interfaces.TheConstants.{OUTLINED_ATTRIBUTE};
-ghost use Rattle.ir_base.specs.Attributes.{same_key, attr_at, with_attr, without_key, passing, is_outlined, kept_pairs, same_pairs, AreCopies};
-ghost use Rattle.ir_base.specs.AttributeLaws.{same_pairs-laws, same_pairs-equivalence};
+ghost use Rattle.ir_base.specs.Attributes.{same_key, attr_at, with_attr, without_key, passing, is_outlined, kept_pairs, same_pairs, AreCopies, dict_input, IsNext, is_above, is_below};
+ghost use Rattle.ir_base.specs.AttributeLaws.{same_pairs-laws, same_pairs-equivalence, by_key-equal};
 
 use crate::attribute::{Attribute, attr_impls, attr_should_outline};
 use crate::dialects::Dialects;
@@ -17,6 +17,7 @@ use crate::interfaces::AttrInterfaceMarker;
 use indexmap::IndexMap;
 use indexmap::map::Iter;
 use std::alloc::Global;
+use std::hash::{Hash, Hasher};
 use std::marker::Model;
 
 /// A list of pairs of a key and an attribute, with distinct keys.
@@ -33,6 +34,26 @@ impl<D: Dialects> Model for AttributeDict<D> {
     ghost Value = { List (List ℕ × D.Attr) };
 
     ghost view = { λ d. d.pairs.entries };
+}
+
+// Whether the key is above the bound, where there is one.
+fn is_after(bound: Option<&Identifier>, key: &Identifier) -> bool
+    ensures { result ≡ is_above (option_copied bound.entry) key.now }
+{
+    match bound {
+        Some(bound) => bound < key,
+        None => true,
+    }
+}
+
+// Whether the key is below that of the pair, where there is one.
+fn is_before<V>(key: &Identifier, pair: Option<(&Identifier, &V)>) -> bool
+    ensures { result ≡ is_below key.now (option_map deref_pair pair.entry) }
+{
+    match pair {
+        Some((bound, _)) => key < bound,
+        None => true,
+    }
 }
 
 impl<D: Dialects> AttributeDict<D> {
@@ -134,6 +155,21 @@ impl<D: Dialects> AttributeDict<D> {
         Ok(AttributeDict { pairs })
     }
 
+    // The pair with the least key above this one, or of all where there is none.
+    fn next_pair(&self, after: Option<&Identifier>) -> Option<(&Identifier, &D::Attr)>
+        ensures next { IsNext (option_copied after.entry) self.now (option_map deref_pair result) }
+    {
+        let mut next = None;
+        for place in 0..self.pairs.len() {
+            if let Some((key, attr)) = self.pairs.get_index(place) {
+                if is_after(after, key) && is_before(key, next) {
+                    next = Some((key, attr));
+                }
+            }
+        }
+        next
+    }
+
     /// A dictionary with the same keys in the same order, and equal attributes. `OutOfMemory` where a growth was refused.
     pub fn clone(&self) -> Result<Self, CoreError>
         ensures copies { IfOk result (AreCopies D.Attr.eq self.now) }
@@ -164,4 +200,21 @@ impl<D: Dialects> PartialEq for AttributeDict<D> {
 
 impl<D: Dialects> Eq for AttributeDict<D> {
     ghost laws = { same_pairs-equivalence D.Attr.eq D.Attr.Eq.laws };
+}
+
+/// The number of pairs is hashed, and then the pairs by rising key, so that equal dictionaries hash equally.
+impl<D: Dialects> Hash for AttributeDict<D> {
+    ghost hash_input = { dict_input D.Attr.hash_input };
+
+    ghost respects_eq = { by_key-equal D.Attr.hash_input D.Attr.eq D.Attr.respects_eq };
+
+    fn hash<H: Hasher>(&self, state: &mut H) {
+        self.len().hash(state);
+        let mut last = None;
+        'pairs: while let Some((key, attr)) = self.next_pair(last) {
+            key.hash(state);
+            attr.hash(state);
+            last = Some(key);
+        }
+    }
 }

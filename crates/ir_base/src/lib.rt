@@ -6,6 +6,8 @@ mod arena;
 mod arena_tests;
 pub mod attribute;
 mod attribute_dict;
+#[cfg(test)]
+mod attribute_tests;
 mod dialects;
 mod error;
 mod identifier;
@@ -58,5 +60,7 @@ pub mod laws {
         identifiers_compare_as_texts, identifiers_follow_the_rule, joins_are_identifiers,
         legalised_names_differ, sources_come_back,
     };
-    pub use crate::store_laws::{equal_places_for_equal_values, supers_stay_first};
+    pub use crate::store_laws::{
+        equal_dictionaries_hash_equally, equal_places_for_equal_values, supers_stay_first,
+    };
 }

@@ -1,8 +1,11 @@
-//! Laws about lists of verifiers and stores.
+//! Laws about lists of verifiers, stores and dictionaries.
 ghost use Rattle.std.specs.Prelude.{◌≡◌, ◌↔◌, ℕ, Bool, true, List, nat_eq, All, IsTrue};
 ghost use Rattle.std.specs.List.{list_any};
 ghost use Rattle.ir_model.specs.Edits.{place_of};
+ghost use Rattle.ir_base.specs.Attributes.{same_pairs, dict_input};
 ghost use Rattle.ir_base.specs.VerifierLists.{first_places, joined, SupersFirst};
+
+use crate::dialects::Dialects;
 
 /// Where in each list that is handed in all supers of an item stand before it, they do in the deduplicated list of each owner.
 pub fn supers_stay_first()
@@ -12,4 +15,9 @@ pub fn supers_stay_first()
 /// Two values, of which the first is in the store, have one place exactly where they are equal.
 pub fn equal_places_for_equal_values<T: Eq>()
     ensures { (values : List T) (a b : T) → list_any (λ kept. T.eq kept a) values ≡ true → (place_of T.eq values a ≡ place_of T.eq values b) ↔ IsTrue (T.eq a b) }
+{}
+
+/// Equal dictionaries of attributes hash equally, in whatever order they were filled.
+pub fn equal_dictionaries_hash_equally<D: Dialects>()
+    ensures { (d e : List (List ℕ × D.Attr)) → IsTrue (same_pairs D.Attr.eq d e) → dict_input D.Attr.hash_input d ≡ dict_input D.Attr.hash_input e }
 {}
