@@ -4,6 +4,7 @@ pub mod IdText
 pub mod Forest
 pub mod Nesting
 pub mod Uses
+pub mod Redirect
 pub mod Changes
 pub mod Edits
 pub mod Views
