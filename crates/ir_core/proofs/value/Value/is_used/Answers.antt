@@ -1,0 +1,19 @@
+use Rattle.std.proofs.Common.{◌≡◌, refl, sym, ◌∙◌, ap, subst, true, false, Option, Some, None, slice_get, is_ok, Result, Ok, Err, List, []}
+use Rattle.std.specs.Prelude.{◌↔◌, IsErr, IsTrue}
+use Rattle.ir_model.specs.ContextIds.{context_ids}
+use Rattle.ir_model.specs.Forest.{a_value}
+use Rattle.ir_model.specs.Nesting.{In, IsLiveNamed, numbers_of}
+use Rattle.ir_model.specs.Uses.{AreUses, IsOperandAt, IsUse, Use}
+use Rattle.ir_core.specs.Meaning.{definer_of, use_of, value_of}
+use Rattle.ir_core.specs.State.{State, forest_of, uses_of}
+use Rattle.ir_core.specs.Values.{HasType, IsLiveUse, LacksResult}
+use Rattle.ir_core.proofs.ValueLemmas.{live-result, uses-exact}
+use Rattle.ir_core.proofs.value.Value.is_used.Goals as goal
+
+pub uses-requires : goal.uses-requires
+uses-requires g c =
+    let s : State g.row.D.Denot g.row.D-Attr.Denot g.row.D-TypeKey.Denot g.row.D-TypeBody.Denot g.row.D-Saved.Denot g.row.D-Aux.Denot g.row.D-Loc.Denot = record { ops = c.ctx.inside.ops; regions = c.ctx.inside.regions; types = c.ctx.inside.types; next_value = c.ctx.inside.next_value; next_use = c.ctx.inside.next_use; limits = c.ctx.inside.limits } in
+    live-result s c.args.self.index (subst (λ (x : State g.row.D.Denot g.row.D-Attr.Denot g.row.D-TypeKey.Denot g.row.D-TypeBody.Denot g.row.D-Saved.Denot g.row.D-Aux.Denot g.row.D-Loc.Denot). IsLiveNamed (forest_of x) (a_value (value_of c.args.self.index))) (sym c.ctx.view_is) c.requires)
+
+pub returns : goal.returns
+returns g c = ?
