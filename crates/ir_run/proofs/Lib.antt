@@ -1,0 +1,3 @@
+pub mod SessionLists
+pub mod SessionSteps
+pub mod SessionRuns
