@@ -1,3 +1,0 @@
-pub mod SessionLists
-pub mod SessionSteps
-pub mod SessionRuns
