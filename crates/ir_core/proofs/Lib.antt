@@ -1,0 +1,16 @@
+pub mod EmptyContext
+pub mod RoomLemmas
+pub mod ListReads
+pub mod ArenaCallers
+pub mod LinkLemmas
+pub mod TableReads
+pub mod TableEdits
+pub mod Meanings
+pub mod ChainSteps
+pub mod StoredTypes
+pub mod ValueLemmas
+pub mod Growth
+pub mod Making
+pub mod Made
+pub mod Rooms
+pub mod DistinctTypes

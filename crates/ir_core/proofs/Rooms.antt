@@ -1,0 +1,113 @@
+-- What is left of a count is enough, or isn't.
+use Rattle.std.proofs.Common.{◌≡◌, ◌⊎◌, ℕ, suc, ◌+◌, ◌<◌, ◌≤◌, List, [], ◌∷◌, length, IsTrue, nat_lt, Result, Ok, Err, true≢false, refl, sym, ap, subst, ◌∙◌, inl, inr, arith}
+use Rattle.ir_model.specs.declared.ids.ArenaIndex.{ArenaIndex}
+use Rattle.ir_model.specs.Ids.{Counts, Distinct}
+use Rattle.ir_model.specs.Forest.{Dialect}
+use Rattle.ir_model.specs.Nesting.{In}
+use Rattle.ir_model.specs.Sessions.{Session, Number, HasRoom, LacksRoom, HasNumbers, LacksNumbers, LacksSlots, TakesSlot, live_op, live_block, live_region}
+use Rattle.ir_base.specs.declared.room.Room.{Room}
+use Rattle.ir_core.specs.State.{State, bare}
+use Rattle.std.specs.Result.{IsErrAnd}
+use Rattle.ir_base.specs.declared.error.CoreError.{CoreError}
+use Rattle.ir_base.specs.declared.error.CoreError.TheVariants.{OutOfMemory, CounterSpent, SlotsSpent}
+use Rattle.ir_model.proofs.Nests.{not_in-Absent}
+use Rattle.ir_model.proofs.Entries.{AddsOne, here, later, AddsOne-in}
+use Rattle.ir_core.specs.Calls.{Left, IsRoom}
+use Rattle.ir_core.proofs.RoomLemmas.{Number-below}
+
+module _ {A : Type 0} where
+  without_one : (x : A) (ys : List A) → In x ys → (zs : List A) × AddsOne x zs ys
+  without_one x [] h = absurd h
+  without_one x (y ∷ ys) (inl e) = (ys, subst (λ z. AddsOne x ys (z ∷ ys)) e here)
+  without_one x (y ∷ ys) (inr h) = let more = without_one x ys h in (y ∷ more.0, later more.1)
+
+  length-one_more : {x : A} {zs ys : List A} → AddsOne x zs ys → length ys ≡ suc (length zs)
+  length-one_more here = refl
+  length-one_more (later a) = ap suc (length-one_more a)
+
+  -- a list without repeats is no longer than one that has all its elements
+  length-distinct : (xs ys : List A) → Distinct xs → ((z : A) → In z xs → In z ys) → length xs ≤ length ys
+  length-distinct [] ys d all = omega arith
+  length-distinct (x ∷ xs) ys d all =
+      let rest = without_one x ys (all x (inl refl)) in
+      let fewer = length-distinct xs rest.0 d.1 (λ z h. elim (AddsOne-in z rest.1 (all z (inr h))) [
+        | inl e ↦ absurd (not_in-Absent x xs d.0 (subst (λ y. In y xs) e h))
+        | inr k ↦ k
+      ]) in
+      omega (arith, fewer, length-one_more rest.1)
+
+  -- a number of things is one number
+  Number-unique : (P : A → Type 0) (m n : ℕ) → Number P m → Number P n → m ≡ n
+  Number-unique P m n p q =
+      let up = length-distinct p.0 q.0 p.1 (λ z h. (q.2 z).1 ((p.2 z).0 h)) in
+      let down = length-distinct q.0 p.0 q.1 (λ z h. (p.2 z).1 ((q.2 z).0 h)) in
+      omega (arith, up, down, p.3, q.3)
+
+  pub left-lacks : (count : ℕ) (P : A → Type 0) (left n : ℕ) → Left count P left → left < n → LacksRoom count P n
+  left-lacks count P left n l few = (l.gone, l.number, omega (arith, l.whole, few))
+
+  pub left-has : (count : ℕ) (P : A → Type 0) (left n : ℕ) → Left count P left → n ≤ left → HasRoom count P n
+  left-has count P left n l enough = (l.gone, l.number, omega (arith, l.whole, enough))
+
+  pub lacks-left : (count : ℕ) (P : A → Type 0) (left n : ℕ) → Left count P left → LacksRoom count P n → left < n
+  lacks-left count P left n l h = let same = Number-unique P l.gone h.0 l.number h.1 in omega (arith, l.whole, h.2, same)
+
+  -- none are wanted where none are gone
+  pub lacks-none : (count : ℕ) (P : A → Type 0) → ((x : A) → P x → ⊥) → LacksRoom count P 0 → ⊥
+  lacks-none count P none (gone, (xs, d, all, length_is), few) = by xs (λ x. (all x).0) length_is
+    where
+      by : (xs : List A) → ((x : A) → In x xs → P x) → length xs ≡ gone → ⊥
+      by [] all e = absurd (omega (arith, e, few))
+      by (x ∷ xs) all e = none x (all x (inl refl))
+
+  has-left : (count : ℕ) (P : A → Type 0) (left n : ℕ) → Left count P left → HasRoom count P n → n ≤ left
+  has-left count P left n l h = let same = Number-unique P l.gone h.0 l.number h.1 in omega (arith, l.whole, h.2, same)
+
+module _ {W : Dialect} (s : Session W) (room : Room) (is : IsRoom s room) (n : Counts) where
+  pub lacks-numbers : (room.values < n.numbers) ⊎ (room.uses < n.uses) → LacksNumbers s n
+  lacks-numbers (inl few) = inl (left-lacks s.limits.values (λ m. IsTrue (s.passed.numbers m)) room.values n.numbers is.values few)
+  lacks-numbers (inr few) = inr (left-lacks s.limits.uses (λ m. IsTrue (s.passed.uses m)) room.uses n.uses is.uses few)
+
+  pub has-numbers : n.numbers ≤ room.values → n.uses ≤ room.uses → HasNumbers s n
+  has-numbers values uses = record {
+    values = left-has s.limits.values (λ m. IsTrue (s.passed.numbers m)) room.values n.numbers is.values values;
+    uses = left-has s.limits.uses (λ m. IsTrue (s.passed.uses m)) room.uses n.uses is.uses uses;
+  }
+
+  pub not_lacking : n.numbers ≤ room.values → n.uses ≤ room.uses → LacksNumbers s n → ⊥
+  not_lacking values uses (inl h) = absurd (omega (arith, lacks-left s.limits.values (λ m. IsTrue (s.passed.numbers m)) room.values n.numbers is.values h))
+  not_lacking values uses (inr h) = absurd (omega (arith, lacks-left s.limits.uses (λ m. IsTrue (s.passed.uses m)) room.uses n.uses is.uses h))
+
+  pub not_having : (room.values < n.numbers) ⊎ (room.uses < n.uses) → HasNumbers s n → ⊥
+  not_having (inl few) h = absurd (omega (arith, has-left s.limits.values (λ m. IsTrue (s.passed.numbers m)) room.values n.numbers is.values h.values))
+  not_having (inr few) h = absurd (omega (arith, has-left s.limits.uses (λ m. IsTrue (s.passed.uses m)) room.uses n.uses is.uses h.uses))
+
+  pub lacks-slots : (room.ops < n.ops) ⊎ (room.regions < n.regions) → LacksSlots s n
+  lacks-slots (inl few) = inl (left-lacks s.limits.slots (TakesSlot s.limits s.passed.ops (live_op s.state)) room.ops n.ops is.ops few)
+  lacks-slots (inr few) = inr (inr (left-lacks s.limits.slots (TakesSlot s.limits s.passed.regions (live_region s.state)) room.regions n.regions is.regions few))
+
+  pub slots_enough : n.blocks ≡ 0 → ((i : ArenaIndex) → TakesSlot s.limits s.passed.blocks (live_block s.state) i → ⊥) → n.ops ≤ room.ops → n.regions ≤ room.regions → LacksSlots s n → ⊥
+  slots_enough none no_block ops regions (inl h) = absurd (omega (arith, lacks-left s.limits.slots (TakesSlot s.limits s.passed.ops (live_op s.state)) room.ops n.ops is.ops h))
+  slots_enough none no_block ops regions (inr (inl h)) = lacks-none s.limits.slots (TakesSlot s.limits s.passed.blocks (live_block s.state)) no_block (subst (LacksRoom s.limits.slots (TakesSlot s.limits s.passed.blocks (live_block s.state))) none h)
+  slots_enough none no_block ops regions (inr (inr h)) = absurd (omega (arith, lacks-left s.limits.slots (TakesSlot s.limits s.passed.regions (live_region s.state)) room.regions n.regions is.regions h))
+
+-- no block takes a slot
+pub no_block : {D A K B S X L : Type 0} (s : State D A K B S X L) (i : ArenaIndex) → TakesSlot s.limits (bare s).passed.blocks (live_block (bare s).state) i → ⊥
+no_block s i (inl live) = true≢false (sym live)
+no_block s i (inr h) = true≢false (sym h.0)
+
+-- what is left of the numbers is what is above the next one
+pub left-above : (count next left : ℕ) → Left count (λ n. IsTrue (nat_lt n next)) left → next + left ≡ count
+left-above count next left l = let same = Number-unique (λ n. IsTrue (nat_lt n next)) l.gone next l.number (Number-below next) in omega (arith, l.whole, same)
+
+same_error : {T : Type 0} (x y : CoreError) → ◌≡◌ {A = Result T CoreError} (Err x) (Err y) → x ≡ y
+same_error x y e = cc
+
+-- a refusal for memory is for nothing else
+pub no_counter : {T : Type 0} (r : Result T CoreError) → IsErrAnd r (λ e. e ≡ OutOfMemory) → r ≡ Err CounterSpent → ⊥
+no_counter (Ok y) h e = h
+no_counter {T = T} (Err y) h e = (let k : OutOfMemory ≡ CounterSpent = sym h ∙ same_error {T = T} y CounterSpent e in cc)
+
+pub no_slots : {T : Type 0} (r : Result T CoreError) → IsErrAnd r (λ e. e ≡ OutOfMemory) → r ≡ Err SlotsSpent → ⊥
+no_slots (Ok y) h e = h
+no_slots {T = T} (Err y) h e = (let k : OutOfMemory ≡ SlotsSpent = sym h ∙ same_error {T = T} y SlotsSpent e in cc)

@@ -1,0 +1,32 @@
+use Rattle.std.proofs.Common.{sym, ◌∙◌}
+use Rattle.ir_core.proofs.StoredTypes.{formed-more, places, stores, stores-longer}
+use Rattle.ir_core.proofs.context.Context.instantiate_key.Goals as goal
+
+pub invariant_of-self-2 : goal.invariant_of-self-2
+invariant_of-self-2 g c =
+    let s = c.self.invariant in
+    let more = stores-longer g.row.D-Attr.Denot _ _ g.row.D-Saved.Denot g.row.D-Aux.Denot _ g.D.TypeKey.PartialEq.eq g.D.Dialects.first_body g.D.Dialects.unknown g.D.Dialects.op_impls_of _ c.self.inside.types c.get_or_insert.new.self c.args.key c.in_ok-place.ensures.stored in
+    record {
+      linked = s.linked;
+      own = s.own;
+      parents = s.parents;
+      formed = formed-more _ _ _ more s.formed;
+      values = s.values;
+      uses = s.uses;
+      value_limit = s.value_limit;
+      use_limit = s.use_limit;
+      limits = s.limits;
+      op_slots = s.op_slots;
+      region_slots = s.region_slots;
+    }
+
+pub returns-clause-place : goal.returns-clause-place
+returns-clause-place g c =
+    rw (sym c.self.view_is)
+    (c.at.ensures ∙ c.in_ok-place.ensures.place
+    ∙ places g.row.D-Attr.Denot _ _ g.row.D-Saved.Denot g.row.D-Aux.Denot _ g.D.TypeKey.PartialEq.eq g.D.Dialects.first_body g.D.Dialects.unknown g.D.Dialects.op_impls_of c.self.inside.types c.args.key)
+
+pub returns-clause-types : goal.returns-clause-types
+returns-clause-types g c =
+    rw (sym c.self.view_is)
+    (stores g.row.D-Attr.Denot _ _ g.row.D-Saved.Denot g.row.D-Aux.Denot _ g.D.TypeKey.PartialEq.eq g.D.Dialects.first_body g.D.Dialects.unknown g.D.Dialects.op_impls_of _ g.met.D.Dialects.default_body c.self.inside.types c.get_or_insert.new.self c.args.key c.in_ok-place.ensures.stored)

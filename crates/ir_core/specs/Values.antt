@@ -1,0 +1,45 @@
+-- What queries about values and uses answer.
+use Rattle.std.specs.Prelude.{◌≡◌, ℕ, Option, Some, None}
+use Rattle.ir_model.specs.declared.ids.ArenaIndex.{ArenaIndex}
+use Rattle.ir_model.specs.ContextIds.{context_ids}
+use Rattle.ir_model.specs.Forest.{Dialect, Forest, Value, Definition, an_op, a_block, of_op, of_block}
+use Rattle.ir_model.specs.Nesting.{In, IsLive, definitions_of, numbers_of, operands_of}
+use Rattle.ir_model.specs.Uses.{Use}
+use Rattle.ir_core.specs.declared.record.Definer.{Definer}
+use Rattle.ir_core.specs.declared.record.Definer.TheVariants.{Op, Block}
+
+-- the operation, where an operation defines it
+abbrev pub op_of : Definer → Option ArenaIndex
+op_of (Op o) = Some o
+op_of (Block b) = None
+
+-- the block, where a block defines it
+abbrev pub block_of : Definer → Option ArenaIndex
+block_of (Op o) = None
+block_of (Block b) = Some b
+
+module _ {W : Dialect} where
+  -- a live operation defines the value no longer, or never did
+  pub record LacksResult (f : Forest context_ids W) (v : Value context_ids) : Type 0 where
+    pub op : ArenaIndex
+    pub definer : v.definer ≡ of_op op
+    pub live : IsLive f (an_op op)
+    pub missing : In v.number (numbers_of f v.definer) → ⊥
+
+  -- a live block defines the value no longer, or never did
+  pub record LacksArgument (f : Forest context_ids W) (v : Value context_ids) : Type 0 where
+    pub block : ArenaIndex
+    pub definer : v.definer ≡ of_block block
+    pub live : IsLive f (a_block block)
+    pub missing : In v.number (numbers_of f v.definer) → ⊥
+
+  -- the value has the type at this place
+  pub record HasType (f : Forest context_ids W) (v : Value context_ids) (ty : ℕ) : Type 0 where
+    pub definition : Definition context_ids W
+    pub defined : In definition (definitions_of f v.definer)
+    pub number : definition.number ≡ v.number
+    pub is : definition.ty ≡ ty
+
+  -- an operand of the live user has the use's number
+  abbrev pub IsLiveUse : Forest context_ids W → Use context_ids → Type 0
+  IsLiveUse f u = (v : Value context_ids) × In (record { use_number = u.number; value = v }) (operands_of f u.user)

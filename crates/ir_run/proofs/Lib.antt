@@ -1,0 +1,4 @@
+pub mod SessionLists
+pub mod SessionSteps
+pub mod SessionRuns
+mod LiveUses

@@ -1,0 +1,82 @@
+-- Runs, joined step by step, and what they keep.
+use Rattle.std.proofs.Common.{◌≡◌, refl, ap, subst, ◌∙◌, cond, Bool, true, false, ℕ, zero, suc, List, [], ◌∷◌, ◌++◌, map, Some}
+use Rattle.std.specs.Prelude.{slice_get}
+use Rattle.std.specs.List.{list_any}
+use Rattle.ir_model.specs.declared.answer.Answer.{Answer}
+use Rattle.ir_model.specs.ContextIds.{context_ids}
+use Rattle.ir_model.specs.Forest.{Dialect, Behaviour, Value}
+use Rattle.ir_model.specs.Edits.{Edit as PlainEdit, with_type}
+use Rattle.ir_model.specs.Sessions.{Session, Step, Run, condition, counter, slots, memory, made}
+use Rattle.ir_model.specs.Soundness.{Sound}
+use Rattle.ir_model.proofs.Nests.{In-map}
+use Rattle.ir_run.specs.declared.edit.Edit.{Edit}
+use Rattle.ir_run.specs.declared.edit.Edit.TheVariants.{NewType, NewOp}
+use Rattle.ir_core.specs.Meaning.{closed}
+use Rattle.ir_run.specs.SessionEdits.{edit_of}
+use Rattle.ir_run.specs.Headline.{KeepsKeys, LiveWasMade}
+
+module _ {W : Dialect} (B : Behaviour W) where
+  pub run-more : (edits : List (PlainEdit W)) (s : Session W) (answers : List Answer) (t : Session W) (edit : PlainEdit W) (a : Answer) (u : Session W)
+      → Run B s edits answers t → Step B t edit a u → Run B s (edits ++ edit ∷ []) (answers ++ a ∷ []) u
+  run-more [] s answers t edit a u r st = (
+    a,
+    [],
+    u,
+    ap (λ xs. xs ++ a ∷ []) r.0,
+    (let P : Session W → Type 0 = λ x. Step B x edit a u in subst P r.1 st),
+    (refl, refl),
+  )
+  run-more (e ∷ edits) s answers t edit a u r st = (
+    r.0,
+    r.1 ++ a ∷ [],
+    r.2,
+    ap (λ xs. xs ++ a ∷ []) r.3,
+    r.4,
+    run-more edits r.2 r.1 t edit a u r.5 st,
+  )
+
+-- what is live was handed out
+pub sound_made : {W : Dialect} (s : Session W) → Sound s → LiveWasMade s
+sound_made s k = record {
+  ops = λ i l. k.passed.ops i (k.listed.ops i l);
+  blocks = λ i l. k.passed.blocks i (k.listed.blocks i l);
+  regions = λ i l. k.passed.regions i (k.listed.regions i l);
+  values = λ d n i. (
+      let v : Value context_ids = record { definer = d; number = n } in
+      k.passed.numbers n (In-map (λ (v : Value context_ids). v.number) v s.state.tables.values (k.listed.values v i)));
+  uses = k.passed.uses;
+}
+
+kept_at : {A : Type 0} (xs ys : List A) (k : ℕ) (a : A) → slice_get xs k ≡ Some a → slice_get (xs ++ ys) k ≡ Some a
+kept_at [] ys k a h = absurd (cc)
+kept_at (x ∷ xs) ys zero a h = h
+kept_at (x ∷ xs) ys (suc k) a h = kept_at xs ys k a h
+
+module _ {W : Dialect} where
+  same_store : (s t : Session W) → t.state.store ≡ s.state.store → KeepsKeys s t
+  same_store s t e = record { keys = λ k a h. (a, ap (λ xs. slice_get xs k) e ∙ h, refl) }
+
+  more_store : (B : Behaviour W) (s t : Session W) (key : W.Key) → t.state.store ≡ with_type B s.state.store key → KeepsKeys s t
+  more_store B s t key e = by (list_any (λ x. B.same_key x.key key) s.state.store) refl
+    where
+      by : (b : Bool) → list_any (λ x. B.same_key x.key key) s.state.store ≡ b → KeepsKeys s t
+      by true is = same_store s t (e ∙ ap (λ b. cond b s.state.store (s.state.store ++ record { key = key; body = B.first_body } ∷ [])) is)
+      by false is =
+          let grown : t.state.store ≡ s.state.store ++ record { key = key; body = B.first_body } ∷ [] = e ∙ ap (λ b. cond b s.state.store (s.state.store ++ record { key = key; body = B.first_body } ∷ [])) is in
+          record { keys = λ k a h. (a, ap (λ xs. slice_get xs k) grown ∙ kept_at s.state.store (record { key = key; body = B.first_body } ∷ []) k a h, refl) }
+
+  then_keys : (s t u : Session W) → KeepsKeys s t → KeepsKeys t u → KeepsKeys s u
+  then_keys s t u a b = record { keys = λ k x h. (let y = a.keys k x h in let z = b.keys k y.0 y.1 in (z.0, z.1, z.2 ∙ y.2)) }
+
+module _ {D A K B S X L : Type 0} (behave : Behaviour (closed A K B S X L)) where
+  step_keys : (edit : Edit D A K B S X L) (s t : Session (closed A K B S X L)) (a : Answer) → Step behave s (edit_of edit) a t → KeepsKeys s t
+  step_keys edit s t a (condition c e f) = same_store s t (ap (λ x. x.state.store) f)
+  step_keys edit s t a (counter c n e k) = same_store s t (ap (λ x. x.store) k.state)
+  step_keys edit s t a (slots c n m e k) = same_store s t (ap (λ x. x.store) k.state)
+  step_keys edit s t a (memory c n m x e k) = same_store s t (ap (λ x. x.store) k.state)
+  step_keys (NewType key) s t a (made c n m e k) = more_store behave s t key (ap (λ x. x.store) k.change)
+  step_keys (NewOp kind types operands successors regions) s t a (made c n m e k) = same_store s t (ap (λ x. x.store) k.change.holds)
+
+  pub run_keys : (edits : List (Edit D A K B S X L)) (s t : Session (closed A K B S X L)) (answers : List Answer) → Run behave s (map edit_of edits) answers t → KeepsKeys s t
+  run_keys [] s t answers r = same_store s t (ap (λ x. x.state.store) r.1)
+  run_keys (edit ∷ edits) s t answers r = then_keys s r.2 t (step_keys edit s r.2 r.0 r.4) (run_keys edits r.2 t r.1 r.5)

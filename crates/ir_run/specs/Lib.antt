@@ -1,0 +1,5 @@
+pub mod SessionEdits
+pub mod SessionTables
+pub mod SessionState
+pub mod Headline
+pub mod Toy

@@ -1,0 +1,23 @@
+//! The edits of a session.
+
+use ir_base::Dialects;
+
+/// One edit. It names types, operations and values by their numbers in the session's tables, counted from 0.
+#[derive(Drop)]
+pub enum Edit<D: Dialects> {
+    /// Stores the type with this key, or finds it, and puts it into the table of types. Answers its number there.
+    NewType(D::TypeKey),
+    /// Makes an unlinked operation. It goes into the table of operations, its results in order into that of values, and its regions in order into that of regions. Answers its number in the first.
+    NewOp {
+        /// The kind.
+        kind: u32,
+        /// The types of the results.
+        types: Vec<usize>,
+        /// The values that the operands name.
+        operands: Vec<usize>,
+        /// The blocks that the successors name.
+        successors: Vec<usize>,
+        /// How many regions it has.
+        regions: usize,
+    },
+}

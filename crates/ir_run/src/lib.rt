@@ -1,0 +1,21 @@
+//! Sessions, which carry out lists of edits, the dialect `Toy`, and the reading of scripts.
+#![tactic(auto)]
+
+mod edit;
+mod script_parse;
+mod script_print;
+mod script_run;
+#[cfg(test)]
+mod script_tests;
+mod session;
+mod session_tables;
+mod steps;
+mod toy;
+#[cfg(test)]
+mod toy_tests;
+
+pub use edit::Edit;
+pub use ir_base::{Answer, Refused};
+pub use script_run::run_script;
+pub use session::Session;
+pub use toy::{SIZED_TYPE, Toy, ToyAttr, ToyLoc, ToySaved, ToyType};

@@ -1,0 +1,203 @@
+//! Scripts over memory, with what the program prints for them and its status.
+
+use crate::script_run::run_script;
+use crate::toy::{Toy, ToyType};
+use ir_base::{Answer, Limits};
+use crate::edit::Edit;
+use crate::session::Session;
+use std::alloc::Global;
+use std::io;
+use std::io::{ErrorKind, Read, Write};
+use std::process::Abort;
+use std::str::from_utf8;
+use std::test::Fail;
+
+/// Reads and writes that fail.
+#[derive(Drop)]
+struct Broken;
+
+impl Read for Broken {
+    fn read(&mut self, _buf: &mut [u8]) -> io::Result<usize> {
+        Err(io::Error::from(ErrorKind::BrokenPipe))
+    }
+}
+
+impl Write for Broken {
+    fn write(&mut self, _buf: &[u8]) -> io::Result<usize> {
+        Err(io::Error::from(ErrorKind::BrokenPipe))
+    }
+
+    fn flush(&mut self) -> io::Result<()> {
+        Ok(())
+    }
+}
+
+// Runs a script, and asserts the status and what stands on the output and on the fault's writer. Where memory was refused, that is the error.
+fn expect(
+    rt: &impl Abort,
+    alloc: Global,
+    script: &[u8],
+    status: u8,
+    output: &str,
+    fault: &str,
+) -> Result<(), Fail> {
+    let mut input = script;
+    let mut printed = Vec::new(alloc);
+    let mut told = Vec::new(alloc);
+    let answered = run_script(alloc, &mut input, &mut printed, &mut told);
+    if answered == 1 || is_refused_memory(printed.as_slice()) {
+        return Err("out of memory")?;
+    }
+    assert_eq!(rt; answered, status);
+    assert_eq!(rt; printed.as_slice(), output.as_bytes());
+    assert_eq!(rt; told.as_slice(), fault.as_bytes());
+    Ok(())
+}
+
+// Whether an answer tells that a growth was refused.
+fn is_refused_memory(printed: &[u8]) -> bool {
+    match from_utf8(printed) {
+        Ok(text) => text.contains("refused memory"),
+        Err(_) => false,
+    }
+}
+
+#[test]
+fn two_uses(rt: HostRuntime) -> Result<(), Fail> {
+    let script = b"type 32\nop 0 t0 - - 0\nop 4 t0 v0,v0 - 0\n";
+    let output = "made t0\nmade o0\nmade o1\nv0: o1.0 o1.1\nv1:\n";
+    expect(&rt, rt.alloc(), script, 0, output, "")?;
+    Ok(())
+}
+
+#[test]
+fn script_edges(rt: HostRuntime) -> Result<(), Fail> {
+    expect(&rt, rt.alloc(), b"", 0, "", "")?;
+    expect(
+        &rt,
+        rt.alloc(),
+        b"op 0 t0 - - 0",
+        0,
+        "refused condition\n",
+        "",
+    )?;
+    expect(
+        &rt,
+        rt.alloc(),
+        b"type 32\nfoo",
+        2,
+        "",
+        "line 2: malformed\n",
+    )?;
+    Ok(())
+}
+
+#[test]
+fn script_refused_then_made(rt: HostRuntime) -> Result<(), Fail> {
+    let script = b"op 0 t0 - - 0\ntype 32\nop 0 t0 - - 0";
+    let output = "refused condition\nmade t0\nmade o0\nv0:\n";
+    expect(&rt, rt.alloc(), script, 0, output, "")?;
+    Ok(())
+}
+
+#[test]
+fn script_slots(rt: HostRuntime) -> Result<(), Fail> {
+    let script = b"op 5 - - - 4294967295";
+    expect(&rt, rt.alloc(), script, 0, "refused slots\n", "")?;
+    Ok(())
+}
+
+#[test]
+fn script_lexis(rt: HostRuntime) -> Result<(), Fail> {
+    expect(&rt, rt.alloc(), b"type 4294967295", 0, "made t0\n", "")?;
+    expect(&rt, rt.alloc(), b"type 007", 0, "made t0\n", "")?;
+    let script = b"type 32\r\nop 0 t0 - - 0\r\n";
+    expect(&rt, rt.alloc(), script, 0, "made t0\nmade o0\nv0:\n", "")?;
+    let script = b"# x\n\nfoo\n";
+    expect(&rt, rt.alloc(), script, 2, "", "line 3: malformed\n")?;
+    expect(
+        &rt,
+        rt.alloc(),
+        b"type 1\n\xff\n",
+        2,
+        "",
+        "unreadable input\n",
+    )?;
+    Ok(())
+}
+
+#[test]
+fn script_blanks(rt: HostRuntime) -> Result<(), Fail> {
+    let script = b"# first\n\n   \n\r\n  type   32  \n\n";
+    expect(&rt, rt.alloc(), script, 0, "made t0\n", "")?;
+    expect(&rt, rt.alloc(), b"type 1\r", 2, "", "line 1: malformed\n")?;
+    expect(&rt, rt.alloc(), b" # x\n", 2, "", "line 1: malformed\n")?;
+    Ok(())
+}
+
+#[test]
+fn script_malformed(rt: HostRuntime) -> Result<(), Fail> {
+    let fault = "line 1: malformed\n";
+    expect(&rt, rt.alloc(), b"op 8 - - - 0", 2, "", fault)?;
+    expect(&rt, rt.alloc(), b"type 4294967296", 2, "", fault)?;
+    expect(&rt, rt.alloc(), b"type", 2, "", fault)?;
+    expect(&rt, rt.alloc(), b"type +1", 2, "", fault)?;
+    expect(&rt, rt.alloc(), b"type 1 2", 2, "", fault)?;
+    expect(&rt, rt.alloc(), b"op 0 t0,,t0 - - 0", 2, "", fault)?;
+    expect(&rt, rt.alloc(), b"op 0 - - - 0 x", 2, "", fault)?;
+    expect(&rt, rt.alloc(), b"type\t1", 2, "", fault)?;
+    Ok(())
+}
+
+#[test]
+fn types_again(rt: HostRuntime) -> Result<(), Fail> {
+    let script = b"type 0\ntype 0\nop 0 t1 - - 0";
+    expect(
+        &rt,
+        rt.alloc(),
+        script,
+        0,
+        "made t0\nmade t1\nmade o0\nv0:\n",
+        "",
+    )?;
+    let mut session: Session<Toy> = Session::new(rt.alloc(), Limits::default());
+    let edits = vec![in rt.alloc();
+        Edit::NewType(ToyType::Int { width: 0 }),
+        Edit::NewType(ToyType::Int { width: 0 }),
+    ]?;
+    let answers = session.run(edits)?;
+    assert_eq!(rt;
+        answers.as_slice(),
+        [Answer::Made(0), Answer::Made(1)].as_slice()
+    );
+    assert!(rt; session.ty(0).is_some());
+    assert_eq!(rt; session.ty(0), session.ty(1));
+    Ok(())
+}
+
+#[test]
+fn unwritable_output(rt: HostRuntime) {
+    let mut input = b"type 1".as_slice();
+    let mut told = Vec::new(rt.alloc());
+    let status = run_script(rt.alloc(), &mut input, &mut Broken, &mut told);
+    assert_eq!(rt; status, 3);
+    assert!(rt; told.is_empty());
+}
+
+#[test]
+fn unreadable_input(rt: HostRuntime) {
+    let mut printed = Vec::new(rt.alloc());
+    let mut told = Vec::new(rt.alloc());
+    let status = run_script(rt.alloc(), &mut Broken, &mut printed, &mut told);
+    assert_eq!(rt; status, 2);
+    assert!(rt; printed.is_empty());
+    assert_eq!(rt; told.as_slice(), b"unreadable input\n".as_slice());
+}
+
+#[test]
+fn fault_unwritable(rt: HostRuntime) {
+    let mut input = b"foo".as_slice();
+    let mut printed = Vec::new(rt.alloc());
+    let status = run_script(rt.alloc(), &mut input, &mut printed, &mut Broken);
+    assert_eq!(rt; status, 2);
+}

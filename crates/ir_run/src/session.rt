@@ -1,0 +1,175 @@
+//! Sessions: a context with tables of what was made in it, to which lists of edits are done.
+//!
+//! Whatever list of edits is run, and whichever of them memory, a counter or slots refuse, the context then means a plain forest to which the accepted edits lead.
+
+ghost use Rattle.std.specs.Prelude.{◌≡◌, ◌⊎◌, ◌+◌, ◌<◌, ◌≤◌, ◌↔◌, List, [], length, map, Some, None, Err, IsSome, IfOk, IfErr, OnOk, OnErr, slice_get};
+ghost use Rattle.std.specs.Option.{option_map};
+ghost use Rattle.ir_model.specs.Forest.{a_value};
+ghost use Rattle.ir_model.specs.Nesting.{IsLiveNamed, WellFormed};
+ghost use Rattle.ir_model.specs.Edits.{Condition, NewOp as PlainNewOp, NewType as PlainNewType};
+ghost use Rattle.ir_model.specs.Gone.{StaysGone};
+ghost use Rattle.ir_model.specs.Sessions.{HasNumbers, HasSlots, IsNewSession, LacksNumbers, LacksSlots, Run, Step};
+ghost use Rattle.ir_model.specs.Uses.{AreUses};
+ghost use Rattle.ir_core.specs.Calls.{TypesAreExact, op_needs};
+ghost use Rattle.ir_core.specs.Meaning.{value_of};
+ghost use Rattle.ir_core.specs.State.{bare, behaviour, forest_of, types_of, uses_of};
+ghost use Rattle.ir_core.specs.declared.record.ValueIndex.{ValueIndex as PlainIndex};
+ghost use Rattle.ir_run.specs.SessionEdits.{edit_of};
+ghost use Rattle.ir_run.specs.SessionTables.{answer_of};
+ghost use Rattle.ir_run.specs.Headline.{KeepsKeys, LiveWasMade};
+ghost use Rattle.ir_run.specs.SessionState.{plain};
+
+use ir_core::Context;
+use crate::edit::Edit;
+use ir_core::Operation;
+use ir_core::Region;
+use crate::session_tables::Tables;
+use ir_core::Value;
+use crate::{session_tables, steps};
+use ir_base::{Answer, CoreError, Dialects, Limits, Ptr, Refused, TypeHandle};
+use std::alloc::Global;
+use std::marker::Model;
+
+/// A context, and the types, operations, regions and values that edits made in it, in order. Nothing is ever taken out of these tables.
+#[derive(Drop)]
+pub struct Session<D: Dialects> {
+    ctx: Context<D>,
+    tables: Tables<D>,
+}
+
+impl<D: Dialects> Model for Session<D> {
+    ghost use Rattle.std.specs.Prelude.{map};
+    ghost use Rattle.ir_model.specs.Soundness.{Sound};
+    ghost use Rattle.ir_run.specs.SessionState.{plain, SessionState};
+
+    ghost Value = { SessionState D D.Attr D.TypeKey D.TypeBody D.Saved D.Aux D.Loc };
+
+    ghost view = { λ s. record { ctx = s.ctx; types = map (λ t. t.place) s.tables.types.items; ops = map (λ p. p.index) s.tables.ops.items; regions = map (λ p. p.index) s.tables.regions.items; values = map (λ v. v.index) s.tables.values.items } };
+
+    ghost invariant = { λ s. Sound (plain (record { ctx = s.ctx; types = map (λ t. t.place) s.tables.types.items; ops = map (λ p. p.index) s.tables.ops.items; regions = map (λ p. p.index) s.tables.regions.items; values = map (λ v. v.index) s.tables.values.items })) };
+}
+
+impl<D: Dialects> Session<D> {
+    /// A session in which nothing was made yet, with these limits, none of which passes its default. It allocates nothing.
+    pub fn new(alloc: Global, limits: Limits) -> Self
+        requires slots { limits.slots < 4294967295 }
+        requires versions { 1 ≤ limits.last_version }
+        ensures new { IsNewSession (plain result) }
+        ensures limits { (plain result).limits ≡ limits }
+    {
+        Session {
+            ctx: Context::with_limits(alloc, limits),
+            tables: Tables {
+                types: Vec::new(alloc),
+                ops: Vec::new(alloc),
+                regions: Vec::new(alloc),
+                values: Vec::new(alloc),
+            },
+        }
+    }
+
+    /// The context.
+    pub fn ctx(&self) -> &Context<D>
+        ensures { result.now ≡ self.now.ctx }
+    {
+        &self.ctx
+    }
+
+    /// The type with this number; none where no type has it.
+    pub fn ty(&self, number: usize) -> Option<TypeHandle>
+        ensures { option_map (λ t. t.place) result ≡ slice_get (plain self.now).state.tables.types number }
+    {
+        self.tables.types.get(number).copied()
+    }
+
+    /// The operation with this number, live or not; none where no operation has it.
+    pub fn op(&self, number: usize) -> Option<Ptr<Operation<D>>>
+        ensures { option_map (λ p. p.index) result ≡ slice_get (plain self.now).state.tables.ops number }
+    {
+        self.tables.ops.get(number).copied()
+    }
+
+    /// The region with this number, live or not; none where no region has it.
+    pub fn region(&self, number: usize) -> Option<Ptr<Region>>
+        ensures { option_map (λ p. p.index) result ≡ slice_get (plain self.now).state.tables.regions number }
+    {
+        self.tables.regions.get(number).copied()
+    }
+
+    /// The value with this number, live or not; none where no value has it.
+    pub fn value(&self, number: usize) -> Option<Value<D>>
+        ensures { option_map (λ v. value_of v.index) result ≡ slice_get (plain self.now).state.tables.values number }
+    {
+        self.tables.values.get(number).copied()
+    }
+
+    /// Carries the edits out in order, and answers each.
+    ///
+    /// Whatever the edits are, the session before, the edits, the answers and the session after stand in `Run`; the forest is well formed; each live value's kept uses are exactly the places that name it; what is gone stays gone; and types are equal exactly where their keys are.
+    ///
+    /// # Errors
+    /// `OutOfMemory`, where there was no room for the answers. Then nothing was done.
+    pub fn run(&mut self, edits: Vec<Edit<D>>) -> Result<Vec<Answer>, CoreError>
+        ensures headline { IfOk result (λ answers. Run (behaviour D.TypeKey.eq D.first_body D.unknown D.op_impls_of) (plain self.old) (map edit_of edits.items) answers.items (plain self.new)) }
+        ensures well_formed { WellFormed (plain self.new).state.forest (length (plain self.new).state.store) }
+        ensures uses_exact { (v : PlainIndex) → IsLiveNamed (plain self.new).state.forest (a_value (value_of v)) → AreUses (plain self.new).state.forest (a_value (value_of v)) (uses_of self.new.ctx v) }
+        ensures stays_gone { StaysGone (plain self.old) (plain self.new) }
+        ensures live_was_made { LiveWasMade (plain self.new) }
+        ensures types_exact { TypesAreExact (behaviour D.TypeKey.eq D.first_body D.unknown D.op_impls_of) (plain self.new).state.store }
+        ensures keys_stay { KeepsKeys (plain self.old) (plain self.new) }
+        ensures memory { IfErr result (λ e. e ≡ CoreError.OutOfMemory) }
+        ensures err { OnErr result (self.new ≡ self.old) }
+    {
+        let result = self.carry_out(edits);
+        self.ctx.uses_are_exact();
+        self.ctx.types_are_exact();
+        result
+    }
+
+    // Carries the edits out in order, and answers each.
+    fn carry_out(&mut self, edits: Vec<Edit<D>>) -> Result<Vec<Answer>, CoreError>
+        ensures headline { IfOk result (λ answers. Run (behaviour D.TypeKey.eq D.first_body D.unknown D.op_impls_of) (plain self.old) (map edit_of edits.items) answers.items (plain self.new)) }
+        ensures stays_gone { StaysGone (plain self.old) (plain self.new) }
+        ensures keys_stay { KeepsKeys (plain self.old) (plain self.new) }
+        ensures memory { IfErr result (λ e. e ≡ CoreError.OutOfMemory) }
+        ensures err { OnErr result (self.new ≡ self.old) }
+    {
+        let mut answers = Vec::with_capacity(self.ctx.alloc(), edits.len())?;
+        for edit in edits {
+            let answer = self.step(edit);
+            answers.push_reserved(answer);
+        }
+        Ok(answers)
+    }
+
+    // Carries one edit out.
+    fn step(&mut self, edit: Edit<D>) -> Answer
+        ensures { Step (behaviour D.TypeKey.eq D.first_body D.unknown D.op_impls_of) (plain self.old) (edit_of edit) result (plain self.new) }
+    {
+        match edit {
+            Edit::NewType(key) => steps::new_type(&mut self.ctx, &mut self.tables, key),
+            Edit::NewOp {
+                kind,
+                types,
+                operands,
+                successors,
+                regions,
+            } => {
+                let known = session_tables::all_below(&types, self.tables.types.len());
+                let live = session_tables::all_live(&self.ctx, &self.tables.values, &operands);
+                if known && live && successors.is_empty() {
+                    steps::new_op(
+                        &mut self.ctx,
+                        &mut self.tables,
+                        kind,
+                        &types,
+                        &operands,
+                        regions,
+                    )
+                } else {
+                    Answer::Refused(Refused::Condition)
+                }
+            }
+        }
+    }
+}
