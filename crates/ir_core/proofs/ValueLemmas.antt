@@ -182,6 +182,10 @@ module _ {D A K B S X L : Type 0} (s : State D A K B S X L) where
       let n : u.number ≡ a.number = ap (λ (x : Operand context_ids). x.use_number) (same_Some _ _ (sym h.1 ∙ at)) in
       subst (λ k. In (record { use_number = k; value = value_of a.value }) (operands_of (forest_of s) u.user)) (sym n) (In-place (operands_of (forest_of s) u.user) i (operand_of a) at)
 
+-- a use whose operand stands somewhere is a live one
+pub placed-live : {W : Dialect} (f : Forest context_ids W) (u : Use context_ids) (i : ℕ) → IsOperandAt f u i → IsLiveUse f u
+placed-live f u i h = (h.0, In-place (operands_of f u.user) i (record { use_number = u.number; value = h.0 }) h.1)
+
 -- what a use names is live
 pub use-live : {W : Dialect} (f : Forest context_ids W) (keys : ℕ) (v : Value context_ids) (u : Use context_ids) → WellFormed f keys → IsUse f (a_value v) u → IsLiveNamed f (a_value v)
 use-live f keys v u w h = w.named u.user (a_value v) (In-left (a_value v) (map (λ (p : Operand context_ids). a_value p.value) (operands_of f u.user)) _ (In-map (λ (p : Operand context_ids). a_value p.value) (record { use_number = u.number; value = v }) (operands_of f u.user) h))

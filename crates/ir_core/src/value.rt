@@ -205,6 +205,7 @@ impl<D: Dialects> Use<Value<D>> {
     /// `DanglingPtrDerefError` where the user isn't live, and `OperandNotInUserOp` where the live user has no such operand.
     pub fn try_find_index(self, ctx: &Context<D>) -> Result<usize, IndexErr>
         ensures found { IfOk result (λ index. IsOperandAt (forest_of ctx.now) (use_of self.index) index) }
+        ensures live { IfOk result (λ _. IsLiveUse (forest_of ctx.now) (use_of self.index)) }
         ensures missing { IsErr result → IsLiveUse (forest_of ctx.now) (use_of self.index) → ⊥ }
         ensures dangling { (result ≡ Err (IndexErr.DanglingPtrDerefError (record {}))) ↔ (IsLive (forest_of ctx.now) (an_op self.index.user) → ⊥) }
         ensures no_operand { IsErr result → IsLive (forest_of ctx.now) (an_op self.index.user) → result ≡ Err (IndexErr.UseError UseError.OperandNotInUserOp) }
@@ -224,7 +225,7 @@ impl<D: Dialects> Use<Value<D>> {
         ensures { IsOperandAt (forest_of ctx.now) (use_of self.index) result }
     {
         match self.try_find_index(ctx) {
-            Ok(index) => index,
+            Ok(place) => place,
             Err(_) => unreachable!(),
         }
     }

@@ -1,6 +1,8 @@
 //! Sessions, which carry out lists of edits, the dialect `Toy`, and the reading of scripts.
 #![tactic(auto)]
 
+#[cfg(test)]
+mod core_tests;
 mod edit;
 mod script_parse;
 mod script_print;
@@ -9,6 +11,8 @@ mod script_run;
 mod script_tests;
 mod session;
 mod session_tables;
+#[cfg(test)]
+mod session_tests;
 mod steps;
 mod toy;
 #[cfg(test)]

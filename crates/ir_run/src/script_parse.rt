@@ -16,7 +16,7 @@ const GREATEST_KIND: u32 = 7;
 
 /// Why a script isn't done.
 #[derive(Clone, Copy, Debug, Drop, PartialEq, Eq, Error)]
-pub enum ScriptError {
+pub(crate) enum ScriptError {
     /// There was no memory to read it.
     #[error("out of memory")]
     OutOfMemory,
@@ -55,7 +55,7 @@ impl<T: Drop> From<AllocFailed<T>> for ScriptError {
 
 /// What an accepted edit makes, as the letter of its name.
 #[derive(Clone, Copy, Debug, Drop, PartialEq, Eq)]
-pub enum Letter {
+pub(crate) enum Letter {
     /// A type.
     Type,
     /// An operation.
@@ -73,7 +73,7 @@ impl fmt::Display for Letter {
 
 /// The edits of a script, and for each of them what it makes.
 #[derive(Drop)]
-pub struct Script {
+pub(crate) struct Script {
     /// The edits, in the order of their lines.
     pub edits: Vec<Edit<Toy>>,
     /// The letter for each edit.
@@ -97,7 +97,7 @@ impl From<AllocFailed<usize>> for LineError {
 ///
 /// # Errors
 /// `Malformed` with the first malformed line, and `OutOfMemory` where a growth was refused before one was found.
-pub fn parse_script(alloc: Global, text: &str) -> Result<Script, ScriptError> {
+pub(crate) fn parse_script(alloc: Global, text: &str) -> Result<Script, ScriptError> {
     let mut edits = Vec::new(alloc);
     let mut letters = Vec::new(alloc);
     for (number, line) in (1..u64::MAX).zip(text.split_inclusive('\n')) {

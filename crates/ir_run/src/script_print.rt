@@ -7,7 +7,7 @@ use std::alloc::{AllocError, Global};
 use std::io::{ErrorKind, Read, Write};
 
 // All bytes of the input.
-pub fn read_script<R: Read>(alloc: Global, input: &mut R) -> Result<Vec<u8>, ScriptError> {
+pub(crate) fn read_script<R: Read>(alloc: Global, input: &mut R) -> Result<Vec<u8>, ScriptError> {
     let mut bytes = Vec::new(alloc);
     match input.read_to_end(&mut bytes) {
         Ok(_) => Ok(bytes),
@@ -19,7 +19,7 @@ pub fn read_script<R: Read>(alloc: Global, input: &mut R) -> Result<Vec<u8>, Scr
 }
 
 // Writes the whole text.
-pub fn write_text<W: Write>(output: &mut W, text: &str) -> Result<(), ScriptError> {
+pub(crate) fn write_text<W: Write>(output: &mut W, text: &str) -> Result<(), ScriptError> {
     if output.write_all(text.as_bytes()).is_err() || output.flush().is_err() {
         return Err(ScriptError::Unwritable);
     }
@@ -27,7 +27,7 @@ pub fn write_text<W: Write>(output: &mut W, text: &str) -> Result<(), ScriptErro
 }
 
 // The answers, one a line. The letters say what each edit makes.
-pub fn answers_text(
+pub(crate) fn answers_text(
     alloc: Global,
     letters: &[Letter],
     answers: &[Answer],
@@ -54,7 +54,7 @@ fn refusal_line(refused: Refused) -> &'static str {
 }
 
 // The status that the program ends with: 0 exactly where its script was done. It says why one wasn't, but for output that can't be written.
-pub fn finish<F: Write>(outcome: Result<(), ScriptError>, fault: &mut F) -> u8
+pub(crate) fn finish<F: Write>(outcome: Result<(), ScriptError>, fault: &mut F) -> u8
     ensures bounded { result ≤ 3 }
     ensures done { (result ≡ 0) ↔ IsOk outcome }
 {

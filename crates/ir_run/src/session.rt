@@ -19,14 +19,11 @@ ghost use Rattle.ir_run.specs.SessionTables.{answer_of};
 ghost use Rattle.ir_run.specs.Headline.{KeepsKeys, LiveWasMade};
 ghost use Rattle.ir_run.specs.SessionState.{plain};
 
-use ir_core::Context;
 use crate::edit::Edit;
-use ir_core::Operation;
-use ir_core::Region;
 use crate::session_tables::Tables;
-use ir_core::Value;
 use crate::{session_tables, steps};
 use ir_base::{Answer, CoreError, Dialects, Limits, Ptr, Refused, TypeHandle};
+use ir_core::{Context, Operation, Region, Value};
 use std::alloc::Global;
 use std::marker::Model;
 

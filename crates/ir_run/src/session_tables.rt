@@ -8,11 +8,8 @@ ghost use Rattle.ir_core.specs.Meaning.{op_record, value_of};
 ghost use Rattle.ir_run.specs.SessionTables.{entries_of, with_op, HasPlace};
 ghost use Rattle.ir_core.specs.State.{forest_of};
 
-use ir_core::Context;
-use ir_core::Operation;
-use ir_core::Region;
-use ir_core::Value;
 use ir_base::{Dialects, Ptr, TypeHandle};
+use ir_core::{Context, Operation, Region, Value};
 use std::alloc::{AllocError, Global};
 
 /// The types, operations, regions and values that edits made. Nothing is ever taken out.

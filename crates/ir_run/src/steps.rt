@@ -8,10 +8,9 @@ ghost use Rattle.ir_core.specs.Calls.{op_needs};
 ghost use Rattle.ir_core.specs.State.{bare, behaviour, session_of};
 ghost use Rattle.ir_run.specs.SessionTables.{answer_of, entries_of, HasRoomFor, HasRoomForNothing};
 
-use ir_core::Context;
-use ir_core::{Operation, OperationPtr};
 use crate::session_tables::{Tables, picked};
 use ir_base::{Answer, CoreError, Dialects, Refused};
+use ir_core::{Context, Operation, OperationPtr};
 
 /// Stores the type with this key, or finds it, and enters it.
 pub(crate) fn new_type<D: Dialects>(
