@@ -14,3 +14,5 @@ pub mod Making
 pub mod Made
 pub mod Rooms
 pub mod DistinctTypes
+pub mod ResultUses
+pub mod Parents

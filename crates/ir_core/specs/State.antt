@@ -1,15 +1,19 @@
 -- What a contract sees of a `Context`, and what it means: a forest, a store of types, what has passed, and limits.
 use Rattle.std.specs.Prelude.{ℕ, Bool, false, List, [], map, None, nat_lt}
+use Rattle.std.specs.List.{flat_map}
 use Rattle.std.specs.Option.{option_map}
+use Rattle.ir_model.specs.declared.ids.ArenaIndex.{ArenaIndex}
 use Rattle.ir_model.specs.declared.ids.Limits.{Limits}
 use Rattle.ir_model.specs.ContextIds.{context_ids}
-use Rattle.ir_model.specs.Forest.{Behaviour, Forest}
+use Rattle.ir_model.specs.Forest.{Behaviour, Forest, of_op}
+use Rattle.ir_model.specs.Nesting.{numbers_of}
 use Rattle.ir_model.specs.Edits.{StoredType, Tables}
 use Rattle.ir_model.specs.Sessions.{Passed, Session, Beside}
 use Rattle.ir_model.specs.Uses.{Use}
 use Rattle.ir_base.specs.Arena.{Arena, get, is_passed}
 use Rattle.ir_core.specs.declared.operation.Operation.{Operation}
 use Rattle.ir_core.specs.declared.region.Region.{Region}
+use Rattle.ir_core.specs.declared.record.Definer.TheVariants.{Op}
 use Rattle.ir_core.specs.declared.record.ValueIndex.{ValueIndex}
 use Rattle.ir_core.specs.Table.{uses_at}
 use Rattle.ir_core.specs.Meaning.{closed, op_records, use_of}
@@ -69,3 +73,7 @@ module _ {D A K B S X L : Type 0} where
   -- the kept list of the uses of a value
   abbrev pub uses_of : State D A K B S X L → ValueIndex → List (Use context_ids)
   uses_of s v = map use_of (uses_at s.ops v)
+
+  -- the kept lists of the uses of an operation's results, joined in the order of the results
+  abbrev pub uses_of_results : State D A K B S X L → ArenaIndex → List (Use context_ids)
+  uses_of_results s o = flat_map (λ n. uses_of s (record { definer = Op o; number = n })) (numbers_of (forest_of s) (of_op o))

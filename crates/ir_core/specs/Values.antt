@@ -1,10 +1,11 @@
 -- What queries about values and uses answer.
-use Rattle.std.specs.Prelude.{◌≡◌, ℕ, Option, Some, None}
+use Rattle.std.specs.Prelude.{◌≡◌, ◌↔◌, ℕ, List, Option, Some, None}
 use Rattle.ir_model.specs.declared.ids.ArenaIndex.{ArenaIndex}
 use Rattle.ir_model.specs.ContextIds.{context_ids}
-use Rattle.ir_model.specs.Forest.{Dialect, Forest, Value, Definition, an_op, a_block, of_op, of_block}
+use Rattle.ir_model.specs.Ids.{Distinct}
+use Rattle.ir_model.specs.Forest.{Dialect, Forest, Value, Definition, an_op, a_block, a_value, of_op, of_block}
 use Rattle.ir_model.specs.Nesting.{In, IsLive, definitions_of, numbers_of, operands_of}
-use Rattle.ir_model.specs.Uses.{Use}
+use Rattle.ir_model.specs.Uses.{IsUse, Use}
 use Rattle.ir_core.specs.declared.record.Definer.{Definer}
 use Rattle.ir_core.specs.declared.record.Definer.TheVariants.{Op, Block}
 
@@ -43,3 +44,14 @@ module _ {W : Dialect} where
   -- an operand of the live user has the use's number
   abbrev pub IsLiveUse : Forest context_ids W → Use context_ids → Type 0
   IsLiveUse f u = (v : Value context_ids) × In (record { use_number = u.number; value = v }) (operands_of f u.user)
+
+  -- some result of the operation has the use
+  pub record IsUseOfResult (f : Forest context_ids W) (o : ArenaIndex) (u : Use context_ids) : Type 0 where
+    pub number : ℕ
+    pub result : In number (numbers_of f (of_op o))
+    pub has : IsUse f (a_value (record { definer = of_op o; number = number })) u
+
+  -- the list has exactly the uses of the operation's results, each once
+  pub record AreUsesOfResults (f : Forest context_ids W) (o : ArenaIndex) (uses : List (Use context_ids)) : Type 0 where
+    pub once : Distinct uses
+    pub exact : (u : Use context_ids) → In u uses ↔ IsUseOfResult f o u

@@ -6,12 +6,13 @@ ghost use Rattle.ir_model.specs.Nesting.{IsLive, IsLiveNamed};
 ghost use Rattle.ir_model.specs.Sessions.{HasNumbers, LacksNumbers, LacksSlots};
 ghost use Rattle.ir_core.specs.Calls.{MakesOperation, SkipsAtMost, op_needs};
 ghost use Rattle.ir_core.specs.Meaning.{use_of, value_of};
-ghost use Rattle.ir_core.specs.State.{bare, forest_of, types_of};
+ghost use Rattle.ir_core.specs.State.{bare, forest_of, types_of, uses_of_results};
 
 use crate::basic_block::BasicBlock;
 use crate::context::Context;
 use crate::creation;
 use crate::error::DanglingPtrDerefError;
+use crate::operation_uses::{OperationUses, count_uses, has_any_use};
 use crate::record::{Definer, OperandRecord, ResultRecord, UseIndex, ValueIndex};
 use crate::region::Region;
 use crate::value::{Use, Value};
@@ -167,7 +168,10 @@ impl<D: Dialects> Operation<D> {
 /// What can be asked of the handle of an operation. It stands for pliron's calls of `Ptr<Operation>`.
 pub trait OperationPtr<D: Dialects> {
     ghost use Rattle.ir_model.specs.declared.ids.ArenaIndex.{ArenaIndex};
+    ghost use Rattle.ir_model.specs.ContextIds.{context_ids};
+    ghost use Rattle.ir_model.specs.Uses.{Use as PlainUse};
     ghost use Rattle.ir_core.specs.Calls.{IsOperation};
+    ghost use Rattle.ir_core.specs.Values.{AreUsesOfResults, IsUseOfResult};
 
     ghost index_of: { Self → ArenaIndex };
 
@@ -187,6 +191,25 @@ pub trait OperationPtr<D: Dialects> {
     fn try_deref(self, ctx: &Context<D>) -> Result<&Operation<D>, DanglingPtrDerefError>
         ensures found { IfOk result (λ op. IsOperation (forest_of ctx.now) (index_of self) op.now) }
         ensures dangling { IsErr result ↔ (IsLive (forest_of ctx.now) (an_op (index_of self)) → ⊥) };
+
+    /// Whether a result of the live operation has a use. It stands for pliron's `Operation::has_use`.
+    fn has_use(self, ctx: &Context<D>) -> bool
+        requires { IsLive (forest_of ctx.now) (an_op (index_of self)) }
+        ensures { IsTrue result ↔ ((u : PlainUse context_ids) × IsUseOfResult (forest_of ctx.now) (index_of self) u) };
+
+    /// How many uses the results of the live operation have together. It stands for pliron's `Operation::num_uses`.
+    fn num_uses(self, ctx: &Context<D>) -> usize
+        requires { IsLive (forest_of ctx.now) (an_op (index_of self)) }
+        ensures count { result ≡ length (uses_of_results ctx.now (index_of self)) }
+        ensures exact { AreUsesOfResults (forest_of ctx.now) (index_of self) (uses_of_results ctx.now (index_of self)) };
+
+    /// The uses of all results of the live operation, each once, without taking memory. It stands for pliron's `Operation::uses`.
+    ///
+    /// Those of an earlier result come first. The order among the uses of one result is open, and the same until the context changes.
+    fn uses(self, ctx: &Context<D>) -> OperationUses<'_, D>
+        requires { IsLive (forest_of ctx.now) (an_op (index_of self)) }
+        ensures kept { result ≡ uses_of_results ctx.now (index_of self) }
+        ensures exact { AreUsesOfResults (forest_of ctx.now) (index_of self) (uses_of_results ctx.now (index_of self)) };
 }
 
 impl<D: Dialects> OperationPtr<D> for Ptr<Operation<D>> {
@@ -202,5 +225,17 @@ impl<D: Dialects> OperationPtr<D> for Ptr<Operation<D>> {
 
     fn try_deref(self, ctx: &Context<D>) -> Result<&Operation<D>, DanglingPtrDerefError> {
         ctx.ops.get(self).ok_or(DanglingPtrDerefError)
+    }
+
+    fn has_use(self, ctx: &Context<D>) -> bool {
+        has_any_use(ctx.ops.at(self).results.as_slice())
+    }
+
+    fn num_uses(self, ctx: &Context<D>) -> usize {
+        count_uses(ctx.ops.at(self).results.as_slice())
+    }
+
+    fn uses(self, ctx: &Context<D>) -> OperationUses<'_, D> {
+        OperationUses::of_results(ctx.ops.at(self).results.as_slice())
     }
 }

@@ -1,0 +1,24 @@
+-- The operation that a region knows is the one whose list has it.
+use Rattle.std.proofs.Common.{◌≡◌, sym, ap, subst, ◌∙◌, List, [], Option, Some, is_some}
+use Rattle.std.specs.Prelude.{IsSome}
+use Rattle.std.specs.Option.{option_map}
+use Rattle.std.proofs.lemmas.Option.{same_Some}
+use Rattle.ir_model.specs.declared.ids.ArenaIndex.{ArenaIndex}
+use Rattle.ir_model.specs.Forest.{a_region, an_op}
+use Rattle.ir_model.specs.Nesting.{In, regions_of}
+use Rattle.ir_model.specs.Parent.{IsIn}
+use Rattle.ir_model.proofs.Nests.{In-map}
+use Rattle.ir_base.specs.Arena.{get}
+use Rattle.ir_core.specs.declared.region.Region.{Region}
+use Rattle.ir_core.specs.Sound.{IsSound}
+use Rattle.ir_core.specs.State.{State, forest_of}
+
+abbrev blocks : Region → List ArenaIndex
+blocks r = []
+
+pub region-parent : {D A K B S X L : Type 0} (s : State D A K B S X L) → IsSound s → (g : ArenaIndex) (r : Region) → get s.regions g ≡ Some r → IsIn (forest_of s) (a_region g) (an_op r.parent)
+region-parent s sound g r at =
+    let live : IsSome ((forest_of s).regions g) = ap (λ (m : Option Region). is_some (option_map blocks m)) at in
+    let p = sound.formed.nested.regions_linked g live in
+    let e : p.0 ≡ r.parent = ap (λ (x : Region). x.parent) (same_Some _ _ (sym (sound.parents p.0 g p.1) ∙ at)) in
+    In-map a_region g (regions_of (forest_of s) r.parent) (subst (λ o. In g (regions_of (forest_of s) o)) e p.1)
