@@ -5,8 +5,8 @@ ghost use Rattle.std.specs.Prelude.{◌<◌, ◌≤◌};
 use crate::toy::{Toy, ToyType};
 use ir_base::{ArenaIndex, CoreError, Dialects, Limits, Ptr, Room, TypeHandle};
 use ir_core::{
-    Context, DanglingPtrDerefError, DefiningEntity, IndexErr, Operation, OperationPtr, TypeQueries,
-    Use, UseError, UseIndex, Value, ValueError, ValueIndex,
+    Context, DanglingPtrDerefError, DefiningEntity, IndexErr, Operation, OperationPtr, RegionPtr,
+    TypeQueries, Use, UseError, UseIndex, Value, ValueError, ValueIndex,
 };
 use std::alloc::Global;
 use std::process::Abort;
@@ -70,6 +70,23 @@ fn tell_operations<D: Dialects, A: Abort>(rt: &A, ctx: &Context<D>, made: &TwoUs
         assert!(rt; user.get_operand(1) == made.value);
         assert!(rt; user.get_operand_as_use(0) != user.get_operand_as_use(1));
         assert!(rt; user.get_operand_as_use(1).user_op() == made.user);
+    }
+}
+
+// What the operations tell of the uses of their results.
+fn tell_result_uses<D: Dialects, A: Abort>(rt: &A, ctx: &Context<D>, made: &TwoUses<D>) {
+    assert!(rt; made.maker.is_live(ctx) && made.user.is_live(ctx));
+    if made.maker.is_live(ctx) {
+        assert!(rt; made.maker.has_use(ctx));
+        assert_eq!(rt; made.maker.num_uses(ctx), 2);
+        assert_eq!(rt; made.maker.uses(ctx).count(), 2);
+        for used in made.maker.uses(ctx) {
+            assert!(rt; used.user_op() == made.user);
+        }
+    }
+    if made.user.is_live(ctx) {
+        assert!(rt; !made.user.has_use(ctx));
+        assert_eq!(rt; made.user.num_uses(ctx), 0);
     }
 }
 
@@ -189,6 +206,7 @@ fn tell_all<D: Dialects, A: Abort>(
     };
     assert!(rt; !ctx.is_ir_empty());
     tell_operations(rt, ctx, &made);
+    tell_result_uses(rt, ctx, &made);
     tell_value(rt, ctx, &made)?;
     tell_uses(rt, ctx, &made)?;
     tell_strangers(rt, ctx, &made);
@@ -206,14 +224,19 @@ fn operations_values_and_uses(rt: HostRuntime) -> Result<(), Fail> {
 
 // Makes an operation with two regions, and asks it for them.
 fn tell_regions<D: Dialects, A: Abort>(rt: &A, ctx: &mut Context<D>) -> Result<(), CoreError> {
-    let op = Operation::new(ctx, 7, &[], &[], &[], 2)?;
-    let Ok(op) = op.try_deref(ctx) else {
+    let made = Operation::new(ctx, 7, &[], &[], &[], 2)?;
+    let Ok(op) = made.try_deref(ctx) else {
         assert!(rt; false);
         return Ok(());
     };
     assert_eq!(rt; op.num_regions(), 2);
     if op.num_regions() == 2 {
-        assert!(rt; op.get_region(0) != op.get_region(1));
+        let region = op.get_region(1);
+        assert!(rt; op.get_region(0) != region);
+        assert!(rt; region.is_live(ctx));
+        if region.is_live(ctx) {
+            assert!(rt; region.get_parent_op(ctx) == made);
+        }
     }
     let _loc = op.loc();
     assert_eq!(rt; ctx.room().regions, u32::MAX - 3);
