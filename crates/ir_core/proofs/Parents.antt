@@ -13,6 +13,7 @@ use Rattle.ir_core.specs.declared.region.Region.{Region}
 use Rattle.ir_core.specs.Sound.{IsSound}
 use Rattle.ir_core.specs.State.{State, forest_of}
 
+-- a region has no blocks yet
 abbrev blocks : Region → List ArenaIndex
 blocks r = []
 

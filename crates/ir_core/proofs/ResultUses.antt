@@ -174,13 +174,13 @@ module _ {D A K B S X L : Type 0} (s : State D A K B S X L) (sound : IsSound s) 
 -- some result has a use exactly where the joined list has one
 joined-any : (rs : List ResultRecord) → list_any (λ (r : ResultRecord). not (length r.uses == 0)) rs ≡ true → (u : UseIndex) × In u (flat_map (λ (r : ResultRecord). r.uses) rs)
 joined-any [] h = absurd (cc)
-joined-any (r ∷ rs) h = by r.uses refl
+joined-any (r ∷ rs) h = by r.uses refl (joined-any rs)
   where
-    by : (us : List UseIndex) → r.uses ≡ us → (u : UseIndex) × In u (flat_map (λ (x : ResultRecord). x.uses) (r ∷ rs))
-    by [] e =
-        let more = joined-any rs (subst (λ us. (not (length us == 0) || list_any (λ (x : ResultRecord). not (length x.uses == 0)) rs) ≡ true) e h) in
+    by : (us : List UseIndex) → r.uses ≡ us → (list_any (λ (x : ResultRecord). not (length x.uses == 0)) rs ≡ true → (u : UseIndex) × In u (flat_map (λ (x : ResultRecord). x.uses) rs)) → (u : UseIndex) × In u (flat_map (λ (x : ResultRecord). x.uses) (r ∷ rs))
+    by [] e rest =
+        let more = rest (subst (λ us. (not (length us == 0) || list_any (λ (x : ResultRecord). not (length x.uses == 0)) rs) ≡ true) e h) in
         (more.0, In-right more.0 r.uses (flat_map (λ (x : ResultRecord). x.uses) rs) more.1)
-    by (u ∷ us) e = (u, In-left u r.uses (flat_map (λ (x : ResultRecord). x.uses) rs) (subst (In u) (sym e) (inl refl)))
+    by (u ∷ us) e rest = (u, In-left u r.uses (flat_map (λ (x : ResultRecord). x.uses) rs) (subst (In u) (sym e) (inl refl)))
 
 any-joined : (rs : List ResultRecord) (u : UseIndex) → In u (flat_map (λ (r : ResultRecord). r.uses) rs) → list_any (λ (r : ResultRecord). not (length r.uses == 0)) rs ≡ true
 any-joined [] u h = elim h [ ]

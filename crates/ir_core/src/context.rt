@@ -142,6 +142,13 @@ impl<D: Dialects> Context<D> {
         let _value = self.next_value;
     }
 
+    // What holds of every context: the number of the next use fits its type.
+    pub(crate) fn use_numbers_fit(&self)
+        ensures { self.now.next_use < 2 ^ 64 }
+    {
+        let _value = self.next_use;
+    }
+
     /// What holds of every context: types are equal exactly where their keys are.
     pub fn types_are_exact(&self)
         ensures { TypesAreExact (behaviour D.TypeKey.eq D.first_body D.unknown D.op_impls_of) (types_of self.now) }

@@ -232,6 +232,7 @@ impl<D: Dialects> OperationPtr<D> for Ptr<Operation<D>> {
     }
 
     fn num_uses(self, ctx: &Context<D>) -> usize {
+        ctx.use_numbers_fit();
         count_uses(ctx.ops.at(self).results.as_slice())
     }
 
