@@ -66,27 +66,35 @@ module _ {W : Dialect} (f : Forest context_ids W) where
     pub uses : (d : Named context_ids) (us vs : List (Use context_ids)) → AreUses f d us → AreUses f d vs → length us ≡ length vs
 
 module _ (W : Dialect) where
+  -- in every well-formed forest what is found by searching is found one way
   abbrev pub SearchesAgree : Type 0
   SearchesAgree = (f : Forest context_ids W) (keys : ℕ) → WellFormed f keys → AnswersAreOne f
 
+  -- in every well-formed forest what is unlinked and put back leaves the forest as it was
   abbrev pub UnlinkedGoesBack : Type 0
   UnlinkedGoesBack = (f : Forest context_ids W) (keys : ℕ) → WellFormed f keys → GoesBack f
 
+  -- in every well-formed forest a value that is replaced by another one leaves it all its uses
   abbrev pub ReplacedTakesUses : Type 0
   ReplacedTakesUses = (f : Forest context_ids W) (keys : ℕ) (old new : Value context_ids) → WellFormed f keys → old ≢ new → TakesUses f (redirect f old new) (a_value old) (a_value new)
 
+  -- in every well-formed forest a block that is retargeted to another one leaves it all its uses
   abbrev pub RetargetedTakesUses : Type 0
   RetargetedTakesUses = (f : Forest context_ids W) (keys : ℕ) (old new : ArenaIndex) → WellFormed f keys → old ≢ new → TakesUses f (retarget f old new) (the_block old) (the_block new)
 
+  -- in every well-formed forest unique names tell what they name
   abbrev pub UniqueNamesTell : Type 0
   UniqueNamesTell = (f : Forest context_ids W) (keys : ℕ) → WellFormed f keys → NamesTell f
 
+  -- in every well-formed forest in which terminators alone name successors, successors and predecessors agree
   abbrev pub SuccessorsMeetPredecessors : Behaviour W → Type 0
   SuccessorsMeetPredecessors B = (f : Forest context_ids W) (keys : ℕ) → WellFormed f keys → OnlyTerminatorsBranch f B → EdgesMeet f B
 
+  -- every removal tells what it leaves
   abbrev pub RemovalIsOne : Type 0
   RemovalIsOne = (f g : Forest context_ids W) (e : Entity context_ids) → Removes f e g → RemovalTells f e g
 
+  -- in every forest the number of entities inside one is determined
   abbrev pub SubtreeSizeIsOne : Type 0
   SubtreeSizeIsOne = (f : Forest context_ids W) (e : Entity context_ids) → SizeIsOne f e
 

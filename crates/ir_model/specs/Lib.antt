@@ -15,7 +15,6 @@ pub mod NamesDead
 pub mod Uniquing
 pub mod StepLaws
 pub mod OneOfEach
-pub mod Arena
 pub mod Parent
 pub mod BlockGraph
 pub mod Subtree
