@@ -1,5 +1,5 @@
 -- Laws that speak of the definitions alone.
-use Rattle.std.specs.Prelude.{◌≡◌, ◌≢◌, ◌↔◌, ℕ, ◌+◌, ◌<◌, ◌^◌, List, ◌∷◌, length, Some, Option}
+use Rattle.std.specs.Prelude.{◌≡◌, ◌≢◌, ◌↔◌, ℕ, ◌+◌, ◌<◌, ◌^◌, List, ◌∷◌, map, length, Some, Option}
 use Rattle.ir_model.specs.declared.ids.ArenaIndex.{ArenaIndex}
 use Rattle.ir_model.specs.ContextIds.{context_ids, same_id}
 use Rattle.ir_model.specs.Forest.{Text, Dialect, Behaviour, Forest, Value, Entity, an_op, a_block, Named, a_value, the_block, owner}
@@ -102,3 +102,13 @@ module _ (W : Dialect) where
 abbrev pub SourcesApart : Type 0
 SourcesApart = (counter : ℕ) (calls : List (Text × Text)) (s : Given) → Run (nothing_given counter) calls s
     → (source other name : Text) → name_of s source ≡ Some name → name_of s other ≡ Some name → source ≡ other
+
+-- what one legaliser gives is settled by the sources and their order, and so is what it is afterwards
+abbrev pub CallsSettle : Type 0
+CallsSettle = (counter : ℕ) (calls others : List (Text × Text)) (s t : Given) → map (λ call. call.0) calls ≡ map (λ call. call.0) others
+    → Run (nothing_given counter) calls s → Run (nothing_given counter) others t → (calls ≡ others) × (s ≡ t)
+
+-- each identifier that was given is that of its source, and of no other
+abbrev pub NamesLeadBack : Type 0
+NamesLeadBack = (counter : ℕ) (calls : List (Text × Text)) (s : Given) (call : Text × Text) (source : Text)
+    → Run (nothing_given counter) calls s → In call calls → (name_of s source ≡ Some call.1) ↔ (source ≡ call.0)

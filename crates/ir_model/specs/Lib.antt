@@ -26,6 +26,7 @@ pub mod Dead
 pub mod Identifier
 pub mod Legaliser
 pub mod SmallForests
+pub mod IdForests
 pub mod WorkedRows
 pub mod NamedRows
 pub mod FaultRows
