@@ -1,6 +1,7 @@
 pub mod Ids
 pub mod ContextIds
 pub mod IdText
+pub mod RefusalText
 pub mod Forest
 pub mod Nesting
 pub mod Uses

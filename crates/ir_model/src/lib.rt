@@ -13,6 +13,8 @@ mod definition_laws;
 mod definition_laws_tests;
 mod examples;
 mod ids;
+#[cfg(test)]
+mod ids_tests;
 mod laws;
 #[cfg(test)]
 mod laws_tests;
