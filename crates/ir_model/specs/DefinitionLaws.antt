@@ -1,14 +1,15 @@
 -- Laws that speak of the definitions alone.
-use Rattle.std.specs.Prelude.{◌≡◌, ◌≢◌, ◌↔◌, ℕ, ◌+◌, ◌<◌, ◌^◌, List, ◌∷◌, map, length, Some, Option}
+use Rattle.std.specs.Prelude.{◌≡◌, ◌≢◌, ◌↔◌, ℕ, ◌+◌, ◌<◌, ◌^◌, Bool, IsTrue, List, ◌∷◌, map, length, Some, Option}
 use Rattle.ir_model.specs.declared.ids.ArenaIndex.{ArenaIndex}
 use Rattle.ir_model.specs.ContextIds.{context_ids, same_id}
 use Rattle.ir_model.specs.Forest.{Text, Dialect, Behaviour, Forest, Value, Entity, an_op, a_block, Named, a_value, the_block, owner}
-use Rattle.ir_model.specs.Nesting.{In, Inside, IsClosed, WellFormed, ops_of, blocks_of}
+use Rattle.ir_model.specs.Nesting.{In, Inside, IsClosed, WellFormed, ops_of, blocks_of, names_of}
+use Rattle.ir_model.specs.Redirect.{redirect_uses, retarget_uses}
 use Rattle.ir_model.specs.Changes.{without, put_after, in_blocks, in_regions, on_block, on_region, on_ops, redirect, retarget, Removes}
 use Rattle.ir_model.specs.Uses.{Use, IsUse, AreUses}
 use Rattle.ir_model.specs.Parent.{ComesAfter, first_of, IsParent, IsNext, IsPrevious, IsIndex}
 use Rattle.ir_model.specs.BlockGraph.{succs, targets_of, terminator, ArePredecessors}
-use Rattle.ir_model.specs.Subtree.{ListsSubtree}
+use Rattle.ir_model.specs.Subtree.{DefinedInside, ListsSubtree}
 use Rattle.ir_model.specs.Legaliser.{Given, nothing_given, name_of, Run}
 use Rattle.ir_model.specs.Names.{IsValueName, IsBlockName}
 
@@ -28,6 +29,15 @@ module _ {W : Dialect} (f : Forest context_ids W) where
   pub record TakesUses (g : Forest context_ids W) (old new : Named context_ids) : Type 0 where
     pub none : (u : Use context_ids) → IsUse g old u → ⊥
     pub all : (us vs ws : List (Use context_ids)) → AreUses f old us → AreUses f new vs → AreUses g new ws → length ws ≡ length us + length vs
+
+  -- to redirect the uses of a set that has exactly those of the old definition is to redirect all that names it
+  pub record RedirectsAll : Type 0 where
+    pub values : (old new : Value context_ids) (set : Use context_ids → Bool) → ((u : Use context_ids) → IsTrue (set u) ↔ IsUse f (a_value old) u) → redirect_uses f set new ≡ redirect f old new
+    pub blocks : (old new : ArenaIndex) (set : Use context_ids → Bool) → ((u : Use context_ids) → IsTrue (set u) ↔ IsUse f (the_block old) u) → retarget_uses f set new ≡ retarget f old new
+
+  -- e is closed exactly where each operation that names a definition inside e is inside e
+  abbrev pub ClosedTells : Type 0
+  ClosedTells = (e : Entity context_ids) → IsClosed f e ↔ ((o : ArenaIndex) (d : Named context_ids) → In d (names_of f o) → DefinedInside f e d → Inside f e (an_op o))
 
   -- equal unique names of values, or of blocks, are names of one, and no value and block share a name
   pub record NamesTell : Type 0 where
@@ -81,6 +91,14 @@ module _ (W : Dialect) where
   -- in every well-formed forest a block that is retargeted to another one leaves it all its uses
   abbrev pub RetargetedTakesUses : Type 0
   RetargetedTakesUses = (f : Forest context_ids W) (keys : ℕ) (old new : ArenaIndex) → WellFormed f keys → old ≢ new → TakesUses f (retarget f old new) (the_block old) (the_block new)
+
+  -- in every well-formed forest redirecting by uses agrees with redirecting by names
+  abbrev pub AllUsesAreRedirected : Type 0
+  AllUsesAreRedirected = (f : Forest context_ids W) (keys : ℕ) → WellFormed f keys → RedirectsAll f
+
+  -- in every well-formed forest an entity is closed where its definitions are named inside it alone
+  abbrev pub ClosedByDefinitions : Type 0
+  ClosedByDefinitions = (f : Forest context_ids W) (keys : ℕ) → WellFormed f keys → ClosedTells f
 
   -- in every well-formed forest unique names tell what they name
   abbrev pub UniqueNamesTell : Type 0

@@ -21,7 +21,7 @@ mod laws_tests;
 
 pub use answer::{Answer, Refused};
 pub use definition_laws::{
-    removal_is_one, replaced_takes_uses, retargeted_takes_uses, searches_agree, sources_apart,
+    all_uses_are_redirected, closed_by_definitions, removal_is_one, replaced_takes_uses, retargeted_takes_uses, searches_agree, sources_apart,
     subtree_size_is_one, successors_meet_predecessors, unique_names_tell, unlinked_goes_back,
 };
 pub use examples::worked_rows;
