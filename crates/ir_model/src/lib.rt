@@ -13,14 +13,17 @@ mod definition_laws;
 mod definition_laws_tests;
 mod examples;
 mod ids;
+#[cfg(test)]
+mod ids_tests;
 mod laws;
 #[cfg(test)]
 mod laws_tests;
 
 pub use answer::{Answer, Refused};
 pub use definition_laws::{
-    removal_is_one, replaced_takes_uses, retargeted_takes_uses, searches_agree, sources_apart,
-    subtree_size_is_one, successors_meet_predecessors, unique_names_tell, unlinked_goes_back,
+    all_uses_are_redirected, closed_by_definitions, removal_is_one, replaced_takes_uses,
+    retargeted_takes_uses, searches_agree, sources_apart, subtree_size_is_one,
+    successors_meet_predecessors, unique_names_tell, unlinked_goes_back,
 };
 pub use examples::worked_rows;
 pub use ids::{ArenaIndex, Limits};
