@@ -5,6 +5,7 @@ ghost use Rattle.ir_base.specs.Arena.{get, fill, room, IsNew};
 ghost use Rattle.ir_model.specs.declared.ids.ArenaIndex.{ArenaIndex as Index};
 
 use super::{Arena, ArenaIndex, CoreError, Ptr, Room, Seq};
+use std::alloc::Global;
 use std::hash::{BuildHasher, BuildHasherDefault, FoldHasher};
 use std::test::Fail;
 
@@ -107,24 +108,42 @@ fn make(roots: &mut Arena<Root>) -> Result<Ptr<Root>, CoreError> {
     })
 }
 
+// Stores such a root, and answers its place.
+fn make_at(roots: &mut Arena<Root>) -> Result<ArenaIndex, CoreError> {
+    Ok(make(roots)?.index())
+}
+
+// Whether a root was there to be removed.
+fn free(roots: &mut Arena<Root>, root: Ptr<Root>) -> bool {
+    roots.remove(root).is_some()
+}
+
+// How many more roots there can be, and how many are live.
+fn room_and_len(roots: &Arena<Root>) -> (u32, usize) {
+    (roots.room(), roots.len())
+}
+
+// Whether nothing is left of a handle.
+fn is_gone(roots: &mut Arena<Root>, root: Ptr<Root>) -> bool {
+    !roots.is_live(root) && roots.get(root).is_none() && roots.get_mut(root).is_none()
+}
+
 #[test]
 fn room_follows_each_change(rt: HostRuntime) -> Result<(), Fail> {
     let mut roots = Arena::new(rt.alloc(), 2, 3);
-    assert_eq!(rt; roots.room(), 2);
+    let mut passed = Vec::new(rt.alloc());
     assert!(rt; roots.is_empty());
-    let first = make(&mut roots)?;
-    assert_eq!(rt; roots.room(), 1);
-    roots.remove(first);
-    assert_eq!(rt; roots.room(), 2);
-    let second = make(&mut roots)?;
-    assert_eq!(rt; roots.room(), 1);
-    roots.remove(second);
-    assert_eq!(rt; roots.room(), 1);
-    make(&mut roots)?;
-    assert_eq!(rt; roots.room(), 0);
-    assert_eq!(rt; roots.len(), 1);
-    assert!(rt; !roots.is_live(first));
-    assert!(rt; !roots.is_live(second));
+    assert_eq!(rt; room_and_len(&roots), (2, 0));
+    for (after_making, after_removing) in [(1, 2), (1, 1), (0, 1)] {
+        let root = make(&mut roots)?;
+        assert_eq!(rt; room_and_len(&roots), (after_making, 1));
+        assert!(rt; free(&mut roots, root));
+        assert_eq!(rt; room_and_len(&roots), (after_removing, 0));
+        passed.push(root)?;
+    }
+    for root in &passed {
+        assert!(rt; is_gone(&mut roots, *root));
+    }
     Ok(())
 }
 
@@ -134,16 +153,16 @@ fn a_slot_ends_with_its_last_version(rt: HostRuntime) -> Result<(), Fail> {
         let mut roots = Arena::new(rt.alloc(), 1, last_version);
         for _ in 0..times {
             let root = make(&mut roots)?;
-            assert!(rt; roots.remove(root).is_some());
+            assert!(rt; free(&mut roots, root));
         }
         assert_eq!(rt;
-            make(&mut roots).err(),
-            Some(CoreError::SlotsSpent),
+            make_at(&mut roots),
+            Err(CoreError::SlotsSpent),
             "last version {last_version}"
         );
     }
     let mut none = Arena::new(rt.alloc(), 0, 1);
-    assert_eq!(rt; make(&mut none).err(), Some(CoreError::SlotsSpent));
+    assert_eq!(rt; make_at(&mut none), Err(CoreError::SlotsSpent));
     Ok(())
 }
 
@@ -154,15 +173,12 @@ fn versions_go_up_by_two(rt: HostRuntime) -> Result<(), Fail> {
     for k in 0..1000u32 {
         let root = make(&mut roots)?;
         let version = 2 * k + 1;
-        assert_eq!(rt;
-            format!(in rt.alloc(); "{}", root.index())?,
-            format!(in rt.alloc(); "1v{version}")?
-        );
-        roots.remove(root);
+        assert_eq!(rt; root.index(), ArenaIndex { slot: 1, version });
+        assert!(rt; free(&mut roots, root));
         passed.push(root)?;
     }
     for root in &passed {
-        assert!(rt; !roots.is_live(*root));
+        assert!(rt; is_gone(&mut roots, *root));
     }
     Ok(())
 }
@@ -173,47 +189,136 @@ fn the_slot_freed_last_is_used_first(rt: HostRuntime) -> Result<(), Fail> {
     let a = make(&mut roots)?;
     let b = make(&mut roots)?;
     let c = make(&mut roots)?;
-    roots.remove(a);
-    roots.remove(c);
+    assert!(rt; free(&mut roots, a));
+    assert!(rt; free(&mut roots, c));
     for (slot, version) in [(3, 3), (1, 3), (4, 1)] {
-        assert_eq!(rt; make(&mut roots)?.index(), ArenaIndex { slot, version });
+        assert_eq!(rt; make_at(&mut roots)?, ArenaIndex { slot, version });
     }
     assert!(rt; roots.is_live(b));
     Ok(())
 }
 
 #[test]
-fn records_are_read_and_written(rt: HostRuntime) -> Result<(), Fail> {
-    let mut pair = Pair {
-        knots: Arena::new(rt.alloc(), 4, 9),
-        roots: Arena::new(rt.alloc(), 4, 9),
+fn places_print_with_their_versions(rt: HostRuntime) -> Result<(), Fail> {
+    let place = ArenaIndex {
+        slot: 1,
+        version: 1999,
     };
-    let mut links = Seq::new(rt.alloc());
+    assert_eq!(rt; format!(in rt.alloc(); "{place}")?.as_str(), "1v1999");
+    Ok(())
+}
+
+#[test]
+fn refused_insertion_changes_nothing(rt: HostRuntime) -> Result<(), Fail> {
+    let mut roots = Arena::new(rt.alloc(), 40, 9);
+    for slot in 1..=40u32 {
+        let place = ArenaIndex { slot, version: 1 };
+        let answer = make_at(&mut roots);
+        if answer != Ok(place) {
+            assert_eq!(rt; answer, Err(CoreError::OutOfMemory));
+            assert_eq!(rt; room_and_len(&roots), (41 - slot, slot as usize - 1));
+            assert!(rt; !roots.is_live(Ptr::from_index(place)));
+            assert_eq!(rt; make_at(&mut roots)?, place);
+        }
+        answer?;
+    }
+    Ok(())
+}
+
+/// Two knots, and a root of each.
+#[derive(Drop)]
+struct Filled {
+    pair: Pair,
+    knot: Ptr<Knot>,
+    other: Ptr<Knot>,
+    root: Ptr<Root>,
+    more: Ptr<Root>,
+}
+
+// The first knot has one link, and the other none and the place of the first.
+fn fill_pair(alloc: Global) -> Result<Filled, CoreError> {
+    let mut pair = Pair {
+        knots: Arena::new(alloc, 4, 9),
+        roots: Arena::new(alloc, 4, 9),
+    };
+    let mut links = Seq::new(alloc);
     links.push(ArenaIndex {
         slot: 7,
         version: 1,
     })?;
     let knot = insert_knot(&mut pair.knots, links)?;
     let made = Knot {
-        links: Seq::new(rt.alloc()),
+        links: Seq::new(alloc),
         me: knot.index(),
     };
     let other = insert_made(&mut pair.knots, made)?;
-    assert!(rt; knot != other);
-    assert_eq!(rt; pair.knots.get(knot).map_or(0, |k| k.links.len()), 1);
-    assert_eq!(rt; pair.knots.get(other).map(|k| k.me), Some(knot.index()));
     let root = insert_root(&mut pair, knot)?;
     let more = insert_root(&mut pair, other)?;
-    set_count(&mut pair, root, 5);
-    assert_eq!(rt; pair.roots.get(root).map(|r| r.count), Some(5));
-    set_two(&mut pair, root, more, 6);
-    assert_eq!(rt; pair.roots.get(more).map(|r| r.count), Some(6));
+    Ok(Filled {
+        pair,
+        knot,
+        other,
+        root,
+        more,
+    })
+}
+
+// How many links a knot has, and its place as it knows it.
+fn read_knot(knots: &Arena<Knot>, knot: Ptr<Knot>) -> Option<(usize, ArenaIndex)> {
+    let record = knots.get(knot)?;
+    Some((record.links.len(), record.me))
+}
+
+// What a root names, and its count.
+fn read_root(roots: &Arena<Root>, root: Ptr<Root>) -> Option<(Option<ArenaIndex>, u32)> {
+    let record = roots.get(root)?;
+    Some((record.first, record.count))
+}
+
+// Reads the count of a live root in the place of which the handle is known, and writes the next.
+fn count_on(roots: &mut Arena<Root>, root: Ptr<Root>) -> u32 {
+    if !roots.is_live(root) {
+        return 0;
+    }
+    let count = roots.at(root).count;
+    roots.at_mut(root).count = count.saturating_add(1);
+    count
+}
+
+#[test]
+fn records_are_read(rt: HostRuntime) -> Result<(), Fail> {
+    let filled = fill_pair(rt.alloc())?;
+    let place = filled.knot.index();
+    let knots = &filled.pair.knots;
+    assert!(rt; filled.knot != filled.other);
+    assert_eq!(rt; read_knot(knots, filled.knot), Some((1, place)));
+    assert_eq!(rt; read_knot(knots, filled.other), Some((0, place)));
+    let roots = &filled.pair.roots;
+    assert_eq!(rt; read_root(roots, filled.root), Some((Some(place), 1)));
     assert_eq!(rt;
-        pair.roots.get(more).and_then(|r| r.first),
-        Some(other.index())
+        read_root(roots, filled.more),
+        Some((Some(filled.other.index()), 1))
     );
+    Ok(())
+}
+
+#[test]
+fn records_are_written(rt: HostRuntime) -> Result<(), Fail> {
+    let Filled {
+        mut pair,
+        knot,
+        other: _,
+        root,
+        more,
+    } = fill_pair(rt.alloc())?;
+    set_count(&mut pair, root, 5);
+    assert_eq!(rt; read_root(&pair.roots, root), Some((Some(knot.index()), 5)));
+    set_two(&mut pair, root, more, 6);
+    assert_eq!(rt; count_on(&mut pair.roots, root), 6);
+    assert_eq!(rt; count_on(&mut pair.roots, more), 6);
+    assert_eq!(rt; count_on(&mut pair.roots, more), 7);
     assert!(rt; remove_twice(&mut pair.roots, root));
-    assert!(rt; pair.roots.get_mut(root).is_none());
+    assert!(rt; is_gone(&mut pair.roots, root));
     assert_eq!(rt; pair.roots.len(), 1);
     Ok(())
 }

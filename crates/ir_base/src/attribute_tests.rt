@@ -336,35 +336,58 @@ fn number_of(value: u64) -> Int {
     }
 }
 
+// One of four identifiers.
+fn key_at(place: usize) -> Identifier {
+    match place {
+        0 => Identifier::new("a"),
+        1 => Identifier::new("b"),
+        2 => Identifier::new("c"),
+        _ => Identifier::new("d"),
+    }
+}
+
+fn put<T: Attribute<Small>>(
+    dict: &mut AttributeDict<Small>,
+    place: usize,
+    value: T,
+) -> Result<(), CoreError> {
+    dict.set(key_at(place), value)
+}
+
 // Three attributes: a letter at `a`, an outlined one at `b` and a number at `c`.
 fn three(alloc: Global) -> Result<AttributeDict<Small>, CoreError> {
     let mut dict = AttributeDict::new(alloc);
-    dict.set(Identifier::new("a"), Text { letter: 1 })?;
-    dict.set(Identifier::new("b"), Outlined { letter: 2 })?;
-    dict.set(Identifier::new("c"), number_of(5))?;
+    put(&mut dict, 0, Text { letter: 1 })?;
+    put(&mut dict, 1, Outlined { letter: 2 })?;
+    put(&mut dict, 2, number_of(5))?;
     Ok(dict)
 }
 
 // A number at `a` and a letter at `b`.
 fn number_first(alloc: Global) -> Result<AttributeDict<Small>, CoreError> {
     let mut dict = AttributeDict::new(alloc);
-    dict.set(Identifier::new("a"), number_of(1))?;
-    dict.set(Identifier::new("b"), Text { letter: 1 })?;
+    put(&mut dict, 0, number_of(1))?;
+    put(&mut dict, 1, Text { letter: 1 })?;
     Ok(dict)
 }
 
 // The same, filled in the other order.
 fn letter_first(alloc: Global) -> Result<AttributeDict<Small>, CoreError> {
     let mut dict = AttributeDict::new(alloc);
-    dict.set(Identifier::new("b"), Text { letter: 1 })?;
-    dict.set(Identifier::new("a"), number_of(1))?;
+    put(&mut dict, 1, Text { letter: 1 })?;
+    put(&mut dict, 0, number_of(1))?;
     Ok(dict)
 }
 
-// Whether the keys are `a` and `c`, in this order.
-fn has_first_and_last(dict: &AttributeDict<Small>) -> bool {
+// Whether the keys are these, in this order, by each way to count them.
+fn has_keys(dict: &AttributeDict<Small>, keys: &[&str]) -> bool {
     let mut pairs = dict.iter();
-    is_at(pairs.next(), "a") && is_at(pairs.next(), "c") && pairs.next().is_none()
+    for key in keys {
+        if !is_at(pairs.next(), key) {
+            return false;
+        }
+    }
+    pairs.next().is_none() && dict.len() == keys.len() && dict.is_empty() == keys.is_empty()
 }
 
 // Whether there is a pair, at this key.
@@ -375,20 +398,48 @@ fn is_at(pair: Option<(&Identifier, &SmallAttr)>, key: &str) -> bool {
     }
 }
 
-#[test]
-fn equal_in_any_order(rt: HostRuntime) -> Result<(), Fail> {
-    let one = number_first(rt.alloc())?;
-    let mut other = letter_first(rt.alloc())?;
-    assert!(rt; one == other);
-    other.set(Identifier::new("a"), number_of(2))?;
-    assert!(rt; one != other);
-    Ok(())
+fn are_equal(one: &AttributeDict<Small>, other: &AttributeDict<Small>) -> bool {
+    one == other
+}
+
+// Whether a copy has the same pairs.
+fn copies(dict: &AttributeDict<Small>) -> Result<bool, CoreError> {
+    Ok(dict.clone()? == *dict)
+}
+
+// A copy without what is to be outlined.
+fn copy_kept(dict: &AttributeDict<Small>) -> Result<AttributeDict<Small>, CoreError> {
+    dict.clone_skip_outlined()
+}
+
+fn take(dict: &mut AttributeDict<Small>, place: usize) -> Option<SmallAttr> {
+    dict.remove(&key_at(place))
+}
+
+// The number at a key, where there is one.
+fn number_at(dict: &AttributeDict<Small>, place: usize) -> Option<u64> {
+    Some(dict.get::<Int>(&key_at(place))?.value)
+}
+
+// Whether the attribute at a key is typed.
+fn is_typed(dict: &AttributeDict<Small>, place: usize) -> bool {
+    dict.get_as::<TypedAttrInterface>(&key_at(place)).is_some()
 }
 
 fn hash_of(dict: &AttributeDict<Small>) -> u64 {
     let mut state = DefaultHasher::new();
     dict.hash(&mut state);
     state.finish()
+}
+
+#[test]
+fn equal_in_any_order(rt: HostRuntime) -> Result<(), Fail> {
+    let one = number_first(rt.alloc())?;
+    let mut other = letter_first(rt.alloc())?;
+    assert!(rt; are_equal(&one, &other));
+    put(&mut other, 0, number_of(2))?;
+    assert!(rt; !are_equal(&one, &other));
+    Ok(())
 }
 
 #[test]
@@ -403,46 +454,70 @@ fn hashes_of_equal_dictionaries(rt: HostRuntime) -> Result<(), Fail> {
 #[test]
 fn copies_of_dictionaries(rt: HostRuntime) -> Result<(), Fail> {
     let dict = three(rt.alloc())?;
-    assert!(rt; dict.clone()? == dict);
-    let kept = dict.clone_skip_outlined()?;
-    assert!(rt; has_first_and_last(&kept));
+    assert!(rt; has_keys(&dict, &["a", "b", "c"]));
+    assert!(rt; copies(&dict)?);
+    assert!(rt; has_keys(&copy_kept(&dict)?, &["a", "c"]));
     Ok(())
 }
 
 #[test]
 fn removals(rt: HostRuntime) -> Result<(), Fail> {
-    let empty: AttributeDict<Small> = AttributeDict::new(rt.alloc());
-    assert!(rt; empty.is_empty());
+    assert!(rt; has_keys(&AttributeDict::new(rt.alloc()), &[]));
     let mut dict = three(rt.alloc())?;
-    let taken = dict.remove(&Identifier::new("b"));
-    assert_eq!(rt; taken, Some(SmallAttr::Hidden(Outlined { letter: 2 })));
-    assert_eq!(rt; dict.len(), 2);
-    assert!(rt; has_first_and_last(&dict));
+    let hidden = SmallAttr::Hidden(Outlined { letter: 2 });
+    assert_eq!(rt; take(&mut dict, 1), Some(hidden));
+    assert!(rt; has_keys(&dict, &["a", "c"]));
     Ok(())
 }
 
 #[test]
 fn attributes_by_interface(rt: HostRuntime) -> Result<(), Fail> {
     let dict = three(rt.alloc())?;
-    assert!(rt;
-        dict.get_as::<TypedAttrInterface>(&Identifier::new("c"))
-            .is_some()
-    );
-    assert!(rt;
-        dict.get_as::<TypedAttrInterface>(&Identifier::new("a"))
-            .is_none()
-    );
+    assert!(rt; is_typed(&dict, 2));
+    assert!(rt; !is_typed(&dict, 0));
     Ok(())
+}
+
+// Writes the number at a key, where there is one.
+fn write_number(dict: &mut AttributeDict<Small>, place: usize, value: u64) {
+    if let Some(number) = dict.get_mut::<Int>(&key_at(place)) {
+        number.value = value;
+    }
 }
 
 #[test]
 fn values_of_attributes(rt: HostRuntime) -> Result<(), Fail> {
     let mut dict = three(rt.alloc())?;
-    assert!(rt; dict.get::<Int>(&Identifier::new("a")).is_none());
-    if let Some(number) = dict.get_mut::<Int>(&Identifier::new("c")) {
-        number.value = 7;
+    assert_eq!(rt; number_at(&dict, 0), None);
+    assert_eq!(rt; number_at(&dict, 2), Some(5));
+    write_number(&mut dict, 2, 7);
+    assert_eq!(rt; number_at(&dict, 2), Some(7));
+    Ok(())
+}
+
+// Whether the keys up to a place have their numbers, and no others are there.
+fn counts_to(dict: &AttributeDict<Small>, end: usize) -> bool {
+    for place in 0..end {
+        if number_at(dict, place) != Some(place as u64) {
+            return false;
+        }
     }
-    assert!(rt; dict.get::<Int>(&Identifier::new("c")) == Some(&number_of(7)));
+    dict.len() == end && number_at(dict, end).is_none()
+}
+
+#[test]
+fn refused_set_changes_nothing(rt: HostRuntime) -> Result<(), Fail> {
+    let mut dict = AttributeDict::new(rt.alloc());
+    for place in 0..4usize {
+        let answer = put(&mut dict, place, number_of(place as u64));
+        if answer.is_err() {
+            assert!(rt; counts_to(&dict, place));
+            put(&mut dict, place, number_of(place as u64))?;
+        }
+        assert!(rt; dict.len() == place + 1);
+        answer?;
+    }
+    assert_eq!(rt; put(&mut dict, 3, number_of(3)), Ok(()));
     Ok(())
 }
 
@@ -466,12 +541,16 @@ fn handles_and_locations(rt: HostRuntime) -> Result<(), Fail> {
     Ok(())
 }
 
+// Whether the id of outlined attributes prints as this text, asked for by its type and by a value.
+fn is_outlined_id(alloc: Global, text: &str) -> Result<bool, CoreError> {
+    let id = Outlined::get_attr_id_static(alloc)?;
+    let same = Outlined { letter: 1 }.get_attr_id(alloc)?;
+    let printed = format!(in alloc; "{id}")?;
+    Ok(id == same && printed.as_str() == text)
+}
+
 #[test]
 fn ids_of_attributes(rt: HostRuntime) -> Result<(), Fail> {
-    let id = Outlined::get_attr_id_static(rt.alloc())?;
-    let same = Outlined { letter: 1 }.get_attr_id(rt.alloc())?;
-    assert!(rt; id == same);
-    let text = format!(in rt.alloc(); "{id}")?;
-    assert_eq!(rt; text.as_str(), "toy.outlined");
+    assert!(rt; is_outlined_id(rt.alloc(), "toy.outlined")?);
     Ok(())
 }

@@ -287,7 +287,7 @@ impl fmt::Display for Identifier {
 
 impl fmt::Debug for Identifier {
     fn fmt<W: fmt::Write>(&self, f: &mut fmt::Formatter<W>) -> fmt::Result {
-        f.write_str(self.as_str())
+        f.write_str(Identifier::as_str(self))
     }
 }
 

@@ -10,6 +10,8 @@ mod attribute_dict;
 mod attribute_tests;
 mod dialects;
 mod error;
+#[cfg(test)]
+mod error_tests;
 mod identifier;
 pub mod interfaces;
 mod legaliser;

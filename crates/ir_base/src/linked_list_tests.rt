@@ -13,7 +13,7 @@ use crate::list_laws::{
     links_are_neighbours, lists_are_one, lists_hold_nodes, node_changes_keep_lists,
 };
 use crate::{Arena, ArenaIndex, CoreError, Ptr};
-use std::alloc::{AllocError, Global};
+use std::alloc::Global;
 use std::marker::Model;
 use std::test::Fail;
 
@@ -297,26 +297,32 @@ impl<T: LinkedList, C: ContainsLinkedList<T>> Lists<T, C> {
         true
     }
 
-    // The nodes of a container in order, and none where it is dead.
-    fn forward(&self, alloc: Global, container: Ptr<C>) -> Result<Vec<ArenaIndex>, AllocError> {
-        let mut found = Vec::new(alloc);
-        if self.containers.is_live(container) {
-            for node in iter(&self.nodes, &self.containers, container) {
-                found.push(node.index)?;
+    // Whether the container's list is this one from both ends, and each of its nodes names the container. It is not where the container is dead.
+    fn is_list(&self, container: Ptr<C>, expected: &[Ptr<T>]) -> bool {
+        if !self.containers.is_live(container) {
+            return false;
+        }
+        let mut forward = iter(&self.nodes, &self.containers, container);
+        let mut backward = iter(&self.nodes, &self.containers, container);
+        for node in expected {
+            if forward.next() != Some(*node) || !self.is_within(*node, container) {
+                return false;
             }
         }
-        Ok(found)
+        for node in expected.iter().rev() {
+            if backward.next_back() != Some(*node) {
+                return false;
+            }
+        }
+        forward.next().is_none() && backward.next_back().is_none()
     }
 
-    // The nodes of a container from the last to the first, and none where it is dead.
-    fn backward(&self, alloc: Global, container: Ptr<C>) -> Result<Vec<ArenaIndex>, AllocError> {
-        let mut found = Vec::new(alloc);
-        if self.containers.is_live(container) {
-            for node in iter(&self.nodes, &self.containers, container).rev() {
-                found.push(node.index)?;
-            }
+    // Whether a live node names the container.
+    fn is_within(&self, node: Ptr<T>, container: Ptr<C>) -> bool {
+        match self.nodes.get(node) {
+            Some(record) => record.get_container() == Some(container.index),
+            None => false,
         }
-        Ok(found)
     }
 }
 
@@ -360,48 +366,6 @@ type Nodes = Lists<Node, Part>;
 /// Parts in the lists of roots.
 type Parts = Lists<Part, Root>;
 
-/// Whether the container's list is this one from both ends, and each of its nodes names the container. It is not where memory is refused.
-fn is_list<T: LinkedList, C: ContainsLinkedList<T>>(
-    lists: &Lists<T, C>,
-    alloc: Global,
-    container: Ptr<C>,
-    expected: &[Ptr<T>],
-) -> bool {
-    match compare_list(lists, alloc, container, expected) {
-        Ok(same) => same,
-        Err(_) => false,
-    }
-}
-
-fn compare_list<T: LinkedList, C: ContainsLinkedList<T>>(
-    lists: &Lists<T, C>,
-    alloc: Global,
-    container: Ptr<C>,
-    expected: &[Ptr<T>],
-) -> Result<bool, AllocError> {
-    let mut forward = Vec::new(alloc);
-    for node in expected {
-        forward.push(node.index)?;
-    }
-    let mut backward = Vec::new(alloc);
-    for node in expected.iter().rev() {
-        backward.push(node.index)?;
-    }
-    for node in expected {
-        match lists.nodes.get(*node) {
-            Some(record) => {
-                if record.get_container() != Some(container.index) {
-                    return Ok(false);
-                }
-            }
-            None => return Ok(false),
-        }
-    }
-    let found = lists.forward(alloc, container)?;
-    let found_backward = lists.backward(alloc, container)?;
-    Ok(found.as_slice() == forward.as_slice() && found_backward.as_slice() == backward.as_slice())
-}
-
 /// Whether the links of a live node are empty.
 fn has_no_links(nodes: &Arena<Node>, node: Ptr<Node>) -> bool {
     match nodes.get(node) {
@@ -418,6 +382,11 @@ fn payload_of(nodes: &Arena<Node>, node: Ptr<Node>) -> Option<u64> {
 /// What a live part has beside its links and ends.
 fn name_of(parts: &Arena<Part>, part: Ptr<Part>) -> Option<u64> {
     Some(parts.get(part)?.name)
+}
+
+/// What a live root has beside its ends.
+fn root_name_of(roots: &Arena<Root>, root: Ptr<Root>) -> Option<u64> {
+    Some(roots.get(root)?.name)
 }
 
 /// Two parts with the names 7 and 8, and four nodes with the payloads 1 to 4, all unlinked.
@@ -459,10 +428,10 @@ fn list_inserts(rt: HostRuntime) -> Result<(), Fail> {
     assert!(rt; lists.put_front(n1, root));
     assert!(rt; lists.put_after(n2, n1));
     assert!(rt; lists.put_after(n4, n2));
-    assert!(rt; is_list(&lists, rt.alloc(), root, &[n1, n2, n4]));
+    assert!(rt; lists.is_list(root, &[n1, n2, n4]));
     assert!(rt; !is_linked(&lists.nodes, n3));
     assert!(rt; lists.put_before(n3, n1));
-    assert!(rt; is_list(&lists, rt.alloc(), root, &[n3, n1, n2, n4]));
+    assert!(rt; lists.is_list(root, &[n3, n1, n2, n4]));
     Ok(())
 }
 
@@ -501,13 +470,13 @@ fn list_unlinks(rt: HostRuntime) -> Result<(), Fail> {
     assert!(rt; lists.put_back(n1, root));
     assert!(rt; lists.put_back(n4, root));
     assert!(rt; lists.put_before(n2, n4));
-    assert!(rt; is_list(&lists, rt.alloc(), root, &[n1, n2, n4]));
+    assert!(rt; lists.is_list(root, &[n1, n2, n4]));
     assert!(rt; lists.take_out(n2));
-    assert!(rt; is_list(&lists, rt.alloc(), root, &[n1, n4]));
+    assert!(rt; lists.is_list(root, &[n1, n4]));
     assert!(rt; lists.take_out(n1));
-    assert!(rt; is_list(&lists, rt.alloc(), root, &[n4]));
+    assert!(rt; lists.is_list(root, &[n4]));
     assert!(rt; lists.take_out(n4));
-    assert!(rt; is_list(&lists, rt.alloc(), root, &[]));
+    assert!(rt; lists.is_list(root, &[]));
     assert!(rt; has_no_links(&lists.nodes, n1));
     assert!(rt; has_no_links(&lists.nodes, n2));
     assert!(rt; has_no_links(&lists.nodes, n4));
@@ -530,7 +499,7 @@ fn list_conditions(rt: HostRuntime) -> Result<(), Fail> {
     assert!(rt; !lists.put_before(n2, n3));
     assert!(rt; !lists.put_after(n1, n1));
     assert!(rt; !lists.append(root, root));
-    assert!(rt; is_list(&lists, rt.alloc(), root, &[n1]));
+    assert!(rt; lists.is_list(root, &[n1]));
     Ok(())
 }
 
@@ -545,8 +514,8 @@ fn list_append(rt: HostRuntime) -> Result<(), Fail> {
     assert!(rt; lists.put_all(&[n1, n2], donee));
     assert!(rt; lists.put_all(&[n3, n4], donor));
     assert!(rt; lists.append(donee, donor));
-    assert!(rt; is_list(&lists, rt.alloc(), donee, &[n1, n2, n3, n4]));
-    assert!(rt; is_list(&lists, rt.alloc(), donor, &[]));
+    assert!(rt; lists.is_list(donee, &[n1, n2, n3, n4]));
+    assert!(rt; lists.is_list(donor, &[]));
     assert_eq!(rt; payload_of(&lists.nodes, n3), Some(3));
     assert_eq!(rt; name_of(&lists.containers, donee), Some(7));
     assert_eq!(rt; name_of(&lists.containers, donor), Some(8));
@@ -562,12 +531,12 @@ fn list_append_to_nothing(rt: HostRuntime) -> Result<(), Fail> {
         nodes: [n1, _, _, _],
     } = Fixture::new(rt.alloc())?;
     assert!(rt; lists.append(donee, donor));
-    assert!(rt; is_list(&lists, rt.alloc(), donee, &[]));
-    assert!(rt; is_list(&lists, rt.alloc(), donor, &[]));
+    assert!(rt; lists.is_list(donee, &[]));
+    assert!(rt; lists.is_list(donor, &[]));
     assert!(rt; lists.put_back(n1, donor));
     assert!(rt; lists.append(donee, donor));
-    assert!(rt; is_list(&lists, rt.alloc(), donee, &[n1]));
-    assert!(rt; is_list(&lists, rt.alloc(), donor, &[]));
+    assert!(rt; lists.is_list(donee, &[n1]));
+    assert!(rt; lists.is_list(donor, &[]));
     Ok(())
 }
 
@@ -582,10 +551,10 @@ fn list_append_then_unlink(rt: HostRuntime) -> Result<(), Fail> {
     assert!(rt; lists.put_all(&[n1, n2, n3], donee));
     assert!(rt; lists.put_back(n4, donor));
     assert!(rt; lists.append(donee, donor));
-    assert!(rt; is_list(&lists, rt.alloc(), donee, &[n1, n2, n3, n4]));
+    assert!(rt; lists.is_list(donee, &[n1, n2, n3, n4]));
     assert!(rt; lists.take_out(n3));
     assert!(rt; lists.take_out(n4));
-    assert!(rt; is_list(&lists, rt.alloc(), donee, &[n1, n2]));
+    assert!(rt; lists.is_list(donee, &[n1, n2]));
     Ok(())
 }
 
@@ -598,8 +567,8 @@ fn list_of_lists(rt: HostRuntime) -> Result<(), Fail> {
     let second = parts.add_node(a_part(8))?;
     assert!(rt; parts.put_back(second, root));
     assert!(rt; parts.put_before(first, second));
-    assert!(rt; is_list(&parts, rt.alloc(), root, &[first, second]));
-    assert_eq!(rt; parts.containers.get(root).ok_or("dead")?.name, 9);
+    assert!(rt; parts.is_list(root, &[first, second]));
+    assert_eq!(rt; root_name_of(&parts.containers, root), Some(9));
     assert_eq!(rt; name_of(&parts.nodes, first), Some(7));
     assert_eq!(rt; name_of(&parts.nodes, second), Some(8));
     Ok(())

@@ -1,10 +1,12 @@
 //! Verifiers of one owner are joined and kept once, and double dictionary keys are told by their places.
 ghost use Rattle.ir_base.specs.Identifier.{IsIdentifier};
 
+use crate::error::CoreError;
 use crate::identifier::Identifier;
 use crate::verifier_lists::{
     DictKeyId, DuplicateKey, collect_deduped_interface_verifiers, verify_dict_keys,
 };
+use std::alloc::Global;
 use std::test::Fail;
 
 fn key(name: &'static str, line: u32) -> DictKeyId
@@ -18,58 +20,78 @@ fn key(name: &'static str, line: u32) -> DictKeyId
     }
 }
 
+/// An owner and verifiers of it.
+type Entry<'a> = (u32, &'a [u32]);
+
+// Whether the entries are collected into these.
+fn collects(
+    alloc: Global,
+    entries: &[Entry<'_>],
+    expected: &[Entry<'_>],
+) -> Result<bool, CoreError> {
+    let mut owned = Vec::new(alloc);
+    for (owner, verifiers) in entries {
+        owned.push((*owner, verifiers.to_vec(alloc)?))?;
+    }
+    let lists = collect_deduped_interface_verifiers(alloc, owned.as_slice())?;
+    Ok(are_lists(lists.as_slice(), expected))
+}
+
+fn are_lists(lists: &[(u32, Vec<u32>)], expected: &[Entry<'_>]) -> bool {
+    if lists.len() != expected.len() {
+        return false;
+    }
+    for (place, (owner, verifiers)) in lists.iter().enumerate() {
+        match expected.get(place) {
+            Some((wanted, numbers)) => {
+                if owner != wanted || verifiers.as_slice() != *numbers {
+                    return false;
+                }
+            }
+            None => return false,
+        }
+    }
+    true
+}
+
 #[test]
 fn verifier_lists_and_keys(rt: HostRuntime) -> Result<(), Fail> {
-    let alloc = rt.alloc();
-    let entries = [
-        (7, [1, 2].to_vec(alloc)?),
-        (7, [1, 3].to_vec(alloc)?),
-        (7, [2, 4].to_vec(alloc)?),
-    ];
-    let lists = collect_deduped_interface_verifiers(alloc, &entries)?;
-    assert_eq!(rt; lists.len(), 1);
-    let (owner, verifiers) = &lists[0];
-    assert_eq!(rt; *owner, 7);
-    assert_eq!(rt; verifiers.as_slice(), [1, 2, 3, 4].as_slice());
+    let entries: [Entry<'_>; 3] = [(7, &[1, 2]), (7, &[1, 3]), (7, &[2, 4])];
+    assert!(rt; collects(rt.alloc(), &entries, &[(7, &[1, 2, 3, 4])])?);
     let keys = [key("a", 1), key("b", 2), key("a", 3), key("b", 4)];
-    let found = verify_dict_keys(&keys);
-    assert_eq!(rt;
-        found,
-        Err(DuplicateKey {
-            first: 0,
-            second: 2
-        })
-    );
-    let different = [key("b", 2), key("a", 3)];
-    assert_eq!(rt; verify_dict_keys(&different), Ok(()));
-    assert_eq!(rt; keys[0].clone()?, keys[0]);
-    assert_ne!(rt; keys[0], keys[2]);
-    let text = format!(in alloc;
-        "{}",
-        DuplicateKey {
-            first: 0,
-            second: 2
-        }
-    )?;
-    assert_eq!(rt; text.as_str(), "Duplicate dictionary key at places 0 and 2");
+    let double = DuplicateKey {
+        first: 0,
+        second: 2,
+    };
+    assert_eq!(rt; verify_dict_keys(&keys), Err(double));
     Ok(())
 }
 
 #[test]
 fn owners_in_the_order_of_their_first_entry(rt: HostRuntime) -> Result<(), Fail> {
-    let alloc = rt.alloc();
-    let entries = [
-        (9, [5].to_vec(alloc)?),
-        (2, [5, 5].to_vec(alloc)?),
-        (9, [4, 5].to_vec(alloc)?),
-    ];
-    let lists = collect_deduped_interface_verifiers(alloc, &entries)?;
-    assert_eq!(rt; lists.len(), 2);
-    let (first, of_first) = &lists[0];
-    let (second, of_second) = &lists[1];
-    assert_eq!(rt; *first, 9);
-    assert_eq!(rt; of_first.as_slice(), [5, 4].as_slice());
-    assert_eq!(rt; *second, 2);
-    assert_eq!(rt; of_second.as_slice(), [5].as_slice());
+    let entries: [Entry<'_>; 3] = [(9, &[5]), (2, &[5, 5]), (9, &[4, 5])];
+    assert!(rt; collects(rt.alloc(), &entries, &[(9, &[5, 4]), (2, &[5])])?);
+    Ok(())
+}
+
+#[test]
+fn different_keys(rt: HostRuntime) -> Result<(), Fail> {
+    let one = key("a", 1);
+    let copy = one.clone()?;
+    assert!(rt; copy == one);
+    assert!(rt; one != key("a", 3));
+    let keys = [key("b", 2), one];
+    assert_eq!(rt; verify_dict_keys(&keys), Ok(()));
+    Ok(())
+}
+
+#[test]
+fn double_keys_print_their_places(rt: HostRuntime) -> Result<(), Fail> {
+    let double = DuplicateKey {
+        first: 0,
+        second: 2,
+    };
+    let text = format!(in rt.alloc(); "{double}")?;
+    assert_eq!(rt; text.as_str(), "Duplicate dictionary key at places 0 and 2");
     Ok(())
 }

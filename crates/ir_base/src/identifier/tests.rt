@@ -1,5 +1,5 @@
 // Worked identifiers, and each call with ample memory.
-use crate::{IdentErr, Identifier, MalformedIdentifierErr, ident};
+use crate::{CoreError, IdentErr, Identifier, MalformedIdentifierErr, ident};
 use std::alloc::{AllocError, Global};
 use std::collections::HashMap;
 use std::test::Fail;
@@ -22,31 +22,61 @@ fn identifier_order(rt: HostRuntime) {
     assert!(rt; !Identifier::is_valid("1b"));
 }
 
+// Whether the two joined are this text.
+fn joins(
+    alloc: Global,
+    first: &Identifier,
+    second: &Identifier,
+    text: &str,
+) -> Result<bool, CoreError> {
+    Ok(first.join(alloc, second)?.as_str() == text)
+}
+
 #[test]
 fn identifier_join(rt: HostRuntime) -> Result<(), Fail> {
-    let joined = ident!("a").join(rt.alloc(), &ident!("_1"))?;
-    assert!(rt; joined.as_str() == "a_1");
+    assert!(rt; joins(rt.alloc(), &ident!("a"), &ident!("_1"), "a_1")?);
     Ok(())
+}
+
+// Whether an identifier is this text, by each way to read it.
+fn is_text(alloc: Global, identifier: Identifier, text: &str) -> Result<bool, CoreError> {
+    let same = identifier.clone()? == identifier && identifier.as_str() == text;
+    let printed = format!(in alloc; "{identifier}")?;
+    Ok(same && printed.as_str() == text && identifier.into_text(alloc)?.as_str() == text)
 }
 
 #[test]
 fn owned_identifier(rt: HostRuntime) -> Result<(), Fail> {
-    let alloc = rt.alloc();
-    let owned = Identifier::from_text(alloc, "op_1")?;
-    assert!(rt; owned.clone()? == owned);
-    assert!(rt; format!(in alloc; "<{owned}>")?.as_str() == "<op_1>");
-    assert!(rt; owned.into_text(alloc)?.as_str() == "op_1");
+    let owned = Identifier::from_text(rt.alloc(), "op_1")?;
+    assert!(rt; is_text(rt.alloc(), owned, "op_1")?);
     Ok(())
 }
 
 #[test]
 fn borrowed_identifier(rt: HostRuntime) -> Result<(), Fail> {
-    let alloc = rt.alloc();
-    let borrowed = ident!("op_1");
-    assert!(rt; borrowed.clone()? == borrowed);
-    let converted: Identifier = String::from_str(alloc, "op_1")?.try_into()?;
-    assert!(rt; converted == borrowed);
-    assert!(rt; borrowed.into_text(alloc)?.as_str() == "op_1");
+    assert!(rt; is_text(rt.alloc(), ident!("op_1"), "op_1")?);
+    Ok(())
+}
+
+#[test]
+fn converted_identifier(rt: HostRuntime) -> Result<(), Fail> {
+    let converted: Identifier = String::from_str(rt.alloc(), "op_1")?.try_into()?;
+    assert!(rt; converted == ident!("op_1"));
+    Ok(())
+}
+
+// A malformed text that has to be copied is handed back, or wants memory.
+fn is_copied_back(alloc: Global, text: &str) -> Result<bool, IdentErr> {
+    match Identifier::from_text(alloc, text) {
+        Ok(_) => Ok(false),
+        Err(IdentErr::MalformedIdentifierErr(malformed)) => Ok(malformed.0.as_str() == text),
+        Err(IdentErr::OutOfMemory) => Err(IdentErr::OutOfMemory),
+    }
+}
+
+#[test]
+fn malformed_copies(rt: HostRuntime) -> Result<(), Fail> {
+    assert!(rt; is_copied_back(rt.alloc(), "1b")?);
     Ok(())
 }
 
@@ -59,14 +89,12 @@ fn is_handed_back(alloc: Global, text: &str) -> Result<bool, AllocError> {
 
 #[test]
 fn malformed_texts(rt: HostRuntime) -> Result<(), Fail> {
-    let alloc = rt.alloc();
-    assert!(rt; is_handed_back(alloc, "")?);
-    assert!(rt; is_handed_back(alloc, "hi12.")?);
-    assert!(rt; is_handed_back(alloc, "12ab")?);
-    assert!(rt; is_handed_back(alloc, ".a12ab")?);
-    assert!(rt; is_handed_back(alloc, "é")?);
-    assert!(rt; !is_handed_back(alloc, "hi12")?);
-    assert!(rt; !is_handed_back(alloc, "A12ab")?);
+    for text in ["", "hi12.", "12ab", ".a12ab", "é"] {
+        assert!(rt; is_handed_back(rt.alloc(), text)?, "{text}");
+    }
+    for text in ["hi12", "A12ab"] {
+        assert!(rt; !is_handed_back(rt.alloc(), text)?, "{text}");
+    }
     Ok(())
 }
 

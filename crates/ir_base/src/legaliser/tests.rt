@@ -1,14 +1,7 @@
 // Worked names, and each call with ample memory.
 use crate::{CoreError, Identifier, Legaliser};
+use std::alloc::Global;
 use std::test::Fail;
-
-// A call that found no memory is made again, as if it had never been made.
-fn name_of(legaliser: &mut Legaliser, source: &str) -> Result<Identifier, CoreError> {
-    match legaliser.legalise(source) {
-        Err(CoreError::OutOfMemory) => legaliser.legalise(source),
-        answer => answer,
-    }
-}
 
 fn source_is(legaliser: &Legaliser, name: &Identifier, source: &str) -> Result<bool, CoreError> {
     match legaliser.source_name(name)? {
@@ -19,29 +12,58 @@ fn source_is(legaliser: &Legaliser, name: &Identifier, source: &str) -> Result<b
 
 // Whether the source is given the name, which then gives the source back.
 fn is_named(legaliser: &mut Legaliser, source: &str, name: &str) -> Result<bool, CoreError> {
-    let given = name_of(legaliser, source)?;
+    let given = legaliser.legalise(source)?;
     Ok(given.as_str() == name && source_is(legaliser, &given, source)?)
+}
+
+// The same of a call that may have been refused for memory, which is then made again: whether nothing had changed.
+fn is_named_again(
+    alloc: Global,
+    legaliser: &mut Legaliser,
+    source: &str,
+    name: &str,
+) -> Result<bool, Fail> {
+    let given = Identifier::from_text(alloc, name)?;
+    let had_none = legaliser.source_name(&given)?.is_none();
+    Ok(had_none && is_named(legaliser, source, name)?)
+}
+
+// Whether no number is left for a name of the source.
+fn is_spent(legaliser: &mut Legaliser, source: &str) -> Result<bool, CoreError> {
+    match legaliser.legalise(source) {
+        Ok(_) => Ok(false),
+        Err(CoreError::CounterSpent) => Ok(true),
+        Err(error) => Err(error),
+    }
 }
 
 #[test]
 fn legalise_clashes(rt: HostRuntime) -> Result<(), Fail> {
     let mut legaliser = Legaliser::new(rt.alloc());
-    assert!(rt; is_named(&mut legaliser, "hello_", "hello_")?);
-    assert!(rt; is_named(&mut legaliser, "hello.", "hello__0")?);
-    assert!(rt; is_named(&mut legaliser, "hello__0", "hello__0_1")?);
-    assert!(rt; is_named(&mut legaliser, "", "_")?);
-    assert!(rt; is_named(&mut legaliser, "_", "__2")?);
-    assert!(rt; is_named(&mut legaliser, "hello.", "hello__0")?);
+    for (source, name) in [
+        ("hello_", "hello_"),
+        ("hello.", "hello__0"),
+        ("hello__0", "hello__0_1"),
+        ("", "_"),
+        ("_", "__2"),
+        ("hello.", "hello__0"),
+    ] {
+        assert!(rt; is_named(&mut legaliser, source, name)?, "{source}");
+    }
     Ok(())
 }
 
 #[test]
 fn legalise_first_letters(rt: HostRuntime) -> Result<(), Fail> {
     let mut legaliser = Legaliser::new(rt.alloc());
-    assert!(rt; is_named(&mut legaliser, "_", "_")?);
-    assert!(rt; is_named(&mut legaliser, "", "__0")?);
-    assert!(rt; is_named(&mut legaliser, "1x", "_x")?);
-    assert!(rt; is_named(&mut legaliser, "aé€😀1", "a___1")?);
+    for (source, name) in [("_", "_"), ("", "__0"), ("1x", "_x"), ("aé€😀1", "a___1")] {
+        assert!(rt; is_named(&mut legaliser, source, name)?, "{source}");
+    }
+    Ok(())
+}
+
+#[test]
+fn legalise_one_accented_letter(rt: HostRuntime) -> Result<(), Fail> {
     let mut legaliser = Legaliser::new(rt.alloc());
     assert!(rt; is_named(&mut legaliser, "é", "_")?);
     Ok(())
@@ -52,7 +74,20 @@ fn legalise_counter_spent(rt: HostRuntime) -> Result<(), Fail> {
     let mut legaliser = Legaliser::with_counter(rt.alloc(), usize::MAX - 1);
     assert!(rt; is_named(&mut legaliser, "b.", "b_")?);
     assert!(rt; is_named(&mut legaliser, "b_", "b__18446744073709551614")?);
-    assert!(rt; matches!(legaliser.legalise("b!"), Err(CoreError::CounterSpent)));
+    assert!(rt; is_spent(&mut legaliser, "b!")?);
     assert!(rt; is_named(&mut legaliser, "b.", "b_")?);
+    Ok(())
+}
+
+#[test]
+fn refused_legalise_changes_nothing(rt: HostRuntime) -> Result<(), Fail> {
+    let mut legaliser = Legaliser::new(rt.alloc());
+    for (source, name) in [("a.", "a_"), ("a!", "a__0"), ("a?", "a__1")] {
+        let answer = legaliser.legalise(source);
+        if answer.is_err() {
+            assert!(rt; is_named_again(rt.alloc(), &mut legaliser, source, name)?);
+        }
+        assert!(rt; answer?.as_str() == name);
+    }
     Ok(())
 }

@@ -1,16 +1,39 @@
-// Each call on names and ids with ample memory.
+// Each call on names and ids with ample memory, and the laws of names.
+use crate::laws::{
+    identifiers_compare_as_texts, identifiers_follow_the_rule, joins_are_identifiers,
+    legalised_names_differ, sources_come_back,
+};
 use crate::{AttrId, AttrName, DialectName, Identifier, OpId, OpName, TypeId, TypeName, ident};
+use std::alloc::{AllocError, Global};
+use std::clone::Clone;
 use std::convert::{AsRef, AsStr};
+use std::fmt::Display;
 use std::test::Fail;
+
+// Whether a value prints as this text.
+fn prints<T: Display>(alloc: Global, value: &T, text: &str) -> Result<bool, AllocError> {
+    Ok(format!(in alloc; "{value}")?.as_str() == text)
+}
+
+// Whether a copy is equal to its value.
+fn copies<T: Clone + Eq + Drop>(value: &T) -> Result<bool, AllocError> {
+    Ok(value.clone()? == *value)
+}
+
+// Whether a name is this text, by each way to read it.
+fn is_name<N: AsStr + AsRef<Identifier> + Display>(
+    alloc: Global,
+    name: &N,
+    text: &str,
+) -> Result<bool, AllocError> {
+    Ok(name.as_str() == text && name.as_ref().as_str() == text && prints(alloc, name, text)?)
+}
 
 #[test]
 fn dialect_name(rt: HostRuntime) -> Result<(), Fail> {
-    let alloc = rt.alloc();
-    let name = DialectName::try_new(alloc, "toy")?;
-    assert!(rt; name.clone()? == name);
-    assert!(rt; name.as_str() == "toy");
-    assert!(rt; name.as_ref().as_str() == "toy");
-    assert!(rt; format!(in alloc; "{name}")?.as_str() == "toy");
+    let name = DialectName::try_new(rt.alloc(), "toy")?;
+    assert!(rt; copies(&name)?);
+    assert!(rt; is_name(rt.alloc(), &name, "toy")?);
     assert!(rt; Identifier::from(name).as_str() == "toy");
     Ok(())
 }
@@ -24,12 +47,9 @@ fn dialect_name_of_text(rt: HostRuntime) -> Result<(), Fail> {
 
 #[test]
 fn type_name(rt: HostRuntime) -> Result<(), Fail> {
-    let alloc = rt.alloc();
-    let name = TypeName::try_new(alloc, "int")?;
-    assert!(rt; name.clone()? == name);
-    assert!(rt; name.as_str() == "int");
-    assert!(rt; name.as_ref().as_str() == "int");
-    assert!(rt; format!(in alloc; "{name}")?.as_str() == "int");
+    let name = TypeName::try_new(rt.alloc(), "int")?;
+    assert!(rt; copies(&name)?);
+    assert!(rt; is_name(rt.alloc(), &name, "int")?);
     assert!(rt; Identifier::from(name).as_str() == "int");
     Ok(())
 }
@@ -43,12 +63,9 @@ fn type_name_of_text(rt: HostRuntime) -> Result<(), Fail> {
 
 #[test]
 fn attribute_name(rt: HostRuntime) -> Result<(), Fail> {
-    let alloc = rt.alloc();
-    let name = AttrName::try_new(alloc, "flag")?;
-    assert!(rt; name.clone()? == name);
-    assert!(rt; name.as_str() == "flag");
-    assert!(rt; name.as_ref().as_str() == "flag");
-    assert!(rt; format!(in alloc; "{name}")?.as_str() == "flag");
+    let name = AttrName::try_new(rt.alloc(), "flag")?;
+    assert!(rt; copies(&name)?);
+    assert!(rt; is_name(rt.alloc(), &name, "flag")?);
     assert!(rt; Identifier::from(name).as_str() == "flag");
     Ok(())
 }
@@ -62,12 +79,9 @@ fn attribute_name_of_text(rt: HostRuntime) -> Result<(), Fail> {
 
 #[test]
 fn operation_name(rt: HostRuntime) -> Result<(), Fail> {
-    let alloc = rt.alloc();
-    let name = OpName::try_new(alloc, "add")?;
-    assert!(rt; name.clone()? == name);
-    assert!(rt; name.as_str() == "add");
-    assert!(rt; name.as_ref().as_str() == "add");
-    assert!(rt; format!(in alloc; "{name}")?.as_str() == "add");
+    let name = OpName::try_new(rt.alloc(), "add")?;
+    assert!(rt; copies(&name)?);
+    assert!(rt; is_name(rt.alloc(), &name, "add")?);
     assert!(rt; Identifier::from(name).as_str() == "add");
     Ok(())
 }
@@ -79,38 +93,56 @@ fn operation_name_of_text(rt: HostRuntime) -> Result<(), Fail> {
     Ok(())
 }
 
-#[test]
-fn type_id(rt: HostRuntime) -> Result<(), Fail> {
-    let alloc = rt.alloc();
-    let id = TypeId {
+fn a_type_id() -> TypeId {
+    TypeId {
         dialect: DialectName::from(ident!("toy")),
         name: TypeName::from(ident!("int")),
-    };
-    assert!(rt; id.clone()? == id);
-    assert!(rt; format!(in alloc; "{id}")?.as_str() == "toy.int");
+    }
+}
+
+#[test]
+fn type_id(rt: HostRuntime) -> Result<(), Fail> {
+    let id = a_type_id();
+    assert!(rt; copies(&id)?);
+    assert!(rt; prints(rt.alloc(), &id, "toy.int")?);
     Ok(())
+}
+
+fn an_attribute_id() -> AttrId {
+    AttrId {
+        dialect: DialectName::from(ident!("toy")),
+        name: AttrName::from(ident!("flag")),
+    }
 }
 
 #[test]
 fn attribute_id(rt: HostRuntime) -> Result<(), Fail> {
-    let alloc = rt.alloc();
-    let id = AttrId {
-        dialect: DialectName::from(ident!("toy")),
-        name: AttrName::from(ident!("flag")),
-    };
-    assert!(rt; id.clone()? == id);
-    assert!(rt; format!(in alloc; "{id}")?.as_str() == "toy.flag");
+    let id = an_attribute_id();
+    assert!(rt; copies(&id)?);
+    assert!(rt; prints(rt.alloc(), &id, "toy.flag")?);
     Ok(())
+}
+
+fn an_operation_id() -> OpId {
+    OpId {
+        dialect: DialectName::from(ident!("toy")),
+        name: OpName::from(ident!("add")),
+    }
 }
 
 #[test]
 fn operation_id(rt: HostRuntime) -> Result<(), Fail> {
-    let alloc = rt.alloc();
-    let id = OpId {
-        dialect: DialectName::from(ident!("toy")),
-        name: OpName::from(ident!("add")),
-    };
-    assert!(rt; id.clone()? == id);
-    assert!(rt; format!(in alloc; "{id}")?.as_str() == "toy.add");
+    let id = an_operation_id();
+    assert!(rt; copies(&id)?);
+    assert!(rt; prints(rt.alloc(), &id, "toy.add")?);
     Ok(())
+}
+
+#[test]
+fn name_laws(_rt: HostRuntime) {
+    identifiers_follow_the_rule();
+    joins_are_identifiers();
+    identifiers_compare_as_texts();
+    legalised_names_differ();
+    sources_come_back();
 }
