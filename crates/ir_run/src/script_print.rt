@@ -4,6 +4,7 @@ ghost use Rattle.std.specs.Prelude.{◌≡◌, ◌≤◌, ◌↔◌, IsOk};
 use crate::script_parse::{Letter, ScriptError};
 use ir_base::{Answer, Refused};
 use std::alloc::{AllocError, Global};
+use std::io;
 use std::io::{ErrorKind, Read, Write};
 
 // All bytes of the input.
@@ -20,10 +21,16 @@ pub(crate) fn read_script<R: Read>(alloc: Global, input: &mut R) -> Result<Vec<u
 
 // Writes the whole text.
 pub(crate) fn write_text<W: Write>(output: &mut W, text: &str) -> Result<(), ScriptError> {
-    if output.write_all(text.as_bytes()).is_err() || output.flush().is_err() {
-        return Err(ScriptError::Unwritable);
+    output.write_all(text.as_bytes()).map_err(unwritable)?;
+    output.flush().map_err(unwritable)
+}
+
+// What a refused write means. A writer that grows in memory may lack it.
+fn unwritable(error: io::Error) -> ScriptError {
+    match error.kind() {
+        ErrorKind::OutOfMemory => ScriptError::OutOfMemory,
+        _ => ScriptError::Unwritable,
     }
-    Ok(())
 }
 
 // The answers, one a line. The letters say what each edit makes.

@@ -45,7 +45,8 @@ fn expect(
     let mut printed = Vec::new(alloc);
     let mut told = Vec::new(alloc);
     let answered = run_script(alloc, &mut input, &mut printed, &mut told);
-    if answered == 1 || is_refused_memory(printed.as_slice()) {
+    let is_cut = told.len() < fault.len() && fault.as_bytes().starts_with(told.as_slice());
+    if answered == 1 || is_cut || is_refused_memory(printed.as_slice()) {
         return Err("out of memory")?;
     }
     assert_eq!(rt; answered, status);
@@ -176,28 +177,41 @@ fn types_again(rt: HostRuntime) -> Result<(), Fail> {
 }
 
 #[test]
-fn unwritable_output(rt: HostRuntime) {
+fn unwritable_output(rt: HostRuntime) -> Result<(), Fail> {
     let mut input = b"type 1".as_slice();
     let mut told = Vec::new(rt.alloc());
     let status = run_script(rt.alloc(), &mut input, &mut Broken, &mut told);
+    if status == 1 {
+        return Err("out of memory")?;
+    }
     assert_eq!(rt; status, 3);
     assert!(rt; told.is_empty());
+    Ok(())
 }
 
 #[test]
-fn unreadable_input(rt: HostRuntime) {
+fn unreadable_input(rt: HostRuntime) -> Result<(), Fail> {
     let mut printed = Vec::new(rt.alloc());
     let mut told = Vec::new(rt.alloc());
     let status = run_script(rt.alloc(), &mut Broken, &mut printed, &mut told);
+    let wanted = b"unreadable input\n";
+    if status == 1 || told.len() < wanted.len() {
+        return Err("out of memory")?;
+    }
     assert_eq!(rt; status, 2);
     assert!(rt; printed.is_empty());
-    assert_eq!(rt; told.as_slice(), b"unreadable input\n".as_slice());
+    assert_eq!(rt; told.as_slice(), wanted.as_slice());
+    Ok(())
 }
 
 #[test]
-fn fault_unwritable(rt: HostRuntime) {
+fn fault_unwritable(rt: HostRuntime) -> Result<(), Fail> {
     let mut input = b"foo".as_slice();
     let mut printed = Vec::new(rt.alloc());
     let status = run_script(rt.alloc(), &mut input, &mut printed, &mut Broken);
+    if status == 1 {
+        return Err("out of memory")?;
+    }
     assert_eq!(rt; status, 2);
+    Ok(())
 }
