@@ -1,6 +1,6 @@
 -- The facts of the worked examples of names.
 use mathlib.Core.Path.{◌≡◌, refl, sym, ap, ◌∙◌, subst}
-use Rattle.std.proofs.Common.{ℕ, ◌+◌, ◌<◌, ◌^◌, ◌-◌, inl, inr, Bool, true, false, ◌||◌, cond, Option, Some, None, List, [], ◌∷◌, ◌++◌, map, arith}
+use Rattle.std.proofs.Common.{ℕ, ◌+◌, ◌<◌, ◌^◌, ◌-◌, inl, inr, Bool, true, false, ◌||◌, cond, Option, Some, None, List, [], ◌∷◌, ◌++◌, arith}
 use Rattle.std.specs.Prelude.{codes, decimal, MatchOption}
 use Rattle.std.specs.List.{list_any}
 use Rattle.std.specs.Str.{chars}
@@ -9,7 +9,7 @@ use Rattle.std.specs.Cmp.Lexicographic.{slice_cmp, nat_list_cmp_total}
 use Rattle.std.specs.FinMap as finite
 use Rattle.std.proofs.lemmas.Fmt.{decimal_digit}
 use Rattle.ir_model.specs.declared.ids.ArenaIndex.{ArenaIndex}
-use Rattle.ir_model.specs.ContextIds.{context_ids, same_id}
+use Rattle.ir_model.specs.ContextIds.{context_ids}
 use Rattle.ir_model.specs.Forest.{Text, Dialect, Forest, Definition}
 use Rattle.ir_model.specs.Nesting.{In}
 use Rattle.ir_model.specs.Names.{value_id, block_id, unique_name, IsValueName, IsBlockName}
@@ -159,25 +159,25 @@ empty_base = refl
 
 clashing_run : (s : Given) × Run (nothing_given 0) clashing_calls s
 clashing_run = (
+  _,
+  (
     _,
+    gives_base [] 0 (codes "hello_") (codes "hello_") refl refl refl,
     (
       _,
-      gives_base [] 0 (codes "hello_") (codes "hello_") refl refl refl,
+      gives_numbered ((codes "hello_", codes "hello_") ∷ []) 0 (codes "hello.") (codes "hello_") (codes "hello__0") (codes "hello_") refl hello_dot refl (ap (λ t. codes "hello__" ++ t) zero_text) refl (omega arith),
       (
         _,
-        gives_numbered ((codes "hello_", codes "hello_") ∷ []) 0 (codes "hello.") (codes "hello_") (codes "hello__0") (codes "hello_") refl hello_dot refl (ap (λ t. codes "hello__" ++ t) zero_text) refl (omega arith),
+        gives_numbered ((codes "hello.", codes "hello__0") ∷ (codes "hello_", codes "hello_") ∷ []) 1 (codes "hello__0") (codes "hello__0") (codes "hello__0_1") (codes "hello.") refl refl refl (ap (λ t. codes "hello__0_" ++ t) one_text) refl (omega arith),
         (
           _,
-          gives_numbered ((codes "hello.", codes "hello__0") ∷ (codes "hello_", codes "hello_") ∷ []) 1 (codes "hello__0") (codes "hello__0") (codes "hello__0_1") (codes "hello.") refl refl refl (ap (λ t. codes "hello__0_" ++ t) one_text) refl (omega arith),
-          (
-            _,
-            gives_base ((codes "hello__0", codes "hello__0_1") ∷ (codes "hello.", codes "hello__0") ∷ (codes "hello_", codes "hello_") ∷ []) 2 (codes "") (codes "_") refl empty_base refl,
-            (_, gives_numbered ((codes "", codes "_") ∷ (codes "hello__0", codes "hello__0_1") ∷ (codes "hello.", codes "hello__0") ∷ (codes "hello_", codes "hello_") ∷ []) 2 (codes "_") (codes "_") (codes "__2") (codes "") refl refl refl (ap (λ t. codes "__" ++ t) two_text) refl (omega arith), refl),
-          ),
+          gives_base ((codes "hello__0", codes "hello__0_1") ∷ (codes "hello.", codes "hello__0") ∷ (codes "hello_", codes "hello_") ∷ []) 2 (codes "") (codes "_") refl empty_base refl,
+          (_, gives_numbered ((codes "", codes "_") ∷ (codes "hello__0", codes "hello__0_1") ∷ (codes "hello.", codes "hello__0") ∷ (codes "hello_", codes "hello_") ∷ []) 2 (codes "_") (codes "_") (codes "__2") (codes "") refl refl refl (ap (λ t. codes "__" ++ t) two_text) refl (omega arith), refl),
         ),
       ),
     ),
-  )
+  ),
+)
 
 pub clashes : LegaliseClashes
 clashes = record {

@@ -1,9 +1,9 @@
 //! Each law is called once, at the types of a small dialect.
 
 use crate::{
-    all_uses_are_redirected, choices_unseen, closed_by_definitions, removal_is_one, replaced_takes_uses, retargeted_takes_uses, searches_agree,
-    sources_apart, subtree_size_is_one, successors_meet_predecessors, unique_names_tell,
-    unlinked_goes_back, worked_rows,
+    all_uses_are_redirected, choices_unseen, closed_by_definitions, removal_is_one,
+    replaced_takes_uses, retargeted_takes_uses, searches_agree, sources_apart, subtree_size_is_one,
+    successors_meet_predecessors, unique_names_tell, unlinked_goes_back, worked_rows,
 };
 
 #[test]

@@ -6,8 +6,14 @@ use std::test::Fail;
 #[test]
 fn ids_print_slot_and_version(rt: HostRuntime) -> Result<(), Fail> {
     let alloc = rt.alloc();
-    let first = ArenaIndex { slot: 1, version: 1 };
-    let again = ArenaIndex { slot: 1, version: 3 };
+    let first = ArenaIndex {
+        slot: 1,
+        version: 1,
+    };
+    let again = ArenaIndex {
+        slot: 1,
+        version: 3,
+    };
     assert!(rt; format!(in alloc; "{first}")?.as_str() == "1v1");
     assert!(rt; format!(in alloc; "block{again}")?.as_str() == "block1v3");
     assert!(rt; first != again);
