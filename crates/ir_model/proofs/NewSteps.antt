@@ -1,21 +1,18 @@
 -- In a new session each edit has a step: it is refused for its condition or for slots, or it is made.
 use mathlib.Core.Path.{◌≡◌, refl, sym, ap, ◌∙◌, subst}
-use Rattle.std.proofs.Common.{ℕ, zero, suc, ◌+◌, ◌<◌, ◌≤◌, ◌⊎◌, inl, inr, Bool, true, false, leb, Option, Some, None, List, [], ◌∷◌, ◌++◌, length, is_some, IsSome, IsTrue, arith}
+use Rattle.std.proofs.Common.{ℕ, ◌<◌, ◌≤◌, ◌⊎◌, inl, inr, Bool, true, false, leb, Option, Some, None, List, [], ◌∷◌, length, is_some, IsSome, IsTrue, arith}
 use Rattle.std.proofs.lemmas.Bool.Decides.{leb_tells}
 use Rattle.std.specs.Prelude.{slice_get}
 use Rattle.std.specs.List.{list_any}
-use Rattle.ir_model.specs.Ids.{Fresh, Counts, Distinct, counts}
+use Rattle.ir_model.specs.Ids.{Counts}
 use Rattle.ir_model.specs.ContextIds.{context_ids, same_id}
 use Rattle.ir_model.specs.Forest.{Text, Dialect, Behaviour, Value}
 use Rattle.ir_model.specs.Nesting.{In}
-use Rattle.ir_model.specs.Edits.{Edit, State, Tables, Condition, Change, needs, answer as reply, numbered, NewType, NewOp, NewBlock, AddRegion, PushResult, PushArgument, InsertResult, InsertArgument, RemoveResult, RemoveArgument, PushOperand, PushSuccessor, InsertOperand, InsertSuccessor, RemoveOperand, RemoveSuccessor, ReplaceOperand, ReplaceSuccessor, ReplaceAllUses, RetargetAll, OpFront, OpBack, OpBefore, OpAfter, UnlinkOp, UnlinkBlock, BlockFront, BlockBack, BlockBefore, BlockAfter, AppendOps, AppendBlocks, MoveRegion, DropOpUses, DropBlockUses, DropRegionUses, EraseOp, EraseBlock, EraseRegion, type_place, with_type}
-use Rattle.ir_model.specs.Changes.{new_op, new_block}
-use Rattle.ir_model.specs.declared.answer.Answer.{Answer}
+use Rattle.ir_model.specs.Edits.{Edit, State, Tables, Condition, Change, needs, answer as reply, NewType, NewOp, NewBlock, AddRegion, PushResult, PushArgument, InsertResult, InsertArgument, RemoveResult, RemoveArgument, PushOperand, PushSuccessor, InsertOperand, InsertSuccessor, RemoveOperand, RemoveSuccessor, ReplaceOperand, ReplaceSuccessor, ReplaceAllUses, RetargetAll, OpFront, OpBack, OpBefore, OpAfter, UnlinkOp, UnlinkBlock, BlockFront, BlockBack, BlockBefore, BlockAfter, AppendOps, AppendBlocks, MoveRegion, DropOpUses, DropBlockUses, DropRegionUses, EraseOp, EraseBlock, EraseRegion}
 use Rattle.ir_model.specs.declared.answer.Answer.TheVariants.{Refused}
 use Rattle.ir_model.specs.declared.answer.Refused.TheVariants.{Condition as ForCondition, Slots}
 use Rattle.ir_model.specs.declared.ids.ArenaIndex.{ArenaIndex}
-use Rattle.ir_model.specs.declared.ids.Limits.{Limits}
-use Rattle.ir_model.specs.Sessions.{Passed, Session, Step, condition, slots, made, HasRoom, LacksRoom, HasNumbers, HasSlots, TakesSlot, IsNewId, IsNewSession, Makes, Skips, live_op, live_block, live_region}
+use Rattle.ir_model.specs.Sessions.{Passed, Session, condition, slots, made, HasRoom, LacksRoom, HasNumbers, HasSlots, TakesSlot, IsNewId, IsNewSession, Skips, live_op, live_block, live_region}
 use Rattle.ir_model.specs.OneOfEach.{HasStep}
 use Rattle.ir_model.proofs.TwoRuns.{id_tells}
 use Rattle.ir_model.proofs.Roomy.{ids_from, ids_from-in, ids_from-distinct, ids_from-length, any_iff}

@@ -10,7 +10,7 @@ use Rattle.ir_model.specs.Nesting.{In, Inside, itself, below, children, list_of,
 use Rattle.ir_model.specs.Changes.{on_ops}
 use Rattle.ir_model.specs.BlockGraph.{implements, pure_interface}
 use Rattle.ir_model.specs.Dead.{Dead, dead, GoesWith, inside_it, inside_dead, IsSwept}
-use Rattle.ir_model.specs.SmallForests.{Small, n0, n1, n2, n3, n4, n5, place, same_small, small_ids, bare, behaviour, result, forest, block}
+use Rattle.ir_model.specs.SmallForests.{Small, n0, n1, n2, n3, n4, n5, place, same_small, small_ids, bare, behaviour, result}
 use Rattle.ir_model.specs.WorkedRows.{AreDead, SweepsTo, SweptRows, nothing_there, kept_constant, ring, constant_behind, own_sum, used_elsewhere, used_inside}
 
 small_same : (x : Small) → same_small x x ≡ true

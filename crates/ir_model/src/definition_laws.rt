@@ -2,8 +2,7 @@
 //!
 //! Each is the contract of a function that takes and does nothing, for every choice of a dialect's types.
 
-ghost use Rattle.std.specs.Prelude.{ℕ, Bool};
-ghost use Rattle.ir_model.specs.Forest.{Dialect, Behaviour};
+ghost use Rattle.ir_model.specs.Forest.{Behaviour};
 ghost use Rattle.ir_model.specs.DefinitionLaws.{UnlinkedGoesBack, UniqueNamesTell, RemovalIsOne, SubtreeSizeIsOne, ReplacedTakesUses, RetargetedTakesUses, SuccessorsMeetPredecessors, AllUsesAreRedirected, ClosedByDefinitions, SourcesApart, NamesLeadBack, CallsSettle, SearchesAgree};
 
 /// An operation or block that is unlinked and put back where it stood leaves the forest as it was.
@@ -51,8 +50,8 @@ pub fn closed_by_definitions<Key, Body, Attr, Saved, Aux, Loc>()
 {}
 
 /// Where each operation with a successor is the terminator of a block, b is among the successors of a exactly where a is among the predecessors of b.
-pub fn successors_meet_predecessors<Key: Eq, Body, Attr, Saved, Aux, Loc>()
-    ensures { (first : Body) (unknown : Loc) (impls : ℕ → ℕ → Bool) → SuccessorsMeetPredecessors (record { Key = Key; Body = Body; Attr = Attr; Saved = Saved; Aux = Aux; Loc = Loc }) (record { same_key = Key.eq; first_body = first; unknown = unknown; op_impls = impls }) }
+pub fn successors_meet_predecessors<Key, Body, Attr, Saved, Aux, Loc>()
+    ensures { (behaviour : Behaviour (record { Key = Key; Body = Body; Attr = Attr; Saved = Saved; Aux = Aux; Loc = Loc })) → SuccessorsMeetPredecessors _ behaviour }
 {}
 
 /// Whatever calls a legaliser was given, no two sources have one identifier, and each identifier leads back to its source. What it gives is settled by the sources and their order.

@@ -3,8 +3,7 @@
 //! The definitions stand in `specs/`. Each law is the contract of a public function here that takes and does nothing.
 #![tactic(auto)]
 
-ghost use Rattle.std.specs.Prelude.{ℕ, Bool};
-ghost use Rattle.ir_model.specs.Forest.{Dialect};
+ghost use Rattle.ir_model.specs.Forest.{Behaviour};
 ghost use Rattle.ir_model.specs.Sessions.{TwoRuns};
 
 mod answer;
@@ -34,6 +33,8 @@ pub use laws::{
 };
 
 /// The law on two runs: whatever ids and numbers each run chose, they give the same answers and the same view.
-pub fn choices_unseen<Key: Eq, Body, Attr, Saved, Aux, Loc>()
-    ensures { (first : Body) (unknown : Loc) (impls : ℕ → ℕ → Bool) → TwoRuns (record { Key = Key; Body = Body; Attr = Attr; Saved = Saved; Aux = Aux; Loc = Loc }) (record { same_key = Key.eq; first_body = first; unknown = unknown; op_impls = impls }) }
+///
+/// Both runs are of one list of edits from new sessions, and were refused alike for memory, counters and slots.
+pub fn choices_unseen<Key, Body, Attr, Saved, Aux, Loc>()
+    ensures { (behaviour : Behaviour (record { Key = Key; Body = Body; Attr = Attr; Saved = Saved; Aux = Aux; Loc = Loc })) → TwoRuns _ behaviour }
 {}
