@@ -7,9 +7,9 @@ use Rattle.std.proofs.lemmas.List.Folds.{flat_map-map}
 use Rattle.ir_model.specs.declared.ids.ArenaIndex.{ArenaIndex}
 use Rattle.ir_model.specs.ContextIds.{context_ids}
 use Rattle.ir_model.specs.Ids.{Distinct}
-use Rattle.ir_model.specs.Forest.{of_op, a_value, Operand, Successor}
-use Rattle.ir_model.specs.Nesting.{In, numbers_of, operands_of, successors_of, uses_of as use_numbers_of}
-use Rattle.ir_model.specs.Uses.{IsUse, Use}
+use Rattle.ir_model.specs.Forest.{of_op, Operand}
+use Rattle.ir_model.specs.Nesting.{In, numbers_of, operands_of, uses_of as use_numbers_of}
+use Rattle.ir_model.specs.Uses.{Use}
 use Rattle.ir_model.proofs.Nests.{In-append, In-left, In-right, In-map, In-map_back, not_in-Absent, Distinct-append, Distinct-map}
 use Rattle.ir_model.proofs.Keeps.{Distinct-unmap}
 use Rattle.ir_model.proofs.Removal.{length-within}
@@ -21,7 +21,7 @@ use Rattle.ir_core.specs.declared.record.UseIndex.{UseIndex}
 use Rattle.ir_core.specs.declared.record.OperandRecord.{OperandRecord}
 use Rattle.ir_core.specs.declared.record.ResultRecord.{ResultRecord}
 use Rattle.ir_core.specs.Links.{Linked}
-use Rattle.ir_core.specs.Meaning.{use_of, value_of}
+use Rattle.ir_core.specs.Meaning.{use_of}
 use Rattle.ir_core.specs.Sound.{IsSound}
 use Rattle.ir_core.specs.State.{State, forest_of, uses_of, uses_of_results}
 use Rattle.ir_core.specs.Table.{operands_at, results_at, results_in, uses_at, uses_with}

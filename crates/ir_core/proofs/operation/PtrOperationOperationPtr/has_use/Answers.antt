@@ -1,4 +1,4 @@
-use Rattle.std.proofs.Common.{sym, ap, ◌∙◌, length, List, not, ◌==◌}
+use Rattle.std.proofs.Common.{sym, ap, ◌∙◌, length, not, ◌==◌}
 use Rattle.std.specs.List.{list_any}
 use Rattle.ir_core.specs.declared.record.ResultRecord.{ResultRecord}
 use Rattle.ir_core.proofs.ResultUses.{has-here}

@@ -1,7 +1,4 @@
-use Rattle.std.proofs.Common.{sym, subst}
-use Rattle.ir_model.specs.Forest.{a_region, an_op}
-use Rattle.ir_model.specs.Parent.{IsIn}
-use Rattle.ir_core.specs.State.{forest_of}
+use Rattle.std.proofs.Common.{sym}
 use Rattle.ir_core.proofs.Parents.{region-parent}
 use Rattle.ir_core.proofs.region.PtrRegionRegionPtr.get_parent_op.Goals as goal
 
