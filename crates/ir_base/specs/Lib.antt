@@ -15,4 +15,5 @@ pub mod LegaliserFields
 pub mod NameLaws
 pub mod VerifierLists
 pub mod Attributes
+pub mod AttributeLends
 pub mod AttributeLaws
