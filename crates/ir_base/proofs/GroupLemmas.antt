@@ -10,7 +10,8 @@ use Rattle.std.proofs.lemmas.List.Sums.{fold-append}
 use Rattle.std.proofs.lemmas.Option.{get_or_from_slice_get, slice_get_within, slice_get_cases}
 use Rattle.indexmap.specs.IndexMap.{IndexMap, get, insert_entry, set_value_at}
 use Rattle.ir_base.specs.Stores.{has_key}
-use Rattle.ir_base.specs.VerifierLists.{first_places, joined, deduplicated, with_each, with_owner, with_entry, plain}
+use Rattle.ir_model.specs.VerifierLists.{first_places, joined, deduplicated}
+use Rattle.ir_base.specs.VerifierGroups.{with_each, with_owner, with_entry, plain}
 use Rattle.ir_base.proofs.StoreLemmas.{has_key-get, keys_of-push, goes_last}
 use Rattle.ir_model.specs.Edits.{place_of, with_key}
 

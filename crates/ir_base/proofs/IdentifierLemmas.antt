@@ -5,7 +5,7 @@ use Rattle.std.proofs.lemmas.List.Folds.{list_all-append}
 use Rattle.std.proofs.lemmas.Fmt.{decimal_by_steps}
 use Rattle.std.specs.Fmt.{decimal}
 use Rattle.std.specs.List.{list_all}
-use Rattle.ir_base.specs.Identifier.{can_start, can_continue, IsIdentifier}
+use Rattle.ir_model.specs.Identifier.{can_start, can_continue, IsIdentifier}
 
 -- what may stand first may stand further on
 pub can_start-can_continue : (b : ℕ) → can_start b ≡ true → can_continue b ≡ true

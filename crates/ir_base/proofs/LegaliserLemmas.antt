@@ -16,8 +16,9 @@ use Rattle.std.specs.HashMap.{HashMap, get_by_text}
 use Rattle.std.specs.FinMap as finite
 use Rattle.ir_base.specs.declared.error.CoreError.{CoreError}
 use Rattle.ir_base.specs.declared.error.CoreError.TheVariants.{OutOfMemory, CounterSpent, SlotsSpent}
-use Rattle.ir_base.specs.Identifier.{can_start, can_continue, IsIdentifier}
-use Rattle.ir_base.specs.Legaliser.{Given, name_of, give, kept, replaced, numbered, IsFree, Chooses, GivesNew, Gives, HasNoName, SpentOnlyWhere}
+use Rattle.ir_model.specs.Identifier.{can_start, can_continue, IsIdentifier}
+use Rattle.ir_model.specs.Legaliser.{Given, name_of, give, kept, replaced, numbered, IsFree, Chooses, GivesNew, Gives, HasNoName}
+use Rattle.ir_base.specs.Spent.{SpentOnlyWhere}
 use Rattle.ir_base.specs.LegaliserTables.{source_at, AreInverse, ArePaired, given_by}
 use Rattle.ir_base.proofs.IdentifierLemmas.{is_identifier-append, decimal-can_continue}
 

@@ -9,8 +9,8 @@ use Rattle.std.specs.Char.{IsAsciiAlphabetic, IsAsciiAlphanumeric}
 use Rattle.std.specs.Cmp.Lexicographic.{slice_cmp, nat_list_cmp_total, nat_list_eq_equiv}
 use Rattle.std.specs.Ordering.{nat_cmp}
 use Rattle.std.specs.FinMap as finite
-use Rattle.ir_base.specs.Identifier.{can_start, can_continue, IsIdentifier}
-use Rattle.ir_base.specs.Legaliser.{Given, name_of, nothing_given, give, IsFree, GivesNew, Gives, Run}
+use Rattle.ir_model.specs.Identifier.{can_start, can_continue, IsIdentifier}
+use Rattle.ir_model.specs.Legaliser.{Given, name_of, nothing_given, give, IsFree, GivesNew, Gives, Run}
 use Rattle.ir_base.specs.NameLaws.{FollowsRule, Answered}
 use Rattle.ir_base.proofs.LegaliserLemmas.{update_found, update_kept, update_source, Chooses-free}
 

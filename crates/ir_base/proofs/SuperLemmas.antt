@@ -4,7 +4,8 @@ use Rattle.std.specs.List.{list_any, flat_map, AllByRecursion}
 use Rattle.std.proofs.lemmas.List.{append-nil}
 use Rattle.std.proofs.lemmas.List.Elements.{Contains-append_left, Contains-push, Contains-push_cases, recursion_from_All}
 use Rattle.indexmap.proofs.CallerLemmas.{Contains-list_any}
-use Rattle.ir_base.specs.VerifierLists.{first_places, joined, with_each, SupersFirst}
+use Rattle.ir_model.specs.VerifierLists.{first_places, joined, SupersFirst}
+use Rattle.ir_base.specs.VerifierGroups.{with_each}
 use Rattle.ir_base.proofs.GroupLemmas.{first_places-append}
 use Rattle.ir_model.specs.Edits.{with_key}
 

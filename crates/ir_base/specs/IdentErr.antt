@@ -1,6 +1,6 @@
 -- Why a text gives no identifier.
 use Rattle.std.specs.Prelude.{◌≡◌, ℕ, List, string_bytes, ⊤}
-use Rattle.ir_base.specs.Identifier.{IsIdentifier}
+use Rattle.ir_model.specs.Identifier.{IsIdentifier}
 use Rattle.ir_base.specs.declared.identifier.IdentErr.{IdentErr}
 use Rattle.ir_base.specs.declared.identifier.IdentErr.TheVariants.{MalformedIdentifierErr, OutOfMemory}
 

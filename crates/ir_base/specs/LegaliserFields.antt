@@ -1,5 +1,5 @@
 -- What lies under a `Legaliser`.
-use Rattle.ir_base.specs.Legaliser.{Given}
+use Rattle.ir_model.specs.Legaliser.{Given}
 use Rattle.ir_base.specs.LegaliserTables.{given_by}
 use Rattle.ir_base.specs.declared.legaliser.Legaliser.TheInside.{Inside}
 

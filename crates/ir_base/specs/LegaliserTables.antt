@@ -4,7 +4,7 @@ use Rattle.std.specs.Option.{option_map}
 use Rattle.std.specs.Cmp.Lexicographic.{pointwise}
 use Rattle.std.specs.HashMap.{HashMap, get, get_by_text}
 use Rattle.std.specs.FinMap as finite
-use Rattle.ir_base.specs.Legaliser.{Given}
+use Rattle.ir_model.specs.Legaliser.{Given}
 
 -- the source of a name
 abbrev pub source_at : {Y S : Type 0} → HashMap (List ℕ) (String Y) S → List ℕ → Option (List ℕ)

@@ -1,7 +1,7 @@
 -- What the laws on identifiers and legalisers say.
 use Rattle.std.specs.Prelude.{◌≡◌, ℕ, List, ◌∷◌, Contains, ◌⊎◌}
 use Rattle.std.specs.Char.{IsAsciiAlphabetic, IsAsciiAlphanumeric}
-use Rattle.ir_base.specs.Legaliser.{Given, nothing_given, Run}
+use Rattle.ir_model.specs.Legaliser.{Given, nothing_given, Run}
 
 -- the text is an ASCII letter or `_`, and then ASCII letters, digits and `_`
 pub record FollowsRule (text : List ℕ) : Type 0 where

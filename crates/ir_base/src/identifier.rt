@@ -9,7 +9,7 @@ ghost use Rattle.std.specs.Cmp.Lexicographic.{pointwise, slice_cmp, nat_list_eq_
 ghost use Rattle.std.specs.Cmp.{partial_equiv_from_equiv};
 ghost use Rattle.std.specs.Cmp.Rules.{hashing};
 ghost use Rattle.std.proofs.Common.{rules};
-ghost use Rattle.ir_base.specs.Identifier.{IsIdentifier, can_start, can_continue};
+ghost use Rattle.ir_model.specs.Identifier.{IsIdentifier, can_start, can_continue};
 ghost use Rattle.ir_base.specs.IdentErr.{IsReason};
 
 use crate::error::CoreError;
@@ -40,7 +40,7 @@ impl Model for Identifier {
 
     ghost Value = { List ℕ };
 
-    ghost use Rattle.ir_base.specs.Identifier.{IsIdentifier};
+    ghost use Rattle.ir_model.specs.Identifier.{IsIdentifier};
     ghost use Rattle.ir_base.specs.IdentifierText.{text_bytes};
 
     ghost view = { λ identifier. text_bytes identifier.0 };

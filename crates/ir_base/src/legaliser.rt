@@ -6,7 +6,8 @@ ghost use Rattle.std.specs.Char.{is_ascii_alphabetic, is_ascii_alphanumeric};
 ghost use Rattle.std.specs.Str.{chars, bytes_eq};
 ghost use Rattle.std.specs.Map.{update};
 ghost use Rattle.std.specs.HashMap.{get_by_text};
-ghost use Rattle.ir_base.specs.Legaliser.{nothing_given, name_of, give, base, kept, numbered, replaced, IsFree, Chooses, Gives, HasNoName, IsSpent, SpentOnlyWhere};
+ghost use Rattle.ir_model.specs.Legaliser.{nothing_given, name_of, give, base, kept, numbered, replaced, IsFree, Chooses, Gives, HasNoName, IsSpent};
+ghost use Rattle.ir_base.specs.Spent.{SpentOnlyWhere};
 ghost use Rattle.ir_base.specs.LegaliserTables.{source_at};
 
 use crate::error::CoreError;
@@ -27,7 +28,7 @@ pub struct Legaliser {
 }
 
 impl Model for Legaliser {
-    ghost use Rattle.ir_base.specs.Legaliser.{Given, given_code};
+    ghost use Rattle.ir_model.specs.Legaliser.{Given, given_code};
 
     ghost Value = { Given };
 

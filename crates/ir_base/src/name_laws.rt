@@ -4,8 +4,8 @@ ghost use Rattle.std.specs.Str.{bytes_eq};
 ghost use Rattle.std.specs.Ordering.{nat_cmp};
 ghost use Rattle.std.specs.Hash as fed;
 ghost use Rattle.std.specs.Cmp.Lexicographic.{slice_cmp};
-ghost use Rattle.ir_base.specs.Identifier.{IsIdentifier};
-ghost use Rattle.ir_base.specs.Legaliser.{Given, name_of};
+ghost use Rattle.ir_model.specs.Identifier.{IsIdentifier};
+ghost use Rattle.ir_model.specs.Legaliser.{Given, name_of};
 ghost use Rattle.ir_base.specs.NameLaws.{FollowsRule, Answered};
 
 use crate::identifier::Identifier;

@@ -3,7 +3,7 @@ ghost use Rattle.std.specs.Prelude.{◌≡◌, ◌↔◌, ℕ, Bool, true, List,
 ghost use Rattle.std.specs.List.{list_any};
 ghost use Rattle.ir_model.specs.Edits.{place_of};
 ghost use Rattle.ir_base.specs.Attributes.{same_pairs, dict_input};
-ghost use Rattle.ir_base.specs.VerifierLists.{first_places, joined, SupersFirst};
+ghost use Rattle.ir_model.specs.VerifierLists.{first_places, joined, SupersFirst};
 
 use crate::dialects::Dialects;
 

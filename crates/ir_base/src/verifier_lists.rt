@@ -3,7 +3,8 @@ ghost use Rattle.std.specs.Prelude.{◌≡◌, ◌<◌, map, length, nat_eq, pos
 ghost use Rattle.std.specs.Cmp.Lexicographic.{pointwise};
 ghost use Rattle.ir_base.specs.declared.error.CoreError.TheVariants.{OutOfMemory};
 ghost use Rattle.std.specs.Map.{keys_of};
-ghost use Rattle.ir_base.specs.VerifierLists.{deduplicated, with_each, with_owner, with_entry, plain, DifferBelow, IsFirstRepeat};
+ghost use Rattle.ir_model.specs.VerifierLists.{deduplicated, DifferBelow, IsFirstRepeat};
+ghost use Rattle.ir_base.specs.VerifierGroups.{with_each, with_owner, with_entry, plain};
 ghost use Rattle.ir_model.specs.Edits.{place_of};
 
 use crate::error::CoreError;

@@ -1,5 +1,5 @@
 //! Verifiers of one owner are joined and kept once, and double dictionary keys are told by their places.
-ghost use Rattle.ir_base.specs.Identifier.{IsIdentifier};
+ghost use Rattle.ir_model.specs.Identifier.{IsIdentifier};
 
 use crate::identifier::Identifier;
 use crate::verifier_lists::{

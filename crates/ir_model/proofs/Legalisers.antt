@@ -1,6 +1,6 @@
 -- A legaliser gives a new source a name that no other has.
 use mathlib.Core.Path.{◌≡◌, refl, sym, ap, ◌∙◌, subst}
-use Rattle.std.proofs.Common.{ℕ, inl, inr, Bool, true, false, cond, Option, Some, None, List, [], ◌∷◌}
+use Rattle.std.proofs.Common.{ℕ, ◌+◌, ◌<◌, inl, inr, Bool, true, false, cond, Option, Some, None, List, [], ◌∷◌, map, arith}
 use Rattle.std.specs.Prelude.{MatchOption}
 use Rattle.std.specs.Ordering.{nat_cmp, eq_by_cmp, is_eq, ordering_reverse}
 use Rattle.std.specs.declared.cmp.Ordering.{Ordering}
@@ -8,8 +8,9 @@ use Rattle.std.specs.declared.cmp.Ordering.TheVariants.{Less, Equal, Greater}
 use Rattle.std.specs.Cmp.Lexicographic.{slice_cmp, nat_list_cmp_total}
 use Rattle.std.specs.FinMap as finite
 use Rattle.ir_model.specs.Forest.{Text}
-use Rattle.ir_model.specs.Legaliser.{Given, nothing_given, name_of, give, IsFree, Chooses, GivesNew, Gives, Run}
-use Rattle.ir_model.specs.DefinitionLaws.{SourcesApart}
+use Rattle.ir_model.specs.Nesting.{In}
+use Rattle.ir_model.specs.Legaliser.{Given, nothing_given, name_of, give, IsFree, base, numbered, Chooses, GivesNew, Gives, Run}
+use Rattle.ir_model.specs.DefinitionLaws.{SourcesApart, CallsSettle, NamesLeadBack}
 
 -- no two sources have one name
 Apart : Given → Type 0
@@ -87,3 +88,53 @@ gives_keeps old new source name q n g h = by (name_of old source) refl g
     by : (m : Option Text) → name_of old source ≡ m → MatchOption m (GivesNew old source name new) (λ known. (name ≡ known) × (new ≡ old)) → name_of new q ≡ Some n
     by None e k = subst (λ s. name_of s q ≡ Some n) (sym k.new_is) (at e (eq_by_cmp (slice_cmp nat_cmp) q source) refl)
     by (Some known) e k = subst (λ s. name_of s q ≡ Some n) (sym k.1) h
+
+-- the name of a new source is settled
+choose_one : (free : Text → Type 0) (counter : ℕ) (source n m : Text) (j k : ℕ) → Chooses free counter source n j → Chooses free counter source m k → (n ≡ m) × (j ≡ k)
+choose_one free counter source n m j k (inl a) (inl b) = (a.name_is ∙ sym b.name_is, a.next_is ∙ sym b.next_is)
+choose_one free counter source n m j k (inl a) (inr b) = absurd (b.taken a.is_free)
+choose_one free counter source n m j k (inr a) (inl b) = absurd (a.taken b.is_free)
+choose_one free counter source n m j k (inr a) (inr b) =
+    let not_less : b.number < a.number → ⊥ = λ l. a.is_next.least b.number b.is_next.from l b.is_next.is_free in
+    let not_more : a.number < b.number → ⊥ = λ l. b.is_next.least a.number a.is_next.from l a.is_next.is_free in
+    let same : a.number ≡ b.number = omega (arith, not_less, not_more) in
+    (a.name_is ∙ ap (numbered (base source)) same ∙ sym b.name_is, a.next_is ∙ ap (λ c. c + 1) same ∙ sym b.next_is)
+
+-- so is what one call gives
+pub gives_one : (old s t : Given) (source n m : Text) → Gives old source n s → Gives old source m t → (n ≡ m) × (s ≡ t)
+gives_one old s t source n m g h = by (name_of old source) g h
+  where
+    by : (o : Option Text) → MatchOption o (GivesNew old source n s) (λ known. (n ≡ known) × (s ≡ old)) → MatchOption o (GivesNew old source m t) (λ known. (m ≡ known) × (t ≡ old)) → (n ≡ m) × (s ≡ t)
+    by None a b = let e = choose_one (IsFree old) old.counter source n m s.counter t.counter a.chosen b.chosen in (e.0, a.new_is ∙ (λ i. give old source (e.0 i) (e.1 i)) ∙ sym b.new_is)
+    by (Some known) a b = (a.0 ∙ sym b.0, a.1 ∙ sym b.1)
+
+-- and what a run of calls gives
+run_one : (calls others : List (Text × Text)) (old s t : Given) → map (λ call. call.0) calls ≡ map (λ call. call.0) others → Run old calls s → Run old others t → (calls ≡ others) × (s ≡ t)
+run_one [] [] old s t e r q = (refl, r ∙ sym q)
+run_one [] (d ∷ ds) old s t e r q = absurd cc
+run_one (c ∷ cs) [] old s t e r q = absurd cc
+run_one (c ∷ cs) (d ∷ ds) old s t e r q =
+    let head : c.0 ≡ d.0 = cc in
+    let rest : map (λ (call : Text × Text). call.0) cs ≡ map (λ (call : Text × Text). call.0) ds = cc in
+    let one = gives_one old r.0 q.0 c.0 c.1 d.1 r.1 (subst (λ source. Gives old source d.1 q.0) (sym head) q.1) in
+    let more = run_one cs ds r.0 s t rest r.2 (subst (λ now. Run now ds t) (sym one.1) q.2) in
+    ((λ i. (head i, one.0 i) ∷ more.0 i), more.1)
+
+pub calls_settle : CallsSettle
+calls_settle counter calls others s t e r q = run_one calls others (nothing_given counter) s t e r q
+
+-- a source keeps its name over a run
+run_keeps : (calls : List (Text × Text)) (old s : Given) (q n : Text) → Run old calls s → name_of old q ≡ Some n → name_of s q ≡ Some n
+run_keeps [] old s q n r h = subst (λ t. name_of t q ≡ Some n) (sym r) h
+run_keeps (c ∷ cs) old s q n r h = run_keeps cs r.0 s q n r.2 (gives_keeps old r.0 c.0 c.1 q n r.1 h)
+
+-- a source has the name that a call gave it
+run_named : (calls : List (Text × Text)) (old s : Given) (call : Text × Text) → Run old calls s → In call calls → name_of s call.0 ≡ Some call.1
+run_named [] old s call r h = elim h [ ]
+run_named (c ∷ cs) old s call r (inl e) = subst (λ (d : Text × Text). name_of s d.0 ≡ Some d.1) (sym e) (run_keeps cs r.0 s c.0 c.1 r.2 (gives_named old r.0 c.0 c.1 r.1))
+run_named (c ∷ cs) old s call r (inr h) = run_named cs r.0 s call r.2 h
+
+pub names_lead_back : NamesLeadBack
+names_lead_back counter calls s call source r h =
+    let named = run_named calls (nothing_given counter) s call r h in
+    (λ e. sources_apart counter calls s r source call.0 call.1 e named, λ e. ap (name_of s) e ∙ named)

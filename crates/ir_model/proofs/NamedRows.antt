@@ -1,6 +1,6 @@
 -- The facts of the worked examples of names.
 use mathlib.Core.Path.{◌≡◌, refl, sym, ap, ◌∙◌, subst}
-use Rattle.std.proofs.Common.{ℕ, ◌+◌, ◌<◌, ◌^◌, ◌-◌, inl, inr, Bool, true, false, ◌||◌, cond, Option, Some, None, List, [], ◌∷◌, ◌++◌, map, arith}
+use Rattle.std.proofs.Common.{ℕ, ◌+◌, ◌<◌, ◌^◌, ◌-◌, inl, inr, Bool, true, false, ◌||◌, cond, Option, Some, None, List, [], ◌∷◌, ◌++◌, arith}
 use Rattle.std.specs.Prelude.{codes, decimal, MatchOption}
 use Rattle.std.specs.List.{list_any}
 use Rattle.std.specs.Str.{chars}
@@ -9,14 +9,15 @@ use Rattle.std.specs.Cmp.Lexicographic.{slice_cmp, nat_list_cmp_total}
 use Rattle.std.specs.FinMap as finite
 use Rattle.std.proofs.lemmas.Fmt.{decimal_digit}
 use Rattle.ir_model.specs.declared.ids.ArenaIndex.{ArenaIndex}
-use Rattle.ir_model.specs.ContextIds.{context_ids, same_id}
-use Rattle.ir_model.specs.Forest.{Text, OpRecord, Operand, Successor, Named, a_value, an_op, a_region, the_block}
-use Rattle.ir_model.specs.Nesting.{In, itself, below, names_of, list_of}
-use Rattle.ir_model.specs.Names.{value_id, block_id, unique_name}
-use Rattle.ir_model.specs.Legaliser.{Given, nothing_given, name_of, IsFree, base, numbered, Chooses, GivesNew, Gives}
+use Rattle.ir_model.specs.ContextIds.{context_ids}
+use Rattle.ir_model.specs.Forest.{Text, Dialect, Forest, Definition}
+use Rattle.ir_model.specs.Nesting.{In}
+use Rattle.ir_model.specs.Names.{value_id, block_id, unique_name, IsValueName, IsBlockName}
+use Rattle.ir_model.specs.Legaliser.{Given, nothing_given, name_of, IsFree, base, numbered, Chooses, GivesNew, Gives, Run}
 use Rattle.ir_model.specs.SmallForests.{bare}
-use Rattle.ir_model.proofs.Legalisers.{sources_apart, text_itself, gives_named, gives_keeps}
-use Rattle.ir_model.specs.NamedRows.{first, second, UniqueNames, op_of_kind, one_block, EntryBlock, LegaliseClashes}
+use Rattle.ir_model.proofs.Legalisers.{sources_apart, calls_settle, names_lead_back, text_itself, gives_named, gives_keeps, gives_one}
+use Rattle.ir_model.specs.IdForests.{first, second, first_again}
+use Rattle.ir_model.specs.NamedRows.{UniqueNames, named, constant, LegaliseClashes, clashing_calls}
 
 zero_text : decimal 0 ≡ codes "0"
 zero_text = decimal_digit 0 (omega arith)
@@ -36,31 +37,47 @@ block_two = ap (λ t. codes "block" ++ (t ++ codes "v" ++ decimal 1)) two_text �
 value_zero : value_id 0 ≡ codes "v0"
 value_zero = ap (λ t. codes "v" ++ t) zero_text
 
+block_three : block_id first_again ≡ codes "block1v3"
+block_three = ap (λ t. codes "block" ++ (t ++ codes "v" ++ decimal 3)) one_text ∙ ap (λ t. codes "block1v" ++ t) (decimal_digit 3 (omega arith))
+
+-- texts that the test tells apart
+pub differ : (t u : Text) → eq_by_cmp (slice_cmp nat_cmp) t u ≡ false → t ≡ u → ⊥
+differ t u n e = let k : eq_by_cmp (slice_cmp nat_cmp) t u ≡ true = ap (eq_by_cmp (slice_cmp nat_cmp) t) (sym e) ∙ text_itself t in cc
+
+-- a block has one unique name
+pub one_block_name : {W : Dialect} (f : Forest context_ids W) (b : ArenaIndex) (t u : Text) → IsBlockName f b t → IsBlockName f b u → t ≡ u
+one_block_name f b t u p q =
+    let e : Some p.value ≡ Some q.value = sym p.found ∙ q.found in
+    let s : p.value ≡ q.value = cc in
+    p.holds ∙ ap (λ r. unique_name r.label (block_id b)) s ∙ sym q.holds
+
+unlabelled : IsBlockName named first (codes "block1v1")
+unlabelled = record { value = _; found = refl; holds = sym block_one }
+
+labelled : IsBlockName named second (codes "entry_block2v1")
+labelled = record { value = _; found = refl; holds = sym (ap (unique_name (Some (codes "entry"))) block_two) }
+
+-- the constant has one result, which has one given name
+value_text : (text : Text) → IsValueName named constant text → text ≡ codes "c0_v0"
+value_text text h = by h.1.1
+  where
+    by : In h.1.0 (record { number = 0; ty = 0; name = Some (codes "c0") } ∷ []) → text ≡ codes "c0_v0"
+    by (inl e) =
+        let n : h.0 ≡ Some (codes "c0") = sym h.1.3 ∙ ap (λ (x : Definition context_ids bare). x.name) e in
+        h.2 ∙ ap (λ m. unique_name m (value_id 0)) n ∙ ap (unique_name (Some (codes "c0"))) value_zero
+    by (inr k) = elim k [ ]
+
 pub unique_names : UniqueNames
 unique_names = record {
-  unlabelled = block_one;
-  labelled = ap (unique_name (Some (codes "entry"))) block_two;
-  value = ap (unique_name (Some (codes "c0"))) value_zero;
+  unlabelled = unlabelled;
+  labelled = labelled;
+  value = (Some (codes "c0"), (record { number = 0; ty = 0; name = Some (codes "c0") }, inl refl, refl, refl), sym (ap (unique_name (Some (codes "c0"))) value_zero));
+  later_version = block_three;
+  no_other_version = λ h. differ (codes "block1v1") (codes "block1v3") refl (one_block_name named first (codes "block1v1") (codes "block1v3") unlabelled h);
+  not_without = λ h. differ (codes "entry_block2v1") (codes "block2v1") refl (one_block_name named second (codes "entry_block2v1") (codes "block2v1") labelled h);
+  not_alone = λ h. differ (codes "entry_block2v1") (codes "entry") refl (one_block_name named second (codes "entry_block2v1") (codes "entry") labelled h);
+  not_behind = λ h. differ (codes "v0_c0") (codes "c0_v0") refl (value_text (codes "v0_c0") h);
   like_a_block = ap (unique_name (Some (codes "block1"))) value_zero;
-}
-
--- what a record names
-abbrev named_by : Option (OpRecord context_ids bare) → List (Named context_ids)
-named_by m = map (λ (p : Operand context_ids). a_value p.value) (list_of (λ r. r.operands) m) ++ map (λ (p : Successor context_ids). the_block p.block) (list_of (λ r. r.successors) m)
-
--- without a branch nothing is named
-nothing_named : (o b : ArenaIndex) → In (the_block b) (names_of (one_block []) o) → ⊥
-nothing_named o b h = by (same_id o first) (same_id o second) h
-  where
-    by : (s t : Bool) → In (the_block b) (named_by (cond s (Some (op_of_kind 5 [] (first ∷ []))) (cond t (Some (op_of_kind 3 [] [])) None))) → ⊥
-    by true t k = k
-    by false true k = k
-    by false false k = k
-
-pub entry_block : EntryBlock
-entry_block = record {
-  stands = (first, below {c = a_region first} (inl refl) (below {c = an_op first} (inl refl) itself), record { value = _; found = refl; holds = sym block_one }, (first, refl), (second, inl refl));
-  not_without = λ name h. nothing_named h.4.0 h.0 h.4.1;
 }
 
 -- what is given, as a list of pairs
@@ -140,28 +157,34 @@ empty_base : base (codes "") ≡ codes "_"
 unfolding chars
 empty_base = refl
 
-pub clashes : LegaliseClashes
-clashes = record {
-  given = (
+clashing_run : (s : Given) × Run (nothing_given 0) clashing_calls s
+clashing_run = (
+  _,
+  (
     _,
+    gives_base [] 0 (codes "hello_") (codes "hello_") refl refl refl,
     (
       _,
-      gives_base [] 0 (codes "hello_") (codes "hello_") refl refl refl,
+      gives_numbered ((codes "hello_", codes "hello_") ∷ []) 0 (codes "hello.") (codes "hello_") (codes "hello__0") (codes "hello_") refl hello_dot refl (ap (λ t. codes "hello__" ++ t) zero_text) refl (omega arith),
       (
         _,
-        gives_numbered ((codes "hello_", codes "hello_") ∷ []) 0 (codes "hello.") (codes "hello_") (codes "hello__0") (codes "hello_") refl hello_dot refl (ap (λ t. codes "hello__" ++ t) zero_text) refl (omega arith),
+        gives_numbered ((codes "hello.", codes "hello__0") ∷ (codes "hello_", codes "hello_") ∷ []) 1 (codes "hello__0") (codes "hello__0") (codes "hello__0_1") (codes "hello.") refl refl refl (ap (λ t. codes "hello__0_" ++ t) one_text) refl (omega arith),
         (
           _,
-          gives_numbered ((codes "hello.", codes "hello__0") ∷ (codes "hello_", codes "hello_") ∷ []) 1 (codes "hello__0") (codes "hello__0") (codes "hello__0_1") (codes "hello.") refl refl refl (ap (λ t. codes "hello__0_" ++ t) one_text) refl (omega arith),
-          (
-            _,
-            gives_base ((codes "hello__0", codes "hello__0_1") ∷ (codes "hello.", codes "hello__0") ∷ (codes "hello_", codes "hello_") ∷ []) 2 (codes "") (codes "_") refl empty_base refl,
-            (_, gives_numbered ((codes "", codes "_") ∷ (codes "hello__0", codes "hello__0_1") ∷ (codes "hello.", codes "hello__0") ∷ (codes "hello_", codes "hello_") ∷ []) 2 (codes "_") (codes "_") (codes "__2") (codes "") refl refl refl (ap (λ t. codes "__" ++ t) two_text) refl (omega arith), refl),
-          ),
+          gives_base ((codes "hello__0", codes "hello__0_1") ∷ (codes "hello.", codes "hello__0") ∷ (codes "hello_", codes "hello_") ∷ []) 2 (codes "") (codes "_") refl empty_base refl,
+          (_, gives_numbered ((codes "", codes "_") ∷ (codes "hello__0", codes "hello__0_1") ∷ (codes "hello.", codes "hello__0") ∷ (codes "hello_", codes "hello_") ∷ []) 2 (codes "_") (codes "_") (codes "__2") (codes "") refl refl refl (ap (λ t. codes "__" ++ t) two_text) refl (omega arith), refl),
         ),
       ),
     ),
-  );
+  ),
+)
+
+pub clashes : LegaliseClashes
+clashes = record {
+  given = clashing_run;
+  alone = λ calls s e r. (calls_settle 0 calls clashing_calls s clashing_run.0 e r clashing_run.1).0;
+  back = λ s call source r h. names_lead_back 0 clashing_calls s call source r h;
+  not_numbered = λ s r. differ (codes "hello_") (codes "hello__0") refl (gives_one (nothing_given 0) _ r.0 (codes "hello_") (codes "hello_") (codes "hello__0") (gives_base [] 0 (codes "hello_") (codes "hello_") refl refl refl) r.1).0;
   not_twice = λ s r.
       let one = gives_named (nothing_given 0) r.0 (codes "hello_") (codes "hello_") r.1 in
       let kept = gives_keeps r.0 r.2.0 (codes "hello.") (codes "hello_") (codes "hello_") (codes "hello_") r.2.1 one in

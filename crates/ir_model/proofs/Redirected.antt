@@ -15,18 +15,18 @@ use Rattle.ir_model.proofs.Relinks.{differs}
 use Rattle.ir_model.proofs.Removal.{length-same}
 
 -- where the images are distinct, equal images are of one
-one_of : {A B : Type 0} (f : A → B) (xs : List A) → Distinct (map f xs) → (x y : A) → In x xs → In y xs → f x ≡ f y → x ≡ y
+pub one_of : {A B : Type 0} (f : A → B) (xs : List A) → Distinct (map f xs) → (x y : A) → In x xs → In y xs → f x ≡ f y → x ≡ y
 one_of f [] d x y h k e = elim h [ ]
 one_of f (z ∷ zs) d x y (inl p) (inl q) e = p ∙ sym q
 one_of f (z ∷ zs) d x y (inl p) (inr k) e = absurd (not_in-Absent (f z) (map f zs) d.0 (subst (λ w. In w (map f zs)) (sym e ∙ ap f p) (In-map f y zs k)))
 one_of f (z ∷ zs) d x y (inr h) (inl q) e = absurd (not_in-Absent (f z) (map f zs) d.0 (subst (λ w. In w (map f zs)) (e ∙ ap f q) (In-map f x zs h)))
 one_of f (z ∷ zs) d x y (inr h) (inr k) e = one_of f zs d.1 x y h k e
 
-Distinct-front : {A : Type 0} (xs ys : List A) → Distinct (xs ++ ys) → Distinct xs
+pub Distinct-front : {A : Type 0} (xs ys : List A) → Distinct (xs ++ ys) → Distinct xs
 Distinct-front [] ys d = tt
 Distinct-front (x ∷ xs) ys d = (Absent-not_in x xs (λ h. not_in-Absent x (xs ++ ys) d.0 (In-left x xs ys h)), Distinct-front xs ys d.1)
 
-Distinct-back : {A : Type 0} (xs ys : List A) → Distinct (xs ++ ys) → Distinct ys
+pub Distinct-back : {A : Type 0} (xs ys : List A) → Distinct (xs ++ ys) → Distinct ys
 Distinct-back [] ys d = d
 Distinct-back (x ∷ xs) ys d = Distinct-back xs ys d.1
 
@@ -123,10 +123,10 @@ module _ {N : Ids} (L : Lawful N) where
         let n : N.same_number v.number w.number ≡ true = (L.numbers v.number w.number).1 (ap (λ (x : Value N). x.number) e) in rw (d, n),
   )
 
-abbrev operand_entries : (N : Ids) → Entries (Operand N) N.UseNumber (Value N)
+abbrev pub operand_entries : (N : Ids) → Entries (Operand N) N.UseNumber (Value N)
 operand_entries N = record { number = λ p. p.use_number; named = λ p. p.value; entry = λ u v. record { use_number = u; value = v }; number_is = λ u d. refl; named_is = λ u d. refl; entry_is = λ e. refl }
 
-abbrev successor_entries : (N : Ids) → Entries (Successor N) N.UseNumber N.Block
+abbrev pub successor_entries : (N : Ids) → Entries (Successor N) N.UseNumber N.Block
 successor_entries N = record { number = λ p. p.use_number; named = λ p. p.block; entry = λ u b. record { use_number = u; block = b }; number_is = λ u d. refl; named_is = λ u d. refl; entry_is = λ e. refl }
 
 -- a list that is rewritten in each record

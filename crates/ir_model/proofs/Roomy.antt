@@ -29,7 +29,7 @@ abbrev pub numbers_from : ℕ → ℕ → List ℕ
 numbers_from n zero = []
 numbers_from n (suc k) = n ∷ numbers_from (suc n) k
 
-ids_from-in : (n k : ℕ) (i : ArenaIndex) → In i (ids_from n k) → (i.version ≡ 1) × (n < i.slot) × (i.slot ≤ n + k)
+pub ids_from-in : (n k : ℕ) (i : ArenaIndex) → In i (ids_from n k) → (i.version ≡ 1) × (n < i.slot) × (i.slot ≤ n + k)
 ids_from-in n zero i h = elim h [ ]
 ids_from-in n (suc k) i (inl e) = rw e (refl, omega arith, omega arith)
 ids_from-in n (suc k) i (inr h) = let more = ids_from-in (suc n) k i h in (more.0, omega arith, omega arith)
@@ -39,7 +39,7 @@ numbers_from-in n zero m h = elim h [ ]
 numbers_from-in n (suc k) m (inl e) = (omega arith, omega arith)
 numbers_from-in n (suc k) m (inr h) = let more = numbers_from-in (suc n) k m h in (omega arith, omega arith)
 
-ids_from-distinct : (n k : ℕ) → Distinct (ids_from n k)
+pub ids_from-distinct : (n k : ℕ) → Distinct (ids_from n k)
 ids_from-distinct n zero = tt
 ids_from-distinct n (suc k) = (
   Absent-not_in _ (ids_from (suc n) k) (λ h. (let at = ids_from-in (suc n) k (record { slot = suc n; version = 1 }) h in let l : suc n < suc n = at.1 in absurd (omega arith))),
@@ -53,7 +53,7 @@ numbers_from-distinct n (suc k) = (
   numbers_from-distinct (suc n) k,
 )
 
-ids_from-length : (n k : ℕ) → length (ids_from n k) ≡ k
+pub ids_from-length : (n k : ℕ) → length (ids_from n k) ≡ k
 ids_from-length n zero = refl
 ids_from-length n (suc k) = (let more = ids_from-length (suc n) k in omega arith)
 
@@ -107,7 +107,7 @@ pub record Fits (a : Fresh context_ids) (n : Counts) : Type 0 where
   pub uses : length a.uses + n.uses ≤ 100
 
 module _ {A : Type 0} (same : A → A → Bool) (tells : Tells same) where
-  any_iff : (xs : List A) (x : A) → (list_any (λ y. same y x) xs ≡ true) ↔ In x xs
+  pub any_iff : (xs : List A) (x : A) → (list_any (λ y. same y x) xs ≡ true) ↔ In x xs
   any_iff xs x = elim (any_in same tells x xs) [
     | inl e ↦ (λ h. e.1, λ h. e.0)
     | inr e ↦ (λ h. absurd (let f : list_any (λ y. same y x) xs ≡ false = e.0 in cc), λ h. absurd (e.1 h))

@@ -1,6 +1,7 @@
 -- The facts of the small forests.
 use mathlib.Core.Path.{◌≡◌, refl, sym, ap, ◌∙◌, subst}
 use Rattle.std.proofs.Common.{ℕ, zero, suc, ◌⊎◌, inl, inr, Option, Some, None, List, [], ◌∷◌, length, arith}
+use Rattle.std.specs.Prelude.{slice_get}
 use Rattle.std.specs.List.{AllZip}
 use Rattle.ir_model.specs.Forest.{Value, Operand, Successor, Entity, an_op, a_block, a_region, a_value, the_block, owner}
 use Rattle.ir_model.specs.Nesting.{In, Inside, itself, below, IsClosed, IsLinked, children, ops_of}
@@ -8,18 +9,37 @@ use Rattle.ir_model.specs.Edits.{MoveRegion}
 use Rattle.ir_model.specs.Subtree.{ListsSubtree}
 use Rattle.ir_model.specs.Uses.{Use, IsUse, AreUses, IsOperandAt}
 use Rattle.ir_model.specs.SmallForests.{Small, n0, n1, n2, n3, n4, n5, small_ids, behaviour, result, operand}
-use Rattle.ir_model.specs.WorkedRows.{RegionMoves, after_one_move, OwnResult, own_replaced, own_put_back, OutsideUseInDepth, nest, InsertIntoItself, holder, PredsTwice, twice_named, use_}
+use Rattle.ir_model.specs.WorkedRows.{RegionMoves, moved_once, after_one_move, OwnResult, own_replaced, own_put_back, OutsideUseInDepth, nest, InsertIntoItself, holder, PredsTwice, twice_named, use_}
 use Rattle.ir_model.proofs.Unique.{Change-unique}
 use Rattle.ir_model.proofs.Removal.{length-same, one_size}
 
+-- nothing stands at the third place of a list after the first move
+no_third : (y x : Entity small_ids) → ◌≡◌ {A = Option (Entity small_ids)} (slice_get (children moved_once y) 2) (Some x) → ⊥
+no_third (an_op n0) x e = cc
+no_third (an_op n1) x e = cc
+no_third (an_op n2) x e = cc
+no_third (an_op n3) x e = cc
+no_third (an_op n4) x e = cc
+no_third (an_op n5) x e = cc
+no_third (a_block b) x e = cc
+no_third (a_region n0) x e = cc
+no_third (a_region n1) x e = cc
+no_third (a_region n2) x e = cc
+no_third (a_region n3) x e = cc
+no_third (a_region n4) x e = cc
+no_third (a_region n5) x e = cc
+
 pub region_moves : RegionMoves
 region_moves = record {
+  moved = λ new. record { value = n0; found = refl; holds = record { value = n1; found = refl; holds = record { value = _; found = refl; holds = refl } } };
   left = refl;
   last = refl;
-  index = refl;
+  index = (an_op n0, refl);
+  no_other_index = λ i. no_third i.0 (a_region n2) i.1;
   no_gap_filled = λ e. cc;
   again = λ new t p. Change-unique behaviour (MoveRegion 0 1) after_one_move t after_one_move new p (record { value = n0; found = refl; holds = record { value = n1; found = refl; holds = record { value = _; found = refl; holds = refl } } });
   left_of_four = refl;
+  no_gap_filled_of_four = λ e. cc;
   behind_the_other = refl;
   left_of_three = refl;
   behind_both = refl;
@@ -46,6 +66,10 @@ old_use_gone : (index : ℕ) → IsOperandAt own_replaced (use_ n0 n0) index →
 old_use_gone zero h = let e : ◌≡◌ {A = Option (Operand small_ids)} (Some (operand n1 (result n1 n1))) (Some (operand n0 h.0)) = h.1 in let s : operand n1 (result n1 n1) ≡ operand n0 h.0 = cc in let t : n1 ≡ n0 = ap (λ (p : Operand small_ids). p.use_number) s in cc
 old_use_gone (suc index) h = let e : ◌≡◌ {A = Option (Operand small_ids)} None (Some (operand n0 h.0)) = h.1 in absurd cc
 
+old_number : IsUse own_replaced (a_value (result n1 n1)) (use_ n0 n0) → ⊥
+old_number (inl e) = let s : n0 ≡ n1 = ap (λ (p : Operand small_ids). p.use_number) e in cc
+old_number (inr k) = elim k [ ]
+
 own_closed : IsClosed own_put_back (an_op n0)
 own_closed n0 d h inside = itself
 own_closed _ d h inside = elim h [ ]
@@ -60,10 +84,14 @@ own_not_closed closed = let e = only_itself (an_op n0) (closed n0 (a_value (resu
 
 pub own_result : OwnResult
 own_result = record {
+  replaced = record { value = n0; found = refl; holds = record { value = result n1 n1; found = refl; holds = record { value = n1; found = refl; holds = refl } } };
+  put_back = record { value = n0; found = refl; holds = record { value = result n0 n0; found = refl; holds = record { value = n2; found = refl; holds = refl } } };
   unused = own_uses;
   used = record { once = (tt, tt); exact = λ u. (λ h. elim h [ inl e ↦ subst (λ v. IsUse own_replaced (a_value (result n1 n1)) v) (sym e) (inl refl) | inr k ↦ elim k [ ] ], λ h. inl (own_use_of u h)) };
+  not_the_old_number = λ u. old_number ((u.exact (use_ n0 n0)).0 (inl refl));
   old_use_gone = old_use_gone;
   closed = own_closed;
+  erasable = record { value = n0; found = refl; holds = record { value = _; found = refl; holds = own_closed } };
   gone = λ g p. p.ops_inside n0 itself;
   not_closed = own_not_closed;
 }
@@ -142,6 +170,7 @@ outside_use = record {
   not_closed = nest_not_closed;
   refused = λ c. nest_not_closed (let e : Some n0 ≡ Some c.value = c.found in let s : n0 ≡ c.value = cc in subst (λ o. IsClosed (nest (result n1 n0)) (an_op o)) (sym s) c.holds.holds);
   closed = nest_closed;
+  allowed = record { value = n0; found = refl; holds = record { value = _; found = refl; holds = nest_closed } };
   four = (nest_list, nest_listed, refl);
   not_three = λ s. (let e : 4 ≡ length s.0 = one_size (nest (result n3 n1)) (an_op n0) nest_list s.0 nest_listed s.1 in let t : 4 ≡ 3 = e ∙ s.2 in omega (arith, t));
 }
@@ -224,14 +253,18 @@ as_long R [] (y ∷ ys) z = elim z [ ]
 as_long R (x ∷ xs) [] z = elim z [ ]
 as_long R (x ∷ xs) (y ∷ ys) z = let more = as_long R xs ys z.1 in ap suc more
 
+two_of_them : (uses : List (Use small_ids)) → AreUses (twice_named 4) (the_block n1) uses → length uses ≡ 2
+two_of_them uses are = length-same uses (use_ n1 n0 ∷ use_ n1 n1 ∷ []) are.once both_uses.once
+    (λ u h. (both_uses.exact u).1 ((are.exact u).0 h)) (λ u h. (are.exact u).1 ((both_uses.exact u).0 h))
+
 pub preds_twice : PredsTwice
 preds_twice = record {
   two = (use_ n1 n0 ∷ use_ n1 n1 ∷ [], both_uses, refl);
+  not_one = λ c. (let same : length c.0 ≡ 2 = two_of_them c.0 c.1 in let one : length c.0 ≡ 1 = c.2 in omega (arith, one, same));
   listed_twice = record { uses = use_ n1 n0 ∷ use_ n1 n1 ∷ []; are_uses = both_uses; in_order = (inl refl, (inl refl, tt)) };
   not_once = λ p.
       let one : length p.uses ≡ 1 = as_long (λ (u : Use small_ids) a. In u.user (ops_of (twice_named 4) a)) p.uses (n0 ∷ []) p.in_order in
-      let same : length p.uses ≡ 2 = length-same p.uses (use_ n1 n0 ∷ use_ n1 n1 ∷ []) p.are_uses.once both_uses.once
-      (λ u h. (both_uses.exact u).1 ((p.are_uses.exact u).0 h)) (λ u h. (p.are_uses.exact u).1 ((both_uses.exact u).0 h)) in
+      let same : length p.uses ≡ 2 = two_of_them p.uses p.are_uses in
       omega (arith, one, same);
   last_names_it = inl refl;
   no_successors = refl;

@@ -12,9 +12,11 @@ use Rattle.ir_model.specs.Parent.{last_of}
 abbrev pub is_terminator_interface : ℕ
 is_terminator_interface = 1
 
+-- the blocks of such a kind need no terminator
 abbrev pub no_terminator_interface : ℕ
 no_terminator_interface = 2
 
+-- an operation of such a kind does nothing but give its results
 abbrev pub pure_interface : ℕ
 pure_interface = 6
 

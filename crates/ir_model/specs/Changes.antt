@@ -19,27 +19,34 @@ abbrev pub rewrite_all : {A B : Type 0} → (B → B) → (A → Option B) → A
 rewrite_all g m x = option_map g (m x)
 
 module _ {A : Type 0} (same : A → A → Bool) where
+  -- the list with every x taken out; the rest keep their order
   abbrev pub without : A → List A → List A
   without x xs = filter (λ y. not (same y x)) xs
 
+  -- the list with x put right before the first place of the mark; a list without the mark stays as it is
   abbrev pub put_before : A → A → List A → List A
   put_before x mark [] = []
   put_before x mark (y ∷ ys) = if same y mark then x ∷ y ∷ ys else y ∷ put_before x mark ys
 
+  -- the list with x put right behind the first place of the mark; a list without the mark stays as it is
   abbrev pub put_after : A → A → List A → List A
   put_after x mark [] = []
   put_after x mark (y ∷ ys) = if same y mark then y ∷ x ∷ ys else y ∷ put_after x mark ys
 
 module _ {N : Ids} where
+  -- the operand with this use number and value
   abbrev pub operand : N.UseNumber × Value N → Operand N
   operand p = record { use_number = p.0; value = p.1 }
 
+  -- the successor with this use number and block
   abbrev pub successor : N.UseNumber × N.Block → Successor N
   successor p = record { use_number = p.0; block = p.1 }
 
+  -- the operand, which names the new value where it named the old one, and keeps its use number
   abbrev pub redirected : Value N → Value N → Operand N → Operand N
   redirected old new p = if same_value N p.value old then record p { value = new } else p
 
+  -- the successor, which names the new block where it named the old one, and keeps its use number
   abbrev pub retargeted : N.Block → N.Block → Successor N → Successor N
   retargeted old new p = if N.same_block p.block old then record p { block = new } else p
 
@@ -49,15 +56,19 @@ module _ {N : Ids} where
   but e of xs = filter (λ x. not (same_entity N (of x) e)) xs
 
 module _ {N : Ids} {W : Dialect} where
+  -- the record of the operation rewritten; all else is as it was
   abbrev pub on_op : Forest N W → N.Op → (OpRecord N W → OpRecord N W) → Forest N W
   on_op f o g = record f { ops = rewrite N.same_op o g f.ops }
 
+  -- the record of the block rewritten; all else is as it was
   abbrev pub on_block : Forest N W → N.Block → (BlockRecord N W → BlockRecord N W) → Forest N W
   on_block f b g = record f { blocks = rewrite N.same_block b g f.blocks }
 
+  -- the list of the region rewritten; all else is as it was
   abbrev pub on_region : Forest N W → N.Region → (List N.Block → List N.Block) → Forest N W
   on_region f r g = record f { regions = rewrite N.same_region r g f.regions }
 
+  -- a result or argument with this number and type, and no name
   abbrev pub definition : N.ValueNumber × ℕ → Definition N W
   definition p = record { number = p.0; ty = p.1; name = None }
 
@@ -76,32 +87,40 @@ module _ {N : Ids} {W : Dialect} where
     regions = λ r. if list_any (λ s. N.same_region s r) regions then Some [] else f.regions r;
   }
 
+  -- a new block, unlinked, with a label and arguments, no operations and no attributes
   abbrev pub new_block : Forest N W → N.Block → W.Loc → Option Text → List (Definition N W) → Forest N W
   new_block f b loc label arguments = record f {
     blocks = put N.same_block b (record { label = label; arguments = arguments; ops = []; attributes = []; loc = loc }) f.blocks;
   }
 
+  -- a new empty region, the last of the operation
   abbrev pub add_region : Forest N W → N.Op → N.Region → Forest N W
   add_region f o r = record f {
     ops = rewrite N.same_op o (λ rec. record rec { regions = rec.regions ++ r ∷ [] }) f.ops;
     regions = put N.same_region r [] f.regions;
   }
 
+  -- the record with its results rewritten
   abbrev pub on_results : (List (Definition N W) → List (Definition N W)) → OpRecord N W → OpRecord N W
   on_results g r = record r { results = g r.results }
 
+  -- the record with its arguments rewritten
   abbrev pub on_arguments : (List (Definition N W) → List (Definition N W)) → BlockRecord N W → BlockRecord N W
   on_arguments g r = record r { arguments = g r.arguments }
 
+  -- the record with its operands rewritten
   abbrev pub on_operands : (List (Operand N) → List (Operand N)) → OpRecord N W → OpRecord N W
   on_operands g r = record r { operands = g r.operands }
 
+  -- the record with its successors rewritten
   abbrev pub on_successors : (List (Successor N) → List (Successor N)) → OpRecord N W → OpRecord N W
   on_successors g r = record r { successors = g r.successors }
 
+  -- the record with its regions rewritten
   abbrev pub on_regions : (List N.Region → List N.Region) → OpRecord N W → OpRecord N W
   on_regions g r = record r { regions = g r.regions }
 
+  -- the record with its operations rewritten
   abbrev pub on_ops : (List N.Op → List N.Op) → BlockRecord N W → BlockRecord N W
   on_ops g r = record r { ops = g r.ops }
 
@@ -109,6 +128,7 @@ module _ {N : Ids} {W : Dialect} where
   abbrev pub redirect : Forest N W → Value N → Value N → Forest N W
   redirect f old new = record f { ops = rewrite_all (on_operands (map (redirected old new))) f.ops }
 
+  -- every successor that names the first names the second, under its old use number
   abbrev pub retarget : Forest N W → N.Block → N.Block → Forest N W
   retarget f old new = record f { ops = rewrite_all (on_successors (map (retargeted old new))) f.ops }
 
@@ -116,12 +136,15 @@ module _ {N : Ids} {W : Dialect} where
   abbrev pub in_blocks : Forest N W → (List N.Op → List N.Op) → Forest N W
   in_blocks f g = record f { blocks = rewrite_all (on_ops g) f.blocks }
 
+  -- a list edit in every region
   abbrev pub in_regions : Forest N W → (List N.Block → List N.Block) → Forest N W
   in_regions f g = record f { regions = rewrite_all g f.regions }
 
+  -- these operations, which are the donor's, go behind those of the donee, and the donor has none left
   abbrev pub append_ops : Forest N W → N.Block → N.Block → List N.Op → Forest N W
   append_ops f donee donor ops = on_block (on_block f donee (on_ops (λ xs. xs ++ ops))) donor (on_ops (λ _. []))
 
+  -- these blocks, which are the donor's, go behind those of the donee, and the donor has none left
   abbrev pub append_blocks : Forest N W → N.Region → N.Region → List N.Block → Forest N W
   append_blocks f donee donor blocks = on_region (on_region f donee (λ xs. xs ++ blocks)) donor (λ _. [])
 
@@ -129,6 +152,7 @@ module _ {N : Ids} {W : Dialect} where
   abbrev pub move_region : Forest N W → N.Region → N.Op → Forest N W
   move_region f r o = on_op (record f { ops = rewrite_all (on_regions (without N.same_region r)) f.ops }) o (on_regions (λ rs. rs ++ r ∷ []))
 
+  -- the record without operands and successors
   abbrev pub no_uses : OpRecord N W → OpRecord N W
   no_uses r = record r { operands = []; successors = [] }
 
@@ -136,6 +160,7 @@ module _ {N : Ids} {W : Dialect} where
   pub record DropsUses (f : Forest N W) (e : Entity N) (g : Forest N W) : Type 0 where
     pub inside : (o : N.Op) → Inside f e (an_op o) → g.ops o ≡ option_map no_uses (f.ops o)
     pub outside : (o : N.Op) → (Inside f e (an_op o) → ⊥) → g.ops o ≡ f.ops o
+    -- no operation is left in a third way
     pub either : (o : N.Op) → (g.ops o ≡ f.ops o) ⊎ (g.ops o ≡ option_map no_uses (f.ops o))
     pub blocks : g.blocks ≡ f.blocks
     pub regions : g.regions ≡ f.regions

@@ -8,45 +8,68 @@ use Rattle.ir_model.specs.Forest.{Text, Dialect, Behaviour, Definer, of_op, of_b
 use Rattle.ir_model.specs.Nesting.{In, IsLinked, Inside, IsLiveNamed, IsClosed, children, names_of}
 use Rattle.ir_model.specs.Changes.{definition, operand, successor, on_op, on_block, on_region, new_op, new_block, add_region, on_results, on_arguments, on_operands, on_successors, on_ops, redirect, retarget, in_blocks, in_regions, append_ops, append_blocks, move_region, put_before, put_after, without, DropsUses, Removes}
 
+-- an edit; types, operations, blocks, regions and values are named by their numbers in the tables
 pub data Edit (W : Dialect) : Type 0 where
+  -- a key
   NewType : W.Key → Edit W
+  -- a kind, the types of the results, the operands, the successors, and how many regions
   NewOp : ℕ → List ℕ → List ℕ → List ℕ → ℕ → Edit W
+  -- a label, and the types of the arguments
   NewBlock : Option Text → List ℕ → Edit W
+  -- an operation
   AddRegion : ℕ → Edit W
+  -- an operation or a block, and a type
   PushResult : ℕ → ℕ → Edit W
   PushArgument : ℕ → ℕ → Edit W
+  -- an operation or a block, a place, and a type
   InsertResult : ℕ → ℕ → ℕ → Edit W
   InsertArgument : ℕ → ℕ → ℕ → Edit W
+  -- an operation or a block, and a place
   RemoveResult : ℕ → ℕ → Edit W
   RemoveArgument : ℕ → ℕ → Edit W
+  -- an operation, and a value or a block
   PushOperand : ℕ → ℕ → Edit W
   PushSuccessor : ℕ → ℕ → Edit W
+  -- an operation, a place, and a value or a block
   InsertOperand : ℕ → ℕ → ℕ → Edit W
   InsertSuccessor : ℕ → ℕ → ℕ → Edit W
+  -- an operation, and a place
   RemoveOperand : ℕ → ℕ → Edit W
   RemoveSuccessor : ℕ → ℕ → Edit W
+  -- an operation, a place, and a value or a block
   ReplaceOperand : ℕ → ℕ → ℕ → Edit W
   ReplaceSuccessor : ℕ → ℕ → ℕ → Edit W
+  -- the old value or block, and the new one
   ReplaceAllUses : ℕ → ℕ → Edit W
   RetargetAll : ℕ → ℕ → Edit W
+  -- an operation, and the block that it goes into
   OpFront : ℕ → ℕ → Edit W
   OpBack : ℕ → ℕ → Edit W
+  -- an operation, and the operation that it goes beside
   OpBefore : ℕ → ℕ → Edit W
   OpAfter : ℕ → ℕ → Edit W
+  -- what is unlinked
   UnlinkOp : ℕ → Edit W
   UnlinkBlock : ℕ → Edit W
+  -- a block, and the region that it goes into
   BlockFront : ℕ → ℕ → Edit W
   BlockBack : ℕ → ℕ → Edit W
+  -- a block, and the block that it goes beside
   BlockBefore : ℕ → ℕ → Edit W
   BlockAfter : ℕ → ℕ → Edit W
+  -- the donee and the donor: two blocks, or two regions
   AppendOps : ℕ → ℕ → Edit W
   AppendBlocks : ℕ → ℕ → Edit W
+  -- a region, and the operation that it goes to
   MoveRegion : ℕ → ℕ → Edit W
+  -- what is to be without uses
   DropOpUses : ℕ → Edit W
   DropBlockUses : ℕ → Edit W
   DropRegionUses : ℕ → Edit W
+  -- what is erased
   EraseOp : ℕ → Edit W
   EraseBlock : ℕ → Edit W
+  -- an operation, and the place of its region that is erased
   EraseRegion : ℕ → ℕ → Edit W
 
 -- a stored type: its key, and the part outside equality
@@ -54,7 +77,7 @@ pub record StoredType (W : Dialect) : Type 0 where
   pub key : W.Key
   pub body : W.Body
 
--- the entities that a session knows, in the order in which it made them
+-- what a session made, in the order in which it made it; a type is its handle, the place of a stored one
 pub record Tables (N : Ids) : Type 0 where
   pub types : List ℕ
   pub ops : List N.Op
@@ -62,6 +85,7 @@ pub record Tables (N : Ids) : Type 0 where
   pub regions : List N.Region
   pub values : List (Value N)
 
+-- what the edits change: the forest, the stored types and the tables
 pub record State (N : Ids) (W : Dialect) : Type 0 where
   pub forest : Forest N W
   -- the stored types: handle k means the k-th
@@ -79,6 +103,7 @@ abbrev pub Each : (ℕ → Type 0) → List ℕ → Type 0
 Each P [] = Unit {0}
 Each P (n ∷ ns) = P n × Each P ns
 
+-- the entries of the table with these numbers, in the order of the numbers
 abbrev pub these : {A : Type 0} → List A → List ℕ → List A
 these table ns = filter_map (slice_get table) ns
 
@@ -101,6 +126,7 @@ module _ {W : Dialect} where
   with_type B store key = if list_any (λ t. B.same_key t.key key) store then store else store ++ record { key = key; body = B.first_body } ∷ []
 
 module _ {N : Ids} where
+  -- the values with these numbers that d defines
   abbrev pub numbered : Definer N → List N.ValueNumber → List (Value N)
   numbered d ns = map (λ n. record { definer = d; number = n }) ns
 
@@ -109,15 +135,19 @@ module _ {N : Ids} {W : Dialect} where
   abbrev pub TheOp : State N W → ℕ → (N.Op → Type 0) → Type 0
   TheOp s n P = The (slice_get s.tables.ops n) P
 
+  -- n is the number of a block b such that P
   abbrev pub TheBlock : State N W → ℕ → (N.Block → Type 0) → Type 0
   TheBlock s n P = The (slice_get s.tables.blocks n) P
 
+  -- n is the number of a region such that P
   abbrev pub TheRegion : State N W → ℕ → (N.Region → Type 0) → Type 0
   TheRegion s n P = The (slice_get s.tables.regions n) P
 
+  -- n is the number of a value such that P
   abbrev pub TheValue : State N W → ℕ → (Value N → Type 0) → Type 0
   TheValue s n P = The (slice_get s.tables.values n) P
 
+  -- n is the number of a type, whose handle is t, such that P
   abbrev pub TheType : State N W → ℕ → (ℕ → Type 0) → Type 0
   TheType s n P = The (slice_get s.tables.types n) P
 
@@ -125,18 +155,23 @@ module _ {N : Ids} {W : Dialect} where
   abbrev pub LiveOp : State N W → ℕ → (N.Op → OpRecord N W → Type 0) → Type 0
   LiveOp s n P = TheOp s n λ o. The (s.forest.ops o) λ r. P o r
 
+  -- n is the number of a live block with a record r such that P
   abbrev pub LiveBlock : State N W → ℕ → (N.Block → BlockRecord N W → Type 0) → Type 0
   LiveBlock s n P = TheBlock s n λ b. The (s.forest.blocks b) λ r. P b r
 
+  -- n is the number of a live region such that P
   abbrev pub LiveRegion : State N W → ℕ → (N.Region → Type 0) → Type 0
   LiveRegion s n P = TheRegion s n λ r. IsSome (s.forest.regions r) × P r
 
+  -- n is the number of a live value such that P
   abbrev pub LiveValue : State N W → ℕ → (Value N → Type 0) → Type 0
   LiveValue s n P = TheValue s n λ v. IsLiveNamed s.forest (a_value v) × P v
 
+  -- each of these is the number of a type
   abbrev pub KnownTypes : State N W → List ℕ → Type 0
   KnownTypes s ns = Each (λ n. n < length s.tables.types) ns
 
+  -- no operation names the definition
   abbrev pub Unused : Forest N W → Named N → Type 0
   Unused f d = (o : N.Op) → In d (names_of f o) → ⊥
 
@@ -152,9 +187,11 @@ module _ {N : Ids} {W : Dialect} where
   abbrev pub MayJoin : Forest N W → Entity N → Entity N → Type 0
   MayJoin f donee donor = (donee ≢ donor) × ((x : Entity N) → In x (children f donor) → (Inside f x donee → ⊥) × (Inside f x donor → ⊥))
 
+  -- each operation that names the block as a successor is linked
   abbrev pub UsersLinked : Forest N W → N.Block → Type 0
   UsersLinked f b = (o : N.Op) → In (the_block b) (names_of f o) → IsLinked f (an_op o)
 
+  -- what is asked of the state before the edit: what it names is listed and live, and beside that what stands in its line
   abbrev pub Condition : State N W → Edit W → Type 0
   Condition s (NewType key) = Unit {0}
   Condition s (NewOp kind types operands successors regions) =
@@ -209,10 +246,11 @@ module _ {N : Ids} {W : Dialect} where
         tables = record (s.tables) { values = s.tables.values ++ record { definer = d; number = n } ∷ [] };
       }
 
+  -- a new operand or successor, put in by g under a new use number; the tables stay
   abbrev pub AddsUse : State N W → Fresh N → (N.UseNumber → Forest N W) → State N W → Type 0
   AddsUse s new g t = The (slice_get new.uses 0) λ u. t ≡ over s (g u)
 
-  -- what an edit that is made leaves, where it made these new context_ids and numbers
+  -- what an edit that is made leaves, where it made these new ids and numbers
   abbrev pub Change : Behaviour W → State N W → Edit W → Fresh N → State N W → Type 0
   Change B s (NewType key) new t =
       t ≡ record s {
@@ -292,17 +330,20 @@ module _ {N : Ids} {W : Dialect} where
   Change B s (EraseBlock n) new t = TheBlock s n λ b. Removes s.forest (a_block b) t.forest × (t ≡ over s t.forest)
   Change B s (EraseRegion n at) new t = LiveOp s n λ o r. The (slice_get r.regions at) λ g. Removes s.forest (a_region g) t.forest × (t ≡ over s t.forest)
 
--- the context_ids and numbers that an edit makes
+-- nothing needed
 abbrev pub no_needs : Counts
 no_needs = record { ops = 0; blocks = 0; regions = 0; numbers = 0; uses = 0 }
 
+-- one value number
 abbrev pub one_number : Counts
 one_number = record no_needs { numbers = 1 }
 
+-- one use number
 abbrev pub one_use : Counts
 one_use = record no_needs { uses = 1 }
 
 module _ {W : Dialect} where
+  -- how many ids and numbers of each kind the edit makes
   abbrev pub needs : Edit W → Counts
   needs (NewOp kind types operands successors regions) =
       record { ops = 1; blocks = 0; regions = regions; numbers = length types; uses = length operands + length successors }

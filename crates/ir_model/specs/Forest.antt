@@ -32,32 +32,39 @@ module _ (N : Ids) where
     of_op : N.Op → Definer
     of_block : N.Block → Definer
 
+  -- a value: what defines it, and a number
   pub record Value : Type 0 where
     pub definer : Definer
     pub number : N.ValueNumber
 
+  -- an operand: the number of its use, and the value that it names
   pub record Operand : Type 0 where
     pub use_number : N.UseNumber
     pub value : Value
 
+  -- a successor: the number of its use, and the block that it names
   pub record Successor : Type 0 where
     pub use_number : N.UseNumber
     pub block : N.Block
 
+  -- an entity: an operation, a block or a region
   pub data Entity : Type 0 where
     an_op : N.Op → Entity
     a_block : N.Block → Entity
     a_region : N.Region → Entity
 
+  -- whether the definers are one
   abbrev pub same_definer : Definer → Definer → Bool
   same_definer (of_op o) (of_op p) = N.same_op o p
   same_definer (of_block b) (of_block c) = N.same_block b c
   same_definer (of_op o) (of_block c) = false
   same_definer (of_block b) (of_op p) = false
 
+  -- whether the values are one: one definer and one number
   abbrev pub same_value : Value → Value → Bool
   same_value v w = same_definer v.definer w.definer && N.same_number v.number w.number
 
+  -- whether the entities are one
   abbrev pub same_entity : Entity → Entity → Bool
   same_entity (an_op o) (an_op p) = N.same_op o p
   same_entity (a_block b) (a_block c) = N.same_block b c
@@ -69,6 +76,7 @@ module _ (N : Ids) where
     a_value : Value → Named
     the_block : N.Block → Named
 
+  -- the definer as an entity
   abbrev pub definer_entity : Definer → Entity
   definer_entity (of_op o) = an_op o
   definer_entity (of_block b) = a_block b
@@ -85,6 +93,7 @@ module _ (N : Ids) where
       pub ty : ℕ
       pub name : Option Text
 
+    -- what an operation has
     pub record OpRecord : Type 0 where
       pub kind : ℕ
       pub results : List Definition
@@ -94,6 +103,7 @@ module _ (N : Ids) where
       pub attributes : List (Text × W.Attr)
       pub loc : W.Loc
 
+    -- what a block has
     pub record BlockRecord : Type 0 where
       pub label : Option Text
       pub arguments : List Definition
@@ -101,6 +111,7 @@ module _ (N : Ids) where
       pub attributes : List (Text × W.Attr)
       pub loc : W.Loc
 
+    -- the forest: a live operation or block id leads to its record, and a live region id to the list of its blocks
     pub record Forest : Type 0 where
       pub ops : N.Op → Option OpRecord
       pub blocks : N.Block → Option BlockRecord

@@ -22,15 +22,19 @@ module _ {W : Dialect} where
   abbrev pub IsGoneOp : Session W → ArenaIndex → Type 0
   IsGoneOp s i = IsTrue (s.passed.ops i) × (live_op s.state i → ⊥)
 
+  -- the same for a block
   abbrev pub IsGoneBlock : Session W → ArenaIndex → Type 0
   IsGoneBlock s i = IsTrue (s.passed.blocks i) × (live_block s.state i → ⊥)
 
+  -- the same for a region
   abbrev pub IsGoneRegion : Session W → ArenaIndex → Type 0
   IsGoneRegion s i = IsTrue (s.passed.regions i) × (live_region s.state i → ⊥)
 
+  -- the same for a value number, which stands at no result or argument
   abbrev pub IsGoneNumber : Session W → ℕ → Type 0
   IsGoneNumber s n = IsTrue (s.passed.numbers n) × (IsNumber s n → ⊥)
 
+  -- the same for a use number, which stands at no operand or successor
   abbrev pub IsGoneUse : Session W → ℕ → Type 0
   IsGoneUse s u = IsTrue (s.passed.uses u) × (IsUseNumber s u → ⊥)
 

@@ -1,6 +1,7 @@
--- What context_ids and numbers are: types of their own, which the definitions only compare.
+-- What ids and numbers are: types of their own, which the definitions only compare.
 use Rattle.std.specs.Prelude.{ℕ, Bool, List, [], ◌∷◌, ◌≢◌, length}
 
+-- the types of ids and numbers, with tests that tell two of a type apart
 pub record Ids : Type 1 where
   pub Op : Type 0
   pub Block : Type 0
@@ -12,7 +13,7 @@ pub record Ids : Type 1 where
   pub same_region : Region → Region → Bool
   pub same_number : ValueNumber → ValueNumber → Bool
 
--- context_ids and numbers in order, as an edit makes them
+-- ids and numbers in order, as an edit makes them
 pub record Fresh (N : Ids) : Type 0 where
   pub ops : List N.Op
   pub blocks : List N.Block
@@ -60,6 +61,7 @@ pub record Counts : Type 0 where
   pub numbers : ℕ
   pub uses : ℕ
 
+-- how many ids and numbers these are
 abbrev pub counts : (N : Ids) → Fresh N → Counts
 counts N a = record {
   ops = length a.ops;

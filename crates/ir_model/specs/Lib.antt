@@ -1,6 +1,7 @@
 pub mod Ids
 pub mod ContextIds
 pub mod IdText
+pub mod RefusalText
 pub mod Forest
 pub mod Nesting
 pub mod Uses
@@ -15,7 +16,6 @@ pub mod NamesDead
 pub mod Uniquing
 pub mod StepLaws
 pub mod OneOfEach
-pub mod Arena
 pub mod Parent
 pub mod BlockGraph
 pub mod Subtree
@@ -27,6 +27,7 @@ pub mod Dead
 pub mod Identifier
 pub mod Legaliser
 pub mod SmallForests
+pub mod IdForests
 pub mod WorkedRows
 pub mod NamedRows
 pub mod FaultRows

@@ -21,7 +21,7 @@ unique_name None id = id
 unique_name (Some name) id = name ++ codes "_" ++ id
 
 module _ {W : Dialect} where
-  -- the text is the given name of the value, where it has one
+  -- this is what the value was given for a name: a text, or none
   abbrev pub IsGivenName : Forest context_ids W → Value context_ids → Option Text → Type 0
   IsGivenName f v name = (x : Definition context_ids W) × In x (definitions_of f v.definer) × (x.number ≡ v.number) × (x.name ≡ name)
 

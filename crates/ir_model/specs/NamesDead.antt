@@ -19,6 +19,7 @@ pub record Mentions : Type 0 where
   pub values : List ℕ
 
 module _ {W : Dialect} where
+  -- what the edit names, by its numbers in the tables
   abbrev pub mentions : Edit W → Mentions
   mentions (NewType key) = record { ops = []; blocks = []; regions = []; values = [] }
   mentions (NewOp kind types operands successors regions) = record { ops = []; blocks = successors; regions = []; values = operands }

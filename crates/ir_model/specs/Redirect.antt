@@ -1,5 +1,5 @@
 -- Uses that are redirected: their places name another definition, under the same use numbers, and all else is as before.
-use Rattle.std.specs.Prelude.{Bool, if◌then◌else◌, cond, map}
+use Rattle.std.specs.Prelude.{Bool, if◌then◌else◌, map}
 use Rattle.std.specs.Option.{option_map}
 use Rattle.ir_model.specs.Ids.{Ids}
 use Rattle.ir_model.specs.Forest.{Dialect, Forest, Operand, Successor, Value}

@@ -18,9 +18,11 @@ place n3 = 3
 place n4 = 4
 place n5 = 5
 
+-- whether the names are one
 abbrev pub same_small : Small → Small → Bool
 same_small a b = nat_eq (place a) (place b)
 
+-- ids and numbers that are small names
 abbrev pub small_ids : Ids
 small_ids = record {
   Op = Small;
@@ -51,15 +53,19 @@ behaviour = record {
 abbrev pub table : {R : Type 0} → List R → Small → Option R
 table rows n = slice_get rows (place n)
 
+-- the value that operation o gives under number n
 abbrev pub result : Small → Small → Value small_ids
 result o n = record { definer = of_op o; number = n }
 
+-- the operand with use number u that names v
 abbrev pub operand : Small → Value small_ids → Operand small_ids
 operand u v = record { use_number = u; value = v }
 
+-- the successor with use number u that names b
 abbrev pub successor : Small → Small → Successor small_ids
 successor u b = record { use_number = u; block = b }
 
+-- a result with the number n
 abbrev pub definition : Small → Definition small_ids bare
 definition n = record { number = n; ty = 0; name = None }
 
@@ -79,6 +85,7 @@ operation kind results operands successors regions = record {
 abbrev pub block : List Small → BlockRecord small_ids bare
 block ops = record { label = None; arguments = []; ops = ops; attributes = []; loc = tt }
 
+-- the forest whose records are these rows: the first is that of n0, the second that of n1, and so on
 abbrev pub forest : List (OpRecord small_ids bare) → List (BlockRecord small_ids bare) → List (List Small) → Forest small_ids bare
 forest ops blocks regions = record { ops = table ops; blocks = table blocks; regions = table regions }
 

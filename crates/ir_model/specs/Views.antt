@@ -8,11 +8,13 @@ use Rattle.ir_model.specs.Nesting.{definitions_of}
 use Rattle.ir_model.specs.Edits.{State, StoredType}
 
 module _ (W : Dialect) where
+  -- what is seen of a result or argument: the places of its value and of its type, and its name
   pub record SeenDefinition : Type 0 where
     pub value : ℕ
     pub ty : ℕ
     pub name : Option Text
 
+  -- what is seen of an operation; operands, successors and regions are places in the tables
   pub record SeenOp : Type 0 where
     pub kind : ℕ
     pub results : List SeenDefinition
@@ -22,6 +24,7 @@ module _ (W : Dialect) where
     pub attributes : List (Text × W.Attr)
     pub loc : W.Loc
 
+  -- what is seen of a block; operations are places in the tables
   pub record SeenBlock : Type 0 where
     pub label : Option Text
     pub arguments : List SeenDefinition
@@ -39,24 +42,31 @@ module _ (W : Dialect) where
 
 module _ {N : Ids} {W : Dialect} where
   module _ (s : State N W) where
+    -- the place of the operation in its table: that of its first entry
     abbrev pub op_place : N.Op → ℕ
     op_place o = position_or_len (λ p. N.same_op p o) s.tables.ops
 
+    -- the place of the block in its table: that of its first entry
     abbrev pub block_place : N.Block → ℕ
     block_place b = position_or_len (λ c. N.same_block c b) s.tables.blocks
 
+    -- the place of the region in its table: that of its first entry
     abbrev pub region_place : N.Region → ℕ
     region_place r = position_or_len (λ q. N.same_region q r) s.tables.regions
 
+    -- the place of the value in its table: that of its first entry
     abbrev pub value_place : Value N → ℕ
     value_place v = position_or_len (λ w. same_value N w v) s.tables.values
 
+    -- the place of the type in its table: that of its first entry
     abbrev pub type_place : ℕ → ℕ
     type_place t = position_or_len (λ u. nat_eq u t) s.tables.types
 
+    -- the result or argument of d, as it is seen
     abbrev pub seen_definition : Definer N → Definition N W → SeenDefinition W
     seen_definition d x = record { value = value_place (record { definer = d; number = x.number }); ty = type_place x.ty; name = x.name }
 
+    -- the record of the operation, as it is seen; use numbers are left out
     abbrev pub seen_op : N.Op → OpRecord N W → SeenOp W
     seen_op o r = record {
       kind = r.kind;
@@ -68,6 +78,7 @@ module _ {N : Ids} {W : Dialect} where
       loc = r.loc;
     }
 
+    -- the record of the block, as it is seen
     abbrev pub seen_block : N.Block → BlockRecord N W → SeenBlock W
     seen_block b r = record {
       label = r.label;
@@ -77,9 +88,11 @@ module _ {N : Ids} {W : Dialect} where
       loc = r.loc;
     }
 
+    -- what is seen of the value at its definer; nothing where it stands there no more
     abbrev pub seen_value : Value N → Option (SeenDefinition W)
     seen_value v = option_map (seen_definition v.definer) (slice_get (filter (λ (x : Definition N W). N.same_number x.number v.number) (definitions_of s.forest v.definer)) 0)
 
+    -- the view: each table with its entries as they are seen, and nothing where one is erased
     abbrev pub view : View W
     view = record {
       types = map (λ t. option_map (λ (x : StoredType W). x.key) (slice_get s.store t)) s.tables.types;

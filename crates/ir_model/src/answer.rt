@@ -17,6 +17,11 @@ pub enum Refused {
 }
 
 impl Display for Refused {
+    ghost use Rattle.std.specs.Prelude.{Some};
+    ghost use Rattle.ir_model.specs.RefusalText.{refusal_text};
+
+    ghost output = { λ reason. Some (refusal_text reason) };
+
     fn fmt<W: Write>(&self, f: &mut fmt::Formatter<W>) -> fmt::Result {
         match self {
             Refused::Condition => write!(f, "condition does not hold"),

@@ -2,9 +2,8 @@
 //!
 //! Each is the contract of a function that takes and does nothing, for every choice of a dialect's types.
 
-ghost use Rattle.std.specs.Prelude.{ℕ, Bool};
-ghost use Rattle.ir_model.specs.Forest.{Dialect, Behaviour};
-ghost use Rattle.ir_model.specs.DefinitionLaws.{UnlinkedGoesBack, UniqueNamesTell, RemovalIsOne, SubtreeSizeIsOne, ReplacedTakesUses, RetargetedTakesUses, SuccessorsMeetPredecessors, SourcesApart, SearchesAgree};
+ghost use Rattle.ir_model.specs.Forest.{Behaviour};
+ghost use Rattle.ir_model.specs.DefinitionLaws.{UnlinkedGoesBack, UniqueNamesTell, RemovalIsOne, SubtreeSizeIsOne, ReplacedTakesUses, RetargetedTakesUses, SuccessorsMeetPredecessors, AllUsesAreRedirected, ClosedByDefinitions, SourcesApart, NamesLeadBack, CallsSettle, SearchesAgree};
 
 /// An operation or block that is unlinked and put back where it stood leaves the forest as it was.
 ///
@@ -40,14 +39,26 @@ pub fn retargeted_takes_uses<Key, Body, Attr, Saved, Aux, Loc>()
     ensures { RetargetedTakesUses (record { Key = Key; Body = Body; Attr = Attr; Saved = Saved; Aux = Aux; Loc = Loc }) }
 {}
 
-/// Where each operation with a successor is the terminator of a block, b is among the successors of a exactly where a is among the predecessors of b.
-pub fn successors_meet_predecessors<Key: Eq, Body, Attr, Saved, Aux, Loc>()
-    ensures { (first : Body) (unknown : Loc) (impls : ℕ → ℕ → Bool) → SuccessorsMeetPredecessors (record { Key = Key; Body = Body; Attr = Attr; Saved = Saved; Aux = Aux; Loc = Loc }) (record { same_key = Key.eq; first_body = first; unknown = unknown; op_impls = impls }) }
+/// To redirect a set that has exactly the uses of a value or a block is to redirect all that names it.
+pub fn all_uses_are_redirected<Key, Body, Attr, Saved, Aux, Loc>()
+    ensures { AllUsesAreRedirected (record { Key = Key; Body = Body; Attr = Attr; Saved = Saved; Aux = Aux; Loc = Loc }) }
 {}
 
-/// Whatever calls a legaliser was given, no two sources have one identifier.
+/// An entity is closed exactly where each operation that names a result, an argument or a block inside it is inside it.
+pub fn closed_by_definitions<Key, Body, Attr, Saved, Aux, Loc>()
+    ensures { ClosedByDefinitions (record { Key = Key; Body = Body; Attr = Attr; Saved = Saved; Aux = Aux; Loc = Loc }) }
+{}
+
+/// Where each operation with a successor is the terminator of a block, b is among the successors of a exactly where a is among the predecessors of b.
+pub fn successors_meet_predecessors<Key, Body, Attr, Saved, Aux, Loc>()
+    ensures { (behaviour : Behaviour (record { Key = Key; Body = Body; Attr = Attr; Saved = Saved; Aux = Aux; Loc = Loc })) → SuccessorsMeetPredecessors _ behaviour }
+{}
+
+/// Whatever calls a legaliser was given, no two sources have one identifier, and each identifier leads back to its source. What it gives is settled by the sources and their order.
 pub fn sources_apart()
-    ensures { SourcesApart }
+    ensures apart { SourcesApart }
+    ensures back { NamesLeadBack }
+    ensures settled { CallsSettle }
 {}
 
 /// In a well-formed forest a parent, a neighbour and a place are found one way, and a definition has one number of uses.

@@ -1,9 +1,9 @@
 //! Each law is called once, at the types of a small dialect.
 
 use crate::{
-    choices_unseen, removal_is_one, replaced_takes_uses, retargeted_takes_uses, searches_agree,
-    sources_apart, subtree_size_is_one, successors_meet_predecessors, unique_names_tell,
-    unlinked_goes_back, worked_rows,
+    all_uses_are_redirected, choices_unseen, closed_by_definitions, removal_is_one,
+    replaced_takes_uses, retargeted_takes_uses, searches_agree, sources_apart, subtree_size_is_one,
+    successors_meet_predecessors, unique_names_tell, unlinked_goes_back, worked_rows,
 };
 
 #[test]
@@ -15,6 +15,8 @@ fn laws_are_called() {
     subtree_size_is_one::<u32, u8, u8, u8, u8, u8>();
     replaced_takes_uses::<u32, u8, u8, u8, u8, u8>();
     retargeted_takes_uses::<u32, u8, u8, u8, u8, u8>();
+    all_uses_are_redirected::<u32, u8, u8, u8, u8, u8>();
+    closed_by_definitions::<u32, u8, u8, u8, u8, u8>();
     successors_meet_predecessors::<u32, u8, u8, u8, u8, u8>();
     searches_agree::<u32, u8, u8, u8, u8, u8>();
     sources_apart();

@@ -3,8 +3,8 @@
 //! They show that the definitions mean what they are read as, apart from any code.
 
 ghost use Rattle.ir_model.specs.WorkedRows.{RegionMoves, OwnResult, OutsideUseInDepth, InsertIntoItself, PredsTwice, SweptRows};
-ghost use Rattle.ir_model.specs.NamedRows.{UniqueNames, EntryBlock, LegaliseClashes};
-ghost use Rattle.ir_model.specs.FaultRows.{FaultsStand};
+ghost use Rattle.ir_model.specs.NamedRows.{UniqueNames, LegaliseClashes};
+ghost use Rattle.ir_model.specs.FaultRows.{EntryBlock, FaultsStand};
 
 /// The worked examples hold.
 ///

@@ -3,7 +3,7 @@
 //! Each law is the contract of a function that takes and does nothing, for the types of any dialect and any behaviour of theirs.
 
 ghost use Rattle.ir_model.specs.Forest.{Behaviour};
-ghost use Rattle.ir_model.specs.OneOfEach.{EachCanBeMade};
+ghost use Rattle.ir_model.specs.OneOfEach.{EachCanBeMade, NewSessionsStep};
 ghost use Rattle.ir_model.specs.Gone.{GoneForGood, ErasedAreGone};
 ghost use Rattle.ir_model.specs.NamesDead.{DeadAreRefused};
 ghost use Rattle.ir_model.specs.Soundness.{NewSessionsAreSound, StepsKeepSound, RunsKeepSound, RunsAreWellFormed};
@@ -33,9 +33,10 @@ pub fn gone_for_good<Key, Body, Attr, Saved, Aux, Loc>()
     ensures refused { (behaviour : Behaviour (record { Key = Key; Body = Body; Attr = Attr; Saved = Saved; Aux = Aux; Loc = Loc })) → DeadAreRefused _ behaviour }
 {}
 
-/// An edit of each kind can be made: a run from a new session leads to one that carries it out.
+/// An edit of each kind can be made: a run from a new session leads to one that carries it out. In a new session itself every edit has a step, with one answer or another.
 pub fn edits_can_be_made<Key, Body, Attr, Saved, Aux, Loc>()
-    ensures { (behaviour : Behaviour (record { Key = Key; Body = Body; Attr = Attr; Saved = Saved; Aux = Aux; Loc = Loc })) → EachCanBeMade _ behaviour }
+    ensures steps { (behaviour : Behaviour (record { Key = Key; Body = Body; Attr = Attr; Saved = Saved; Aux = Aux; Loc = Loc })) → NewSessionsStep _ behaviour }
+    ensures made { (behaviour : Behaviour (record { Key = Key; Body = Body; Attr = Attr; Saved = Saved; Aux = Aux; Loc = Loc })) → EachCanBeMade _ behaviour }
 {}
 
 /// Each single step tells whether the edit's condition held, and a refusal leaves the state as it was.

@@ -3,8 +3,7 @@
 //! The definitions stand in `specs/`. Each law is the contract of a public function here that takes and does nothing.
 #![tactic(auto)]
 
-ghost use Rattle.std.specs.Prelude.{ℕ, Bool};
-ghost use Rattle.ir_model.specs.Forest.{Dialect};
+ghost use Rattle.ir_model.specs.Forest.{Behaviour};
 ghost use Rattle.ir_model.specs.Sessions.{TwoRuns};
 
 mod answer;
@@ -13,14 +12,17 @@ mod definition_laws;
 mod definition_laws_tests;
 mod examples;
 mod ids;
+#[cfg(test)]
+mod ids_tests;
 mod laws;
 #[cfg(test)]
 mod laws_tests;
 
 pub use answer::{Answer, Refused};
 pub use definition_laws::{
-    removal_is_one, replaced_takes_uses, retargeted_takes_uses, searches_agree, sources_apart,
-    subtree_size_is_one, successors_meet_predecessors, unique_names_tell, unlinked_goes_back,
+    all_uses_are_redirected, closed_by_definitions, removal_is_one, replaced_takes_uses,
+    retargeted_takes_uses, searches_agree, sources_apart, subtree_size_is_one,
+    successors_meet_predecessors, unique_names_tell, unlinked_goes_back,
 };
 pub use examples::worked_rows;
 pub use ids::{ArenaIndex, Limits};
@@ -31,6 +33,8 @@ pub use laws::{
 };
 
 /// The law on two runs: whatever ids and numbers each run chose, they give the same answers and the same view.
-pub fn choices_unseen<Key: Eq, Body, Attr, Saved, Aux, Loc>()
-    ensures { (first : Body) (unknown : Loc) (impls : ℕ → ℕ → Bool) → TwoRuns (record { Key = Key; Body = Body; Attr = Attr; Saved = Saved; Aux = Aux; Loc = Loc }) (record { same_key = Key.eq; first_body = first; unknown = unknown; op_impls = impls }) }
+///
+/// Both runs are of one list of edits from new sessions, and were refused alike for memory, counters and slots.
+pub fn choices_unseen<Key, Body, Attr, Saved, Aux, Loc>()
+    ensures { (behaviour : Behaviour (record { Key = Key; Body = Body; Attr = Attr; Saved = Saved; Aux = Aux; Loc = Loc })) → TwoRuns _ behaviour }
 {}

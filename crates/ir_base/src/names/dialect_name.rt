@@ -1,6 +1,6 @@
 //! The name of a dialect.
 ghost use Rattle.std.specs.Prelude.{◌≡◌, ◌↔◌, IfOk, IfErr, IsOk, OnOk, MatchResult, Some, string_bytes};
-ghost use Rattle.ir_base.specs.Identifier.{IsIdentifier};
+ghost use Rattle.ir_model.specs.Identifier.{IsIdentifier};
 ghost use Rattle.ir_base.specs.IdentErr.{IsReason};
 
 use crate::identifier::{IdentErr, Identifier, MalformedIdentifierErr};

@@ -1,6 +1,6 @@
 use Rattle.std.proofs.Common.{◌≡◌, string_bytes, rules}
 use Rattle.std.specs.Str.{chars}
-use Rattle.ir_base.specs.Legaliser.{replaced}
+use Rattle.ir_model.specs.Legaliser.{replaced}
 use Rattle.ir_base.proofs.LegaliserLemmas.{replaced-IsIdentifier}
 use Rattle.ir_base.proofs.legaliser.base.Goals as goal
 use Rattle.ir_base.proofs.legaliser.base.Goals.{then-is_valid+in_ok-text, else-is_valid+in_ok-text-2}

@@ -1,5 +1,5 @@
 use Rattle.std.proofs.Common.{◌≡◌, ◌<◌, ◌≤◌, ℕ, None}
-use Rattle.ir_base.specs.Legaliser.{base, numbered}
+use Rattle.ir_model.specs.Legaliser.{base, numbered}
 use Rattle.ir_base.specs.LegaliserTables.{source_at}
 use Rattle.ir_base.proofs.legaliser.choose.Given as goal
 

@@ -1,5 +1,5 @@
 use Rattle.std.proofs.Common.{◌≡◌, string_bytes, rules}
-use Rattle.ir_base.specs.Legaliser.{numbered}
+use Rattle.ir_model.specs.Legaliser.{numbered}
 use Rattle.ir_base.proofs.LegaliserLemmas.{numbered-IsIdentifier}
 use Rattle.ir_base.proofs.legaliser.numbered.Goals as goal
 

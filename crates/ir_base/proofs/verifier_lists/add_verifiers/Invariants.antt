@@ -1,5 +1,5 @@
 use Rattle.std.proofs.Common.{◌≡◌, take, nat_eq}
-use Rattle.ir_base.specs.VerifierLists.{with_each}
+use Rattle.ir_base.specs.VerifierGroups.{with_each}
 use Rattle.ir_base.proofs.verifier_lists.add_verifiers.Given as goal
 
 abbrev pub invariant-loop-verifier : goal.invariant-loop-verifier

@@ -1,6 +1,6 @@
 use Rattle.std.proofs.Common.{ap, ◌∙◌}
 use Rattle.ir_base.proofs.GroupLemmas.{deduplicated-more}
-use Rattle.ir_base.specs.VerifierLists.{with_entry}
+use Rattle.ir_base.specs.VerifierGroups.{with_entry}
 use Rattle.ir_base.proofs.verifier_lists.collect_deduped_interface_verifiers.Goals as goal
 
 pub loop-owner-preserved : goal.loop-owner-preserved

@@ -1,5 +1,5 @@
 use Rattle.std.proofs.Common.{◌≡◌, take, map}
-use Rattle.ir_base.specs.VerifierLists.{plain}
+use Rattle.ir_base.specs.VerifierGroups.{plain}
 use Rattle.ir_base.proofs.verifier_lists.vectors_of.Given as goal
 
 abbrev pub invariant-loop-place : goal.invariant-loop-place

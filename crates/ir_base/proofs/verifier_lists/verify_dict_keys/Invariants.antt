@@ -1,5 +1,5 @@
 use Rattle.std.proofs.Common.{map}
-use Rattle.ir_base.specs.VerifierLists.{DifferBelow}
+use Rattle.ir_model.specs.VerifierLists.{DifferBelow}
 use Rattle.ir_base.proofs.verifier_lists.verify_dict_keys.Given as goal
 
 abbrev pub invariant-loop-second : goal.invariant-loop-second

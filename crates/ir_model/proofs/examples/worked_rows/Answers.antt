@@ -1,7 +1,7 @@
 use Rattle.ir_model.proofs.WorkedRows.{region_moves, own_result, outside_use, into_itself, preds_twice}
 use Rattle.ir_model.proofs.SweepRows.{sweeps}
-use Rattle.ir_model.proofs.NamedRows.{unique_names, entry_block, clashes}
-use Rattle.ir_model.proofs.FaultRows.{faults_stand}
+use Rattle.ir_model.proofs.NamedRows.{unique_names, clashes}
+use Rattle.ir_model.proofs.FaultRows.{entry_block, faults_stand}
 use Rattle.ir_model.proofs.examples.worked_rows.Goals as goal
 
 pub returns-clause-region_moves : goal.returns-clause-region_moves

@@ -1,6 +1,6 @@
 use Rattle.std.proofs.Common.{◌≡◌, Some, None, Err, ◌∙◌, rules}
 use Rattle.std.specs.HashMap.{get_by_text}
-use Rattle.ir_base.specs.Legaliser.{IsFree, HasNoName, IsSpent}
+use Rattle.ir_model.specs.Legaliser.{IsFree, HasNoName, IsSpent}
 use Rattle.ir_base.specs.LegaliserTables.{source_at}
 use Rattle.ir_base.proofs.LegaliserLemmas.{name_in, Gives-known, Gives-result, Chooses-in, Chooses-free, HasNoName-in, SpentOnlyWhere-along}
 use Rattle.ir_base.proofs.legaliser.Legaliser.legalise.Goals as goal

@@ -1,6 +1,6 @@
 use Rattle.std.proofs.Common.{◌≡◌, Some, None, string_bytes, sym, ap, ◌∙◌, rules}
 use Rattle.std.specs.HashMap.{get_by_text}
-use Rattle.ir_base.specs.Legaliser.{name_of}
+use Rattle.ir_model.specs.Legaliser.{name_of}
 use Rattle.ir_base.specs.LegaliserTables.{source_at}
 use Rattle.ir_base.proofs.LegaliserLemmas.{name_of-given_by, free_from_none}
 use Rattle.ir_base.proofs.legaliser.Legaliser.source_name.Goals as goal
