@@ -20,3 +20,4 @@ pub mod VerifierLemmas
 pub mod SuperLemmas
 pub mod PlaceLemmas
 pub mod HashLemmas
+pub mod AttributeWrites

@@ -1,6 +1,7 @@
 -- Attribute dictionaries: lists of pairs of a key's text and an attribute, with distinct keys.
 use Rattle.std.specs.Prelude.{◌≡◌, ℕ, Bool, true, false, not, ◌&&◌, ◌||◌, ◌++◌, nat_eq, List, map, filter, Option, Some, None, is_some, if◌then◌else◌}
 use Rattle.std.specs.List.{AllZip}
+use Rattle.std.specs.Option.{option_map_or}
 use Rattle.std.specs.Map.{lookup, remove_entry}
 use Rattle.std.specs.HashMap.{entries_eq}
 use Rattle.std.specs.Cmp.Lexicographic.{pointwise, slice_cmp}
@@ -37,6 +38,10 @@ module _ {A : Type 0} where
   -- the pairs with this attribute at this key: a key that is there keeps its place, and a new one goes last
   abbrev pub with_attr : List (List ℕ × A) → List ℕ → A → List (List ℕ × A)
   with_attr pairs key attr = insert_entry same_key pairs key attr
+
+  -- the pairs where the attribute at this key, if there is one, is what the change makes of it
+  abbrev pub with_changed : List (List ℕ × A) → List ℕ → (A → A) → List (List ℕ × A)
+  with_changed pairs key change = option_map_or (λ attr. with_attr pairs key (change attr)) (attr_at pairs key) pairs
 
   -- the pairs without this key, in the same order
   abbrev pub without_key : List (List ℕ × A) → List ℕ → List (List ℕ × A)

@@ -5,5 +5,5 @@ use Rattle.ir_base.specs.declared.identifier.Text.TheVariants.{Borrowed, Owned}
 
 -- the bytes of a text, borrowed or owned
 abbrev pub text_bytes : Text → List ℕ
-text_bytes (Borrowed text) = text.now
+text_bytes (Borrowed text) = text
 text_bytes (Owned text) = string_bytes text

@@ -14,4 +14,5 @@ pub mod LegaliserFields
 pub mod NameLaws
 pub mod VerifierGroups
 pub mod Attributes
+pub mod AttributeLends
 pub mod AttributeLaws

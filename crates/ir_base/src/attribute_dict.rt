@@ -1,6 +1,7 @@
 //! Dictionaries of attributes.
 ghost use Rattle.std.specs.Prelude.{◌≡◌, ◌↔◌, ◌&&◌, ◌<◌, [], length, true, not, filter, None, IsTrue, IfOk, IfErr, OnOk, OnErr, option_and_then, option_map};
 ghost use Rattle.std.specs.Option.{option_copied, option_copied_mut};
+ghost use Rattle.std.specs.Borrow.{sem};
 ghost use Rattle.std.specs.List.{IsDistinct};
 ghost use Rattle.std.specs.Map.{keys_of};
 ghost use Rattle.std.specs.Map.Iter.{ShowsInOrder, deref_pair};
@@ -57,6 +58,8 @@ fn is_before<V>(key: &Identifier, pair: Option<(&Identifier, &V)>) -> bool
 }
 
 impl<D: Dialects> AttributeDict<D> {
+    ghost use Rattle.ir_base.specs.AttributeLends.{lends_value};
+
     /// A dictionary without pairs, which takes no memory yet.
     pub fn new(alloc: Global) -> Self
         ensures { result ≡ [] }
@@ -90,8 +93,11 @@ impl<D: Dialects> AttributeDict<D> {
     }
 
     /// The value of the attribute at the key, to write, where there is one of the kind of `T`.
+    ///
+    /// What is written last is the attribute's value from then on. Its key keeps its place, and the other pairs stay.
     pub fn get_mut<T: Attribute<D>>(&mut self, key: &Identifier) -> Option<&mut T>
-        ensures { option_copied_mut result ≡ option_and_then T.value_of (attr_at self.old key.now) }
+        ensures* writes_back { sem 𝓛 (lends_value D.row D.Attr.row D.TypeKey.row D.TypeBody.row D.Saved.row D.Aux.row D.Loc.row D.Dialects D.Attr.Hash D.TypeKey.Hash D.TypeBody.Default D.Saved.Hash D.Loc.Default T.row T.with_value self.entry key.now result) }
+        ensures value { option_copied_mut result ≡ option_and_then T.value_of (attr_at self.old key.now) }
     {
         let attr = self.pairs.get_mut(key)?;
         T::of_attr_mut(attr)

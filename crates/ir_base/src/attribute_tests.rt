@@ -1,5 +1,6 @@
 //! A small dialect, and dictionaries of its attributes.
-ghost use Rattle.std.specs.Prelude.{◌≡◌, ◌==◌, if◌then◌else◌, ◌&&◌, ◌||◌, ℕ, Bool, true, false, Option, Some, None, is_some, nat_eq, refl, codes};
+ghost use Rattle.std.specs.Prelude.{◌≡◌, ◌==◌, if◌then◌else◌, ◌&&◌, ◌||◌, ℕ, Bool, true, false, Option, Some, None, is_some, nat_eq, refl, codes, option_and_then};
+ghost use Rattle.ir_base.specs.Attributes.{attr_at, with_changed};
 ghost use Rattle.std.proofs.Common.{rules, true≢false, sym};
 
 use crate::attribute::{
@@ -552,5 +553,41 @@ fn is_outlined_id(alloc: Global, text: &str) -> Result<bool, CoreError> {
 #[test]
 fn ids_of_attributes(rt: HostRuntime) -> Result<(), Fail> {
     assert!(rt; is_outlined_id(rt.alloc(), "toy.outlined")?);
+    Ok(())
+}
+
+// Writes a value through a loan, where there is one of its kind at the key. Its contract follows from that of `get_mut`.
+fn write_through<T: Attribute<D> + Drop, D: Dialects>(
+    dict: &mut AttributeDict<D>,
+    key: &Identifier,
+    value: T,
+)
+    ensures { dict.new ≡ (if is_some (option_and_then T.value_of (attr_at dict.old key.now)) then with_changed dict.old key.now (λ attr. T.with_value attr value) else dict.old) }
+{
+    if let Some(lent) = dict.get_mut::<T>(key) {
+        *lent = value;
+    }
+}
+
+// Whether the letter at `a`, the outlined one at `b` and this number at `c` are there, in this order.
+fn has_number_last(dict: &AttributeDict<Small>, number: u64) -> bool {
+    let mut pairs = dict.iter();
+    is_at(pairs.next(), "a")
+        && is_at(pairs.next(), "b")
+        && is_at(pairs.next(), "c")
+        && pairs.next().is_none()
+        && dict.get::<Text>(&Identifier::new("a")) == Some(&Text { letter: 1 })
+        && dict.get::<Outlined>(&Identifier::new("b")) == Some(&Outlined { letter: 2 })
+        && dict.get::<Int>(&Identifier::new("c")) == Some(&number_of(number))
+}
+
+#[test]
+fn writes_through_loans(rt: HostRuntime) -> Result<(), Fail> {
+    let mut dict = three(rt.alloc())?;
+    write_through(&mut dict, &Identifier::new("c"), number_of(7));
+    assert!(rt; has_number_last(&dict, 7));
+    write_through(&mut dict, &Identifier::new("a"), number_of(8));
+    write_through(&mut dict, &Identifier::new("d"), number_of(9));
+    assert!(rt; has_number_last(&dict, 7));
     Ok(())
 }

@@ -13,6 +13,7 @@ ghost use Rattle.ir_model.specs.Identifier.{IsIdentifier, can_start, can_continu
 ghost use Rattle.ir_base.specs.IdentErr.{IsReason};
 
 use crate::error::CoreError;
+use bytes::ByteStr;
 use std::alloc::{AllocError, Global};
 use std::cmp::Ordering;
 use std::convert::AsStr;
@@ -27,9 +28,10 @@ use thiserror::Error;
 #[derive(Drop)]
 pub struct Identifier(Text);
 
+// A text that is borrowed for good stands as a `ByteStr`, whose type names no lifetime: so a loan out of a record that has an identifier can be followed back to the record.
 #[derive(Drop)]
 enum Text {
-    Borrowed(&'static str),
+    Borrowed(ByteStr),
     Owned(String),
 }
 
@@ -144,7 +146,7 @@ impl Identifier {
         requires { IsIdentifier text.now }
         ensures { result ≡ text.now }
     {
-        Identifier(Text::Borrowed(text))
+        Identifier(Text::Borrowed(ByteStr::from_static(text)))
     }
 
     // The identifier of a text that is known to be one.
@@ -182,7 +184,7 @@ impl Identifier {
         ensures refused { IsOkUnless result CoreError.OutOfMemory }
     {
         match self.0 {
-            Text::Borrowed(text) => Ok(String::from_str(alloc, text)?),
+            Text::Borrowed(text) => Ok(String::from_str(alloc, text.as_str())?),
             Text::Owned(text) => Ok(text),
         }
     }
@@ -193,7 +195,7 @@ impl Identifier {
         ensures valid { IsIdentifier self.now }
     {
         match &self.0 {
-            Text::Borrowed(text) => text,
+            Text::Borrowed(text) => text.as_str(),
             Text::Owned(text) => text.as_str(),
         }
     }
@@ -215,7 +217,7 @@ impl Clone for Identifier {
 
     fn clone(&self) -> Result<Identifier, AllocError> {
         Ok(Identifier(match &self.0 {
-            Text::Borrowed(text) => Text::Borrowed(text),
+            Text::Borrowed(text) => Text::Borrowed(text.clone()?),
             Text::Owned(text) => Text::Owned(text.clone()?),
         }))
     }
