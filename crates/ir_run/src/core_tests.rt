@@ -426,3 +426,30 @@ fn three_uses_of_two(rt: HostRuntime) -> Result<(), Fail> {
     assert_eq!(rt; refused, Some(CoreError::CounterSpent));
     Ok(())
 }
+
+// Makes an operation with one result of this type, and one that uses it twice. Answers how many uses the result has: two.
+fn use_twice<D: Dialects>(ctx: &mut Context<D>, ty: TypeHandle) -> Result<usize, CoreError> {
+    if !ty.is_known(ctx) {
+        return Ok(0);
+    }
+    let maker = Operation::new(ctx, 0, &[ty], &[], &[], 0)?;
+    let value = match maker.try_deref(ctx) {
+        Ok(maker) if maker.get_num_results() == 1 => maker.get_result(0),
+        _ => return Ok(0),
+    };
+    if value.is_live(ctx) {
+        Operation::new(ctx, 4, &[], &[value, value], &[], 0)?;
+    }
+    Ok(if value.is_live(ctx) {
+        value.num_uses(ctx)
+    } else {
+        0
+    })
+}
+
+#[test]
+fn used_twice(rt: HostRuntime) -> Result<(), Fail> {
+    let (mut ctx, ty) = with_type(rt.alloc(), Limits::default())?;
+    assert_eq!(rt; use_twice(&mut ctx, ty)?, 2);
+    Ok(())
+}
