@@ -69,16 +69,18 @@ fn refused_value_is_not_stored(rt: HostRuntime) -> Result<(), Fail> {
 /// Keys that are numbers, with the place of a key as their body.
 type Keys = TypeStore<u64, Option<usize>>;
 
+// Whether a key is at a place, by each way to read it.
+fn has_key_at(store: &Keys, place: usize, key: &u64) -> bool {
+    store.get(key) == Some(place) && store.key(place) == Some(key)
+}
+
 // Whether the store has these keys with these bodies at their places, by each way to read it.
 fn keeps(store: &Keys, pairs: &[(u64, Option<usize>)]) -> bool {
     if store.len() != pairs.len() || store.is_empty() != pairs.is_empty() {
         return false;
     }
     for (place, (key, body)) in pairs.iter().enumerate() {
-        if store.get(key) != Some(place)
-            || store.key(place) != Some(key)
-            || store.body(place) != Some(body)
-        {
+        if !has_key_at(store, place, key) || store.body(place) != Some(body) {
             return false;
         }
     }
