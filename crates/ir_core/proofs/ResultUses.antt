@@ -71,11 +71,11 @@ module _ {A B : Type 0} (f : A → List B) where
   Distinct-flat_map g (x ∷ xs) d once apart =
       subst Distinct (sym (map-append g (f x) (flat_map f xs)))
       (Distinct-append (map g (f x)) (map g (flat_map f xs)) (once x) (Distinct-flat_map g xs d.1 once apart) (λ c h k. (
-        let a = In-map_back g c (f x) h in
-        let b = In-map_back g c (flat_map f xs) k in
-        let w = In-flat_map_back b.0 xs b.1 in
-        let e = apart x w.0 a.0 b.0 a.1 w.2 (sym a.2 ∙ b.2) in
-        not_in-Absent x xs d.0 (subst (λ z. In z xs) (sym e) w.1)
+      let a = In-map_back g c (f x) h in
+      let b = In-map_back g c (flat_map f xs) k in
+      let w = In-flat_map_back b.0 xs b.1 in
+      let e = apart x w.0 a.0 b.0 a.1 w.2 (sym a.2 ∙ b.2) in
+      not_in-Absent x xs d.0 (subst (λ z. In z xs) (sym e) w.1)
       )))
 
 -- the index of a result of the operation with this number
@@ -95,16 +95,16 @@ module _ {D A K B S X L : Type 0} (t : Arena (Operation D A K B S X L)) (linked 
   -- the uses of one value have different numbers
   numbers-differ : (v : ValueIndex) → Distinct (map (λ (u : UseIndex). u.number) (uses_at t v))
   numbers-differ v = Distinct-places (map (λ (u : UseIndex). u.number) (uses_at t v)) (λ i j n e f.
-    let a = some_behind (λ (u : UseIndex). u.number) (slice_get (uses_at t v) i) n (sym (slice_get-map (λ (u : UseIndex). u.number) (uses_at t v) i) ∙ e) in
-    let b = some_behind (λ (u : UseIndex). u.number) (slice_get (uses_at t v) j) n (sym (slice_get-map (λ (u : UseIndex). u.number) (uses_at t v) j) ∙ f) in
-    (one-kept v v i j a.0 b.0 a.1 b.1 (a.2 ∙ sym b.2)).1)
+      let a = some_behind (λ (u : UseIndex). u.number) (slice_get (uses_at t v) i) n (sym (slice_get-map (λ (u : UseIndex). u.number) (uses_at t v) i) ∙ e) in
+      let b = some_behind (λ (u : UseIndex). u.number) (slice_get (uses_at t v) j) n (sym (slice_get-map (λ (u : UseIndex). u.number) (uses_at t v) j) ∙ f) in
+      (one-kept v v i j a.0 b.0 a.1 b.1 (a.2 ∙ sym b.2)).1)
 
   -- the uses of different values have different numbers
   joined-differ : (vs : List ValueIndex) → Distinct vs → Distinct (map (λ (u : UseIndex). u.number) (flat_map (uses_at t) vs))
   joined-differ vs d = Distinct-flat_map (uses_at t) (λ (u : UseIndex). u.number) vs d numbers-differ (λ v w a b h k n.
-    let p = place-In (uses_at t v) a h in
-    let q = place-In (uses_at t w) b k in
-    (one-kept v w p.0 q.0 a b p.1 q.1 n).0)
+      let p = place-In (uses_at t v) a h in
+      let q = place-In (uses_at t w) b k in
+      (one-kept v w p.0 q.0 a b p.1 q.1 n).0)
 
 -- where the numbers differ, each result is the first with its number
 uses_with-own : (rs : List ResultRecord) → Distinct (map (λ (r : ResultRecord). r.number) rs) → (r : ResultRecord) → In r rs → uses_with rs r.number ≡ r.uses
@@ -142,9 +142,9 @@ module _ {D A K B S X L : Type 0} (s : State D A K B S X L) (sound : IsSound s) 
     once = Distinct-unmap (λ (u : Use context_ids). u.number) (uses_of_results s o) uses-differ;
     exact = λ u. (
       λ h. (
-        let p = In-flat_map_back (λ n. uses_of s (result_index o n)) u (numbers_of (forest_of s) (of_op o)) h in
-        record { number = p.0; result = p.1; has = ((uses-exact s sound.linked (result_index o p.0)).exact u).0 p.2 }
-      ),
+          let p = In-flat_map_back (λ n. uses_of s (result_index o n)) u (numbers_of (forest_of s) (of_op o)) h in
+          record { number = p.0; result = p.1; has = ((uses-exact s sound.linked (result_index o p.0)).exact u).0 p.2 }
+          ),
       λ k. In-flat_map (λ n. uses_of s (result_index o n)) k.number u (numbers_of (forest_of s) (of_op o)) k.result (((uses-exact s sound.linked (result_index o k.number)).exact u).1 k.has),
     );
   }
@@ -153,12 +153,12 @@ module _ {D A K B S X L : Type 0} (s : State D A K B S X L) (sound : IsSound s) 
   pub few-uses : length (uses_of_results s o) ≤ s.next_use
   few-uses =
       let below : length (map (λ (u : Use context_ids). u.number) (uses_of_results s o)) ≤ s.next_use = few-below s.next_use (map (λ (u : Use context_ids). u.number) (uses_of_results s o)) uses-differ (λ n h. (
-        let u = In-map_back (λ (u : Use context_ids). u.number) n (uses_of_results s o) h in
-        let k = (uses_of_results-exact.exact u.0).0 u.1 in
-        let there : In u.0.number (use_numbers_of (forest_of s) u.0.user) =
-        In-left u.0.number (map (λ (p : Operand context_ids). p.use_number) (operands_of (forest_of s) u.0.user)) _ (In-map (λ (p : Operand context_ids). p.use_number) (record { use_number = u.0.number; value = record { definer = of_op o; number = k.number } }) (operands_of (forest_of s) u.0.user) k.has) in
-        let less : u.0.number < s.next_use = sound.uses u.0.user u.0.number there in
-        omega (arith, less, u.2)
+      let u = In-map_back (λ (u : Use context_ids). u.number) n (uses_of_results s o) h in
+      let k = (uses_of_results-exact.exact u.0).0 u.1 in
+      let there : In u.0.number (use_numbers_of (forest_of s) u.0.user) =
+      In-left u.0.number (map (λ (p : Operand context_ids). p.use_number) (operands_of (forest_of s) u.0.user)) _ (In-map (λ (p : Operand context_ids). p.use_number) (record { use_number = u.0.number; value = record { definer = of_op o; number = k.number } }) (operands_of (forest_of s) u.0.user) k.has) in
+      let less : u.0.number < s.next_use = sound.uses u.0.user u.0.number there in
+      omega (arith, less, u.2)
       )) in
       omega (arith, below, length-map (uses_of_results s o) (λ (u : Use context_ids). u.number))
 
@@ -214,11 +214,11 @@ module _ {D A K B S X L : Type 0} (s : State D A K B S X L) (sound : IsSound s) 
   pub has-here : (b : Bool) → b ≡ list_any (λ (r : ResultRecord). not (length r.uses == 0)) op.results → IsTrue b ↔ ((u : Use context_ids) × IsUseOfResult (forest_of s) o u)
   has-here b e = (
     λ h. (
-      let u = joined-any op.results (sym e ∙ h) in
-      (use_of u.0, ((uses_of_results-exact s sound o).exact (use_of u.0)).0 (subst (In (use_of u.0)) uses-here (In-map use_of u.0 (flat_map (λ (r : ResultRecord). r.uses) op.results) u.1)))
-    ),
+        let u = joined-any op.results (sym e ∙ h) in
+        (use_of u.0, ((uses_of_results-exact s sound o).exact (use_of u.0)).0 (subst (In (use_of u.0)) uses-here (In-map use_of u.0 (flat_map (λ (r : ResultRecord). r.uses) op.results) u.1)))
+        ),
     λ p. (
-      let u = In-map_back use_of p.0 (flat_map (λ (r : ResultRecord). r.uses) op.results) (subst (In p.0) (sym uses-here) (((uses_of_results-exact s sound o).exact p.0).1 p.1)) in
-      e ∙ any-joined op.results u.0 u.1
-    ),
+        let u = In-map_back use_of p.0 (flat_map (λ (r : ResultRecord). r.uses) op.results) (subst (In p.0) (sym uses-here) (((uses_of_results-exact s sound o).exact p.0).1 p.1)) in
+        e ∙ any-joined op.results u.0 u.1
+        ),
   )
