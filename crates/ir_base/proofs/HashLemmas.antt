@@ -15,7 +15,8 @@ use Rattle.std.specs.Map.{keys_of, lookup}
 use Rattle.std.proofs.lemmas.Cmp.{tied_itself}
 use Rattle.std.proofs.lemmas.List.Sums.{fold-append}
 use Rattle.std.proofs.lemmas.Map.Keys.{IsDistinct-head, IsDistinct-tail}
-use Rattle.ir_base.specs.Attributes.{same_key, attr_at, key_order, is_above, is_below, by_key, dict_input, IsKeyAbove, IsNext}
+use Rattle.ir_model.specs.Stores.{attribute_at}
+use Rattle.ir_base.specs.Attributes.{same_key, key_order, is_above, is_below, by_key, dict_input, IsKeyAbove, IsNext}
 use Rattle.ir_base.proofs.CopyLemmas.{pairs-more, key_new}
 use Rattle.ir_base.specs.AttributeLaws.{find-map, find-by_key, key_total, same_text}
 
@@ -84,7 +85,7 @@ module _ {A : Type 0} (a : Option (List ℕ)) (xs : List (List ℕ × A)) (k : L
   key-cases : (q : List ℕ) → IsKeyAbove a (xs ++ (k, v) ∷ []) q → IsKeyAbove a xs q ⊎ (q ≡ k)
   key-cases q h = by (push-cases (same_key q) xs (k, v) h.0)
     where
-      by : (is_some (attr_at xs q) ≡ true) ⊎ (same_key q k ≡ true) → IsKeyAbove a xs q ⊎ (q ≡ k)
+      by : (is_some (attribute_at xs q) ≡ true) ⊎ (same_key q k ≡ true) → IsKeyAbove a xs q ⊎ (q ≡ k)
       by (inl there) = inl (there, h.1)
       by (inr here) = inr (same_key-is q k here)
 
@@ -102,7 +103,7 @@ module _ {A : Type 0} (a : Option (List ℕ)) (xs : List (List ℕ × A)) (k : L
       by q above (inr e) = ap (λ x. is_lt (key_order x p.0)) e ∙ sym (ap (λ b. b && is_lt (key_order k p.0)) (ap (is_above a) (sym e) ∙ above.1)) ∙ skip
 
   -- and else it is the least, where its key is new
-  pub next-new : (n : Option (List ℕ × A)) → IsNext a xs n → attr_at xs k ≡ None → (is_above a k && is_below k n) ≡ true → IsNext a (xs ++ (k, v) ∷ []) (Some (k, v))
+  pub next-new : (n : Option (List ℕ × A)) → IsNext a xs n → attribute_at xs k ≡ None → (is_above a k && is_below k n) ≡ true → IsNext a (xs ++ (k, v) ∷ []) (Some (k, v))
   next-new n h new takes =
       (push-none (same_key k) xs (k, v) new ∙ ap (λ b. cond b (Some v) None) (nat_list_eq_equiv.refl k), left (is_above a k) (is_below k n) takes, λ q above. by n h (right (is_above a k) (is_below k n) takes) q (key-cases q above))
     where
@@ -214,9 +215,9 @@ is_some-map f None = refl
 is_some-map f (Some x) = refl
 
 module _ {A : Type 0} (input : A → HashWrites) where
-  absent : (k : List ℕ) (es : List (List ℕ × A)) → AllByRecursion (λ y. same_key k y ≡ false) (keys_of es) → attr_at es k ≡ None
+  absent : (k : List ℕ) (es : List (List ℕ × A)) → AllByRecursion (λ y. same_key k y ≡ false) (keys_of es) → attribute_at es k ≡ None
   absent k [] h = refl
-  absent k (e ∷ es) h = ap (λ b. cond b (Some e.1) (attr_at es k)) h.0 ∙ absent k es h.1
+  absent k (e ∷ es) h = ap (λ b. cond b (Some e.1) (attribute_at es k)) h.0 ∙ absent k es h.1
 
   -- distinct keys are as many by rising key
   pub length-by_key : (es : List (List ℕ × A)) → IsDistinct same_key (keys_of es) → length (by_key input es) ≡ length es
@@ -231,8 +232,8 @@ module _ {A : Type 0} (input : A → HashWrites) where
   pub sorted-by_key : (es : List (List ℕ × A)) → T (is_sorted key_order (by_key input es))
   sorted-by_key es = entries_sorted (from_entries {R = key_order} (map (λ p. (p.0, input p.1)) es))
 
-  found-pair : (es : List (List ℕ × A)) (q : List ℕ) → is_some (find key_order q (by_key input es)) ≡ true → is_some (attr_at es q) ≡ true
-  found-pair es q f = sym (is_some-map input (attr_at es q)) ∙ ap is_some (sym (find-by_key input es q)) ∙ f
+  found-pair : (es : List (List ℕ × A)) (q : List ℕ) → is_some (find key_order q (by_key input es)) ≡ true → is_some (attribute_at es q) ≡ true
+  found-pair es q f = sym (is_some-map input (attribute_at es q)) ∙ ap is_some (sym (find-by_key input es q)) ∙ f
 
   -- what is still to be fed: the pairs above the bound
   abbrev pub still : Option (List ℕ) → List (List ℕ × A) → HashWrites

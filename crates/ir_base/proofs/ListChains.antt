@@ -2,7 +2,8 @@ use Rattle.std.proofs.Common.{◌≡◌, ◌⊎◌, ◌&&◌, Bool, true, false,
 use Rattle.std.proofs.lemmas.Bool.{cases_eq, eq-eqb, eqb-true}
 use Rattle.ir_model.specs.declared.ids.ArenaIndex.{ArenaIndex}
 use Rattle.ir_model.specs.ContextIds.{same_id}
-use Rattle.ir_base.specs.Lists.{Links, linked, Heap, change, with_next, with_prev, head_or, last_of, last_or, IsIn, IsChain}
+use Rattle.ir_model.specs.Nesting.{In}
+use Rattle.ir_base.specs.Lists.{Links, linked, Heap, change, with_next, with_prev, head_or, last_of, last_or, IsChain}
 use Rattle.ir_base.specs.Walks.{AreApart}
 
 pub Some-inj : {A : Type 0} (a b : A) → Some a ≡ Some b → a ≡ b
@@ -59,28 +60,28 @@ last_or-append d [] (y ∷ ys) = refl
 last_or-append d (x ∷ xs) (y ∷ ys) = ap Some (last_of-append x xs y ys)
 
 -- membership
-pub IsIn-left : (x : ArenaIndex) (xs ys : List ArenaIndex) → IsIn x xs → IsIn x (xs ++ ys)
-IsIn-left x [] ys h = absurd h
-IsIn-left x (z ∷ zs) ys (inl e) = inl e
-IsIn-left x (z ∷ zs) ys (inr h) = inr (IsIn-left x zs ys h)
+pub In-left : (x : ArenaIndex) (xs ys : List ArenaIndex) → In x xs → In x (xs ++ ys)
+In-left x [] ys h = absurd h
+In-left x (z ∷ zs) ys (inl e) = inl e
+In-left x (z ∷ zs) ys (inr h) = inr (In-left x zs ys h)
 
-pub IsIn-right : (x : ArenaIndex) (xs ys : List ArenaIndex) → IsIn x ys → IsIn x (xs ++ ys)
-IsIn-right x [] ys h = h
-IsIn-right x (z ∷ zs) ys h = inr (IsIn-right x zs ys h)
+pub In-right : (x : ArenaIndex) (xs ys : List ArenaIndex) → In x ys → In x (xs ++ ys)
+In-right x [] ys h = h
+In-right x (z ∷ zs) ys h = inr (In-right x zs ys h)
 
-pub IsIn-cases : (x : ArenaIndex) (xs ys : List ArenaIndex) → IsIn x (xs ++ ys) → IsIn x xs ⊎ IsIn x ys
-IsIn-cases x [] ys h = inr h
-IsIn-cases x (z ∷ zs) ys (inl e) = inl (inl e)
-IsIn-cases x (z ∷ zs) ys (inr h) = elim (IsIn-cases x zs ys h) [ inl k ↦ inl (inr k) | inr k ↦ inr k ]
+pub In-cases : (x : ArenaIndex) (xs ys : List ArenaIndex) → In x (xs ++ ys) → In x xs ⊎ In x ys
+In-cases x [] ys h = inr h
+In-cases x (z ∷ zs) ys (inl e) = inl (inl e)
+In-cases x (z ∷ zs) ys (inr h) = elim (In-cases x zs ys h) [ inl k ↦ inl (inr k) | inr k ↦ inr k ]
 
-pub last_of-IsIn : (x : ArenaIndex) (xs : List ArenaIndex) → IsIn (last_of x xs) (x ∷ xs)
-last_of-IsIn x [] = inl refl
-last_of-IsIn x (y ∷ ys) = inr (last_of-IsIn y ys)
+pub last_of-In : (x : ArenaIndex) (xs : List ArenaIndex) → In (last_of x xs) (x ∷ xs)
+last_of-In x [] = inl refl
+last_of-In x (y ∷ ys) = inr (last_of-In y ys)
 
-pub IsIn-split : (x : ArenaIndex) (xs : List ArenaIndex) → IsIn x xs → (us : List ArenaIndex) × (vs : List ArenaIndex) × (xs ≡ us ++ x ∷ vs)
-IsIn-split x [] h = absurd h
-IsIn-split x (z ∷ zs) (inl e) = ([], zs, ap (λ y. y ∷ zs) (sym e))
-IsIn-split x (z ∷ zs) (inr h) = let r = IsIn-split x zs h in (z ∷ r.0, r.1, ap (λ ys. z ∷ ys) r.2)
+pub In-split : (x : ArenaIndex) (xs : List ArenaIndex) → In x xs → (us : List ArenaIndex) × (vs : List ArenaIndex) × (xs ≡ us ++ x ∷ vs)
+In-split x [] h = absurd h
+In-split x (z ∷ zs) (inl e) = ([], zs, ap (λ y. y ∷ zs) (sym e))
+In-split x (z ∷ zs) (inr h) = let r = In-split x zs h in (z ∷ r.0, r.1, ap (λ ys. z ∷ ys) r.2)
 
 -- chains
 module _ (h : Heap Links) (c : ArenaIndex) where
@@ -94,7 +95,7 @@ module _ (h : Heap Links) (c : ArenaIndex) where
   chain-join p (x ∷ []) ys n k l = (k.0, l)
   chain-join p (x ∷ (z ∷ zs)) ys n k l = (k.0, chain-join (Some x) (z ∷ zs) ys n k.1 l)
 
-  pub chain-at : (p : Option ArenaIndex) (xs : List ArenaIndex) (n : Option ArenaIndex) (y : ArenaIndex) → IsChain h c p xs n → IsIn y xs → (l : Links) × (h y ≡ Some l) × (l.container ≡ Some c)
+  pub chain-at : (p : Option ArenaIndex) (xs : List ArenaIndex) (n : Option ArenaIndex) (y : ArenaIndex) → IsChain h c p xs n → In y xs → (l : Links) × (h y ≡ Some l) × (l.container ≡ Some c)
   chain-at p [] n y k i = absurd i
   chain-at p (x ∷ xs) n y k (inl e) = (linked p (head_or n xs) c, rw e k.0, refl)
   chain-at p (x ∷ xs) n y k (inr i) = chain-at (Some x) xs n y k.1 i
@@ -115,7 +116,7 @@ pub chain-apart : (h : Heap Links) (c : ArenaIndex) (p : Option ArenaIndex) (xs 
 chain-apart h c p [] k = tt
 chain-apart h c p (x ∷ xs) k = (
   λ i.
-      let s = IsIn-split x xs i in
+      let s = In-split x xs i in
       let whole : IsChain h c p (x ∷ xs) None = k in
       let tail = chain-split h c (Some x) s.0 (x ∷ s.1) None (rw s.2 at k.1) in
       let e : x ∷ xs ≡ x ∷ s.1 = chain-unique h c c p (last_or (Some x) s.0) (x ∷ xs) (x ∷ s.1) k tail.1 refl in
@@ -127,19 +128,19 @@ chain-apart h c p (x ∷ xs) k = (
 
 pub apart-left : (xs ys : List ArenaIndex) → AreApart (xs ++ ys) → AreApart xs
 apart-left [] ys a = tt
-apart-left (x ∷ xs) ys a = (λ i. a.0 (IsIn-left x xs ys i), apart-left xs ys a.1)
+apart-left (x ∷ xs) ys a = (λ i. a.0 (In-left x xs ys i), apart-left xs ys a.1)
 
 pub apart-right : (xs ys : List ArenaIndex) → AreApart (xs ++ ys) → AreApart ys
 apart-right [] ys a = a
 apart-right (x ∷ xs) ys a = apart-right xs ys a.1
 
-pub apart-both : (x : ArenaIndex) (xs ys : List ArenaIndex) → AreApart (xs ++ ys) → IsIn x xs → IsIn x ys → ⊥
+pub apart-both : (x : ArenaIndex) (xs ys : List ArenaIndex) → AreApart (xs ++ ys) → In x xs → In x ys → ⊥
 apart-both x [] ys a i j = i
-apart-both x (z ∷ zs) ys a (inl e) j = a.0 (IsIn-right z zs ys (rw e at j))
+apart-both x (z ∷ zs) ys a (inl e) j = a.0 (In-right z zs ys (rw e at j))
 apart-both x (z ∷ zs) ys a (inr i) j = apart-both x zs ys a.1 i j
 
 -- a change elsewhere leaves a chain
-pub chain-same : (h h' : Heap Links) (c : ArenaIndex) (p : Option ArenaIndex) (xs : List ArenaIndex) (n : Option ArenaIndex) → ((y : ArenaIndex) → IsIn y xs → h' y ≡ h y) → IsChain h c p xs n → IsChain h' c p xs n
+pub chain-same : (h h' : Heap Links) (c : ArenaIndex) (p : Option ArenaIndex) (xs : List ArenaIndex) (n : Option ArenaIndex) → ((y : ArenaIndex) → In y xs → h' y ≡ h y) → IsChain h c p xs n → IsChain h' c p xs n
 chain-same h h' c p [] n s k = tt
 chain-same h h' c p (x ∷ xs) n s k = (s x (inl refl) ∙ k.0, chain-same h h' c (Some x) xs n (λ y i. s y (inr i)) k.1)
 
@@ -154,6 +155,6 @@ pub chain-set_next : (h : Heap Links) (c : ArenaIndex) (p : Option ArenaIndex) (
 chain-set_next h c p [] n m a k = tt
 chain-set_next h c p (x ∷ []) n m a k = (change-here (with_next m) x h (linked p n c) k.0, tt)
 chain-set_next h c p (x ∷ (y ∷ ys)) n m a k = (
-  change-other (with_next m) (last_of y ys) h x (λ e. a.0 (subst (λ z. IsIn z (y ∷ ys)) e (last_of-IsIn y ys))) ∙ k.0,
+  change-other (with_next m) (last_of y ys) h x (λ e. a.0 (subst (λ z. In z (y ∷ ys)) e (last_of-In y ys))) ∙ k.0,
   chain-set_next h c (Some x) (y ∷ ys) n m a.1 k.1,
 )

@@ -1,9 +1,10 @@
 -- What the edits of the links make of the lists.
 use Rattle.std.proofs.Common.{◌≡◌, ◌⊎◌, List, [], ◌∷◌, ◌++◌, Option, Some, None, refl, sym, ap, ◌∙◌, subst, inl, inr}
 use Rattle.ir_model.specs.declared.ids.ArenaIndex.{ArenaIndex}
-use Rattle.ir_base.specs.Lists.{Links, Ends, unlinked, linked, Heap, change, with_next, with_prev, with_head, with_tail, unless, head_or, last_or, ends_of, IsIn, IsChain, AreLists, with_list}
+use Rattle.ir_model.specs.Nesting.{In}
+use Rattle.ir_base.specs.Lists.{Links, Ends, unlinked, linked, Heap, change, with_next, with_prev, with_head, with_tail, unless, head_or, last_or, ends_of, IsChain, AreLists, with_list}
 use Rattle.ir_base.specs.Walks.{AreApart}
-use Rattle.ir_base.proofs.ListChains.{Some-inj, id_same, id_cases, id_differs, change-other, change-here, head_or-append, last_or-append, IsIn-left, IsIn-right, IsIn-cases, last_of-IsIn, chain-split, chain-join, chain-at, chain-apart, apart-left, apart-right, apart-both, chain-same, chain-set_prev, chain-set_next}
+use Rattle.ir_base.proofs.ListChains.{Some-inj, id_same, id_cases, id_differs, change-other, change-here, head_or-append, last_or-append, In-left, In-right, In-cases, last_of-In, chain-split, chain-join, chain-at, chain-apart, apart-left, apart-right, apart-both, chain-same, chain-set_prev, chain-set_next}
 
 -- the neighbours' links, changed: the last of a to v, the first of b to w
 abbrev pub relink : Heap Links → List ArenaIndex → List ArenaIndex → Option ArenaIndex → Option ArenaIndex → Heap Links
@@ -17,28 +18,28 @@ change-apart f None h j ne = refl
 change-apart f (Some i) h j ne = change-other f i h j (λ e. ne (ap Some e))
 
 -- the ends of a list are in it
-pub head-IsIn : (b : List ArenaIndex) (y : ArenaIndex) → head_or None b ≡ Some y → IsIn y b
-head-IsIn [] y e = cc
-head-IsIn (x ∷ xs) y e = inl (sym (Some-inj _ _ e))
+pub head-In : (b : List ArenaIndex) (y : ArenaIndex) → head_or None b ≡ Some y → In y b
+head-In [] y e = cc
+head-In (x ∷ xs) y e = inl (sym (Some-inj _ _ e))
 
-pub last-IsIn : (a : List ArenaIndex) (y : ArenaIndex) → last_or None a ≡ Some y → IsIn y a
-last-IsIn [] y e = cc
-last-IsIn (x ∷ xs) y e = subst (λ z. IsIn z (x ∷ xs)) (Some-inj _ _ e) (last_of-IsIn x xs)
+pub last-In : (a : List ArenaIndex) (y : ArenaIndex) → last_or None a ≡ Some y → In y a
+last-In [] y e = cc
+last-In (x ∷ xs) y e = subst (λ z. In z (x ∷ xs)) (Some-inj _ _ e) (last_of-In x xs)
 
-pub relink-other : (h : Heap Links) (a b : List ArenaIndex) (v w : Option ArenaIndex) (y : ArenaIndex) → (IsIn y a → ⊥) → (IsIn y b → ⊥) → relink h a b v w y ≡ h y
+pub relink-other : (h : Heap Links) (a b : List ArenaIndex) (v w : Option ArenaIndex) (y : ArenaIndex) → (In y a → ⊥) → (In y b → ⊥) → relink h a b v w y ≡ h y
 relink-other h a b v w y na nb =
-    change-apart (with_next v) (last_or None a) (change (with_prev w) (head_or None b) h) y (λ e. na (last-IsIn a y e))
-    ∙ change-apart (with_prev w) (head_or None b) h y (λ e. nb (head-IsIn b y e))
+    change-apart (with_next v) (last_or None a) (change (with_prev w) (head_or None b) h) y (λ e. na (last-In a y e))
+    ∙ change-apart (with_prev w) (head_or None b) h y (λ e. nb (head-In b y e))
 
 -- both sides after the neighbours are linked anew
-pub relink-sides : (h : Heap Links) (c d : ArenaIndex) (a b : List ArenaIndex) (m p v w : Option ArenaIndex) → AreApart a → AreApart b → ((y : ArenaIndex) → IsIn y a → IsIn y b → ⊥) → IsChain h c None a m → IsChain h d p b None
+pub relink-sides : (h : Heap Links) (c d : ArenaIndex) (a b : List ArenaIndex) (m p v w : Option ArenaIndex) → AreApart a → AreApart b → ((y : ArenaIndex) → In y a → In y b → ⊥) → IsChain h c None a m → IsChain h d p b None
     → IsChain (relink h a b v w) c None a v × IsChain (relink h a b v w) d w b None
 relink-sides h c d a b m p v w apa apb dis ka kb =
     let mid : Heap Links = change (with_prev w) (head_or None b) h in
-    let ka2 : IsChain mid c None a m = chain-same h mid c None a m (λ y i. change-apart (with_prev w) (head_or None b) h y (λ e. dis y i (head-IsIn b y e))) ka in
+    let ka2 : IsChain mid c None a m = chain-same h mid c None a m (λ y i. change-apart (with_prev w) (head_or None b) h y (λ e. dis y i (head-In b y e))) ka in
     let kb2 : IsChain mid d w b None = chain-set_prev h d p w b None apb kb in (
       chain-set_next mid c None a m v apa ka2,
-      chain-same mid (relink h a b v w) d w b None (λ y i. change-apart (with_next v) (last_or None a) mid y (λ e. dis y (last-IsIn a y e) i)) kb2,
+      chain-same mid (relink h a b v w) d w b None (λ y i. change-apart (with_next v) (last_or None a) mid y (λ e. dis y (last-In a y e) i)) kb2,
     )
 
 pub reend-here : (r : Heap Ends) (c : ArenaIndex) (a b : List ArenaIndex) (m q v w : Option ArenaIndex) → r c ≡ Some (record { head = head_or m a; tail = last_or q b })
@@ -61,7 +62,7 @@ pub with_list-other : (lists : ArenaIndex → List ArenaIndex) (c : ArenaIndex) 
 with_list-other lists c xs k ne = rw (id_differs c k ne)
 
 -- two lists have no node in common
-pub lists-apart : {h : Heap Links} {r : Heap Ends} {lists : ArenaIndex → List ArenaIndex} → AreLists h r lists → (y c k : ArenaIndex) → IsIn y (lists c) → IsIn y (lists k) → c ≡ k
+pub lists-apart : {h : Heap Links} {r : Heap Ends} {lists : ArenaIndex → List ArenaIndex} → AreLists h r lists → (y c k : ArenaIndex) → In y (lists c) → In y (lists k) → c ≡ k
 lists-apart {h} {r} {lists} l y c k i j =
     let s = chain-at h c None (lists c) None y (l.chains c) i in
     let t = chain-at h k None (lists k) None y (l.chains k) j in
@@ -69,7 +70,7 @@ lists-apart {h} {r} {lists} l y c k i j =
     Some-inj _ _ (sym s.2 ∙ ap (λ (m : Links). m.container) same ∙ t.2)
 
 -- an unlinked node is in no list
-pub unlinked-apart : {h : Heap Links} {r : Heap Ends} {lists : ArenaIndex → List ArenaIndex} → AreLists h r lists → (x : ArenaIndex) → h x ≡ Some unlinked → (k : ArenaIndex) → IsIn x (lists k) → ⊥
+pub unlinked-apart : {h : Heap Links} {r : Heap Ends} {lists : ArenaIndex → List ArenaIndex} → AreLists h r lists → (x : ArenaIndex) → h x ≡ Some unlinked → (k : ArenaIndex) → In x (lists k) → ⊥
 unlinked-apart {h} {r} {lists} l x u k i =
     let s = chain-at h k None (lists k) None x (l.chains k) i in
     let same : unlinked ≡ s.0 = Some-inj _ _ (sym u ∙ s.1) in
@@ -83,8 +84,8 @@ pub AreLists-with_list : (h h' : Heap Links) (r r' : Heap Ends) (lists : ArenaIn
     → IsChain h' c None xs None
     → r' c ≡ Some (ends_of xs)
     → ((k : ArenaIndex) → (c ≡ k → ⊥) → r' k ≡ r k)
-    → ((k y : ArenaIndex) → (c ≡ k → ⊥) → IsIn y (lists k) → h' y ≡ h y)
-    → ((y : ArenaIndex) (l : Links) → h' y ≡ Some l → (l ≡ unlinked) ⊎ IsIn y xs ⊎ ((IsIn y (lists c) → ⊥) × (h' y ≡ h y)))
+    → ((k y : ArenaIndex) → (c ≡ k → ⊥) → In y (lists k) → h' y ≡ h y)
+    → ((y : ArenaIndex) (l : Links) → h' y ≡ Some l → (l ≡ unlinked) ⊎ In y xs ⊎ ((In y (lists c) → ⊥) × (h' y ≡ h y)))
     → AreLists h' r' (with_list lists c xs)
 AreLists-with_list h h' r r' lists c xs e l live chain ends others frame covered = record {
   chains = λ k. elim (id_cases c k) [
@@ -120,14 +121,14 @@ link_at h c a b x = change (λ _. linked (last_or None a) (head_or None b) c) (S
 abbrev pub unlink_at : Heap Links → List ArenaIndex → List ArenaIndex → ArenaIndex → Heap Links
 unlink_at h a b x = change (λ _. unlinked) (Some x) (relink h a b (head_or None b) (last_or None a))
 
-pub relink-live : (h : Heap Links) (a b : List ArenaIndex) (v w : Option ArenaIndex) (x : ArenaIndex) (l : Links) → (IsIn x a → ⊥) → (IsIn x b → ⊥) → h x ≡ Some l → relink h a b v w x ≡ Some l
+pub relink-live : (h : Heap Links) (a b : List ArenaIndex) (v w : Option ArenaIndex) (x : ArenaIndex) (l : Links) → (In x a → ⊥) → (In x b → ⊥) → h x ≡ Some l → relink h a b v w x ≡ Some l
 relink-live h a b v w x l na nb e = relink-other h a b v w x na nb ∙ e
 
-pub IsIn-either : (y : ArenaIndex) (xs : List ArenaIndex) → IsIn y xs ⊎ (IsIn y xs → ⊥)
-IsIn-either y [] = inr (λ i. i)
-IsIn-either y (x ∷ xs) = elim (id_cases y x) [
+pub In-either : (y : ArenaIndex) (xs : List ArenaIndex) → In y xs ⊎ (In y xs → ⊥)
+In-either y [] = inr (λ i. i)
+In-either y (x ∷ xs) = elim (id_cases y x) [
   | inl e ↦ inl (inl e)
-  | inr ne ↦ elim (IsIn-either y xs) [ inl i ↦ inl (inr i) | inr ni ↦ inr (λ o. elim o [ inl e ↦ ne e | inr i ↦ ni i ]) ]
+  | inr ne ↦ elim (In-either y xs) [ inl i ↦ inl (inr i) | inr ni ↦ inr (λ o. elim o [ inl e ↦ ne e | inr i ↦ ni i ]) ]
 ]
 
 pub AreLists-link : (h : Heap Links) (r : Heap Ends) (lists : ArenaIndex → List ArenaIndex) (c : ArenaIndex) (a b : List ArenaIndex) (x : ArenaIndex) (e : Ends)
@@ -137,9 +138,9 @@ AreLists-link h r lists c a b x e l is live u =
     let chain : IsChain h c None (a ++ b) None = rw is at (l.chains c) in
     let apart : AreApart (a ++ b) = chain-apart h c None (a ++ b) chain in
     let parts = chain-split h c None a b None chain in
-    let out : IsIn x (a ++ b) → ⊥ = λ i. unlinked-apart l x u c (rw is i) in
-    let nxa : IsIn x a → ⊥ = λ i. out (IsIn-left x a b i) in
-    let nxb : IsIn x b → ⊥ = λ i. out (IsIn-right x a b i) in
+    let out : In x (a ++ b) → ⊥ = λ i. unlinked-apart l x u c (rw is i) in
+    let nxa : In x a → ⊥ = λ i. out (In-left x a b i) in
+    let nxb : In x b → ⊥ = λ i. out (In-right x a b i) in
     let mid : Heap Links = relink h a b (Some x) (Some x) in
     let new : Heap Links = link_at h c a b x in
     let f : Links → Links = λ _. linked (last_or None a) (head_or None b) c in
@@ -155,15 +156,15 @@ AreLists-link h r lists c a b x e l is live u =
     let before : r c ≡ Some (record { head = head_or (head_or None b) a; tail = last_or (last_or None a) b }) = rw (← heads, ← tails) (live ∙ ap Some known) in
     let after = reend-here r c a b (head_or None b) (last_or None a) (Some x) (Some x) before in
     let ends : reend r c a b (Some x) (Some x) c ≡ Some (ends_of (a ++ x ∷ b)) = rw (head_or-append None a (x ∷ b), last_or-append None a (x ∷ b), last_or-start (last_or None a) x b) after in
-    let elsewhere : (k y : ArenaIndex) → (c ≡ k → ⊥) → IsIn y (lists k) → IsIn y (a ++ b) → ⊥ = λ k y ne i j. ne (lists-apart l y c k (rw is j) i) in
+    let elsewhere : (k y : ArenaIndex) → (c ≡ k → ⊥) → In y (lists k) → In y (a ++ b) → ⊥ = λ k y ne i j. ne (lists-apart l y c k (rw is j) i) in
     AreLists-with_list h new r (reend r c a b (Some x) (Some x)) lists c (a ++ x ∷ b) e l live whole ends
     (λ k ne. reend-other r c a b (Some x) (Some x) k ne)
-    (λ k y ne i. keep y (λ e. unlinked-apart l x u k (rw e i)) ∙ relink-other h a b (Some x) (Some x) y (λ j. elsewhere k y ne i (IsIn-left y a b j)) (λ j. elsewhere k y ne i (IsIn-right y a b j)))
+    (λ k y ne i. keep y (λ e. unlinked-apart l x u k (rw e i)) ∙ relink-other h a b (Some x) (Some x) y (λ j. elsewhere k y ne i (In-left y a b j)) (λ j. elsewhere k y ne i (In-right y a b j)))
     (λ y m n. elim (id_cases x y) [
-      | inl same ↦ inr (inl (IsIn-right y a (x ∷ b) (inl (sym same))))
-      | inr ne ↦ elim (IsIn-either y (a ++ b)) [
-        | inl i ↦ elim (IsIn-cases y a b i) [ inl j ↦ inr (inl (IsIn-left y a (x ∷ b) j)) | inr j ↦ inr (inl (IsIn-right y a (x ∷ b) (inr j))) ]
-        | inr ni ↦ inr (inr (λ i. ni (rw (← is) i), keep y ne ∙ relink-other h a b (Some x) (Some x) y (λ j. ni (IsIn-left y a b j)) (λ j. ni (IsIn-right y a b j))))
+      | inl same ↦ inr (inl (In-right y a (x ∷ b) (inl (sym same))))
+      | inr ne ↦ elim (In-either y (a ++ b)) [
+        | inl i ↦ elim (In-cases y a b i) [ inl j ↦ inr (inl (In-left y a (x ∷ b) j)) | inr j ↦ inr (inl (In-right y a (x ∷ b) (inr j))) ]
+        | inr ni ↦ inr (inr (λ i. ni (rw (← is) i), keep y ne ∙ relink-other h a b (Some x) (Some x) y (λ j. ni (In-left y a b j)) (λ j. ni (In-right y a b j))))
       ]
     ])
 
@@ -175,8 +176,8 @@ AreLists-unlink h r lists c a b x e l is live =
     let apart : AreApart (a ++ x ∷ b) = chain-apart h c None (a ++ x ∷ b) chain in
     let parts = chain-split h c None a (x ∷ b) None chain in
     let rest : AreApart (x ∷ b) = apart-right a (x ∷ b) apart in
-    let nxa : IsIn x a → ⊥ = λ i. apart-both x a (x ∷ b) apart i (inl refl) in
-    let nxb : IsIn x b → ⊥ = rest.0 in
+    let nxa : In x a → ⊥ = λ i. apart-both x a (x ∷ b) apart i (inl refl) in
+    let nxb : In x b → ⊥ = rest.0 in
     let v : Option ArenaIndex = head_or None b in
     let w : Option ArenaIndex = last_or None a in
     let mid : Heap Links = relink h a b v w in
@@ -194,17 +195,17 @@ AreLists-unlink h r lists c a b x e l is live =
     let before : r c ≡ Some (record { head = head_or (Some x) a; tail = last_or (Some x) b }) = rw (← heads, ← tails) (live ∙ ap Some known) in
     let after = reend-here r c a b (Some x) (Some x) v w before in
     let ends : reend r c a b v w c ≡ Some (ends_of (a ++ b)) = rw (head_or-append None a b, last_or-append None a b) after in
-    let elsewhere : (k y : ArenaIndex) → (c ≡ k → ⊥) → IsIn y (lists k) → IsIn y (a ++ x ∷ b) → ⊥ = λ k y ne i j. ne (lists-apart l y c k (rw is j) i) in
+    let elsewhere : (k y : ArenaIndex) → (c ≡ k → ⊥) → In y (lists k) → In y (a ++ x ∷ b) → ⊥ = λ k y ne i j. ne (lists-apart l y c k (rw is j) i) in
     AreLists-with_list h new r (reend r c a b v w) lists c (a ++ b) e l live whole ends
     (λ k ne. reend-other r c a b v w k ne)
-    (λ k y ne i. keep y (λ e. elsewhere k y ne i (IsIn-right y a (x ∷ b) (inl (sym e)))) ∙ relink-other h a b v w y (λ j. elsewhere k y ne i (IsIn-left y a (x ∷ b) j)) (λ j. elsewhere k y ne i (IsIn-right y a (x ∷ b) (inr j))))
+    (λ k y ne i. keep y (λ e. elsewhere k y ne i (In-right y a (x ∷ b) (inl (sym e)))) ∙ relink-other h a b v w y (λ j. elsewhere k y ne i (In-left y a (x ∷ b) j)) (λ j. elsewhere k y ne i (In-right y a (x ∷ b) (inr j))))
     (λ y m n. elim (id_cases x y) [
       | inl same ↦ inl (Some-inj _ _ (sym n ∙ subst (λ z. new z ≡ Some unlinked) same here))
-      | inr ne ↦ elim (IsIn-either y (a ++ b)) [
+      | inr ne ↦ elim (In-either y (a ++ b)) [
         | inl i ↦ inr (inl i)
         | inr ni ↦ inr (inr (
-          λ i. elim (IsIn-cases y a (x ∷ b) (rw (← is) i)) [ inl j ↦ ni (IsIn-left y a b j) | inr j ↦ elim j [ inl e ↦ ne (sym e) | inr k ↦ ni (IsIn-right y a b k) ] ],
-          keep y ne ∙ relink-other h a b v w y (λ j. ni (IsIn-left y a b j)) (λ j. ni (IsIn-right y a b j)),
+          λ i. elim (In-cases y a (x ∷ b) (rw (← is) i)) [ inl j ↦ ni (In-left y a b j) | inr j ↦ elim j [ inl e ↦ ne (sym e) | inr k ↦ ni (In-right y a b k) ] ],
+          keep y ne ∙ relink-other h a b v w y (λ j. ni (In-left y a b j)) (λ j. ni (In-right y a b j)),
         ))
       ]
     ])

@@ -6,7 +6,8 @@ use Rattle.ir_model.specs.declared.ids.ArenaIndex.{ArenaIndex}
 use Rattle.ir_base.specs.declared.arena.Slot.{Slot}
 use Rattle.ir_base.specs.ArenaSlots.{is_taken, is_retired, had_version}
 use Rattle.ir_base.specs.Arena.{Arena, get, fill, cut, empty, IsLive, IsNew, is_passed, arena_len, room}
-use Rattle.ir_base.specs.Lists.{seen, Links, Ends, Heap, unlinked, no_ends, head_or, ends_of, IsIn, AreLists, container_in, container_of, IsLinked, map_slot, map_records, SameBut, SameIds}
+use Rattle.ir_model.specs.Nesting.{In}
+use Rattle.ir_base.specs.Lists.{seen, Links, Ends, Heap, unlinked, no_ends, head_or, ends_of, AreLists, container_in, container_of, IsLinked, map_slot, map_records, SameBut, SameIds}
 use Rattle.ir_base.specs.Walks.{AreApart}
 use Rattle.ir_base.proofs.ArenaLaws.{get-empty, get-new, get-fill_new, get-fill_new_other, get-cut, get-cut_other}
 use Rattle.ir_base.proofs.ListArena.{slot_at-map}
@@ -17,17 +18,17 @@ use Rattle.ir_base.proofs.ListPlaces.{in-linked, in-is_linked, place}
 -- ---- what the lists are
 
 -- a node's container is the one in whose list it stands
-pub container-is_in : {h : Heap Links} {r : Heap Ends} {lists : ArenaIndex → List ArenaIndex} → AreLists h r lists → (c x : ArenaIndex) → (container_of h x ≡ Some c) ↔ IsIn x (lists c)
+pub container-is_in : {h : Heap Links} {r : Heap Ends} {lists : ArenaIndex → List ArenaIndex} → AreLists h r lists → (c x : ArenaIndex) → (container_of h x ≡ Some c) ↔ In x (lists c)
 container-is_in {h} {r} {lists} l c x = (λ e. found (h x) refl e, λ i. in-linked l c x i)
   where
-    middle : (xs a b : List ArenaIndex) → xs ≡ a ++ x ∷ b → IsIn x xs
-    middle xs a b e = subst (λ ys. IsIn x ys) (sym e) (at a)
+    middle : (xs a b : List ArenaIndex) → xs ≡ a ++ x ∷ b → In x xs
+    middle xs a b e = subst (λ ys. In x ys) (sym e) (at a)
       where
-        at : (a : List ArenaIndex) → IsIn x (a ++ x ∷ b)
+        at : (a : List ArenaIndex) → In x (a ++ x ∷ b)
         at [] = inl refl
         at (y ∷ ys) = inr (at ys)
 
-    found : (o : Option Links) → h x ≡ o → container_of h x ≡ Some c → IsIn x (lists c)
+    found : (o : Option Links) → h x ≡ o → container_of h x ≡ Some c → In x (lists c)
     found None e k = absurd (no_container e k)
       where
         no_container : h x ≡ None → container_of h x ≡ Some c → ⊥
@@ -36,10 +37,10 @@ container-is_in {h} {r} {lists} l c x = (λ e. found (h x) refl e, λ i. in-link
         let p = place l x c m e (sym (ap container_in e) ∙ k) in
         middle (lists c) p.before p.after p.splits
 
-pub linked-is_in : {h : Heap Links} {r : Heap Ends} {lists : ArenaIndex → List ArenaIndex} → AreLists h r lists → (x : ArenaIndex) → IsLinked h x ↔ ((c : ArenaIndex) × IsIn x (lists c))
+pub linked-is_in : {h : Heap Links} {r : Heap Ends} {lists : ArenaIndex → List ArenaIndex} → AreLists h r lists → (x : ArenaIndex) → IsLinked h x ↔ ((c : ArenaIndex) × In x (lists c))
 linked-is_in {h} {r} {lists} l x = (λ k. of_container (container_of h x) refl k, λ s. in-is_linked l s.0 x s.1)
   where
-    of_container : (o : Option ArenaIndex) → container_of h x ≡ o → IsSome (container_of h x) → (c : ArenaIndex) × IsIn x (lists c)
+    of_container : (o : Option ArenaIndex) → container_of h x ≡ o → IsSome (container_of h x) → (c : ArenaIndex) × In x (lists c)
     of_container None e k = absurd (none e k)
       where
         none : container_of h x ≡ None → IsSome (container_of h x) → ⊥
@@ -69,7 +70,7 @@ AreLists-empty {T} {C} links ends limit last other_limit other_last = record {
 
 -- a change of the nodes that leaves those in a list, and makes none that is linked
 AreLists-nodes : (h h' : Heap Links) (r : Heap Ends) (lists : ArenaIndex → List ArenaIndex) → AreLists h r lists
-    → ((c y : ArenaIndex) → IsIn y (lists c) → h' y ≡ h y)
+    → ((c y : ArenaIndex) → In y (lists c) → h' y ≡ h y)
     → ((y : ArenaIndex) (m : Links) → h' y ≡ Some m → (m ≡ unlinked) ⊎ (h' y ≡ h y))
     → AreLists h' r lists
 AreLists-nodes h h' r lists l frame made = record {
@@ -83,7 +84,7 @@ module _ {T : Type 0} (links : T → Links) (nodes : Arena T) (r : Heap Ends) (l
   pub AreLists-fill_new : (id : ArenaIndex) (v : T) → IsNew nodes id → links v ≡ unlinked → AreLists (seen links (fill nodes id v)) r lists
   AreLists-fill_new id v new free =
       AreLists-nodes (seen links nodes) (seen links (fill nodes id v)) r lists l
-      (λ c y i. same y (λ e. unused c (subst (λ z. IsIn z (lists c)) (sym e) i)))
+      (λ c y i. same y (λ e. unused c (subst (λ z. In z (lists c)) (sym e) i)))
       (λ y m e. elim (id_cases id y) [
         | inl here ↦ inl (Some-inj _ _ (sym e ∙ sym (ap (seen links (fill nodes id v)) here) ∙ ap (option_map links) (get-fill_new nodes id v new) ∙ ap Some free))
         | inr ne ↦ inr (same y ne)
@@ -92,7 +93,7 @@ module _ {T : Type 0} (links : T → Links) (nodes : Arena T) (r : Heap Ends) (l
       same : (y : ArenaIndex) → (id ≡ y → ⊥) → seen links (fill nodes id v) y ≡ seen links nodes y
       same y ne = ap (option_map links) (get-fill_new_other nodes id y v new (λ e. ne (sym e)))
 
-      unused : (c : ArenaIndex) → IsIn id (lists c) → ⊥
+      unused : (c : ArenaIndex) → In id (lists c) → ⊥
       unused c i =
           let s = chain-at (seen links nodes) c None (lists c) None id (l.chains c) i in
           let none : seen links nodes id ≡ None = ap (option_map links) (get-new nodes id new) in
@@ -102,7 +103,7 @@ module _ {T : Type 0} (links : T → Links) (nodes : Arena T) (r : Heap Ends) (l
   pub AreLists-cut_node : (id : ArenaIndex) → IsLive nodes id → (IsLinked (seen links nodes) id → ⊥) → AreLists (seen links (cut nodes id)) r lists
   AreLists-cut_node id live free =
       AreLists-nodes (seen links nodes) (seen links (cut nodes id)) r lists l
-      (λ c y i. same y (λ e. free (in-is_linked l c id (subst (λ z. IsIn z (lists c)) (sym e) i))))
+      (λ c y i. same y (λ e. free (in-is_linked l c id (subst (λ z. In z (lists c)) (sym e) i))))
       (λ y m e. elim (id_cases id y) [
         | inl here ↦ absurd (gone y m here e)
         | inr ne ↦ inr (same y ne)

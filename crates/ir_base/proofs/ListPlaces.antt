@@ -4,9 +4,10 @@ use Rattle.std.specs.Prelude.{IfSome}
 use Rattle.std.specs.Option.{option_map}
 use Rattle.ir_model.specs.declared.ids.ArenaIndex.{ArenaIndex}
 use Rattle.ir_base.specs.Arena.{Arena, get, IsLive}
-use Rattle.ir_base.specs.Lists.{seen, Links, Ends, unlinked, linked, Heap, head_or, last_or, IsIn, IsChain, AreLists, AreWellFormed, container_in, container_of, IsLinked}
-use Rattle.ir_base.proofs.ListChains.{Some-inj, IsIn-left, IsIn-right, chain-split, chain-at, IsIn-split}
-use Rattle.ir_base.proofs.ListEdits.{head-IsIn, last-IsIn}
+use Rattle.ir_model.specs.Nesting.{In}
+use Rattle.ir_base.specs.Lists.{seen, Links, Ends, unlinked, linked, Heap, head_or, last_or, IsChain, AreLists, AreWellFormed, container_in, container_of, IsLinked}
+use Rattle.ir_base.proofs.ListChains.{Some-inj, In-left, In-right, chain-split, chain-at, In-split}
+use Rattle.ir_base.proofs.ListEdits.{head-In, last-In}
 
 -- an id is live where something is seen of it
 pub live-in : {T A : Type 0} (view : T → A) (o : Option T) (a : A) → option_map view o ≡ Some a → IsSome o
@@ -24,14 +25,14 @@ pub seen-from_live : {T A : Type 0} (view : T → A) (s : Arena T) (i : ArenaInd
 seen-from_live view s i l = seen-in view (get s i) l
 
 -- a node in a list is linked
-pub in-linked : {h : Heap Links} {r : Heap Ends} {lists : ArenaIndex → List ArenaIndex} → AreLists h r lists → (c x : ArenaIndex) → IsIn x (lists c) → container_of h x ≡ Some c
+pub in-linked : {h : Heap Links} {r : Heap Ends} {lists : ArenaIndex → List ArenaIndex} → AreLists h r lists → (c x : ArenaIndex) → In x (lists c) → container_of h x ≡ Some c
 in-linked {h} {r} {lists} a c x i = let s = chain-at h c None (lists c) None x (a.chains c) i in ap container_in s.1 ∙ s.2
 
 some_of : (o : Option ArenaIndex) (c : ArenaIndex) → o ≡ Some c → IsSome o
 some_of None c e = cc
 some_of (Some x) c e = search rules
 
-pub in-is_linked : {h : Heap Links} {r : Heap Ends} {lists : ArenaIndex → List ArenaIndex} → AreLists h r lists → (c x : ArenaIndex) → IsIn x (lists c) → IsLinked h x
+pub in-is_linked : {h : Heap Links} {r : Heap Ends} {lists : ArenaIndex → List ArenaIndex} → AreLists h r lists → (c x : ArenaIndex) → In x (lists c) → IsLinked h x
 in-is_linked {h} a c x i = some_of (container_of h x) c (in-linked a c x i)
 
 -- a live node that is not linked has empty links
@@ -59,16 +60,16 @@ module _ {h : Heap Links} {r : Heap Ends} {lists : ArenaIndex → List ArenaInde
       let k : IsChain h c None (a ++ x ∷ b) None = rw e at (l.chains c) in
       (chain-split h c None a (x ∷ b) None k).1.0
 
-  pub root-cases : (c x : ArenaIndex) → IsIn x (lists c) → (o : Option Ends) → r c ≡ o → (e : Ends) × (r c ≡ Some e)
-  root-cases c x i None e = absurd (subst (λ xs. IsIn x xs) (l.absent c e) i)
+  pub root-cases : (c x : ArenaIndex) → In x (lists c) → (o : Option Ends) → r c ≡ o → (e : Ends) × (r c ≡ Some e)
+  root-cases c x i None e = absurd (subst (λ xs. In x xs) (l.absent c e) i)
   root-cases c x i (Some f) e = (f, e)
 
-  pub root-live : (c x : ArenaIndex) → IsIn x (lists c) → (e : Ends) × (r c ≡ Some e)
+  pub root-live : (c x : ArenaIndex) → In x (lists c) → (e : Ends) × (r c ≡ Some e)
   root-live c x i = root-cases c x i (r c) refl
 
-  pub place-in : (x c : ArenaIndex) → IsIn x (lists c) → Place h r lists x c
+  pub place-in : (x c : ArenaIndex) → In x (lists c) → Place h r lists x c
   place-in x c i =
-      let s = IsIn-split x (lists c) i in
+      let s = In-split x (lists c) i in
       let e = root-live c x i in
       record { before = s.0; after = s.1; ends = e.0; splits = s.2; links = split-links c x s.0 s.1 s.2; root = e.1 }
 
@@ -79,14 +80,14 @@ module _ {h : Heap Links} {r : Heap Ends} {lists : ArenaIndex → List ArenaInde
         let t = chain-at h s.0 None (lists s.0) None x (l.chains s.0) s.1 in
         let same : m ≡ t.0 = Some-inj _ _ (sym e ∙ t.1) in
         let cs : s.0 ≡ c = Some-inj _ _ (sym t.2 ∙ sym (ap (λ (m : Links). m.container) same) ∙ k) in
-        place-in x c (subst (λ d. IsIn x (lists d)) cs s.1)
+        place-in x c (subst (λ d. In x (lists d)) cs s.1)
   ]
 
   pub first-live : (c : ArenaIndex) (a b : List ArenaIndex) (y : ArenaIndex) → lists c ≡ a ++ b → head_or None b ≡ Some y → (m : Links) × (h y ≡ Some m)
-  first-live c a b y e is = let t = chain-at h c None (lists c) None y (l.chains c) (rw e (IsIn-right y a b (head-IsIn b y is))) in (t.0, t.1)
+  first-live c a b y e is = let t = chain-at h c None (lists c) None y (l.chains c) (rw e (In-right y a b (head-In b y is))) in (t.0, t.1)
 
   pub last-live : (c : ArenaIndex) (a b : List ArenaIndex) (y : ArenaIndex) → lists c ≡ a ++ b → last_or None a ≡ Some y → (m : Links) × (h y ≡ Some m)
-  last-live c a b y e is = let t = chain-at h c None (lists c) None y (l.chains c) (rw e (IsIn-left y a b (last-IsIn a y is))) in (t.0, t.1)
+  last-live c a b y e is = let t = chain-at h c None (lists c) None y (l.chains c) (rw e (In-left y a b (last-In a y is))) in (t.0, t.1)
 
 -- a linked node stands in the list of its container
 pub linked-place : {h : Heap Links} {r : Heap Ends} {lists : ArenaIndex → List ArenaIndex} → AreLists h r lists → (x : ArenaIndex) → IsLinked h x → (c : ArenaIndex) × Place h r lists x c
@@ -123,8 +124,8 @@ read_links h x c d a b m next prev container at_x e n p k u =
       container_is = Some-inj _ _ (sym u ∙ k ∙ ap (λ (l : Links). l.container) same);
     }
 
-pub IsIn-middle : (x : ArenaIndex) (a b : List ArenaIndex) → IsIn x (a ++ x ∷ b)
-IsIn-middle x a b = IsIn-right x a (x ∷ b) (inl refl)
+pub In-middle : (x : ArenaIndex) (a b : List ArenaIndex) → In x (a ++ x ∷ b)
+In-middle x a b = In-right x a (x ∷ b) (inl refl)
 
 pub split-after : (a b : List ArenaIndex) (x : ArenaIndex) → a ++ x ∷ b ≡ (a ++ x ∷ []) ++ b
 split-after a b x = simp append_assoc

@@ -3,13 +3,14 @@ use Rattle.std.proofs.Common.{◌≡◌, ◌<◌, Bool, true, false, cond, List,
 use Rattle.std.specs.Option.{option_map, option_or}
 use Rattle.ir_model.specs.declared.ids.ArenaIndex.{ArenaIndex}
 use Rattle.ir_base.specs.Arena.{Arena}
-use Rattle.ir_base.specs.Lists.{seen, Links, Ends, linked, no_ends, is_at, unless, with_next, with_prev, with_head, with_tail, Heap, change, head_or, last_or, ends_of, IsIn, IsChain, AreLists, with_list, with_container, rehome}
+use Rattle.ir_model.specs.Nesting.{In}
+use Rattle.ir_base.specs.Lists.{seen, Links, Ends, linked, no_ends, is_at, unless, with_next, with_prev, with_head, with_tail, Heap, change, head_or, last_or, ends_of, IsChain, AreLists, with_list, with_container, rehome}
 use Rattle.ir_base.specs.Walks.{AreApart, IsListFrom, Walked, piece}
-use Rattle.ir_base.proofs.ListChains.{Some-inj, id_cases, change-other, change-here, apart-both, chain-split, chain-join, chain-same, chain-apart, chain-unique, IsIn-left, IsIn-right, last_or-append}
-use Rattle.ir_base.proofs.ListEdits.{change-apart, relink, relink-sides, relink-other, lists-apart, with_list-here, with_list-other, IsIn-either}
+use Rattle.ir_base.proofs.ListChains.{Some-inj, id_cases, change-other, change-here, apart-both, chain-split, chain-join, chain-same, chain-apart, chain-unique, In-left, In-right, last_or-append}
+use Rattle.ir_base.proofs.ListEdits.{change-apart, relink, relink-sides, relink-other, lists-apart, with_list-here, with_list-other, In-either}
 use Rattle.ir_base.proofs.ListWalks.{piece-all}
 
-pub rehome-other : (c : ArenaIndex) (xs : List ArenaIndex) (h : Heap Links) (y : ArenaIndex) → (IsIn y xs → ⊥) → rehome c xs h y ≡ h y
+pub rehome-other : (c : ArenaIndex) (xs : List ArenaIndex) (h : Heap Links) (y : ArenaIndex) → (In y xs → ⊥) → rehome c xs h y ≡ h y
 rehome-other c [] h y n = refl
 rehome-other c (x ∷ xs) h y n =
     rehome-other c xs (change (with_container c) (Some x) h) y (λ i. n (inr i)) ∙ change-other (with_container c) x h y (λ e. n (inl (sym e)))
@@ -21,9 +22,9 @@ rehome-push c (y ∷ ys) x h = rehome-push c ys x (change (with_container c) (So
 pub chain-rehome : (c d : ArenaIndex) (p : Option ArenaIndex) (xs : List ArenaIndex) (n : Option ArenaIndex) (h : Heap Links) → AreApart xs → IsChain h d p xs n → IsChain (rehome c xs h) c p xs n
 chain-rehome c d p [] n h a k = tt
 chain-rehome c d p (x ∷ xs) n h a k =
-    let h2 : Heap Links = change (with_container c) (Some x) h in (
-      rehome-other c xs h2 x a.0 ∙ change-here (with_container c) x h (linked p (head_or n xs) d) k.0,
-      chain-rehome c d (Some x) xs n h2 a.1 (chain-same h h2 d (Some x) xs n (λ y i. change-other (with_container c) x h y (λ e. a.0 (subst (λ z. IsIn z xs) (sym e) i))) k.1),
+    let first_rehomed : Heap Links = change (with_container c) (Some x) h in (
+      rehome-other c xs first_rehomed x a.0 ∙ change-here (with_container c) x h (linked p (head_or n xs) d) k.0,
+      chain-rehome c d (Some x) xs n first_rehomed a.1 (chain-same h first_rehomed d (Some x) xs n (λ y i. change-other (with_container c) x h y (λ e. a.0 (subst (λ z. In z xs) (sym e) i))) k.1),
     )
 
 -- a step of the walk
@@ -43,7 +44,7 @@ step start now first c node w =
     let whole : w.whole.nodes ≡ w.done ++ node ∷ t.0 = w.splits ∙ ap (λ ys. w.done ++ ys) t.1 in
     let k : IsChain start w.whole.owner w.whole.before (w.done ++ node ∷ t.0) None = subst (λ ys. IsChain start w.whole.owner w.whole.before ys None) whole w.whole.chain in
     let apart : AreApart (w.done ++ node ∷ t.0) = chain-apart start w.whole.owner w.whole.before _ k in
-    let out : IsIn node w.done → ⊥ = λ i. apart-both node w.done (node ∷ t.0) apart i (inl refl) in
+    let out : In node w.done → ⊥ = λ i. apart-both node w.done (node ∷ t.0) apart i (inl refl) in
     record {
       rest = t.0;
       todo_is = t.1;
@@ -128,12 +129,12 @@ AreLists-join h h' r r' lists c d e f l ne is rc rd ro =
     let new : ArenaIndex → List ArenaIndex = with_list (with_list lists c (a ++ b)) d [] in
     let apa = chain-apart h c None a (l.chains c) in
     let apb = chain-apart h d None b (l.chains d) in
-    let dis : (y : ArenaIndex) → IsIn y a → IsIn y b → ⊥ = λ y i j. ne (lists-apart l y c d i j) in
+    let dis : (y : ArenaIndex) → In y a → In y b → ⊥ = λ y i j. ne (lists-apart l y c d i j) in
     let sides = relink-sides h c d a b None None v w apa apb dis (l.chains c) (l.chains d) in
     let ka : IsChain (rehome c b mid) c None a v = chain-same mid (rehome c b mid) c None a v (λ y i. rehome-other c b mid y (dis y i)) sides.0 in
     let kb : IsChain (rehome c b mid) c w b None = chain-rehome c d w b None mid apb sides.1 in
     let whole : IsChain h' c None (a ++ b) None = rw is (chain-join (rehome c b mid) c None a b None ka kb) in
-    let far : (y : ArenaIndex) → (IsIn y a → ⊥) → (IsIn y b → ⊥) → h' y ≡ h y = λ y na nb.
+    let far : (y : ArenaIndex) → (In y a → ⊥) → (In y b → ⊥) → h' y ≡ h y = λ y na nb.
     ap (λ (h : Heap Links). h y) is ∙ rehome-other c b mid y nb ∙ relink-other h a b v w y na nb in
     let new-c : new c ≡ a ++ b = with_list-other (with_list lists c (a ++ b)) d [] c (λ e. ne (sym e)) ∙ with_list-here lists c (a ++ b) in
     let new-d : new d ≡ [] = with_list-here (with_list lists c (a ++ b)) d [] in
@@ -161,15 +162,15 @@ AreLists-join h h' r r' lists c d e f l ne is rc rd ro =
           | inr nd ↦ new-k k nc nd ∙ l.absent k (sym (ro k nc nd) ∙ at_k)
         ]
       ];
-      covers = λ y m at_y. elim (IsIn-either y (a ++ b)) [
-        | inl i ↦ inr (c, subst (λ xs. IsIn y xs) (sym new-c) i)
-        | inr n ↦ elim (l.covers y m (sym (far y (λ i. n (IsIn-left y a b i)) (λ i. n (IsIn-right y a b i))) ∙ at_y)) [
+      covers = λ y m at_y. elim (In-either y (a ++ b)) [
+        | inl i ↦ inr (c, subst (λ xs. In y xs) (sym new-c) i)
+        | inr n ↦ elim (l.covers y m (sym (far y (λ i. n (In-left y a b i)) (λ i. n (In-right y a b i))) ∙ at_y)) [
           | inl u ↦ inl u
           | inr s ↦ inr (
             s.0,
-            subst (λ xs. IsIn y xs) (sym (new-k s.0
-                (λ e. n (IsIn-left y a b (subst (λ k. IsIn y (lists k)) (sym e) s.1)))
-                (λ e. n (IsIn-right y a b (subst (λ k. IsIn y (lists k)) (sym e) s.1))))) s.1,
+            subst (λ xs. In y xs) (sym (new-k s.0
+                (λ e. n (In-left y a b (subst (λ k. In y (lists k)) (sym e) s.1)))
+                (λ e. n (In-right y a b (subst (λ k. In y (lists k)) (sym e) s.1))))) s.1,
           )
         ]
       ];
@@ -209,41 +210,43 @@ joined_ends r c d head tail first last =
 same-ends : (e : Ends) (xs : List ArenaIndex) → e.head ≡ head_or None xs → e.tail ≡ last_or None xs → e ≡ ends_of xs
 same-ends e xs p q = λ i. record { head = p i; tail = q i }
 
-pub joined-list : (h h2 : Heap Links) (r : Heap Ends) (lists : ArenaIndex → List ArenaIndex) (c d : ArenaIndex) (tail first : Option ArenaIndex)
+-- where the ends of two lists are tied to each other, the second is a list from its first node on
+pub joined-list : (h tied : Heap Links) (r : Heap Ends) (lists : ArenaIndex → List ArenaIndex) (c d : ArenaIndex) (tail first : Option ArenaIndex)
     → AreLists h r lists → (c ≡ d → ⊥) → first ≡ head_or None (lists d) → tail ≡ last_or None (lists c)
-    → h2 ≡ change (with_next first) tail (change (with_prev tail) first h)
-    → IsListFrom h2 first c
-joined-list h h2 r lists c d tail first l ne fi ta is =
+    → tied ≡ change (with_next first) tail (change (with_prev tail) first h)
+    → IsListFrom tied first c
+joined-list h tied r lists c d tail first l ne fi ta is =
     let sides = relink-sides h c d (lists c) (lists d) None None (head_or None (lists d)) (last_or None (lists c)) (chain-apart h c None (lists c) (l.chains c)) (chain-apart h d None (lists d) (l.chains d)) (λ y i j. ne (lists-apart l y c d i j)) (l.chains c) (l.chains d) in
-    let k : IsChain h2 d (last_or None (lists c)) (lists d) None = rw (is, fi, ta) sides.1 in
+    let k : IsChain tied d (last_or None (lists c)) (lists d) None = rw (is, fi, ta) sides.1 in
     record { owner = d; before = last_or None (lists c); nodes = lists d; chain = k; begins = fi; other = λ e. ne (sym e) }
 
-pub AreLists-joined : (h h2 h' : Heap Links) (r r' : Heap Ends) (lists : ArenaIndex → List ArenaIndex) (c d : ArenaIndex) (e f : Ends) (head tail first last : Option ArenaIndex)
+-- after a walk has moved its nodes too, the two are one list
+pub AreLists-joined : (h tied h' : Heap Links) (r r' : Heap Ends) (lists : ArenaIndex → List ArenaIndex) (c d : ArenaIndex) (e f : Ends) (head tail first last : Option ArenaIndex)
     → AreLists h r lists → (c ≡ d → ⊥) → r c ≡ Some e → r d ≡ Some f
     → head ≡ e.head → tail ≡ e.tail → first ≡ f.head → last ≡ f.tail
-    → h2 ≡ change (with_next first) tail (change (with_prev tail) first h)
-    → ((owner : ArenaIndex) (before : Option ArenaIndex) (list : List ArenaIndex) → IsChain h2 owner before list None → first ≡ head_or None list → h' ≡ rehome c list h2)
+    → tied ≡ change (with_next first) tail (change (with_prev tail) first h)
+    → ((owner : ArenaIndex) (before : Option ArenaIndex) (list : List ArenaIndex) → IsChain tied owner before list None → first ≡ head_or None list → h' ≡ rehome c list tied)
     → r' ≡ joined_ends r c d head tail first last
     → AreLists h' r' (with_list (with_list lists c (lists c ++ lists d)) d [])
 unfolding joined-list
-AreLists-joined h h2 h' r r' lists c d e f head tail first last l ne rc rd he ta fi la is moves ends =
-    let he2 = head-read l c e head rc he in
-    let ta2 = tail-read l c e tail rc ta in
-    let fi2 = head-read l d f first rd fi in
-    let la2 = tail-read l d f last rd la in
-    let from = joined-list h h2 r lists c d tail first l ne fi2 ta2 is in
-    let moved : h' ≡ rehome c (lists d) h2 = moves from.owner from.before from.nodes from.chain from.begins in
-    let linked : h2 ≡ relink h (lists c) (lists d) (head_or None (lists d)) (last_or None (lists c)) = rw (is, fi2, ta2) in
+AreLists-joined h tied h' r r' lists c d e f head tail first last l ne rc rd he ta fi la is moves ends =
+    let head_is = head-read l c e head rc he in
+    let tail_is = tail-read l c e tail rc ta in
+    let first_is = head-read l d f first rd fi in
+    let last_is = tail-read l d f last rd la in
+    let from = joined-list h tied r lists c d tail first l ne first_is tail_is is in
+    let moved : h' ≡ rehome c (lists d) tied = moves from.owner from.before from.nodes from.chain from.begins in
+    let linked : tied ≡ relink h (lists c) (lists d) (head_or None (lists d)) (last_or None (lists c)) = rw (is, first_is, tail_is) in
     let one : Heap Ends = change (with_tail tail) (unless first c) r in
     let two : Heap Ends = change (with_head first) (unless tail c) one in
     let both : Ends = record { head = option_or head first; tail = option_or last tail } in
     let three : Heap Ends = change (λ _. both) (Some c) two in
-    let live1 = change-live (with_tail tail) (unless first c) r c e rc in
-    let live2 = change-live (with_head first) (unless tail c) one c live1.0 live1.1 in
-    let at_c : r' c ≡ Some both = ap (λ (q : Heap Ends). q c) ends ∙ change-other (λ _. no_ends) d three c (λ e. ne (sym e)) ∙ change-here (λ _. both) c two live2.0 live2.1 in
+    let live_before = change-live (with_tail tail) (unless first c) r c e rc in
+    let live_after = change-live (with_head first) (unless tail c) one c live_before.0 live_before.1 in
+    let at_c : r' c ≡ Some both = ap (λ (q : Heap Ends). q c) ends ∙ change-other (λ _. no_ends) d three c (λ e. ne (sym e)) ∙ change-here (λ _. both) c two live_after.0 live_after.1 in
     let keep : (k : ArenaIndex) → (c ≡ k → ⊥) → three k ≡ r k = λ k nc.
     change-other (λ _. both) c two k nc ∙ change-apart (with_head first) (unless tail c) one k (unless-other tail c k nc) ∙ change-apart (with_tail tail) (unless first c) r k (unless-other first c k nc) in
     let at_d : r' d ≡ Some no_ends = ap (λ (q : Heap Ends). q d) ends ∙ change-here (λ _. no_ends) d three f (keep d ne ∙ rd) in
-    let both_is : both ≡ ends_of (lists c ++ lists d) = same-ends both (lists c ++ lists d) (rw (he2, fi2) (or-head (lists c) (lists d))) (rw (la2, ta2) (or-tail (lists c) (lists d))) in
+    let both_is : both ≡ ends_of (lists c ++ lists d) = same-ends both (lists c ++ lists d) (rw (head_is, first_is) (or-head (lists c) (lists d))) (rw (last_is, tail_is) (or-tail (lists c) (lists d))) in
     AreLists-join h h' r r' lists c d e f l ne (moved ∙ ap (rehome c (lists d)) linked) (at_c ∙ ap Some both_is) at_d
     (λ k nc nd. ap (λ (q : Heap Ends). q k) ends ∙ change-other (λ _. no_ends) d three k nd ∙ keep k nc)

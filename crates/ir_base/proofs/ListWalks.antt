@@ -4,10 +4,11 @@ use Rattle.std.specs.Option.{option_eq}
 use Rattle.ir_model.specs.declared.ids.ArenaIndex.{ArenaIndex}
 use Rattle.ir_model.specs.ContextIds.{same_id}
 use Rattle.ir_base.specs.Arena.{Arena}
-use Rattle.ir_base.specs.Lists.{seen, Links, Ends, Heap, IsIn, IsChain, linked, head_or, last_or, last_of, AreLists}
+use Rattle.ir_model.specs.Nesting.{In}
+use Rattle.ir_base.specs.Lists.{seen, Links, Ends, Heap, IsChain, linked, head_or, last_or, last_of, AreLists}
 use Rattle.ir_base.specs.Walks.{AreApart, next_in, head_in, walk_to, piece, list_of, IsPiece}
 use Rattle.ir_base.proofs.ListArena.{live-fit}
-use Rattle.ir_base.proofs.ListChains.{Some-inj, id_same, id_differs, same_id-true, last_of-IsIn, chain-apart, chain-at, chain-split, apart-left, apart-both}
+use Rattle.ir_base.proofs.ListChains.{Some-inj, id_same, id_differs, same_id-true, last_of-In, chain-apart, chain-at, chain-split, apart-left, apart-both}
 use Rattle.ir_base.proofs.ListPlaces.{live-from_seen}
 
 pub walk-all : (fuel : ℕ) (h : Heap Links) (c : ArenaIndex) (p : Option ArenaIndex) (xs : List ArenaIndex) → IsChain h c p xs None → length xs ≤ fuel → walk_to fuel h (head_or None xs) None ≡ xs
@@ -23,7 +24,7 @@ walk-piece zero h c p n (x ∷ xs) k a f = absurd (omega arith)
 walk-piece (suc m) h c p n [] k a f = refl
 walk-piece (suc m) h c p n (x ∷ []) k a f = ap (λ b. x ∷ cond b [] (walk_to m h (next_in (h x)) (Some x))) (id_same x)
 walk-piece (suc m) h c p n (x ∷ (y ∷ ys)) k a f =
-    let other : same_id (last_of y ys) x ≡ false = id_differs (last_of y ys) x (λ e. a.0 (subst (λ z. IsIn z (y ∷ ys)) e (last_of-IsIn y ys))) in
+    let other : same_id (last_of y ys) x ≡ false = id_differs (last_of y ys) x (λ e. a.0 (subst (λ z. In z (y ∷ ys)) e (last_of-In y ys))) in
     ap (λ b. x ∷ cond b [] (walk_to m h (next_in (h x)) (Some (last_of y ys)))) other
     ∙ ap (λ zs. x ∷ zs) (ap (λ o. walk_to m h (next_in o) (Some (last_of y ys))) k.0 ∙ walk-piece m h c (Some x) n (y ∷ ys) k.1 a.1 (omega arith))
 
@@ -79,7 +80,7 @@ take-nodes h room x c before after next back (y ∷ (z ∷ zs)) k a f b e w =
       here = subst (λ v. h v ≡ Some (linked before (Some z) c)) same k.0;
       rest = z ∷ zs;
       items = w ∙ ap (λ v. v ∷ (z ∷ zs)) same;
-      at_end = λ e2. absurd (a.0 (subst (λ v. IsIn v (z ∷ zs)) (Some-inj _ _ (sym e ∙ e2) ∙ sym same) (last_of-IsIn z zs)));
+      at_end = λ e2. absurd (a.0 (subst (λ v. In v (z ∷ zs)) (Some-inj _ _ (sym e ∙ e2) ∙ sym same) (last_of-In z zs)));
       further = λ ne. (piece, piece-items piece);
     }
 

@@ -12,7 +12,8 @@ use Rattle.std.specs.Cmp.Lexicographic.{nat_list_eq_equiv, nat_list_cmp_total, t
 use Rattle.std.specs.HashMap.{HashMap}
 use Rattle.std.specs.HashMap.Eq.{get_from_hash_map_eq, hash_map_eq_symm, hash_map_eq_trans, hash_map_eq_refl}
 use Rattle.indexmap.specs.Layout.{hash_map}
-use Rattle.ir_base.specs.Attributes.{same_key, attr_at, key_order, by_key, dict_input, same_pairs}
+use Rattle.ir_model.specs.Stores.{attribute_at}
+use Rattle.ir_base.specs.Attributes.{same_key, key_order, by_key, dict_input, same_pairs}
 
 module _ {A : Type 0} (same : A → A → Bool) (laws : IsEquivalence same) where
   -- a list of pairs as a map
@@ -44,7 +45,7 @@ same_text = slice_cmp-IsAntisymmetric nat_cmp-IsAntisymmetric
 
 -- what is fed of a key's attribute, found among the pairs by rising key
 module _ {A : Type 0} (input : A → HashWrites) where
-  pub find-map : (q : List ℕ) (es : List (List ℕ × A)) → find key_order q (map (λ p. (p.0, input p.1)) es) ≡ option_map input (attr_at es q)
+  pub find-map : (q : List ℕ) (es : List (List ℕ × A)) → find key_order q (map (λ p. (p.0, input p.1)) es) ≡ option_map input (attribute_at es q)
   find-map q [] = refl
   find-map q (e ∷ es) = ap (λ b. cond b (Some (input e.1)) (find key_order q (map (λ p. (p.0, input p.1)) es))) (sym (texts_ties q e.0)) ∙ ap (cond (same_key q e.0) (Some (input e.1))) (find-map q es) ∙ out (same_key q e.0) (lookup (same_key q) es)
     where
@@ -52,7 +53,7 @@ module _ {A : Type 0} (input : A → HashWrites) where
       out true o = refl
       out false o = refl
 
-  pub find-by_key : (es : List (List ℕ × A)) (q : List ℕ) → find key_order q (by_key input es) ≡ option_map input (attr_at es q)
+  pub find-by_key : (es : List (List ℕ × A)) (q : List ℕ) → find key_order q (by_key input es) ≡ option_map input (attribute_at es q)
   find-by_key es q = sym (get-entries _ q) ∙ get-from_entries key_total (map (λ p. (p.0, input p.1)) es) q ∙ find-map q es
 
   -- equal dictionaries have one list of pairs by rising key
@@ -60,7 +61,7 @@ module _ {A : Type 0} (input : A → HashWrites) where
   by_key-equal same respects d e h =
       ap (λ m. fed.slice (λ p. fed.str p.0 ++ p.1) (entries m))
       (same_map key_total same_text _ _ (λ q.
-      get-from_entries key_total (map (λ p. (p.0, input p.1)) d) q ∙ find-map q d ∙ alike (attr_at d q) (attr_at e q) (get_from_hash_map_eq same_key same nat_list_eq_equiv (hash_map d (tt {0}) 0) (hash_map e (tt {0}) 0) h q)
+      get-from_entries key_total (map (λ p. (p.0, input p.1)) d) q ∙ find-map q d ∙ alike (attribute_at d q) (attribute_at e q) (get_from_hash_map_eq same_key same nat_list_eq_equiv (hash_map d (tt {0}) 0) (hash_map e (tt {0}) 0) h q)
       ∙ sym (get-from_entries key_total (map (λ p. (p.0, input p.1)) e) q ∙ find-map q e)))
     where
       alike : (x y : Option A) → option_eq same x y ≡ true → option_map input x ≡ option_map input y

@@ -2,7 +2,6 @@
 use Rattle.std.specs.Prelude.{◌≡◌, ℕ, Bool, true, false, not, ◌&&◌, ◌||◌, ◌++◌, nat_eq, List, map, filter, Option, Some, None, is_some, if◌then◌else◌}
 use Rattle.std.specs.List.{AllZip}
 use Rattle.std.specs.Option.{option_map_or}
-use Rattle.std.specs.Map.{lookup, remove_entry}
 use Rattle.std.specs.HashMap.{entries_eq}
 use Rattle.std.specs.Cmp.Lexicographic.{pointwise, slice_cmp}
 use Rattle.std.specs.declared.cmp.Ordering.{Ordering}
@@ -10,7 +9,7 @@ use Rattle.std.specs.Ordering.{nat_cmp, is_lt}
 use Rattle.std.specs.FinMap.{entries, from_entries}
 use Rattle.std.specs.Hash as fed
 use Rattle.std.specs.Hash.{HashWrites}
-use Rattle.indexmap.specs.IndexMap.{insert_entry}
+use Rattle.ir_model.specs.Stores.{attribute_at, set_attribute}
 
 -- the keys are equal where their texts are
 abbrev pub same_key : List ℕ → List ℕ → Bool
@@ -26,26 +25,14 @@ is_above None key = true
 is_above (Some bound) key = is_lt (key_order bound key)
 
 module _ {A : Type 0} where
-  -- the attribute at a key
-  abbrev pub attr_at : List (List ℕ × A) → List ℕ → Option A
-  attr_at pairs key = lookup (same_key key) pairs
-
   -- the attribute, where there is one that passes the test
   abbrev pub passing : (A → Bool) → Option A → Option A
   passing test None = None
   passing test (Some attr) = if test attr then Some attr else None
 
-  -- the pairs with this attribute at this key: a key that is there keeps its place, and a new one goes last
-  abbrev pub with_attr : List (List ℕ × A) → List ℕ → A → List (List ℕ × A)
-  with_attr pairs key attr = insert_entry same_key pairs key attr
-
   -- the pairs where the attribute at this key, if there is one, is what the change makes of it
   abbrev pub with_changed : List (List ℕ × A) → List ℕ → (A → A) → List (List ℕ × A)
-  with_changed pairs key change = option_map_or (λ attr. with_attr pairs key (change attr)) (attr_at pairs key) pairs
-
-  -- the pairs without this key, in the same order
-  abbrev pub without_key : List (List ℕ × A) → List ℕ → List (List ℕ × A)
-  without_key pairs key = remove_entry (same_key key) pairs
+  with_changed pairs key change = option_map_or (λ attr. set_attribute pairs key (change attr)) (attribute_at pairs key) pairs
 
   -- the new pairs have the keys of the old ones, and equal attributes
   abbrev pub AreCopies : (A → A → Bool) → List (List ℕ × A) → List (List ℕ × A) → Type 0
@@ -73,12 +60,12 @@ module _ {A : Type 0} where
 
   -- the pairs have a key above the bound
   abbrev pub IsKeyAbove : Option (List ℕ) → List (List ℕ × A) → List ℕ → Type 0
-  IsKeyAbove after pairs key = (is_some (attr_at pairs key) ≡ true) × (is_above after key ≡ true)
+  IsKeyAbove after pairs key = (is_some (attribute_at pairs key) ≡ true) × (is_above after key ≡ true)
 
   -- no key is above the bound, or this pair has the least of those that are
   abbrev pub IsNext : Option (List ℕ) → List (List ℕ × A) → Option (List ℕ × A) → Type 0
   IsNext after pairs None = (key : List ℕ) → IsKeyAbove after pairs key → ⊥
-  IsNext after pairs (Some p) = (attr_at pairs p.0 ≡ Some p.1) × (is_above after p.0 ≡ true) × ((key : List ℕ) → IsKeyAbove after pairs key → is_lt (key_order key p.0) ≡ false)
+  IsNext after pairs (Some p) = (attribute_at pairs p.0 ≡ Some p.1) × (is_above after p.0 ≡ true) × ((key : List ℕ) → IsKeyAbove after pairs key → is_lt (key_order key p.0) ≡ false)
 
   -- the key is below that of the pair, where there is one
   abbrev pub is_below : List ℕ → Option (List ℕ × A) → Bool

@@ -3,6 +3,7 @@ use Rattle.std.specs.Prelude.{◌≡◌, ◌⊎◌, ◌↔◌, Bool, false, cond
 use Rattle.std.specs.Option.{option_map}
 use Rattle.ir_model.specs.declared.ids.ArenaIndex.{ArenaIndex}
 use Rattle.ir_model.specs.ContextIds.{same_id}
+use Rattle.ir_model.specs.Nesting.{In}
 use Rattle.ir_base.specs.declared.arena.Slot.{Slot}
 use Rattle.ir_base.specs.Arena.{Arena, get, IsLive, is_passed, arena_len, room}
 
@@ -95,11 +96,6 @@ last_or d (x ∷ xs) = Some (last_of x xs)
 abbrev pub ends_of : List ArenaIndex → Ends
 ends_of xs = record { head = head_or None xs; tail = last_or None xs }
 
--- x stands in the list
-abbrev pub IsIn : ArenaIndex → List ArenaIndex → Type 0
-IsIn x [] = ⊥
-IsIn x (y ∷ ys) = (x ≡ y) ⊎ IsIn x ys
-
 -- these nodes are linked one after another in the container c, between p and n
 abbrev pub IsChain : Heap Links → ArenaIndex → Option ArenaIndex → List ArenaIndex → Option ArenaIndex → Type 0
 IsChain h c p [] n = Unit {0}
@@ -111,7 +107,7 @@ pub record AreLists (nodes : Heap Links) (containers : Heap Ends) (lists : Arena
   pub chains : (c : ArenaIndex) → IsChain nodes c None (lists c) None
   pub ends : (c : ArenaIndex) (e : Ends) → containers c ≡ Some e → e ≡ ends_of (lists c)
   pub absent : (c : ArenaIndex) → containers c ≡ None → lists c ≡ []
-  pub covers : (x : ArenaIndex) (l : Links) → nodes x ≡ Some l → (l ≡ unlinked) ⊎ ((c : ArenaIndex) × IsIn x (lists c))
+  pub covers : (x : ArenaIndex) (l : Links) → nodes x ≡ Some l → (l ≡ unlinked) ⊎ ((c : ArenaIndex) × In x (lists c))
 
 -- the lists of two arenas are well formed
 abbrev pub AreWellFormed : Heap Links → Heap Ends → Type 0

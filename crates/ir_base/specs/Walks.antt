@@ -2,7 +2,8 @@
 use Rattle.std.specs.Prelude.{◌≡◌, ◌≢◌, ◌≤◌, ℕ, suc, zero, cond, List, [], ◌∷◌, ◌++◌, length, Option, Some, None}
 use Rattle.ir_model.specs.declared.ids.ArenaIndex.{ArenaIndex}
 use Rattle.ir_base.specs.Arena.{Arena}
-use Rattle.ir_base.specs.Lists.{Links, Ends, Heap, seen, is_at, IsIn, IsChain, head_or, last_or, rehome}
+use Rattle.ir_model.specs.Nesting.{In}
+use Rattle.ir_base.specs.Lists.{Links, Ends, Heap, seen, is_at, IsChain, head_or, last_or, rehome}
 
 -- the next node that these links name
 abbrev pub next_in : Option Links → Option ArenaIndex
@@ -31,7 +32,7 @@ list_of links ends nodes containers c = piece links nodes (head_in (seen ends co
 -- no node stands twice
 abbrev pub AreApart : List ArenaIndex → Type 0
 AreApart [] = Unit {0}
-AreApart (x ∷ xs) = (IsIn x xs → ⊥) × AreApart xs
+AreApart (x ∷ xs) = (In x xs → ⊥) × AreApart xs
 
 -- a piece of one list stands from `next` to `back`
 pub record IsPiece (h : Heap Links) (room : ℕ) (next back : Option ArenaIndex) : Type 0 where

@@ -7,7 +7,8 @@ ghost use Rattle.std.specs.Map.{keys_of};
 ghost use Rattle.std.specs.Map.Iter.{ShowsInOrder, deref_pair};
 ghost use Rattle.ir_base.specs.declared.error.CoreError.TheVariants.{OutOfMemory};
 ghost use Rattle.ir_base.specs.declared.interfaces.TheConstants.{OUTLINED_ATTRIBUTE};
-ghost use Rattle.ir_base.specs.Attributes.{same_key, attr_at, with_attr, without_key, passing, is_outlined, kept_pairs, same_pairs, AreCopies, dict_input, IsNext, is_above, is_below};
+ghost use Rattle.ir_model.specs.Stores.{attribute_at, set_attribute, without_attribute};
+ghost use Rattle.ir_base.specs.Attributes.{same_key, passing, is_outlined, kept_pairs, same_pairs, AreCopies, dict_input, IsNext, is_above, is_below};
 ghost use Rattle.ir_base.specs.AttributeLaws.{same_pairs-laws, same_pairs-equivalence, by_key-equal};
 
 use crate::attribute::{Attribute, attr_impls, attr_should_outline};
@@ -86,7 +87,7 @@ impl<D: Dialects> AttributeDict<D> {
 
     /// The value of the attribute at the key, where there is one of the kind of `T`.
     pub fn get<T: Attribute<D>>(&self, key: &Identifier) -> Option<&T>
-        ensures { option_copied result ≡ option_and_then T.value_of (attr_at self.now key.now) }
+        ensures { option_copied result ≡ option_and_then T.value_of (attribute_at self.now key.now) }
     {
         let attr = self.pairs.get(key)?;
         T::of_attr(attr)
@@ -97,7 +98,7 @@ impl<D: Dialects> AttributeDict<D> {
     /// What is written last is the attribute's value from then on. Its key keeps its place, and the other pairs stay.
     pub fn get_mut<T: Attribute<D>>(&mut self, key: &Identifier) -> Option<&mut T>
         ensures* writes_back { sem 𝓛 (lends_value D.row D.Attr.row D.TypeKey.row D.TypeBody.row D.Saved.row D.Aux.row D.Loc.row D.Dialects D.Attr.Hash D.TypeKey.Hash D.TypeBody.Default D.Saved.Hash D.Loc.Default T.row T.with_value self.entry key.now result) }
-        ensures value { option_copied_mut result ≡ option_and_then T.value_of (attr_at self.old key.now) }
+        ensures value { option_copied_mut result ≡ option_and_then T.value_of (attribute_at self.old key.now) }
     {
         let attr = self.pairs.get_mut(key)?;
         T::of_attr_mut(attr)
@@ -105,7 +106,7 @@ impl<D: Dialects> AttributeDict<D> {
 
     /// The attribute at the key, where there is one whose kind implements the interface.
     pub fn get_as<I: AttrInterfaceMarker>(&self, key: &Identifier) -> Option<&D::Attr>
-        ensures { option_copied result ≡ passing (λ attr. D.attr_impls_of (D.attr_kind_of attr) I.NUMBER) (attr_at self.now key.now) }
+        ensures { option_copied result ≡ passing (λ attr. D.attr_impls_of (D.attr_kind_of attr) I.NUMBER) (attribute_at self.now key.now) }
     {
         let attr = self.pairs.get(key)?;
         if attr_impls::<I, D>(attr) {
@@ -119,10 +120,10 @@ impl<D: Dialects> AttributeDict<D> {
     ///
     /// `OutOfMemory` comes only for a key that isn't there yet, and changes nothing.
     pub fn set<T: Attribute<D>>(&mut self, key: Identifier, value: T) -> Result<(), CoreError>
-        ensures set { OnOk result (self.new ≡ with_attr self.old key (T.attr_of value)) }
+        ensures set { OnOk result (self.new ≡ set_attribute self.old key (T.attr_of value)) }
         ensures error { IfErr result (λ error. error ≡ OutOfMemory) }
         ensures unchanged { OnErr result (self.new ≡ self.old) }
-        ensures only_new { OnErr result (attr_at self.old key ≡ None) }
+        ensures only_new { OnErr result (attribute_at self.old key ≡ None) }
     {
         self.pairs.insert(key, value.into_attr())?;
         Ok(())
@@ -130,8 +131,8 @@ impl<D: Dialects> AttributeDict<D> {
 
     /// Takes the pair at the key away, and hands its attribute back. The rest keep their order.
     pub fn remove(&mut self, key: &Identifier) -> Option<D::Attr>
-        ensures value { result ≡ attr_at self.old key.now }
-        ensures rest { self.new ≡ without_key self.old key.now }
+        ensures value { result ≡ attribute_at self.old key.now }
+        ensures rest { self.new ≡ without_attribute self.old key.now }
     {
         self.pairs.shift_remove(key)
     }

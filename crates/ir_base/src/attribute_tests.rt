@@ -1,6 +1,7 @@
 //! A small dialect, and dictionaries of its attributes.
 ghost use Rattle.std.specs.Prelude.{◌≡◌, ◌==◌, if◌then◌else◌, ◌&&◌, ◌||◌, ℕ, Bool, true, false, Option, Some, None, is_some, nat_eq, refl, codes, option_and_then};
-ghost use Rattle.ir_base.specs.Attributes.{attr_at, with_changed};
+ghost use Rattle.ir_model.specs.Stores.{attribute_at};
+ghost use Rattle.ir_base.specs.Attributes.{with_changed};
 ghost use Rattle.std.proofs.Common.{rules, true≢false, sym};
 
 use crate::attribute::{
@@ -562,7 +563,7 @@ fn write_through<T: Attribute<D> + Drop, D: Dialects>(
     key: &Identifier,
     value: T,
 )
-    ensures { dict.new ≡ (if is_some (option_and_then T.value_of (attr_at dict.old key.now)) then with_changed dict.old key.now (λ attr. T.with_value attr value) else dict.old) }
+    ensures { dict.new ≡ (if is_some (option_and_then T.value_of (attribute_at dict.old key.now)) then with_changed dict.old key.now (λ attr. T.with_value attr value) else dict.old) }
 {
     if let Some(lent) = dict.get_mut::<T>(key) {
         *lent = value;

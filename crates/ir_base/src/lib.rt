@@ -60,7 +60,6 @@ pub use verifier_lists::{
 pub mod laws {
     pub use crate::name_laws::{
         identifiers_compare_as_texts, identifiers_follow_the_rule, joins_are_identifiers,
-        legalised_names_differ, sources_come_back,
     };
     pub use crate::store_laws::{
         equal_dictionaries_hash_equally, equal_places_for_equal_values, supers_stay_first,

@@ -3,7 +3,8 @@
 ghost use Rattle.std.specs.Prelude.{◌≡◌, ◌↔◌, ◌++◌, ◌∷◌, [], ℕ, List, Option, Some, None};
 ghost use Rattle.ir_model.specs.declared.ids.ArenaIndex.{ArenaIndex};
 ghost use Rattle.ir_base.specs.Arena.{Arena as Records, get, fill, cut, empty, IsLive, IsNew};
-ghost use Rattle.ir_base.specs.Lists.{Links, Ends, unlinked, linked, no_ends, seen, head_or, last_or, ends_of, IsIn, AreLists, container_of, IsLinked, SameBut, SameIds};
+ghost use Rattle.ir_model.specs.Nesting.{In};
+ghost use Rattle.ir_base.specs.Lists.{Links, Ends, unlinked, linked, no_ends, seen, head_or, last_or, ends_of, AreLists, container_of, IsLinked, SameBut, SameIds};
 ghost use Rattle.ir_base.specs.Walks.{AreApart, list_of};
 
 use crate::linked_list::{ContainsLinkedList, LinkedList};
@@ -25,16 +26,16 @@ pub fn lists_are_one<T: LinkedList, C: ContainsLinkedList<T>>()
 pub fn lists_hold_nodes<T: LinkedList, C: ContainsLinkedList<T>>()
     ensures container { (nodes : Records T) (containers : Records C) (lists : ArenaIndex → List ArenaIndex)
         → AreLists (seen T.links nodes) (seen C.ends containers) lists → (c x : ArenaIndex)
-        → (container_of (seen T.links nodes) x ≡ Some c) ↔ IsIn x (lists c) }
+        → (container_of (seen T.links nodes) x ≡ Some c) ↔ In x (lists c) }
     ensures linked { (nodes : Records T) (containers : Records C) (lists : ArenaIndex → List ArenaIndex)
         → AreLists (seen T.links nodes) (seen C.ends containers) lists → (x : ArenaIndex)
-        → IsLinked (seen T.links nodes) x ↔ ((c : ArenaIndex) × IsIn x (lists c)) }
+        → IsLinked (seen T.links nodes) x ↔ ((c : ArenaIndex) × In x (lists c)) }
     ensures apart { (nodes : Records T) (containers : Records C) (lists : ArenaIndex → List ArenaIndex)
         → AreLists (seen T.links nodes) (seen C.ends containers) lists → (c : ArenaIndex)
         → AreApart (lists c) }
     ensures live { (nodes : Records T) (containers : Records C) (lists : ArenaIndex → List ArenaIndex)
         → AreLists (seen T.links nodes) (seen C.ends containers) lists → (c x : ArenaIndex)
-        → IsIn x (lists c)
+        → In x (lists c)
         → IsLive nodes x × IsLive containers c }
 {}
 

@@ -1,7 +1,6 @@
 // Each call on names and ids with ample memory, and the laws of names.
 use crate::laws::{
     identifiers_compare_as_texts, identifiers_follow_the_rule, joins_are_identifiers,
-    legalised_names_differ, sources_come_back,
 };
 use crate::{AttrId, AttrName, DialectName, Identifier, OpId, OpName, TypeId, TypeName, ident};
 use std::alloc::{AllocError, Global};
@@ -143,6 +142,4 @@ fn name_laws(_rt: HostRuntime) {
     identifiers_follow_the_rule();
     joins_are_identifiers();
     identifiers_compare_as_texts();
-    legalised_names_differ();
-    sources_come_back();
 }

@@ -4,7 +4,7 @@ use Rattle.ir_base.specs.Lists.{seen}
 use Rattle.ir_base.specs.Lists.{Links, Heap}
 use Rattle.ir_base.proofs.ListEdits.{AreLists-linked}
 use Rattle.ir_base.proofs.ListChains.{last_or-append}
-use Rattle.ir_base.proofs.ListPlaces.{linked-place, unlinked-node, stands, read_links, split-links, split-after, root-live, IfSome-live, live-from_seen, IsIn-middle}
+use Rattle.ir_base.proofs.ListPlaces.{linked-place, unlinked-node, stands, read_links, split-links, split-after, root-live, IfSome-live, live-from_seen, In-middle}
 use Rattle.ir_base.proofs.linked_list.insert_after.Goals as goal
 
 pub link_between-requires-clause-right_live : goal.link_between-requires-clause-right_live
@@ -29,7 +29,7 @@ returns-clause-lists g c lists k a b l splits =
     let h : Heap Links = seen links c.args.nodes.now in
     let m : Links = links c.record_at-place.result.now in
     let r = read_links h c.args.mark.index k c.unwrap-container.result a b m c.get_next-after.result m.prev c.get_container.result (split-links l k c.args.mark.index a b splits) (ap (option_map links) c.record_at-place.ensures) c.get_next-after.ensures refl c.get_container.ensures c.unwrap-container.ensures in
-    let live = root-live l k c.args.mark.index (rw splits (IsIn-middle c.args.mark.index a b)) in
+    let live = root-live l k c.args.mark.index (rw splits (In-middle c.args.mark.index a b)) in
     rw (split-after a (c.args.node.index ∷ b) c.args.mark.index)
     (AreLists-linked h (seen links c.link_between.new.nodes) (seen g.C.ContainsLinkedList.ends c.args.containers.now) (seen g.C.ContainsLinkedList.ends c.link_between.new.containers)
     lists k c.unwrap-container.result c.args.node.index (a ++ c.args.mark.index ∷ []) b (Some c.args.mark.index) c.get_next-after.result live.0 l (splits ∙ split-after a b c.args.mark.index) live.1 (unlinked-node g.T.LinkedList.links c.args.nodes.now (seen g.C.ContainsLinkedList.ends c.args.containers.now) c.args.node.index c.requires.well_formed c.requires.node_live c.requires.node_unlinked)

@@ -4,7 +4,7 @@ use Rattle.ir_base.specs.Lists.{seen}
 use Rattle.ir_base.specs.Lists.{Links, Heap, unlinked, no_ends}
 use Rattle.ir_base.proofs.ListEdits.{AreLists-unlink}
 use Rattle.ir_base.proofs.ListRecords.{SameBut-live}
-use Rattle.ir_base.proofs.ListPlaces.{linked-place, stands, read_links, split-links, root-live, IfSome-live, IfSome-same, live-from_seen, IsIn-middle}
+use Rattle.ir_base.proofs.ListPlaces.{linked-place, stands, read_links, split-links, root-live, IfSome-live, IfSome-same, live-from_seen, In-middle}
 use Rattle.ir_base.proofs.linked_list.unlink.Goals as goal
 
 pub set_prev_of-requires-clause-right_live : goal.set_prev_of-requires-clause-right_live
@@ -51,7 +51,7 @@ returns-clause-lists g c lists k a b l splits =
     let h : Heap Links = seen links c.args.nodes.now in
     let e = ap (option_map links) c.record_at-place.ensures in
     let r = read_links h c.args.node.index k c.unwrap-container.result a b (links c.record_at-place.result.now) c.get_next-next.result c.get_prev-prev.result c.get_container.result (split-links l k c.args.node.index a b splits) e c.get_next-next.ensures c.get_prev-prev.ensures c.get_container.ensures c.unwrap-container.ensures in
-    let live = root-live l k c.args.node.index (rw splits (IsIn-middle c.args.node.index a b)) in
+    let live = root-live l k c.args.node.index (rw splits (In-middle c.args.node.index a b)) in
     rw (c.set_links.ensures.links, c.set_next_of.ensures.links, c.set_prev_of.ensures.links, c.set_next_of.ensures.ends, c.set_prev_of.ensures.ends, r.next_is, r.prev_is, r.container_is)
     (AreLists-unlink h (seen g.C.ContainsLinkedList.ends c.args.containers.now) lists k a b c.args.node.index live.0 l splits live.1)
 
