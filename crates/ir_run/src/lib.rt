@@ -4,6 +4,7 @@
 #[cfg(test)]
 mod core_tests;
 mod edit;
+mod laws;
 mod script_parse;
 mod script_print;
 mod script_run;
@@ -20,6 +21,7 @@ mod toy_tests;
 
 pub use edit::Edit;
 pub use ir_base::{Answer, Refused};
+pub use laws::choices_unseen;
 pub use script_run::run_script;
 pub use session::Session;
 pub use toy::{SIZED_TYPE, Toy, ToyAttr, ToyLoc, ToySaved, ToyType};

@@ -3,6 +3,7 @@
 ghost use Rattle.std.specs.Prelude.{◌<◌, ◌≤◌};
 
 use crate::edit::Edit;
+use crate::laws::choices_unseen;
 use crate::session::Session;
 use crate::toy::{Toy, ToyType};
 use ir_base::{Answer, CoreError, Dialects, Limits, Refused};
@@ -123,4 +124,9 @@ fn tables(rt: HostRuntime) -> Result<(), Fail> {
     assert_eq!(rt; answers.len(), 3);
     tell_tables(&rt, &session);
     Ok(())
+}
+
+#[test]
+fn laws_are_called() {
+    choices_unseen::<Toy>();
 }
