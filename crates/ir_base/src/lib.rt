@@ -64,4 +64,5 @@ pub mod laws {
     pub use crate::store_laws::{
         equal_dictionaries_hash_equally, equal_places_for_equal_values, supers_stay_first,
     };
+    pub use ir_model::sources_apart;
 }
