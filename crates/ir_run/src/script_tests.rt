@@ -4,7 +4,7 @@ use crate::edit::Edit;
 use crate::script_run::run_script;
 use crate::session::Session;
 use crate::toy::{Toy, ToyType};
-use ir_base::{Answer, Limits};
+use ir_base::{Answer, Limits, Refused};
 use std::alloc::Global;
 use std::io;
 use std::io::{ErrorKind, Read, Write};
@@ -167,6 +167,9 @@ fn types_again(rt: HostRuntime) -> Result<(), Fail> {
         Edit::NewType(ToyType::Int { width: 0 }),
     ]?;
     let answers = session.run(edits)?;
+    if answers.contains(&Answer::Refused(Refused::Memory)) {
+        return Err("out of memory")?;
+    }
     assert_eq!(rt;
         answers.as_slice(),
         [Answer::Made(0), Answer::Made(1)].as_slice()
