@@ -56,10 +56,8 @@ impl<T> Use<T> {
     pub fn from_index(index: UseIndex) -> Self
         ensures { result.index ≡ index }
     {
-        Use {
-            index,
-            of: PhantomData,
-        }
+        let of = PhantomData;
+        Use { index, of }
     }
 }
 
@@ -70,10 +68,8 @@ impl<D: Dialects> Value<D> {
     pub fn from_index(index: ValueIndex) -> Self
         ensures { result.index ≡ index }
     {
-        Value {
-            index,
-            of: PhantomData,
-        }
+        let of = PhantomData;
+        Value { index, of }
     }
 
     /// What defines the value.
