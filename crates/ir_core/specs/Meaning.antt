@@ -55,6 +55,10 @@ module _ {D A K B S X L : Type 0} where
     loc = op.loc;
   }
 
+  -- the index that an operation knows as its own
+  abbrev pub op_index : Operation D A K B S X L → ArenaIndex
+  op_index op = op.index
+
   -- what stands under each index
   abbrev pub op_records : Arena (Operation D A K B S X L) → ArenaIndex → Option (OpRecord context_ids (closed A K B S X L))
   op_records t o = option_map op_record (get t o)

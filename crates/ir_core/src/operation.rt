@@ -32,7 +32,7 @@ pub struct Operation<D: Dialects> {
 
 impl<D: Dialects> Operation<D> {
     ghost use Rattle.std.specs.Option.{option_map};
-    ghost use Rattle.ir_core.specs.Meaning.{op_record};
+    ghost use Rattle.ir_core.specs.Meaning.{op_index, op_record};
 
     /// Makes an unlinked operation of this kind, with results of these types, these operands and successors, and so many empty regions. Results, then operands, get new numbers in order.
     ///
@@ -76,7 +76,7 @@ impl<D: Dialects> Operation<D> {
 
     /// The operation's own handle.
     pub fn get_self_ptr(&self) -> Ptr<Operation<D>>
-        ensures { result.index ≡ self.now.index }
+        ensures { result.index ≡ op_index self.now }
     {
         Ptr::from_index(self.index)
     }
@@ -112,7 +112,7 @@ impl<D: Dialects> Operation<D> {
     /// The result at an index below their number.
     pub fn get_result(&self, index: usize) -> Value<D>
         requires { index < length (op_record self.now).results }
-        ensures definer { result.index.definer ≡ Definer.Op self.now.index }
+        ensures definer { result.index.definer ≡ Definer.Op (op_index self.now) }
         ensures number { option_map (λ d. d.number) (slice_get (op_record self.now).results index) ≡ Some result.index.number }
     {
         Value::from_index(ValueIndex {
@@ -132,7 +132,7 @@ impl<D: Dialects> Operation<D> {
     /// The operand at an index below their number, as a use.
     pub fn get_operand_as_use(&self, index: usize) -> Use<Value<D>>
         requires { index < length (op_record self.now).operands }
-        ensures user { result.index.user ≡ self.now.index }
+        ensures user { result.index.user ≡ op_index self.now }
         ensures number { option_map (λ a. a.use_number) (slice_get (op_record self.now).operands index) ≡ Some result.index.number }
     {
         Use::from_index(UseIndex {

@@ -12,7 +12,7 @@ use Rattle.ir_base.specs.declared.error.CoreError.{CoreError}
 use Rattle.ir_base.specs.declared.error.CoreError.TheVariants.{OutOfMemory, CounterSpent, SlotsSpent}
 use Rattle.ir_core.specs.declared.operation.Operation.{Operation}
 use Rattle.ir_run.specs.declared.session_tables.Tables.{Tables}
-use Rattle.ir_core.specs.Meaning.{op_record, value_of}
+use Rattle.ir_core.specs.Meaning.{op_index, op_record, value_of}
 
 -- how an edit is answered that made an entry with this number, or was refused for this
 abbrev pub answer_of : Result ℕ CoreError → Answer
@@ -54,7 +54,7 @@ module _ {D A K B S X L : Type 0} where
   -- the tables with the operation, its regions and its results behind the others
   abbrev pub with_op : PlainTables context_ids → Operation D A K B S X L → PlainTables context_ids
   with_op t op = record t {
-    ops = t.ops ++ op.index ∷ [];
+    ops = t.ops ++ op_index op ∷ [];
     regions = t.regions ++ (op_record op).regions;
-    values = t.values ++ numbered (of_op op.index) (map (λ r. r.number) (op_record op).results);
+    values = t.values ++ numbered (of_op (op_index op)) (map (λ r. r.number) (op_record op).results);
   }

@@ -4,7 +4,7 @@ ghost use Rattle.std.specs.Prelude.{◌≡◌, ◌+◌, ◌<◌, ◌≤◌, ◌�
 ghost use Rattle.ir_model.specs.Forest.{a_value, of_op};
 ghost use Rattle.ir_model.specs.Nesting.{IsLiveNamed};
 ghost use Rattle.ir_model.specs.Edits.{Each, The, numbered, these};
-ghost use Rattle.ir_core.specs.Meaning.{op_record, value_of};
+ghost use Rattle.ir_core.specs.Meaning.{op_index, op_record, value_of};
 ghost use Rattle.ir_run.specs.SessionTables.{entries_of, with_op, HasPlace};
 ghost use Rattle.ir_core.specs.State.{forest_of};
 
@@ -56,7 +56,7 @@ fn enter_regions<D: Dialects>(table: &mut Vec<Ptr<Region>>, op: &Operation<D>)
 // Puts the operation's results, in order, behind the others.
 fn enter_results<D: Dialects>(table: &mut Vec<Value<D>>, op: &Operation<D>)
     requires { vec_len table.old + length (op_record op.now).results ≤ vec_capacity table.old }
-    ensures { map value_of (map (λ v. v.index) table.new.items) ≡ map value_of (map (λ v. v.index) table.old.items) ++ numbered (of_op op.now.index) (map (λ r. r.number) (op_record op.now).results) }
+    ensures { map value_of (map (λ v. v.index) table.new.items) ≡ map value_of (map (λ v. v.index) table.old.items) ++ numbered (of_op (op_index op.now)) (map (λ r. r.number) (op_record op.now).results) }
 {
     for index in 0..op.get_num_results() {
         table.push_reserved(op.get_result(index));
