@@ -5,7 +5,7 @@ use Rattle.std.specs.declared.cmp.Ordering.{Ordering}
 use Rattle.std.specs.Ordering.{is_lt, is_eq, ordering_reverse}
 use Rattle.std.specs.declared.cmp.Ordering.TheVariants.{Less, Equal, Greater}
 use Rattle.std.specs.Cmp.{Equal-is}
-use Rattle.std.specs.Cmp.Lexicographic.{texts_ties, nat_list_eq_equiv}
+use Rattle.std.specs.Cmp.Lexicographic.{nat_list_eq_equiv}
 use Rattle.std.specs.FinMap.{entries_sorted, empty, from_entries, find, is_sorted, len, len-empty, len-entries, len-insert, get-from_entries}
 use Rattle.std.specs.FinMap.Entries.{below_all}
 use Rattle.std.specs.List.{IsDistinct, AllByRecursion, flat_map, fold}
@@ -18,6 +18,7 @@ use Rattle.std.proofs.lemmas.Map.Keys.{IsDistinct-head, IsDistinct-tail}
 use Rattle.ir_model.specs.Stores.{attribute_at}
 use Rattle.ir_base.specs.Attributes.{same_key, key_order, is_above, is_below, by_key, dict_input, IsKeyAbove, IsNext}
 use Rattle.ir_base.proofs.CopyLemmas.{pairs-more, key_new}
+use Rattle.ir_base.proofs.KeyLemmas.{same_key-is}
 use Rattle.ir_base.specs.AttributeLaws.{find-map, find-by_key, key_total, same_text}
 
 is_less : (o : Ordering) → is_lt o ≡ true → o ≡ Less
@@ -32,9 +33,6 @@ first false b h = absurd h
 second : (a b : Bool) → T (a && b) → T b
 second true b h = h
 second false b h = absurd h
-
-same_key-is : (q k : List ℕ) → same_key q k ≡ true → q ≡ k
-same_key-is q k h = same_text q k ((Equal-is (key_order q k)).0 (sym (texts_ties q k) ∙ h))
 
 -- what lies below one of two keys in order lies below the other
 less_up : (x y z : List ℕ) → is_lt (key_order x y) ≡ true → is_lt (key_order y z) ≡ true → is_lt (key_order x z) ≡ true

@@ -19,5 +19,6 @@ pub mod NameLawLemmas
 pub mod VerifierLemmas
 pub mod SuperLemmas
 pub mod PlaceLemmas
+pub mod KeyLemmas
 pub mod HashLemmas
 pub mod AttributeWrites

@@ -9,9 +9,9 @@ use Rattle.ir_model.specs.declared.ids.ArenaIndex.{ArenaIndex}
 use Rattle.ir_base.specs.declared.arena.Slot.{Slot}
 use Rattle.ir_base.specs.ArenaSlots.{slot_in, slot_at, find, put_in, put}
 use Rattle.ir_base.specs.Arena.{Arena, get, fill, IsLive}
+use Rattle.ir_model.specs.Ids.{Absent, Distinct}
 use Rattle.ir_model.specs.Nesting.{In}
 use Rattle.ir_base.specs.Lists.{map_slot, map_records}
-use Rattle.ir_base.specs.Walks.{AreApart}
 use Rattle.ir_base.proofs.ArenaSlots.{taken_at, put-place}
 use Rattle.ir_base.proofs.ArenaLaws.{live-unique}
 
@@ -71,14 +71,14 @@ module _ {T : Type 0} where
       let t = taken_at a.slots j lj in
       live-unique a i j li lj (omega (arith, s.numbered, t.numbered, same))
 
-  apart_places : (a : Arena T) (x : ArenaIndex) (xs : List ArenaIndex) → (In x xs → ⊥) → IsLive a x → ((q : ArenaIndex) → In q xs → IsLive a q) → AllByRecursion (λ n. eqb (place_of x) n ≡ false) (map place_of xs)
+  apart_places : (a : Arena T) (x : ArenaIndex) (xs : List ArenaIndex) → Absent x xs → IsLive a x → ((q : ArenaIndex) → In q xs → IsLive a q) → AllByRecursion (λ n. eqb (place_of x) n ≡ false) (map place_of xs)
   apart_places a x [] out lx live = tt
   apart_places a x (y ∷ ys) out lx live = (
-    ne_eqb (place_of x) (place_of y) (λ e. out (inl (same_live a x y lx (live y (inl refl)) e))),
-    apart_places a x ys (λ i. out (inr i)) lx (λ q i. live q (inr i)),
+    ne_eqb (place_of x) (place_of y) (λ e. out.0 (same_live a x y lx (live y (inl refl)) e)),
+    apart_places a x ys out.1 lx (λ q i. live q (inr i)),
   )
 
-  distinct_places : (a : Arena T) (xs : List ArenaIndex) → AreApart xs → ((q : ArenaIndex) → In q xs → IsLive a q) → IsDistinct eqb (map place_of xs)
+  distinct_places : (a : Arena T) (xs : List ArenaIndex) → Distinct xs → ((q : ArenaIndex) → In q xs → IsLive a q) → IsDistinct eqb (map place_of xs)
   unfolding IsDistinct
   distinct_places a [] apart live = tt
   distinct_places a (x ∷ xs) apart live =
@@ -92,7 +92,7 @@ module _ {T : Type 0} where
   ]
 
   -- there are no more live ids than slots
-  pub live-fit : (a : Arena T) (xs : List ArenaIndex) → AreApart xs → ((q : ArenaIndex) → In q xs → IsLive a q) → length xs ≤ length a.slots
+  pub live-fit : (a : Arena T) (xs : List ArenaIndex) → Distinct xs → ((q : ArenaIndex) → In q xs → IsLive a q) → length xs ≤ length a.slots
   live-fit a xs apart live =
       let short = length-le_from_distinct_below (map place_of xs) (length a.slots) (distinct_places a xs apart live) (λ q e. places_below a xs q live e) in
       omega (arith, short, length-map xs place_of)

@@ -2,9 +2,10 @@ use Rattle.std.proofs.Common.{◌≡◌, ◌⊎◌, ◌&&◌, Bool, true, false,
 use Rattle.std.proofs.lemmas.Bool.{cases_eq, eq-eqb, eqb-true}
 use Rattle.ir_model.specs.declared.ids.ArenaIndex.{ArenaIndex}
 use Rattle.ir_model.specs.ContextIds.{same_id}
+use Rattle.ir_model.specs.Ids.{Distinct}
 use Rattle.ir_model.specs.Nesting.{In}
+use Rattle.ir_model.proofs.Nests.{Absent-not_in, not_in-Absent}
 use Rattle.ir_base.specs.Lists.{Links, linked, Heap, change, with_next, with_prev, head_or, last_of, last_or, IsChain}
-use Rattle.ir_base.specs.Walks.{AreApart}
 
 pub Some-inj : {A : Type 0} (a b : A) → Some a ≡ Some b → a ≡ b
 Some-inj a b e = cc
@@ -112,31 +113,23 @@ chain-unique h c d p q (x ∷ xs) (y ∷ ys) k l e =
     let rest : xs ≡ ys = chain-unique h c d (Some x) (Some y) xs ys k.1 l.1 nexts in
     cc
 
-pub chain-apart : (h : Heap Links) (c : ArenaIndex) (p : Option ArenaIndex) (xs : List ArenaIndex) → IsChain h c p xs None → AreApart xs
+pub chain-apart : (h : Heap Links) (c : ArenaIndex) (p : Option ArenaIndex) (xs : List ArenaIndex) → IsChain h c p xs None → Distinct xs
 chain-apart h c p [] k = tt
 chain-apart h c p (x ∷ xs) k = (
-  λ i.
+  Absent-not_in x xs (λ i.
       let s = In-split x xs i in
       let whole : IsChain h c p (x ∷ xs) None = k in
       let tail = chain-split h c (Some x) s.0 (x ∷ s.1) None (rw s.2 at k.1) in
       let e : x ∷ xs ≡ x ∷ s.1 = chain-unique h c c p (last_or (Some x) s.0) (x ∷ xs) (x ∷ s.1) k tail.1 refl in
       let l = ap length (e ∙ refl) in
       let m = ap length s.2 in
-      omega (arith, length-append s.0 (x ∷ s.1), l, m),
+      omega (arith, length-append s.0 (x ∷ s.1), l, m)),
   chain-apart h c (Some x) xs k.1,
 )
 
-pub apart-left : (xs ys : List ArenaIndex) → AreApart (xs ++ ys) → AreApart xs
-apart-left [] ys a = tt
-apart-left (x ∷ xs) ys a = (λ i. a.0 (In-left x xs ys i), apart-left xs ys a.1)
-
-pub apart-right : (xs ys : List ArenaIndex) → AreApart (xs ++ ys) → AreApart ys
-apart-right [] ys a = a
-apart-right (x ∷ xs) ys a = apart-right xs ys a.1
-
-pub apart-both : (x : ArenaIndex) (xs ys : List ArenaIndex) → AreApart (xs ++ ys) → In x xs → In x ys → ⊥
+pub apart-both : (x : ArenaIndex) (xs ys : List ArenaIndex) → Distinct (xs ++ ys) → In x xs → In x ys → ⊥
 apart-both x [] ys a i j = i
-apart-both x (z ∷ zs) ys a (inl e) j = a.0 (In-right z zs ys (rw e at j))
+apart-both x (z ∷ zs) ys a (inl e) j = not_in-Absent z (zs ++ ys) a.0 (In-right z zs ys (rw e at j))
 apart-both x (z ∷ zs) ys a (inr i) j = apart-both x zs ys a.1 i j
 
 -- a change elsewhere leaves a chain
@@ -144,17 +137,17 @@ pub chain-same : (h h' : Heap Links) (c : ArenaIndex) (p : Option ArenaIndex) (x
 chain-same h h' c p [] n s k = tt
 chain-same h h' c p (x ∷ xs) n s k = (s x (inl refl) ∙ k.0, chain-same h h' c (Some x) xs n (λ y i. s y (inr i)) k.1)
 
-pub chain-set_prev : (h : Heap Links) (c : ArenaIndex) (p q : Option ArenaIndex) (xs : List ArenaIndex) (n : Option ArenaIndex) → AreApart xs → IsChain h c p xs n → IsChain (change (with_prev q) (head_or None xs) h) c q xs n
+pub chain-set_prev : (h : Heap Links) (c : ArenaIndex) (p q : Option ArenaIndex) (xs : List ArenaIndex) (n : Option ArenaIndex) → Distinct xs → IsChain h c p xs n → IsChain (change (with_prev q) (head_or None xs) h) c q xs n
 chain-set_prev h c p q [] n a k = tt
 chain-set_prev h c p q (x ∷ xs) n a k = (
   change-here (with_prev q) x h (linked p (head_or n xs) c) k.0,
-  chain-same h (change (with_prev q) (Some x) h) c (Some x) xs n (λ y i. change-other (with_prev q) x h y (λ e. a.0 (rw (← e) at i))) k.1,
+  chain-same h (change (with_prev q) (Some x) h) c (Some x) xs n (λ y i. change-other (with_prev q) x h y (λ e. not_in-Absent x xs a.0 (rw (← e) at i))) k.1,
 )
 
-pub chain-set_next : (h : Heap Links) (c : ArenaIndex) (p : Option ArenaIndex) (xs : List ArenaIndex) (n m : Option ArenaIndex) → AreApart xs → IsChain h c p xs n → IsChain (change (with_next m) (last_or None xs) h) c p xs m
+pub chain-set_next : (h : Heap Links) (c : ArenaIndex) (p : Option ArenaIndex) (xs : List ArenaIndex) (n m : Option ArenaIndex) → Distinct xs → IsChain h c p xs n → IsChain (change (with_next m) (last_or None xs) h) c p xs m
 chain-set_next h c p [] n m a k = tt
 chain-set_next h c p (x ∷ []) n m a k = (change-here (with_next m) x h (linked p n c) k.0, tt)
 chain-set_next h c p (x ∷ (y ∷ ys)) n m a k = (
-  change-other (with_next m) (last_of y ys) h x (λ e. a.0 (subst (λ z. In z (y ∷ ys)) e (last_of-In y ys))) ∙ k.0,
+  change-other (with_next m) (last_of y ys) h x (λ e. not_in-Absent x (y ∷ ys) a.0 (subst (λ z. In z (y ∷ ys)) e (last_of-In y ys))) ∙ k.0,
   chain-set_next h c (Some x) (y ∷ ys) n m a.1 k.1,
 )

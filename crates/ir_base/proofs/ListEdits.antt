@@ -1,10 +1,12 @@
 -- What the edits of the links make of the lists.
 use Rattle.std.proofs.Common.{◌≡◌, ◌⊎◌, List, [], ◌∷◌, ◌++◌, Option, Some, None, refl, sym, ap, ◌∙◌, subst, inl, inr}
 use Rattle.ir_model.specs.declared.ids.ArenaIndex.{ArenaIndex}
+use Rattle.ir_model.specs.Ids.{Distinct}
 use Rattle.ir_model.specs.Nesting.{In}
+use Rattle.ir_model.proofs.Nests.{not_in-Absent}
+use Rattle.ir_model.proofs.Redirected.{Distinct-front, Distinct-back}
 use Rattle.ir_base.specs.Lists.{Links, Ends, unlinked, linked, Heap, change, with_next, with_prev, with_head, with_tail, unless, head_or, last_or, ends_of, IsChain, AreLists, with_list}
-use Rattle.ir_base.specs.Walks.{AreApart}
-use Rattle.ir_base.proofs.ListChains.{Some-inj, id_same, id_cases, id_differs, change-other, change-here, head_or-append, last_or-append, In-left, In-right, In-cases, last_of-In, chain-split, chain-join, chain-at, chain-apart, apart-left, apart-right, apart-both, chain-same, chain-set_prev, chain-set_next}
+use Rattle.ir_base.proofs.ListChains.{Some-inj, id_same, id_cases, id_differs, change-other, change-here, head_or-append, last_or-append, In-left, In-right, In-cases, last_of-In, chain-split, chain-join, chain-at, chain-apart, apart-both, chain-same, chain-set_prev, chain-set_next}
 
 -- the neighbours' links, changed: the last of a to v, the first of b to w
 abbrev pub relink : Heap Links → List ArenaIndex → List ArenaIndex → Option ArenaIndex → Option ArenaIndex → Heap Links
@@ -32,7 +34,7 @@ relink-other h a b v w y na nb =
     ∙ change-apart (with_prev w) (head_or None b) h y (λ e. nb (head-In b y e))
 
 -- both sides after the neighbours are linked anew
-pub relink-sides : (h : Heap Links) (c d : ArenaIndex) (a b : List ArenaIndex) (m p v w : Option ArenaIndex) → AreApart a → AreApart b → ((y : ArenaIndex) → In y a → In y b → ⊥) → IsChain h c None a m → IsChain h d p b None
+pub relink-sides : (h : Heap Links) (c d : ArenaIndex) (a b : List ArenaIndex) (m p v w : Option ArenaIndex) → Distinct a → Distinct b → ((y : ArenaIndex) → In y a → In y b → ⊥) → IsChain h c None a m → IsChain h d p b None
     → IsChain (relink h a b v w) c None a v × IsChain (relink h a b v w) d w b None
 relink-sides h c d a b m p v w apa apb dis ka kb =
     let mid : Heap Links = change (with_prev w) (head_or None b) h in
@@ -136,7 +138,7 @@ pub AreLists-link : (h : Heap Links) (r : Heap Ends) (lists : ArenaIndex → Lis
     → AreLists (link_at h c a b x) (reend r c a b (Some x) (Some x)) (with_list lists c (a ++ x ∷ b))
 AreLists-link h r lists c a b x e l is live u =
     let chain : IsChain h c None (a ++ b) None = rw is at (l.chains c) in
-    let apart : AreApart (a ++ b) = chain-apart h c None (a ++ b) chain in
+    let apart : Distinct (a ++ b) = chain-apart h c None (a ++ b) chain in
     let parts = chain-split h c None a b None chain in
     let out : In x (a ++ b) → ⊥ = λ i. unlinked-apart l x u c (rw is i) in
     let nxa : In x a → ⊥ = λ i. out (In-left x a b i) in
@@ -144,7 +146,7 @@ AreLists-link h r lists c a b x e l is live u =
     let mid : Heap Links = relink h a b (Some x) (Some x) in
     let new : Heap Links = link_at h c a b x in
     let f : Links → Links = λ _. linked (last_or None a) (head_or None b) c in
-    let sides = relink-sides h c c a b (head_or None b) (last_or None a) (Some x) (Some x) (apart-left a b apart) (apart-right a b apart) (λ y i j. apart-both y a b apart i j) parts.0 parts.1 in
+    let sides = relink-sides h c c a b (head_or None b) (last_or None a) (Some x) (Some x) (Distinct-front a b apart) (Distinct-back a b apart) (λ y i j. apart-both y a b apart i j) parts.0 parts.1 in
     let here : new x ≡ Some (linked (last_or None a) (head_or None b) c) = change-here f x mid unlinked (relink-live h a b (Some x) (Some x) x unlinked nxa nxb u) in
     let keep : (y : ArenaIndex) → (x ≡ y → ⊥) → new y ≡ mid y = λ y ne. change-other f x mid y ne in
     let ka : IsChain new c None a (Some x) = chain-same mid new c None a (Some x) (λ y i. keep y (λ e. nxa (rw e i))) sides.0 in
@@ -173,17 +175,17 @@ pub AreLists-unlink : (h : Heap Links) (r : Heap Ends) (lists : ArenaIndex → L
     → AreLists (unlink_at h a b x) (reend r c a b (head_or None b) (last_or None a)) (with_list lists c (a ++ b))
 AreLists-unlink h r lists c a b x e l is live =
     let chain : IsChain h c None (a ++ x ∷ b) None = rw is at (l.chains c) in
-    let apart : AreApart (a ++ x ∷ b) = chain-apart h c None (a ++ x ∷ b) chain in
+    let apart : Distinct (a ++ x ∷ b) = chain-apart h c None (a ++ x ∷ b) chain in
     let parts = chain-split h c None a (x ∷ b) None chain in
-    let rest : AreApart (x ∷ b) = apart-right a (x ∷ b) apart in
+    let rest : Distinct (x ∷ b) = Distinct-back a (x ∷ b) apart in
     let nxa : In x a → ⊥ = λ i. apart-both x a (x ∷ b) apart i (inl refl) in
-    let nxb : In x b → ⊥ = rest.0 in
+    let nxb : In x b → ⊥ = not_in-Absent x b rest.0 in
     let v : Option ArenaIndex = head_or None b in
     let w : Option ArenaIndex = last_or None a in
     let mid : Heap Links = relink h a b v w in
     let new : Heap Links = unlink_at h a b x in
     let f : Links → Links = λ _. unlinked in
-    let sides = relink-sides h c c a b (Some x) (Some x) v w (apart-left a (x ∷ b) apart) rest.1 (λ y i j. apart-both y a (x ∷ b) apart i (inr j)) parts.0 parts.1.1 in
+    let sides = relink-sides h c c a b (Some x) (Some x) v w (Distinct-front a (x ∷ b) apart) rest.1 (λ y i j. apart-both y a (x ∷ b) apart i (inr j)) parts.0 parts.1.1 in
     let here : new x ≡ Some unlinked = change-here f x mid (linked w v c) (relink-live h a b v w x (linked w v c) nxa nxb parts.1.0) in
     let keep : (y : ArenaIndex) → (x ≡ y → ⊥) → new y ≡ mid y = λ y ne. change-other f x mid y ne in
     let ka : IsChain new c None a v = chain-same mid new c None a v (λ y i. keep y (λ e. nxa (rw e i))) sides.0 in

@@ -6,9 +6,9 @@ use Rattle.ir_model.specs.declared.ids.ArenaIndex.{ArenaIndex}
 use Rattle.ir_base.specs.declared.arena.Slot.{Slot}
 use Rattle.ir_base.specs.ArenaSlots.{is_taken, is_retired, had_version}
 use Rattle.ir_base.specs.Arena.{Arena, get, fill, cut, empty, IsLive, IsNew, is_passed, arena_len, room}
+use Rattle.ir_model.specs.Ids.{Distinct}
 use Rattle.ir_model.specs.Nesting.{In}
 use Rattle.ir_base.specs.Lists.{seen, Links, Ends, Heap, unlinked, no_ends, head_or, ends_of, AreLists, container_in, container_of, IsLinked, map_slot, map_records, SameBut, SameIds}
-use Rattle.ir_base.specs.Walks.{AreApart}
 use Rattle.ir_base.proofs.ArenaLaws.{get-empty, get-new, get-fill_new, get-fill_new_other, get-cut, get-cut_other}
 use Rattle.ir_base.proofs.ListArena.{slot_at-map}
 use Rattle.ir_base.proofs.ListChains.{Some-inj, id_cases, chain-at, chain-same, chain-apart}
@@ -48,7 +48,7 @@ linked-is_in {h} {r} {lists} l x = (λ k. of_container (container_of h x) refl k
     of_container (Some c) e k = (c, (container-is_in l c x).0 e)
 
 -- no node stands twice in a list
-pub list-apart : {h : Heap Links} {r : Heap Ends} {lists : ArenaIndex → List ArenaIndex} → AreLists h r lists → (c : ArenaIndex) → AreApart (lists c)
+pub list-apart : {h : Heap Links} {r : Heap Ends} {lists : ArenaIndex → List ArenaIndex} → AreLists h r lists → (c : ArenaIndex) → Distinct (lists c)
 list-apart {h} {r} {lists} l c = chain-apart h c None (lists c) (l.chains c)
 
 -- ---- changes that keep the lists

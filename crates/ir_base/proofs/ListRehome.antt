@@ -3,9 +3,11 @@ use Rattle.std.proofs.Common.{◌≡◌, ◌<◌, Bool, true, false, cond, List,
 use Rattle.std.specs.Option.{option_map, option_or}
 use Rattle.ir_model.specs.declared.ids.ArenaIndex.{ArenaIndex}
 use Rattle.ir_base.specs.Arena.{Arena}
+use Rattle.ir_model.specs.Ids.{Distinct}
 use Rattle.ir_model.specs.Nesting.{In}
+use Rattle.ir_model.proofs.Nests.{not_in-Absent}
 use Rattle.ir_base.specs.Lists.{seen, Links, Ends, linked, no_ends, is_at, unless, with_next, with_prev, with_head, with_tail, Heap, change, head_or, last_or, ends_of, IsChain, AreLists, with_list, with_container, rehome}
-use Rattle.ir_base.specs.Walks.{AreApart, IsListFrom, Walked, piece}
+use Rattle.ir_base.specs.Walks.{IsListFrom, Walked, piece}
 use Rattle.ir_base.proofs.ListChains.{Some-inj, id_cases, change-other, change-here, apart-both, chain-split, chain-join, chain-same, chain-apart, chain-unique, In-left, In-right, last_or-append}
 use Rattle.ir_base.proofs.ListEdits.{change-apart, relink, relink-sides, relink-other, lists-apart, with_list-here, with_list-other, In-either}
 use Rattle.ir_base.proofs.ListWalks.{piece-all}
@@ -19,12 +21,12 @@ pub rehome-push : (c : ArenaIndex) (xs : List ArenaIndex) (x : ArenaIndex) (h : 
 rehome-push c [] x h = refl
 rehome-push c (y ∷ ys) x h = rehome-push c ys x (change (with_container c) (Some y) h)
 
-pub chain-rehome : (c d : ArenaIndex) (p : Option ArenaIndex) (xs : List ArenaIndex) (n : Option ArenaIndex) (h : Heap Links) → AreApart xs → IsChain h d p xs n → IsChain (rehome c xs h) c p xs n
+pub chain-rehome : (c d : ArenaIndex) (p : Option ArenaIndex) (xs : List ArenaIndex) (n : Option ArenaIndex) (h : Heap Links) → Distinct xs → IsChain h d p xs n → IsChain (rehome c xs h) c p xs n
 chain-rehome c d p [] n h a k = tt
 chain-rehome c d p (x ∷ xs) n h a k =
     let first_rehomed : Heap Links = change (with_container c) (Some x) h in (
-      rehome-other c xs first_rehomed x a.0 ∙ change-here (with_container c) x h (linked p (head_or n xs) d) k.0,
-      chain-rehome c d (Some x) xs n first_rehomed a.1 (chain-same h first_rehomed d (Some x) xs n (λ y i. change-other (with_container c) x h y (λ e. a.0 (subst (λ z. In z xs) (sym e) i))) k.1),
+      rehome-other c xs first_rehomed x (not_in-Absent x xs a.0) ∙ change-here (with_container c) x h (linked p (head_or n xs) d) k.0,
+      chain-rehome c d (Some x) xs n first_rehomed a.1 (chain-same h first_rehomed d (Some x) xs n (λ y i. change-other (with_container c) x h y (λ e. not_in-Absent x xs a.0 (subst (λ z. In z xs) (sym e) i))) k.1),
     )
 
 -- a step of the walk
@@ -43,7 +45,7 @@ step start now first c node w =
     let t = head-cases w.todo node w.stands in
     let whole : w.whole.nodes ≡ w.done ++ node ∷ t.0 = w.splits ∙ ap (λ ys. w.done ++ ys) t.1 in
     let k : IsChain start w.whole.owner w.whole.before (w.done ++ node ∷ t.0) None = subst (λ ys. IsChain start w.whole.owner w.whole.before ys None) whole w.whole.chain in
-    let apart : AreApart (w.done ++ node ∷ t.0) = chain-apart start w.whole.owner w.whole.before _ k in
+    let apart : Distinct (w.done ++ node ∷ t.0) = chain-apart start w.whole.owner w.whole.before _ k in
     let out : In node w.done → ⊥ = λ i. apart-both node w.done (node ∷ t.0) apart i (inl refl) in
     record {
       rest = t.0;
@@ -86,7 +88,7 @@ walk-end start now first c w d p xs k b =
 todo-chain : {start now : Heap Links} {first current : Option ArenaIndex} {c : ArenaIndex} (w : Walked start now first current c) → IsChain now w.whole.owner (last_or w.whole.before w.done) w.todo None
 todo-chain {start} {now} {first} {current} {c} w =
     let k : IsChain start w.whole.owner w.whole.before (w.done ++ w.todo) None = subst (λ ys. IsChain start w.whole.owner w.whole.before ys None) w.splits w.whole.chain in
-    let apart : AreApart (w.done ++ w.todo) = chain-apart start w.whole.owner w.whole.before _ k in
+    let apart : Distinct (w.done ++ w.todo) = chain-apart start w.whole.owner w.whole.before _ k in
     chain-same start now w.whole.owner (last_or w.whole.before w.done) w.todo None
     (λ y i. ap (λ (h : Heap Links). h y) w.moved ∙ rehome-other c w.done start y (λ j. apart-both y w.done w.todo apart j i))
     (chain-split start w.whole.owner w.whole.before w.done w.todo None k).1

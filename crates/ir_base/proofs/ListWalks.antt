@@ -4,11 +4,14 @@ use Rattle.std.specs.Option.{option_eq}
 use Rattle.ir_model.specs.declared.ids.ArenaIndex.{ArenaIndex}
 use Rattle.ir_model.specs.ContextIds.{same_id}
 use Rattle.ir_base.specs.Arena.{Arena}
+use Rattle.ir_model.specs.Ids.{Distinct}
 use Rattle.ir_model.specs.Nesting.{In}
+use Rattle.ir_model.proofs.Nests.{not_in-Absent}
+use Rattle.ir_model.proofs.Redirected.{Distinct-front}
 use Rattle.ir_base.specs.Lists.{seen, Links, Ends, Heap, IsChain, linked, head_or, last_or, last_of, AreLists}
-use Rattle.ir_base.specs.Walks.{AreApart, next_in, head_in, walk_to, piece, list_of, IsPiece}
+use Rattle.ir_base.specs.Walks.{next_in, head_in, walk_to, piece, list_of, IsPiece}
 use Rattle.ir_base.proofs.ListArena.{live-fit}
-use Rattle.ir_base.proofs.ListChains.{Some-inj, id_same, id_differs, same_id-true, last_of-In, chain-apart, chain-at, chain-split, apart-left, apart-both}
+use Rattle.ir_base.proofs.ListChains.{Some-inj, id_same, id_differs, same_id-true, last_of-In, chain-apart, chain-at, chain-split, apart-both}
 use Rattle.ir_base.proofs.ListPlaces.{live-from_seen}
 
 pub walk-all : (fuel : ℕ) (h : Heap Links) (c : ArenaIndex) (p : Option ArenaIndex) (xs : List ArenaIndex) → IsChain h c p xs None → length xs ≤ fuel → walk_to fuel h (head_or None xs) None ≡ xs
@@ -18,13 +21,13 @@ walk-all (suc n) h c p [] k f = refl
 walk-all (suc n) h c p (x ∷ xs) k f =
     ap (λ ys. x ∷ ys) (ap (λ o. walk_to n h (next_in o) None) k.0 ∙ walk-all n h c (Some x) xs k.1 (omega arith))
 
-pub walk-piece : (fuel : ℕ) (h : Heap Links) (c : ArenaIndex) (p n : Option ArenaIndex) (xs : List ArenaIndex) → IsChain h c p xs n → AreApart xs → length xs ≤ fuel → walk_to fuel h (head_or None xs) (last_or None xs) ≡ xs
+pub walk-piece : (fuel : ℕ) (h : Heap Links) (c : ArenaIndex) (p n : Option ArenaIndex) (xs : List ArenaIndex) → IsChain h c p xs n → Distinct xs → length xs ≤ fuel → walk_to fuel h (head_or None xs) (last_or None xs) ≡ xs
 walk-piece zero h c p n [] k a f = refl
 walk-piece zero h c p n (x ∷ xs) k a f = absurd (omega arith)
 walk-piece (suc m) h c p n [] k a f = refl
 walk-piece (suc m) h c p n (x ∷ []) k a f = ap (λ b. x ∷ cond b [] (walk_to m h (next_in (h x)) (Some x))) (id_same x)
 walk-piece (suc m) h c p n (x ∷ (y ∷ ys)) k a f =
-    let other : same_id (last_of y ys) x ≡ false = id_differs (last_of y ys) x (λ e. a.0 (subst (λ z. In z (y ∷ ys)) e (last_of-In y ys))) in
+    let other : same_id (last_of y ys) x ≡ false = id_differs (last_of y ys) x (λ e. not_in-Absent x (y ∷ ys) a.0 (subst (λ z. In z (y ∷ ys)) e (last_of-In y ys))) in
     ap (λ b. x ∷ cond b [] (walk_to m h (next_in (h x)) (Some (last_of y ys)))) other
     ∙ ap (λ zs. x ∷ zs) (ap (λ o. walk_to m h (next_in o) (Some (last_of y ys))) k.0 ∙ walk-piece m h c (Some x) n (y ∷ ys) k.1 a.1 (omega arith))
 
@@ -60,7 +63,7 @@ pub record Taken (h : Heap Links) (room : ℕ) (x : ArenaIndex) (next back : Opt
   pub further : (back ≡ Some x → ⊥) → IsPiece h room links.next back × (walk_to room h links.next back ≡ rest)
 
 take-nodes : (h : Heap Links) (room : ℕ) (x c : ArenaIndex) (before after next back : Option ArenaIndex) (xs : List ArenaIndex)
-    → IsChain h c before xs after → AreApart xs → length xs ≤ room → Some x ≡ head_or None xs → back ≡ last_or None xs → walk_to room h next back ≡ xs → Taken h room x next back
+    → IsChain h c before xs after → Distinct xs → length xs ≤ room → Some x ≡ head_or None xs → back ≡ last_or None xs → walk_to room h next back ≡ xs → Taken h room x next back
 take-nodes h room x c before after next back [] k a f b e w = cc
 take-nodes h room x c before after next back (y ∷ []) k a f b e w =
     let same : y ≡ x = sym (Some-inj _ _ b) in
@@ -80,7 +83,7 @@ take-nodes h room x c before after next back (y ∷ (z ∷ zs)) k a f b e w =
       here = subst (λ v. h v ≡ Some (linked before (Some z) c)) same k.0;
       rest = z ∷ zs;
       items = w ∙ ap (λ v. v ∷ (z ∷ zs)) same;
-      at_end = λ e2. absurd (a.0 (subst (λ v. In v (z ∷ zs)) (Some-inj _ _ (sym e ∙ e2) ∙ sym same) (last_of-In z zs)));
+      at_end = λ ends_here. absurd (not_in-Absent y (z ∷ zs) a.0 (subst (λ v. In v (z ∷ zs)) (Some-inj _ _ (sym e ∙ ends_here) ∙ sym same) (last_of-In z zs)));
       further = λ ne. (piece, piece-items piece);
     }
 
@@ -115,7 +118,7 @@ pub record TakenBack (h : Heap Links) (room : ℕ) (x : ArenaIndex) (next back :
   pub further : (next ≡ Some x → ⊥) → IsPiece h room next links.prev × (walk_to room h next links.prev ≡ rest)
 
 back-nodes : (h : Heap Links) (room : ℕ) (x c : ArenaIndex) (before after next back : Option ArenaIndex) (ys : List ArenaIndex)
-    → IsChain h c before (ys ++ x ∷ []) after → AreApart (ys ++ x ∷ []) → length (ys ++ x ∷ []) ≤ room → next ≡ head_or None (ys ++ x ∷ []) → walk_to room h next back ≡ ys ++ x ∷ [] → TakenBack h room x next back
+    → IsChain h c before (ys ++ x ∷ []) after → Distinct (ys ++ x ∷ []) → length (ys ++ x ∷ []) ≤ room → next ≡ head_or None (ys ++ x ∷ []) → walk_to room h next back ≡ ys ++ x ∷ [] → TakenBack h room x next back
 back-nodes h room x c before after next back [] k a f b w =
     record { links = linked before after c; here = k.0; rest = []; items = w; at_end = λ _. refl; further = λ ne. absurd (ne b) }
 back-nodes h room x c before after next back (z ∷ zs) k a f b w =
@@ -126,7 +129,7 @@ back-nodes h room x c before after next back (z ∷ zs) k a f b w =
       after = Some x;
       nodes = z ∷ zs;
       chain = s.0;
-      apart = apart-left (z ∷ zs) (x ∷ []) a;
+      apart = Distinct-front (z ∷ zs) (x ∷ []) a;
       fits = omega (arith, length-append zs (x ∷ []));
       begins = b;
       ends = refl;
@@ -157,7 +160,7 @@ pub take-back : {h : Heap Links} {room : ℕ} {x : ArenaIndex} {next back : Opti
 take-back {h} {room} {x} {next} {back} w is =
     let s = last-cases w.nodes x (sym is ∙ w.ends) in
     back-nodes h room x w.container w.before w.after next back s.0
-    (subst (λ xs. IsChain h w.container w.before xs w.after) s.1 w.chain) (subst AreApart s.1 w.apart)
+    (subst (λ xs. IsChain h w.container w.before xs w.after) s.1 w.chain) (subst Distinct s.1 w.apart)
     (subst (λ (xs : List ArenaIndex). length xs ≤ room) s.1 w.fits) (w.begins ∙ ap (head_or None) s.1) (piece-items w ∙ s.1)
 
 no-last : (xs : List ArenaIndex) → None ≡ last_or None xs → xs ≡ []

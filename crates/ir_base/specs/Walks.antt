@@ -2,7 +2,7 @@
 use Rattle.std.specs.Prelude.{◌≡◌, ◌≢◌, ◌≤◌, ℕ, suc, zero, cond, List, [], ◌∷◌, ◌++◌, length, Option, Some, None}
 use Rattle.ir_model.specs.declared.ids.ArenaIndex.{ArenaIndex}
 use Rattle.ir_base.specs.Arena.{Arena}
-use Rattle.ir_model.specs.Nesting.{In}
+use Rattle.ir_model.specs.Ids.{Distinct}
 use Rattle.ir_base.specs.Lists.{Links, Ends, Heap, seen, is_at, IsChain, head_or, last_or, rehome}
 
 -- the next node that these links name
@@ -29,11 +29,6 @@ piece links nodes first last = walk_to (length nodes.slots) (seen links nodes) f
 abbrev pub list_of : {T C : Type 0} → (T → Links) → (C → Ends) → Arena T → Arena C → ArenaIndex → List ArenaIndex
 list_of links ends nodes containers c = piece links nodes (head_in (seen ends containers c)) None
 
--- no node stands twice
-abbrev pub AreApart : List ArenaIndex → Type 0
-AreApart [] = Unit {0}
-AreApart (x ∷ xs) = (In x xs → ⊥) × AreApart xs
-
 -- a piece of one list stands from `next` to `back`
 pub record IsPiece (h : Heap Links) (room : ℕ) (next back : Option ArenaIndex) : Type 0 where
   pub container : ArenaIndex
@@ -41,7 +36,7 @@ pub record IsPiece (h : Heap Links) (room : ℕ) (next back : Option ArenaIndex)
   pub after : Option ArenaIndex
   pub nodes : List ArenaIndex
   pub chain : IsChain h container before nodes after
-  pub apart : AreApart nodes
+  pub apart : Distinct nodes
   pub fits : length nodes ≤ room
   pub begins : next ≡ head_or None nodes
   pub ends : back ≡ last_or None nodes

@@ -2,13 +2,11 @@
 ghost use Rattle.std.specs.Prelude.{◌≡◌, ◌↔◌, ◌&&◌, ◌<◌, [], length, true, not, filter, None, IsTrue, IfOk, IfErr, OnOk, OnErr, option_and_then, option_map};
 ghost use Rattle.std.specs.Option.{option_copied, option_copied_mut};
 ghost use Rattle.std.specs.Borrow.{sem};
-ghost use Rattle.std.specs.List.{IsDistinct};
-ghost use Rattle.std.specs.Map.{keys_of};
 ghost use Rattle.std.specs.Map.Iter.{ShowsInOrder, deref_pair};
 ghost use Rattle.ir_base.specs.declared.error.CoreError.TheVariants.{OutOfMemory};
 ghost use Rattle.ir_base.specs.declared.interfaces.TheConstants.{OUTLINED_ATTRIBUTE};
-ghost use Rattle.ir_model.specs.Stores.{attribute_at, set_attribute, without_attribute};
-ghost use Rattle.ir_base.specs.Attributes.{same_key, passing, is_outlined, kept_pairs, same_pairs, AreCopies, dict_input, IsNext, is_above, is_below};
+ghost use Rattle.ir_model.specs.Stores.{attribute_at, set_attribute, without_attribute, HasDistinctKeys};
+ghost use Rattle.ir_base.specs.Attributes.{passing, is_outlined, kept_pairs, same_pairs, AreCopies, dict_input, IsNext, is_above, is_below};
 ghost use Rattle.ir_base.specs.AttributeLaws.{same_pairs-laws, same_pairs-equivalence, by_key-equal};
 
 use crate::attribute::{Attribute, attr_impls, attr_should_outline};
@@ -73,7 +71,7 @@ impl<D: Dialects> AttributeDict<D> {
     /// How many pairs there are.
     pub fn len(&self) -> usize
         ensures count { result ≡ length self.now }
-        ensures distinct { IsDistinct same_key (keys_of self.now) }
+        ensures distinct { HasDistinctKeys self.now }
     {
         self.pairs.len()
     }

@@ -12,7 +12,7 @@ use crate::error::CoreError;
 use crate::identifier::Identifier;
 use crate::interfaces::{OutlinedAttr, TypedAttrInterface};
 use crate::names::{AttrId, AttrName, DialectName, OpId, OpName, TypeId, TypeName};
-use crate::store_laws::equal_dictionaries_hash_equally;
+use crate::store_laws::{dictionaries_compare_by_keys, equal_dictionaries_hash_equally};
 use crate::type_handle::TypeHandle;
 use std::alloc::Global;
 use std::hash::{DefaultHasher, Hash, Hasher};
@@ -441,6 +441,7 @@ fn equal_in_any_order(rt: HostRuntime) -> Result<(), Fail> {
     assert!(rt; are_equal(&one, &other));
     put(&mut other, 0, number_of(2))?;
     assert!(rt; !are_equal(&one, &other));
+    dictionaries_compare_by_keys::<Small>();
     Ok(())
 }
 

@@ -62,7 +62,8 @@ pub mod laws {
         identifiers_compare_as_texts, identifiers_follow_the_rule, joins_are_identifiers,
     };
     pub use crate::store_laws::{
-        equal_dictionaries_hash_equally, equal_places_for_equal_values, supers_stay_first,
+        dictionaries_compare_by_keys, equal_dictionaries_hash_equally,
+        equal_places_for_equal_values, supers_stay_first,
     };
     pub use ir_model::sources_apart;
 }

@@ -3,9 +3,10 @@
 ghost use Rattle.std.specs.Prelude.{◌≡◌, ◌↔◌, ◌++◌, ◌∷◌, [], ℕ, List, Option, Some, None};
 ghost use Rattle.ir_model.specs.declared.ids.ArenaIndex.{ArenaIndex};
 ghost use Rattle.ir_base.specs.Arena.{Arena as Records, get, fill, cut, empty, IsLive, IsNew};
+ghost use Rattle.ir_model.specs.Ids.{Distinct};
 ghost use Rattle.ir_model.specs.Nesting.{In};
 ghost use Rattle.ir_base.specs.Lists.{Links, Ends, unlinked, linked, no_ends, seen, head_or, last_or, ends_of, AreLists, container_of, IsLinked, SameBut, SameIds};
-ghost use Rattle.ir_base.specs.Walks.{AreApart, list_of};
+ghost use Rattle.ir_base.specs.Walks.{list_of};
 
 use crate::linked_list::{ContainsLinkedList, LinkedList};
 
@@ -32,7 +33,7 @@ pub fn lists_hold_nodes<T: LinkedList, C: ContainsLinkedList<T>>()
         → IsLinked (seen T.links nodes) x ↔ ((c : ArenaIndex) × In x (lists c)) }
     ensures apart { (nodes : Records T) (containers : Records C) (lists : ArenaIndex → List ArenaIndex)
         → AreLists (seen T.links nodes) (seen C.ends containers) lists → (c : ArenaIndex)
-        → AreApart (lists c) }
+        → Distinct (lists c) }
     ensures live { (nodes : Records T) (containers : Records C) (lists : ArenaIndex → List ArenaIndex)
         → AreLists (seen T.links nodes) (seen C.ends containers) lists → (c x : ArenaIndex)
         → In x (lists c)

@@ -2,6 +2,7 @@
 ghost use Rattle.std.specs.Prelude.{◌≡◌, ◌↔◌, ℕ, Bool, true, List, nat_eq, All, IsTrue};
 ghost use Rattle.std.specs.List.{list_any};
 ghost use Rattle.ir_model.specs.Edits.{place_of};
+ghost use Rattle.ir_model.specs.Stores.{SameAttributes};
 ghost use Rattle.ir_base.specs.Attributes.{same_pairs, dict_input};
 ghost use Rattle.ir_model.specs.VerifierLists.{first_places, joined, SupersFirst};
 
@@ -15,6 +16,11 @@ pub fn supers_stay_first()
 /// Two values, of which the first is in the store, have one place exactly where they are equal.
 pub fn equal_places_for_equal_values<T: Eq>()
     ensures { (values : List T) (a b : T) → list_any (λ kept. T.eq kept a) values ≡ true → (place_of T.eq values a ≡ place_of T.eq values b) ↔ IsTrue (T.eq a b) }
+{}
+
+/// Dictionaries of attributes are equal exactly where each key leads to equal attributes in both, or to none in both.
+pub fn dictionaries_compare_by_keys<D: Dialects>()
+    ensures { (d e : List (List ℕ × D.Attr)) → IsTrue (same_pairs D.Attr.eq d e) ↔ SameAttributes D.Attr.eq d e }
 {}
 
 /// Equal dictionaries of attributes hash equally, in whatever order they were filled.

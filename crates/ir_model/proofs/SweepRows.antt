@@ -290,12 +290,12 @@ module _ (f : Forest small_ids bare) (dead left : List Small) (count : ℕ) (are
       of_regions r = (λ s. (let e : ◌≡◌ {A = Entity small_ids} (a_region r) (an_op s.0) = alone f s.0 (flat s.0) (a_region r) s.2 in absurd cc), λ h. absurd h)
 
 no_regions : (f : Forest small_ids bare) → regions_of f n0 ≡ [] → regions_of f n1 ≡ [] → regions_of f n2 ≡ [] → regions_of f n3 ≡ [] → regions_of f n4 ≡ [] → regions_of f n5 ≡ [] → (o : Small) → regions_of f o ≡ []
-no_regions f e0 e1 e2 e3 e4 e5 n0 = e0
-no_regions f e0 e1 e2 e3 e4 e5 n1 = e1
-no_regions f e0 e1 e2 e3 e4 e5 n2 = e2
-no_regions f e0 e1 e2 e3 e4 e5 n3 = e3
-no_regions f e0 e1 e2 e3 e4 e5 n4 = e4
-no_regions f e0 e1 e2 e3 e4 e5 n5 = e5
+no_regions f first_none second_none third_none fourth_none fifth_none sixth_none n0 = first_none
+no_regions f first_none second_none third_none fourth_none fifth_none sixth_none n1 = second_none
+no_regions f first_none second_none third_none fourth_none fifth_none sixth_none n2 = third_none
+no_regions f first_none second_none third_none fourth_none fifth_none sixth_none n3 = fourth_none
+no_regions f first_none second_none third_none fourth_none fifth_none sixth_none n4 = fifth_none
+no_regions f first_none second_none third_none fourth_none fifth_none sixth_none n5 = sixth_none
 
 -- what stands inside the two dead operations of the last forest with regions
 data InHolder : Entity small_ids → Type 0 where
