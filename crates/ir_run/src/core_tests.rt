@@ -453,3 +453,32 @@ fn used_twice(rt: HostRuntime) -> Result<(), Fail> {
     assert_eq!(rt; use_twice(&mut ctx, ty)?, 2);
     Ok(())
 }
+
+// Makes an operation with one result, and one that uses it twice, as a caller does who has settled for one dialect. Answers how many uses by the second operation the result has.
+fn two_uses_over_toy(ctx: &mut Context<Toy>, ty: TypeHandle) -> Result<usize, CoreError> {
+    if !ty.is_known(ctx) {
+        return Ok(0);
+    }
+    let maker: Ptr<Operation<Toy>> = Operation::new(ctx, 0, &[ty], &[], &[], 0)?;
+    let value: Value<Toy> = match maker.try_deref(ctx) {
+        Ok(maker) if maker.get_num_results() == 1 => maker.get_result(0),
+        _ => return Ok(0),
+    };
+    if !value.is_live(ctx) {
+        return Ok(0);
+    }
+    let user = Operation::new(ctx, 4, &[], &[value, value], &[], 0)?;
+    if !value.is_live(ctx) {
+        return Ok(0);
+    }
+    let uses: Vec<Use<Value<Toy>>> = value.uses(ctx)?;
+    Ok(uses.iter().filter(|used| used.user_op() == user).count())
+}
+
+#[test]
+fn calls_over_one_dialect(rt: HostRuntime) -> Result<(), Fail> {
+    let mut ctx: Context<Toy> = Context::new(rt.alloc());
+    let ty = ctx.instantiate_key(ToyType::Int { width: 32 })?;
+    assert_eq!(rt; two_uses_over_toy(&mut ctx, ty)?, 2);
+    Ok(())
+}
