@@ -24,18 +24,15 @@ use Rattle.ir_base.specs.Arena.{Arena, get, IsLive, is_passed}
 use Rattle.ir_core.specs.declared.operation.Operation.{Operation}
 use Rattle.ir_core.specs.declared.region.Region.{Region}
 use Rattle.ir_core.specs.declared.value.Value.{Value as Handle}
-use Rattle.ir_core.specs.declared.record.ResultRecord.{ResultRecord}
 use Rattle.ir_core.specs.Calls.{MakesOperation, SkipsAtMost, op_needs}
 use Rattle.ir_core.specs.Creation.{SkipsIds, SameRecords, InsertsWhole, results_from}
 use Rattle.ir_core.specs.declared.record.OperandRecord.{OperandRecord}
-use Rattle.ir_core.specs.declared.record.ValueIndex.{ValueIndex}
-use Rattle.ir_core.specs.declared.record.Definer.{Definer as DefinerIndex}
-use Rattle.ir_core.specs.declared.record.Definer.TheVariants.{Op, Block}
-use Rattle.ir_core.specs.Table.{HasNumber, IsResult, results_in, operands_in}
+use Rattle.ir_core.specs.Table.{IsResult, operands_in}
 use Rattle.ir_core.specs.Links.{Linked, KnowOwn, IsFreshUse}
-use Rattle.ir_core.specs.Meaning.{closed, op_record, op_records, operands_from, operand_of, definer_of, result_of, value_of}
+use Rattle.ir_core.specs.Meaning.{closed, op_record, op_records, operands_from, operand_of, result_of, value_of}
 use Rattle.ir_core.specs.Sound.{IsSound}
 use Rattle.ir_core.specs.State.{State, bare, forest_of, types_of}
+use Rattle.ir_core.proofs.ValueLemmas.{live-result}
 
 -- numbers from n on
 In-range : (n k i : ℕ) → In i (range_with_len n k) → (n ≤ i) × (i < n + k)
@@ -306,12 +303,7 @@ module _ {D A K B S X L : Type 0} (s : State D A K B S X L) (sound : IsSound s) 
       limits = refl;
     }
 
--- a kept result by its number, and a kept operand by its place
-number-kept : (A K B S X L : Type 0) (rs : List ResultRecord) (n : ℕ) → In n (map (λ (x : Definition context_ids (closed A K B S X L)). x.number) (map result_of rs)) → HasNumber rs n
-number-kept A K B S X L [] n h = absurd h
-number-kept A K B S X L (r ∷ others) n (inl e) = (0, r, refl, sym e)
-number-kept A K B S X L (r ∷ others) n (inr h) = let more = number-kept A K B S X L others n h in (suc more.0, more.1, more.2, more.3)
-
+-- a kept operand by its place
 operand-listed : (os : List OperandRecord) (i : ℕ) (a : OperandRecord) → slice_get os i ≡ Some a → In a.number (map (λ (p : Operand context_ids). p.use_number) (map operand_of os))
 operand-listed [] zero a e = absurd cc
 operand-listed [] (suc i) a e = absurd cc
@@ -319,19 +311,8 @@ operand-listed (x ∷ os) zero a e = inl (ap (λ (y : OperandRecord). y.number) 
 operand-listed (x ∷ os) (suc i) a e = inr (operand-listed os i a e)
 
 module _ {D A K B S X L : Type 0} (s : State D A K B S X L) where
-  pub live-result : (v : ValueIndex) → IsLiveNamed (forest_of s) (a_value (value_of v)) → IsResult s.ops v
-  live-result v h = by v.definer h
-    where
-      some : (x : Option (Operation D A K B S X L)) → In v.number (map (λ (y : Definition context_ids (closed A K B S X L)). y.number) (list_of (λ r. r.results) (option_map op_record x))) → HasNumber (results_in x) v.number
-      some None k = absurd k
-      some (Some op) k = number-kept A K B S X L op.results v.number k
-
-      by : (d : DefinerIndex) → In v.number (numbers_of (forest_of s) (definer_of d)) → IsResult s.ops (record { definer = d; number = v.number })
-      by (Op o) k = some (get s.ops o) k
-      by (Block b) k = absurd k
-
   pub live-results : (vs : List (Handle D A K B S X L)) → All (λ (v : Handle D A K B S X L). IsLiveNamed (forest_of s) (a_value (value_of v.index))) vs → All (λ (v : Handle D A K B S X L). IsResult s.ops v.index) vs
-  live-results vs h k d w = live-result (get_or vs k d).index (h k d w)
+  live-results vs h k d w = live-result s (get_or vs k d).index (h k d w)
 
   pub fresh-uses : IsSound s → (n : ℕ) → s.next_use ≤ n → IsFreshUse s.ops n
   fresh-uses sound n from o i a at e = absurd (omega (arith, e, from, sound.uses o a.number (In-left a.number _ _ (listed (get s.ops o) at))))

@@ -4,6 +4,7 @@ use Rattle.std.specs.List.{flat_map, list_any}
 use Rattle.std.proofs.lemmas.Bool.{cases_eq, eq-eqb, ne_eqb}
 use Rattle.std.proofs.lemmas.List.{length-map, map-append}
 use Rattle.std.proofs.lemmas.List.Folds.{flat_map-map}
+use Rattle.std.proofs.lemmas.Option.{slice_get-map}
 use Rattle.ir_model.specs.declared.ids.ArenaIndex.{ArenaIndex}
 use Rattle.ir_model.specs.ContextIds.{context_ids}
 use Rattle.ir_model.specs.Ids.{Distinct}
@@ -28,7 +29,7 @@ use Rattle.ir_core.specs.Table.{operands_at, results_at, results_in, uses_at, us
 use Rattle.ir_core.specs.Values.{AreUsesOfResults, IsUseOfResult}
 use Rattle.ir_core.proofs.LinkLemmas.{same_operand}
 use Rattle.ir_core.proofs.Meanings.{some_behind}
-use Rattle.ir_core.proofs.ValueLemmas.{Distinct-places, place-In, numbers-op, slice_get-map, uses-exact}
+use Rattle.ir_core.proofs.ValueLemmas.{Distinct-places, place-In, numbers-op, uses-exact}
 
 -- the numbers below n
 numbers_below : ℕ → List ℕ
