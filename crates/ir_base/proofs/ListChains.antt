@@ -38,6 +38,10 @@ pub head_or-append : (d : Option ArenaIndex) (xs ys : List ArenaIndex) → head_
 head_or-append d [] ys = refl
 head_or-append d (x ∷ xs) ys = refl
 
+pub head-None : (xs : List ArenaIndex) → None ≡ head_or None xs → xs ≡ []
+head-None [] e = refl
+head-None (x ∷ xs) e = cc
+
 pub last_of-append : (x : ArenaIndex) (xs : List ArenaIndex) (y : ArenaIndex) (ys : List ArenaIndex) → last_of x (xs ++ y ∷ ys) ≡ last_of y ys
 last_of-append x [] y ys = refl
 last_of-append x (z ∷ zs) y ys = last_of-append z zs y ys

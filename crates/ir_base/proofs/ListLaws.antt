@@ -9,10 +9,10 @@ use Rattle.ir_base.specs.ArenaSlots.{is_taken, is_retired, had_version}
 use Rattle.ir_base.specs.Arena.{Arena, get, fill, cut, empty, IsLive, IsNew, is_passed, arena_len, room}
 use Rattle.ir_model.specs.Ids.{Distinct}
 use Rattle.ir_model.specs.Nesting.{In}
-use Rattle.ir_base.specs.Lists.{seen, Links, Ends, Heap, unlinked, no_ends, head_or, ends_of, AreLists, container_in, container_of, IsLinked, map_slot, map_records, SameBut, SameIds}
+use Rattle.ir_base.specs.Lists.{seen, Links, Ends, Heap, unlinked, no_ends, ends_of, AreLists, container_in, container_of, IsLinked, map_slot, map_records, SameBut, SameIds}
 use Rattle.ir_base.proofs.ArenaLaws.{get-empty, get-new, get-fill_new, get-fill_new_other, get-cut, get-cut_other}
 use Rattle.ir_base.proofs.ListArena.{slot_at-map}
-use Rattle.ir_base.proofs.ListChains.{id_cases, chain-at, chain-same, chain-apart}
+use Rattle.ir_base.proofs.ListChains.{id_cases, head-None, chain-at, chain-same, chain-apart}
 use Rattle.ir_base.proofs.ListRecords.{seen-same, SameBut-get}
 use Rattle.ir_base.proofs.ListPlaces.{in-linked, in-is_linked, In-middle, place}
 
@@ -167,11 +167,7 @@ module _ {C : Type 0} (ends : C → Ends) (h : Heap Links) (containers : Arena C
 
 -- a container with no first node has an empty list
 pub list-empty : {h : Heap Links} {r : Heap Ends} {lists : ArenaIndex → List ArenaIndex} → AreLists h r lists → (c : ArenaIndex) (e : Ends) → r c ≡ Some e → e.head ≡ None → lists c ≡ []
-list-empty {h} {r} {lists} l c e is none = empty_of (lists c) (sym none ∙ ap (λ (e : Ends). e.head) (l.ends c e is))
-  where
-    empty_of : (xs : List ArenaIndex) → None ≡ head_or None xs → xs ≡ []
-    empty_of [] e = refl
-    empty_of (x ∷ xs) e = cc
+list-empty {h} {r} {lists} l c e is none = head-None (lists c) (sym none ∙ ap (λ (e : Ends). e.head) (l.ends c e is))
 
 -- ---- what an edit leaves
 

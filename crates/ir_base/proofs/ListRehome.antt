@@ -9,7 +9,7 @@ use Rattle.ir_model.specs.Nesting.{In}
 use Rattle.ir_model.proofs.Nests.{In-left, In-right, not_in-Absent}
 use Rattle.ir_base.specs.Lists.{seen, Links, Ends, linked, no_ends, is_at, unless, with_next, with_prev, with_head, with_tail, Heap, change, head_or, last_or, ends_of, IsChain, AreLists, with_list, with_container, rehome}
 use Rattle.ir_base.specs.Walks.{IsListFrom, Walked, piece}
-use Rattle.ir_base.proofs.ListChains.{id_cases, change-other, change-here, apart-both, chain-split, chain-join, chain-same, chain-apart, chain-unique, last_or-append}
+use Rattle.ir_base.proofs.ListChains.{id_cases, change-other, change-here, head-None, apart-both, chain-split, chain-join, chain-same, chain-apart, chain-unique, last_or-append}
 use Rattle.ir_base.proofs.ListEdits.{change-apart, relink, relink-sides, relink-other, lists-apart, with_list-here, with_list-other, In-either}
 use Rattle.ir_base.proofs.ListWalks.{piece-all}
 
@@ -73,15 +73,11 @@ walk-more start now after first next c node w moves reads =
       moved = moves ∙ ap (change (with_container c) (Some node)) w.moved ∙ sym (rehome-push c w.done node start);
     }
 
-nothing : (xs : List ArenaIndex) → None ≡ head_or None xs → xs ≡ []
-nothing [] e = refl
-nothing (x ∷ xs) e = cc
-
 pub walk-end : (start now : Heap Links) (first : Option ArenaIndex) (c : ArenaIndex) → Walked start now first None c
     → (d : ArenaIndex) (p : Option ArenaIndex) (xs : List ArenaIndex) → IsChain start d p xs None → first ≡ head_or None xs → now ≡ rehome c xs start
 walk-end start now first c w d p xs k b =
     let same : w.whole.nodes ≡ xs = chain-unique start w.whole.owner d w.whole.before p w.whole.nodes xs w.whole.chain k (sym w.whole.begins ∙ b) in
-    let over : w.todo ≡ [] = nothing w.todo w.stands in
+    let over : w.todo ≡ [] = head-None w.todo w.stands in
     let all : xs ≡ w.done = sym same ∙ w.splits ∙ ap (λ ys. w.done ++ ys) over ∙ append-nil w.done in
     w.moved ∙ ap (λ ys. rehome c ys start) (sym all)
 

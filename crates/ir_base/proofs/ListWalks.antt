@@ -13,7 +13,7 @@ use Rattle.ir_model.proofs.TwoRuns.{id_tells}
 use Rattle.ir_base.specs.Lists.{seen, Links, Ends, Heap, IsChain, linked, head_or, last_or, last_of, AreLists}
 use Rattle.ir_base.specs.Walks.{next_in, head_in, walk_to, piece, list_of, IsPiece}
 use Rattle.ir_base.proofs.ListArena.{live-fit}
-use Rattle.ir_base.proofs.ListChains.{id_same, id_differs, last_of-In, chain-apart, chain-at, chain-split, apart-both}
+use Rattle.ir_base.proofs.ListChains.{id_same, id_differs, head-None, last_of-In, chain-apart, chain-at, chain-split, apart-both}
 use Rattle.ir_base.proofs.ListPlaces.{live-from_seen}
 
 pub walk-all : (fuel : ℕ) (h : Heap Links) (c : ArenaIndex) (p : Option ArenaIndex) (xs : List ArenaIndex) → IsChain h c p xs None → length xs ≤ fuel → walk_to fuel h (head_or None xs) None ≡ xs
@@ -36,10 +36,6 @@ walk-piece (suc m) h c p n (x ∷ (y ∷ ys)) k a f =
 pub walk-nothing : (room : ℕ) (h : Heap Links) (last : Option ArenaIndex) → walk_to room h None last ≡ []
 walk-nothing zero h last = refl
 walk-nothing (suc n) h last = refl
-
-nothing : (xs : List ArenaIndex) → None ≡ head_or None xs → xs ≡ []
-nothing [] e = refl
-nothing (x ∷ xs) e = cc
 
 walk-found : (fuel : ℕ) (h : Heap Links) (r : Heap Ends) (lists : ArenaIndex → List ArenaIndex) → AreLists h r lists → ((c : ArenaIndex) → length (lists c) ≤ fuel) → (c : ArenaIndex) (o : Option Ends) → r c ≡ o → walk_to fuel h (head_in o) None ≡ lists c
 walk-found fuel h r lists l fits c None e = walk-nothing fuel h None ∙ sym (l.absent c e)
@@ -97,7 +93,7 @@ pub piece-none : (h : Heap Links) (room : ℕ) → IsPiece h room None None
 piece-none h room = record { container = record { slot = 0; version = 0 }; before = None; after = None; nodes = []; chain = tt; apart = tt; fits = omega arith; begins = refl; ends = refl }
 
 pub piece-empty : {h : Heap Links} {room : ℕ} {next back : Option ArenaIndex} → IsPiece h room next back → next ≡ None → walk_to room h next back ≡ []
-piece-empty {h} {room} {next} {back} w is = piece-items w ∙ nothing w.nodes (sym is ∙ w.begins)
+piece-empty {h} {room} {next} {back} w is = piece-items w ∙ head-None w.nodes (sym is ∙ w.begins)
 
 pub same-option : (o : Option ArenaIndex) (x : ArenaIndex) (b : Bool) → b ≡ option_eq same_id o (Some x) → b ≡ true → o ≡ Some x
 same-option None x b e t = cc
