@@ -3,7 +3,7 @@ use Rattle.std.proofs.Common.{◌≡◌, ℕ, zero, suc, ◌+◌, ◌-◌, ◌<�
 use Rattle.std.specs.List.{remove}
 use Rattle.std.specs.Option.{option_map}
 use Rattle.std.proofs.Math.Seq.{take-suc}
-use Rattle.std.proofs.lemmas.List.{length-map, map-append, length_push, length-take-le, take_all}
+use Rattle.std.proofs.lemmas.List.{length-map, map-append, length_push, length-take-le, nil_from_length, take_all}
 use Rattle.std.proofs.lemmas.List.Elements.{All-get_or}
 use Rattle.std.proofs.lemmas.Option.{slice_get-map}
 use Rattle.ir_model.specs.declared.ids.ArenaIndex.{ArenaIndex}
@@ -27,10 +27,6 @@ length-remove_last [] k within = absurd (omega arith)
 length-remove_last (x ∷ xs) zero within = omega arith
 length-remove_last (x ∷ xs) (suc k) within = let e = length-remove_last xs k (omega arith) in omega (arith, e)
 
-none_left : {T : Type 0} (xs : List T) → length xs ≡ 0 → xs ≡ []
-none_left [] e = refl
-none_left (x ∷ xs) e = absurd (omega (arith, e))
-
 module _ {D A K B S X L : Type 0} where
   -- some of the operands were taken out
   pub record Unlinks (old now : Arena (Operation D A K B S X L)) (o : ArenaIndex) : Type 0 where
@@ -51,7 +47,7 @@ module _ {D A K B S X L : Type 0} where
   }
 
   pub unlinks-end : (old t : Arena (Operation D A K B S X L)) (o : ArenaIndex) → Unlinks old t o → length (operands_at t o) ≡ 0 → op_records t ≡ rewrite same_id o (on_operands (λ _. [])) (op_records old)
-  unlinks-end old t o so_far none = sym (bare_meaning t o so_far.live (none_left (operands_at t o) none)) ∙ so_far.records
+  unlinks-end old t o so_far none = sym (bare_meaning t o so_far.live (nil_from_length (operands_at t o) none)) ∙ so_far.records
 
   pub popped_count : (t s : Arena (Operation D A K B S X L)) (o : ArenaIndex) → op_records s ≡ rewrite same_id o (on_operands (λ xs. remove xs (length xs - 1))) (op_records t) → IsLive t o → 0 < length (operands_at t o) → length (operands_at s o) < length (operands_at t o)
   popped_count t s o e live some =
