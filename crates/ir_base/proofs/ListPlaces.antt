@@ -1,5 +1,5 @@
 -- Where a linked node stands, and what is live there.
-use Rattle.std.proofs.Common.{append_assoc, ◌≡◌, List, [], ◌∷◌, ◌++◌, Option, Some, None, IsSome, rules, refl, sym, ap, ◌∙◌, subst, inl, inr}
+use Rattle.std.proofs.Common.{append_assoc, ◌≡◌, List, [], ◌∷◌, ◌++◌, Option, Some, None, is_some, IsSome, rules, refl, sym, ap, ◌∙◌, subst, inl, inr}
 use Rattle.std.specs.Prelude.{IfSome}
 use Rattle.std.specs.Option.{option_map}
 use Rattle.std.proofs.lemmas.Option.{same_Some}
@@ -30,12 +30,8 @@ seen-from_live view s i l = seen-in view (get s i) l
 pub in-linked : {h : Heap Links} {r : Heap Ends} {lists : ArenaIndex → List ArenaIndex} → AreLists h r lists → (c x : ArenaIndex) → In x (lists c) → container_of h x ≡ Some c
 in-linked {h} {r} {lists} a c x i = let s = chain-at h c None (lists c) None x (a.chains c) i in ap container_in s.1 ∙ s.2
 
-some_of : (o : Option ArenaIndex) (c : ArenaIndex) → o ≡ Some c → IsSome o
-some_of None c e = cc
-some_of (Some x) c e = search rules
-
 pub in-is_linked : {h : Heap Links} {r : Heap Ends} {lists : ArenaIndex → List ArenaIndex} → AreLists h r lists → (c x : ArenaIndex) → In x (lists c) → IsLinked h x
-in-is_linked {h} a c x i = some_of (container_of h x) c (in-linked a c x i)
+in-is_linked {h} a c x i = ap is_some (in-linked a c x i)
 
 -- a live node that is not linked has empty links
 pub unlinked-links : {h : Heap Links} {r : Heap Ends} {lists : ArenaIndex → List ArenaIndex} → AreLists h r lists → (x : ArenaIndex) (m : Links) → h x ≡ Some m → (IsLinked h x → ⊥) → h x ≡ Some unlinked
