@@ -3,8 +3,10 @@ use mathlib.Core.Path.{fun_ext}
 use Rattle.std.proofs.Common.{◌≡◌, ◌≢◌, ◌⊎◌, ◌↔◌, ℕ, zero, suc, ◌+◌, ◌<◌, ◌≤◌, Bool, true, false, cond, nat_eq, nat_lt, List, [], ◌∷◌, ◌++◌, length, map, get_or, All, Option, Some, None, IsSome, is_some, IsTrue, slice_get, refl, sym, ap, subst, ◌∙◌, inl, inr, arith, true≢false}
 use Rattle.std.specs.List.{range_with_len, zip}
 use Rattle.std.specs.Option.{option_map}
+use Rattle.std.proofs.lemmas.Bool.{le-ltb, lt-ltb, ltb-true}
 use Rattle.std.proofs.lemmas.Bool.Decides.{nat_tests, eqb_tells}
 use Rattle.std.proofs.lemmas.List.{length-map}
+use Rattle.std.proofs.lemmas.List.FromFn.{length-range_with_len}
 use Rattle.std.proofs.lemmas.Option.{same_Some}
 use Rattle.ir_model.specs.declared.ids.ArenaIndex.{ArenaIndex}
 use Rattle.ir_model.specs.declared.ids.Limits.{Limits}
@@ -52,19 +54,6 @@ range-distinct : (n k : ℕ) → Distinct (range_with_len n k)
 range-distinct n zero = tt
 range-distinct n (suc k) = (Absent-not_in n (range_with_len (n + 1) k) (λ h. absurd (omega (arith, (In-range (n + 1) k n h).0))), range-distinct (n + 1) k)
 
-length-range : (n k : ℕ) → length (range_with_len n k) ≡ k
-length-range n zero = refl
-length-range n (suc k) = ap suc (length-range (n + 1) k)
-
-lt-true : (i n : ℕ) → i < n → nat_lt i n ≡ true
-lt-true i n h = grind (arith, nat_tests)
-
-lt-false : (i n : ℕ) → n ≤ i → nat_lt i n ≡ false
-lt-false i n h = grind (arith, nat_tests)
-
-lt-below : (i n : ℕ) → nat_lt i n ≡ true → i < n
-lt-below i n h = grind (arith, nat_tests)
-
 -- numbers are handed out in order
 passed-range : (n k i : ℕ) → IsTrue (nat_lt i (n + k)) ↔ (IsTrue (nat_lt i n) ⊎ In i (range_with_len n k))
 passed-range n k i = (forth, back)
@@ -74,14 +63,14 @@ passed-range n k i = (forth, back)
       where
         by : (b : Bool) → nat_lt i n ≡ b → IsTrue b ⊎ In i (range_with_len n k)
         by true e = inl refl
-        by false e = inr (range-In n k i (grind (arith, nat_tests)) (lt-below i (n + k) h))
+        by false e = inr (range-In n k i (grind (arith, nat_tests)) (ltb-true i (n + k) h))
 
     back : IsTrue (nat_lt i n) ⊎ In i (range_with_len n k) → IsTrue (nat_lt i (n + k))
-    back (inl h) = lt-true i (n + k) (omega (arith, lt-below i n h))
-    back (inr h) = lt-true i (n + k) (In-range n k i h).1
+    back (inl h) = lt-ltb i (n + k) (omega (arith, ltb-true i n h))
+    back (inr h) = lt-ltb i (n + k) (In-range n k i h).1
 
 new-range : (limit n k i : ℕ) → n + k ≤ limit → In i (range_with_len n k) → IsNewNumber limit (λ m. nat_lt m n) i
-new-range limit n k i fits h = let r = In-range n k i h in (omega (arith, r.1), lt-false i n r.0)
+new-range limit n k i fits h = let r = In-range n k i h in (omega (arith, r.1), le-ltb i n r.0)
 
 -- an id stays new under fewer live ids
 IsNewId-fewer : (limits : Limits) (passed : ArenaIndex → Bool) (live live' : ArenaIndex → Type 0) (i : ArenaIndex) → ((j : ArenaIndex) → live' j → live j) → IsNewId limits passed live i → IsNewId limits passed live' i
@@ -275,7 +264,7 @@ module _ {D A K B S X L : Type 0} (s : State D A K B S X L) (sound : IsSound s) 
     the_fresh = record { ops = u ∷ []; blocks = []; regions = w.ids; numbers = range_with_len s.next_value (length ts); uses = range_with_len s.next_use (length vs) }
 
     the_counts : counts context_ids the_fresh ≡ op_needs (length ts) (length vs) n
-    the_counts = λ i. record { ops = 1; blocks = 0; regions = w.number i; numbers = length-range s.next_value (length ts) i; uses = length-range s.next_use (length vs) i }
+    the_counts = λ i. record { ops = 1; blocks = 0; regions = w.number i; numbers = length-range_with_len s.next_value (length ts) i; uses = length-range_with_len s.next_use (length vs) i }
 
     pub made-makes : MakesOperation unknown (bare s) (bare made) u kind (map (λ t. t.place) ts) (map (λ v. value_of v.index) vs) n
     made-makes = record {
