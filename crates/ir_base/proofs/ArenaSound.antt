@@ -1,7 +1,7 @@
 -- How each change of the slots keeps an arena sound.
-use Rattle.std.proofs.Common.{◌≡◌, ◌≢◌, ◌⊎◌, ℕ, ◌+◌, ◌-◌, ◌<◌, ◌≤◌, nat_eq, nat_le, nat_lt, Bool, true, false, List, [], ◌∷◌, ◌++◌, length, set, Option, Some, None, IsSome, OnSome, cond, count_by, refl, sym, ap, subst, ◌∙◌, inl, inr, arith, length-set}
+use Rattle.std.proofs.Common.{◌≡◌, ◌≢◌, ◌⊎◌, ℕ, ◌+◌, ◌-◌, ◌<◌, ◌≤◌, nat_eq, nat_le, Bool, true, false, List, [], ◌∷◌, ◌++◌, length, set, Option, Some, None, IsSome, OnSome, cond, count_by, refl, sym, ap, subst, ◌∙◌, inl, inr, arith, length-set}
 use Rattle.std.proofs.lemmas.Bool.Decides.{leb_tells, nat_tests}
-use Rattle.std.proofs.lemmas.Bool.{cases_eq, eq-eqb, ne_eqb}
+use Rattle.std.proofs.lemmas.Bool.{cases_eq, eq-eqb, ne_eqb, le-ltb, lt-ltb}
 use Rattle.std.proofs.lemmas.List.{get_or-set_same, get_or-set_other, length_push}
 use Rattle.std.proofs.Math.ListN.{get_or-append}
 use Rattle.std.proofs.Math.Seq.{get_or-append_seam}
@@ -47,15 +47,9 @@ module _ {T : Type 0} where
       by_item (Some x) v = refl
       by_item None v =
           elim (leb_tells (v + 2) last) [
-            | inl eq ↦ rw eq.0 (rw (not_less last (v + 2) eq.1) refl)
-            | inr ne ↦ rw ne.0 (rw (less last (v + 2) ne.1) refl)
+            | inl eq ↦ rw eq.0 (rw (le-ltb last (v + 2) eq.1) refl)
+            | inr ne ↦ rw ne.0 (rw (lt-ltb last (v + 2) ne.1) refl)
           ]
-        where
-          not_less : (a b : ℕ) → b ≤ a → nat_lt a b ≡ false
-          not_less a b le = grind (arith, nat_tests)
-
-          less : (a b : ℕ) → a < b → nat_lt a b ≡ true
-          less a b lt = grind (arith, nat_tests)
 
   pub IsSound-set : (slots : List (Slot T)) (free freed : List ℕ) (place len later limit last k : ℕ) (s : Slot T) → IsSound slots free place len limit last → k < length slots → later + t (slot_in slots k) ≡ len + t s → length freed + u last (slot_in slots k) ≡ length free + u last s → Relisted free freed k (u last s) → IsInRange last s.version → IsSound (set slots k s) freed place later limit last
   IsSound-set slots free freed place len later limit last k s sound within counts frees relisted range =

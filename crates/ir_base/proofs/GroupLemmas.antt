@@ -1,5 +1,5 @@
 -- What follows for verifiers that are grouped by their owners.
-use Rattle.std.proofs.Common.{◌≡◌, ℕ, suc, ◌+◌, Bool, true, false, cond, not, ◌||◌, nat_eq, List, [], ◌∷◌, ◌++◌, map, filter, Some, None, unwrap_or, slice_get, refl, sym, ap, subst, ◌∙◌, arith, true≢false, is_some, eqb-true, append_assoc, length, take, get_or, ◌<◌, Vec, inl, inr}
+use Rattle.std.proofs.Common.{◌≡◌, ℕ, suc, ◌+◌, Bool, true, false, cond, not, ◌||◌, nat_eq, List, [], ◌∷◌, ◌++◌, map, filter, Some, None, slice_get, refl, sym, ap, subst, ◌∙◌, arith, true≢false, is_some, eqb-true, append_assoc, length, take, get_or, ◌<◌, Vec, inl, inr}
 use Rattle.std.specs.List.{list_any, flat_map, IsDistinct, AllByRecursion}
 use Rattle.std.specs.Map.{keys_of, values_of}
 use Rattle.std.proofs.lemmas.Cmp.{nat_eq_equiv}
@@ -7,7 +7,7 @@ use Rattle.std.proofs.lemmas.Grind.{flat_map-append}
 use Rattle.std.proofs.lemmas.List.{take_more, map-append, append-nil}
 use Rattle.std.proofs.lemmas.List.Elements.{filter-append}
 use Rattle.std.proofs.lemmas.List.Sums.{fold-append}
-use Rattle.std.proofs.lemmas.Option.{get_or_from_slice_get, slice_get_within, slice_get_cases}
+use Rattle.std.proofs.lemmas.Option.{get_or_from_slice_get, same_Some, slice_get_within, slice_get_cases}
 use Rattle.indexmap.specs.IndexMap.{IndexMap, get, insert_entry, set_value_at}
 use Rattle.ir_base.specs.Stores.{has_key}
 use Rattle.ir_model.specs.VerifierLists.{first_places, joined, deduplicated}
@@ -18,10 +18,6 @@ use Rattle.ir_model.specs.Edits.{place_of, with_key}
 -- one more
 one_more : (n : ℕ) → 1 + n ≡ suc n
 one_more n = omega arith
-
--- an item in a longer list of which a first part is kept, or nothing
-some_same : {A : Type 0} {x y : A} → Some x ≡ Some y → x ≡ y
-some_same {A} {x} e = ap (λ o. unwrap_or o x) e
 
 module _ {S : Type 0} (m : IndexMap ℕ (List ℕ) S) (owner : ℕ) where
   -- an owner that is there stays where it is
@@ -40,7 +36,7 @@ written_step : (b has : Bool) (g : ℕ × List ℕ) (gs : List (ℕ × List ℕ)
     → ((l : List ℕ) → slice_get (values_of (cond has gs (gs ++ added))) n ≡ Some l → set_value_at (cond has gs (gs ++ added)) n (f l) ≡ rest)
     → (l : List ℕ) → slice_get (values_of (cond (b || has) (g ∷ gs) (g ∷ gs ++ added))) (cond (not b) (1 + n) 0) ≡ Some l
     → set_value_at (cond (b || has) (g ∷ gs) (g ∷ gs ++ added)) (cond (not b) (1 + n) 0) (f l) ≡ cond b ((g.0, f g.1) ∷ gs) (g ∷ rest)
-written_step true has g gs owner n added rest f go l at = ap (λ v. (g.0, f v) ∷ gs) (sym (some_same at))
+written_step true has g gs owner n added rest f go l at = ap (λ v. (g.0, f v) ∷ gs) (sym (same_Some _ _ at))
 written_step false true g gs owner n added rest f go l at =
     ap (λ k. set_value_at (g ∷ gs) k (f l)) (one_more n) ∙ ap (λ r. g ∷ r) (go l (ap (slice_get (values_of (g ∷ gs))) (sym (one_more n)) ∙ at))
 written_step false false g gs owner n added rest f go l at =
@@ -49,7 +45,7 @@ written_step false false g gs owner n added rest f go l at =
 -- a write at the owner's place adds to its list
 pub written : (gs : List (ℕ × List ℕ)) (owner : ℕ) (verifiers l : List ℕ) → slice_get (values_of (with_owner gs owner)) (place_of nat_eq (keys_of gs) owner) ≡ Some l
     → set_value_at (with_owner gs owner) (place_of nat_eq (keys_of gs) owner) (with_each nat_eq l verifiers) ≡ with_entry gs owner verifiers
-written [] owner verifiers l at = ap (λ v. (owner, with_each nat_eq v verifiers) ∷ []) (sym (some_same at))
+written [] owner verifiers l at = ap (λ v. (owner, with_each nat_eq v verifiers) ∷ []) (sym (same_Some _ _ at))
 written (g ∷ gs) owner verifiers l at =
     written_step (nat_eq g.0 owner) (has_key nat_eq gs owner) g gs owner (place_of nat_eq (keys_of gs) owner) ((owner, []) ∷ [])
     (with_entry gs owner verifiers) (λ v. with_each nat_eq v verifiers) (λ k e. written gs owner verifiers k e) l at

@@ -128,10 +128,6 @@ module _ {A : Type 0} (es : List (List ℕ × A)) (unique : IsDistinct same_key 
   pub next-leaves : (is_above a k && is_below k n) ≡ false → IsNext a (take (i + 1) es) n
   next-leaves skip = subst (λ l. IsNext a l n) (sym (pairs-more (λ _. false) true es unique i k v at)) (next-kept a (take i es) k v n so_far skip)
 
-pub not_second : (a b : Bool) → b ≡ false → (a && b) ≡ false
-not_second true b h = h
-not_second false b h = refl
-
 -- lists of which the keys rise
 module _ {X : Type 0} where
   -- the pairs above the bound

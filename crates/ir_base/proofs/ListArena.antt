@@ -1,5 +1,5 @@
 -- What a write, an insertion or a removal of one record leaves of an arena.
-use Rattle.std.proofs.Common.{◌≡◌, ℕ, zero, suc, ◌-◌, ◌<◌, ◌≤◌, eqb, Bool, true, false, cond, List, [], ◌∷◌, length, map, Option, Some, None, IsSome, refl, sym, ap, ◌∙◌, inl, inr, arith, rules}
+use Rattle.std.proofs.Common.{◌≡◌, ℕ, zero, suc, ◌-◌, ◌<◌, ◌≤◌, eqb, Bool, true, false, cond, List, [], ◌∷◌, length, map, Option, Some, None, is_some, refl, sym, ap, ◌∙◌, inl, inr, arith}
 use Rattle.std.specs.List.{IsDistinct, AllByRecursion, list_any}
 use Rattle.std.proofs.lemmas.Map.Steps.{length-le_from_distinct_below}
 use Rattle.std.proofs.lemmas.Bool.{cases_eq, ne_eqb}
@@ -15,12 +15,8 @@ use Rattle.ir_base.specs.Lists.{map_slot, map_records}
 use Rattle.ir_base.proofs.ArenaSlots.{taken_at, put-place}
 use Rattle.ir_base.proofs.ArenaLaws.{live-unique}
 
-some_live : {T : Type 0} (o : Option T) (x : T) → o ≡ Some x → IsSome o
-some_live None x e = cc
-some_live (Some y) x e = search rules
-
 pub live-at : {T : Type 0} (a : Arena T) (i : ArenaIndex) (x : T) → get a i ≡ Some x → IsLive a i
-live-at a i x e = some_live (get a i) x e
+live-at a i x e = ap is_some e
 
 -- the place of an id's slot, from 0
 abbrev place_of : ArenaIndex → ℕ

@@ -1,18 +1,18 @@
-use Rattle.std.proofs.Common.{◌≡◌, ◌⊎◌, ◌&&◌, Bool, true, false, eqb, List, [], ◌∷◌, ◌++◌, length, Option, Some, None, refl, sym, ap, ◌∙◌, subst, inl, inr, arith, length-append, append-nil}
-use Rattle.std.proofs.lemmas.Bool.{cases_eq, eq-eqb, eqb-true}
+use Rattle.std.proofs.Common.{◌≡◌, ◌⊎◌, true, false, List, [], ◌∷◌, ◌++◌, length, Option, Some, None, refl, sym, ap, ◌∙◌, subst, inl, inr, arith, length-append, append-nil}
+use Rattle.std.proofs.lemmas.Bool.{cases_eq}
+use Rattle.std.proofs.lemmas.Option.{same_Some}
 use Rattle.ir_model.specs.declared.ids.ArenaIndex.{ArenaIndex}
 use Rattle.ir_model.specs.ContextIds.{same_id}
 use Rattle.ir_model.specs.Ids.{Distinct}
 use Rattle.ir_model.specs.Nesting.{In}
-use Rattle.ir_model.proofs.Nests.{Absent-not_in, not_in-Absent}
+use Rattle.ir_model.proofs.Nests.{In-right, Absent-not_in, not_in-Absent}
+use Rattle.ir_model.proofs.Relinks.{same_refl, differs}
+use Rattle.ir_model.proofs.TwoRuns.{id_tells}
 use Rattle.ir_base.specs.Lists.{Links, linked, Heap, change, with_next, with_prev, head_or, last_of, last_or, IsChain}
-
-pub Some-inj : {A : Type 0} (a b : A) → Some a ≡ Some b → a ≡ b
-Some-inj a b e = cc
 
 -- two ids are the same, or they differ
 pub id_same : (i : ArenaIndex) → same_id i i ≡ true
-id_same i = rw (eq-eqb i.slot i.slot refl, eq-eqb i.version i.version refl)
+id_same i = same_refl same_id id_tells i
 
 pub id_cases : (i j : ArenaIndex) → (i ≡ j) ⊎ (i ≡ j → ⊥)
 id_cases i j = elim (cases_eq i.slot j.slot) [
@@ -23,21 +23,8 @@ id_cases i j = elim (cases_eq i.slot j.slot) [
   | inr ne ↦ inr (λ e. ne (ap (λ (x : ArenaIndex). x.slot) e))
 ]
 
-pub same_id-true : (i j : ArenaIndex) → same_id i j ≡ true → i ≡ j
-same_id-true i j e =
-    let both = and_both (eqb i.slot j.slot) (eqb i.version j.version) e in
-    λ k. record { slot = eqb-true i.slot j.slot both.0 k; version = eqb-true i.version j.version both.1 k }
-  where
-    and_both : (p q : Bool) → (p && q) ≡ true → (p ≡ true) × (q ≡ true)
-    and_both true q e = (refl, e)
-    and_both false q e = (e, absurd (cc))
-
 pub id_differs : (i j : ArenaIndex) → (i ≡ j → ⊥) → same_id i j ≡ false
-id_differs i j ne = not_true (same_id i j) (λ e. ne (same_id-true i j e))
-  where
-    not_true : (b : Bool) → (b ≡ true → ⊥) → b ≡ false
-    not_true true n = absurd (n refl)
-    not_true false n = refl
+id_differs i j ne = differs same_id id_tells i j ne
 
 -- change
 pub change-other : {A : Type 0} (f : A → A) (i : ArenaIndex) (h : Heap A) (j : ArenaIndex) → (i ≡ j → ⊥) → change f (Some i) h j ≡ h j
@@ -51,6 +38,10 @@ pub head_or-append : (d : Option ArenaIndex) (xs ys : List ArenaIndex) → head_
 head_or-append d [] ys = refl
 head_or-append d (x ∷ xs) ys = refl
 
+pub head-None : (xs : List ArenaIndex) → None ≡ head_or None xs → xs ≡ []
+head-None [] e = refl
+head-None (x ∷ xs) e = cc
+
 pub last_of-append : (x : ArenaIndex) (xs : List ArenaIndex) (y : ArenaIndex) (ys : List ArenaIndex) → last_of x (xs ++ y ∷ ys) ≡ last_of y ys
 last_of-append x [] y ys = refl
 last_of-append x (z ∷ zs) y ys = last_of-append z zs y ys
@@ -61,20 +52,6 @@ last_or-append d [] (y ∷ ys) = refl
 last_or-append d (x ∷ xs) (y ∷ ys) = ap Some (last_of-append x xs y ys)
 
 -- membership
-pub In-left : (x : ArenaIndex) (xs ys : List ArenaIndex) → In x xs → In x (xs ++ ys)
-In-left x [] ys h = absurd h
-In-left x (z ∷ zs) ys (inl e) = inl e
-In-left x (z ∷ zs) ys (inr h) = inr (In-left x zs ys h)
-
-pub In-right : (x : ArenaIndex) (xs ys : List ArenaIndex) → In x ys → In x (xs ++ ys)
-In-right x [] ys h = h
-In-right x (z ∷ zs) ys h = inr (In-right x zs ys h)
-
-pub In-cases : (x : ArenaIndex) (xs ys : List ArenaIndex) → In x (xs ++ ys) → In x xs ⊎ In x ys
-In-cases x [] ys h = inr h
-In-cases x (z ∷ zs) ys (inl e) = inl (inl e)
-In-cases x (z ∷ zs) ys (inr h) = elim (In-cases x zs ys h) [ inl k ↦ inl (inr k) | inr k ↦ inr k ]
-
 pub last_of-In : (x : ArenaIndex) (xs : List ArenaIndex) → In (last_of x xs) (x ∷ xs)
 last_of-In x [] = inl refl
 last_of-In x (y ∷ ys) = inr (last_of-In y ys)
@@ -108,7 +85,7 @@ chain-unique h c d p q [] (y ∷ ys) k l e = cc
 chain-unique h c d p q (x ∷ xs) [] k l e = cc
 chain-unique h c d p q (x ∷ xs) (y ∷ ys) k l e =
     let same : x ≡ y = cc in
-    let links : linked p (head_or None xs) c ≡ linked q (head_or None ys) d = Some-inj _ _ (sym k.0 ∙ ap h same ∙ l.0) in
+    let links : linked p (head_or None xs) c ≡ linked q (head_or None ys) d = same_Some _ _ (sym k.0 ∙ ap h same ∙ l.0) in
     let nexts : head_or None xs ≡ head_or None ys = ap (λ (l : Links). l.next) links in
     let rest : xs ≡ ys = chain-unique h c d (Some x) (Some y) xs ys k.1 l.1 nexts in
     cc

@@ -1,12 +1,16 @@
 -- What the edits of the links make of the lists.
 use Rattle.std.proofs.Common.{◌≡◌, ◌⊎◌, List, [], ◌∷◌, ◌++◌, Option, Some, None, refl, sym, ap, ◌∙◌, subst, inl, inr}
+use Rattle.std.proofs.lemmas.Option.{same_Some}
 use Rattle.ir_model.specs.declared.ids.ArenaIndex.{ArenaIndex}
+use Rattle.ir_model.specs.ContextIds.{same_id}
 use Rattle.ir_model.specs.Ids.{Distinct}
 use Rattle.ir_model.specs.Nesting.{In}
-use Rattle.ir_model.proofs.Nests.{not_in-Absent}
+use Rattle.ir_model.proofs.Nests.{In-append, In-left, In-right, not_in-Absent}
+use Rattle.ir_model.proofs.KeepsNew.{any_in}
 use Rattle.ir_model.proofs.Redirected.{Distinct-front, Distinct-back}
+use Rattle.ir_model.proofs.TwoRuns.{id_tells}
 use Rattle.ir_base.specs.Lists.{Links, Ends, unlinked, linked, Heap, change, with_next, with_prev, with_head, with_tail, unless, head_or, last_or, ends_of, IsChain, AreLists, with_list}
-use Rattle.ir_base.proofs.ListChains.{Some-inj, id_same, id_cases, id_differs, change-other, change-here, head_or-append, last_or-append, In-left, In-right, In-cases, last_of-In, chain-split, chain-join, chain-at, chain-apart, apart-both, chain-same, chain-set_prev, chain-set_next}
+use Rattle.ir_base.proofs.ListChains.{id_same, id_cases, id_differs, change-other, change-here, head_or-append, last_or-append, last_of-In, chain-split, chain-join, chain-at, chain-apart, apart-both, chain-same, chain-set_prev, chain-set_next}
 
 -- the neighbours' links, changed: the last of a to v, the first of b to w
 abbrev pub relink : Heap Links → List ArenaIndex → List ArenaIndex → Option ArenaIndex → Option ArenaIndex → Heap Links
@@ -22,11 +26,11 @@ change-apart f (Some i) h j ne = change-other f i h j (λ e. ne (ap Some e))
 -- the ends of a list are in it
 pub head-In : (b : List ArenaIndex) (y : ArenaIndex) → head_or None b ≡ Some y → In y b
 head-In [] y e = cc
-head-In (x ∷ xs) y e = inl (sym (Some-inj _ _ e))
+head-In (x ∷ xs) y e = inl (sym (same_Some _ _ e))
 
 pub last-In : (a : List ArenaIndex) (y : ArenaIndex) → last_or None a ≡ Some y → In y a
 last-In [] y e = cc
-last-In (x ∷ xs) y e = subst (λ z. In z (x ∷ xs)) (Some-inj _ _ e) (last_of-In x xs)
+last-In (x ∷ xs) y e = subst (λ z. In z (x ∷ xs)) (same_Some _ _ e) (last_of-In x xs)
 
 pub relink-other : (h : Heap Links) (a b : List ArenaIndex) (v w : Option ArenaIndex) (y : ArenaIndex) → (In y a → ⊥) → (In y b → ⊥) → relink h a b v w y ≡ h y
 relink-other h a b v w y na nb =
@@ -68,14 +72,14 @@ pub lists-apart : {h : Heap Links} {r : Heap Ends} {lists : ArenaIndex → List 
 lists-apart {h} {r} {lists} l y c k i j =
     let s = chain-at h c None (lists c) None y (l.chains c) i in
     let t = chain-at h k None (lists k) None y (l.chains k) j in
-    let same : s.0 ≡ t.0 = Some-inj _ _ (sym s.1 ∙ t.1) in
-    Some-inj _ _ (sym s.2 ∙ ap (λ (m : Links). m.container) same ∙ t.2)
+    let same : s.0 ≡ t.0 = same_Some _ _ (sym s.1 ∙ t.1) in
+    same_Some _ _ (sym s.2 ∙ ap (λ (m : Links). m.container) same ∙ t.2)
 
 -- an unlinked node is in no list
 pub unlinked-apart : {h : Heap Links} {r : Heap Ends} {lists : ArenaIndex → List ArenaIndex} → AreLists h r lists → (x : ArenaIndex) → h x ≡ Some unlinked → (k : ArenaIndex) → In x (lists k) → ⊥
 unlinked-apart {h} {r} {lists} l x u k i =
     let s = chain-at h k None (lists k) None x (l.chains k) i in
-    let same : unlinked ≡ s.0 = Some-inj _ _ (sym u ∙ s.1) in
+    let same : unlinked ≡ s.0 = same_Some _ _ (sym u ∙ s.1) in
     let e : None ≡ Some k = ap (λ (m : Links). m.container) same ∙ s.2 in
     cc
 
@@ -95,7 +99,7 @@ AreLists-with_list h h' r r' lists c xs e l live chain ends others frame covered
     | inr ne ↦ rw (with_list-other lists c xs k ne) (chain-same h h' k None (lists k) None (λ y i. frame k y ne i) (l.chains k))
   ];
   ends = λ k f is. elim (id_cases c k) [
-    | inl same ↦ subst (λ k. r' k ≡ Some f → f ≡ ends_of (with_list lists c xs k)) same (λ is. rw (with_list-here lists c xs) (Some-inj _ _ (sym is ∙ ends))) is
+    | inl same ↦ subst (λ k. r' k ≡ Some f → f ≡ ends_of (with_list lists c xs k)) same (λ is. rw (with_list-here lists c xs) (same_Some _ _ (sym is ∙ ends))) is
     | inr ne ↦ rw (with_list-other lists c xs k ne) (l.ends k f (sym (others k ne) ∙ is))
   ];
   absent = λ k is. elim (id_cases c k) [
@@ -127,11 +131,7 @@ pub relink-live : (h : Heap Links) (a b : List ArenaIndex) (v w : Option ArenaIn
 relink-live h a b v w x l na nb e = relink-other h a b v w x na nb ∙ e
 
 pub In-either : (y : ArenaIndex) (xs : List ArenaIndex) → In y xs ⊎ (In y xs → ⊥)
-In-either y [] = inr (λ i. i)
-In-either y (x ∷ xs) = elim (id_cases y x) [
-  | inl e ↦ inl (inl e)
-  | inr ne ↦ elim (In-either y xs) [ inl i ↦ inl (inr i) | inr ni ↦ inr (λ o. elim o [ inl e ↦ ne e | inr i ↦ ni i ]) ]
-]
+In-either y xs = elim (any_in same_id id_tells y xs) [ inl h ↦ inl h.1 | inr h ↦ inr h.1 ]
 
 pub AreLists-link : (h : Heap Links) (r : Heap Ends) (lists : ArenaIndex → List ArenaIndex) (c : ArenaIndex) (a b : List ArenaIndex) (x : ArenaIndex) (e : Ends)
     → AreLists h r lists → lists c ≡ a ++ b → r c ≡ Some e → h x ≡ Some unlinked
@@ -165,7 +165,7 @@ AreLists-link h r lists c a b x e l is live u =
     (λ y m n. elim (id_cases x y) [
       | inl same ↦ inr (inl (In-right y a (x ∷ b) (inl (sym same))))
       | inr ne ↦ elim (In-either y (a ++ b)) [
-        | inl i ↦ elim (In-cases y a b i) [ inl j ↦ inr (inl (In-left y a (x ∷ b) j)) | inr j ↦ inr (inl (In-right y a (x ∷ b) (inr j))) ]
+        | inl i ↦ elim (In-append y a b i) [ inl j ↦ inr (inl (In-left y a (x ∷ b) j)) | inr j ↦ inr (inl (In-right y a (x ∷ b) (inr j))) ]
         | inr ni ↦ inr (inr (λ i. ni (rw (← is) i), keep y ne ∙ relink-other h a b (Some x) (Some x) y (λ j. ni (In-left y a b j)) (λ j. ni (In-right y a b j))))
       ]
     ])
@@ -202,11 +202,11 @@ AreLists-unlink h r lists c a b x e l is live =
     (λ k ne. reend-other r c a b v w k ne)
     (λ k y ne i. keep y (λ e. elsewhere k y ne i (In-right y a (x ∷ b) (inl (sym e)))) ∙ relink-other h a b v w y (λ j. elsewhere k y ne i (In-left y a (x ∷ b) j)) (λ j. elsewhere k y ne i (In-right y a (x ∷ b) (inr j))))
     (λ y m n. elim (id_cases x y) [
-      | inl same ↦ inl (Some-inj _ _ (sym n ∙ subst (λ z. new z ≡ Some unlinked) same here))
+      | inl same ↦ inl (same_Some _ _ (sym n ∙ subst (λ z. new z ≡ Some unlinked) same here))
       | inr ne ↦ elim (In-either y (a ++ b)) [
         | inl i ↦ inr (inl i)
         | inr ni ↦ inr (inr (
-          λ i. elim (In-cases y a (x ∷ b) (rw (← is) i)) [ inl j ↦ ni (In-left y a b j) | inr j ↦ elim j [ inl e ↦ ne (sym e) | inr k ↦ ni (In-right y a b k) ] ],
+          λ i. elim (In-append y a (x ∷ b) (rw (← is) i)) [ inl j ↦ ni (In-left y a b j) | inr j ↦ elim j [ inl e ↦ ne (sym e) | inr k ↦ ni (In-right y a b k) ] ],
           keep y ne ∙ relink-other h a b v w y (λ j. ni (In-left y a b j)) (λ j. ni (In-right y a b j)),
         ))
       ]

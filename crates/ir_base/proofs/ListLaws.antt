@@ -2,18 +2,19 @@
 use Rattle.std.proofs.Common.{◌≡◌, ◌⊎◌, ◌↔◌, ℕ, ◌+◌, Bool, cond, List, [], ◌∷◌, ◌++◌, map, Option, Some, None, IsSome, is_some, is_none, nat_lt, ◌&&◌, count_by, refl, sym, ap, ◌∙◌, subst, inl, inr, rules}
 use Rattle.std.specs.Option.{option_map}
 use Rattle.std.proofs.lemmas.List.Sums.{sum_by-cons}
+use Rattle.std.proofs.lemmas.Option.{same_Some}
 use Rattle.ir_model.specs.declared.ids.ArenaIndex.{ArenaIndex}
 use Rattle.ir_base.specs.declared.arena.Slot.{Slot}
 use Rattle.ir_base.specs.ArenaSlots.{is_taken, is_retired, had_version}
 use Rattle.ir_base.specs.Arena.{Arena, get, fill, cut, empty, IsLive, IsNew, is_passed, arena_len, room}
 use Rattle.ir_model.specs.Ids.{Distinct}
 use Rattle.ir_model.specs.Nesting.{In}
-use Rattle.ir_base.specs.Lists.{seen, Links, Ends, Heap, unlinked, no_ends, head_or, ends_of, AreLists, container_in, container_of, IsLinked, map_slot, map_records, SameBut, SameIds}
+use Rattle.ir_base.specs.Lists.{seen, Links, Ends, Heap, unlinked, no_ends, ends_of, AreLists, container_in, container_of, IsLinked, map_slot, map_records, SameBut, SameIds}
 use Rattle.ir_base.proofs.ArenaLaws.{get-empty, get-new, get-fill_new, get-fill_new_other, get-cut, get-cut_other}
 use Rattle.ir_base.proofs.ListArena.{slot_at-map}
-use Rattle.ir_base.proofs.ListChains.{Some-inj, id_cases, chain-at, chain-same, chain-apart}
+use Rattle.ir_base.proofs.ListChains.{id_cases, head-None, chain-at, chain-same, chain-apart}
 use Rattle.ir_base.proofs.ListRecords.{seen-same, SameBut-get}
-use Rattle.ir_base.proofs.ListPlaces.{in-linked, in-is_linked, place}
+use Rattle.ir_base.proofs.ListPlaces.{in-linked, in-is_linked, In-middle, place}
 
 -- ---- what the lists are
 
@@ -22,11 +23,7 @@ pub container-is_in : {h : Heap Links} {r : Heap Ends} {lists : ArenaIndex → L
 container-is_in {h} {r} {lists} l c x = (λ e. found (h x) refl e, λ i. in-linked l c x i)
   where
     middle : (xs a b : List ArenaIndex) → xs ≡ a ++ x ∷ b → In x xs
-    middle xs a b e = subst (λ ys. In x ys) (sym e) (at a)
-      where
-        at : (a : List ArenaIndex) → In x (a ++ x ∷ b)
-        at [] = inl refl
-        at (y ∷ ys) = inr (at ys)
+    middle xs a b e = subst (λ ys. In x ys) (sym e) (In-middle x a b)
 
     found : (o : Option Links) → h x ≡ o → container_of h x ≡ Some c → In x (lists c)
     found None e k = absurd (no_container e k)
@@ -86,7 +83,7 @@ module _ {T : Type 0} (links : T → Links) (nodes : Arena T) (r : Heap Ends) (l
       AreLists-nodes (seen links nodes) (seen links (fill nodes id v)) r lists l
       (λ c y i. same y (λ e. unused c (subst (λ z. In z (lists c)) (sym e) i)))
       (λ y m e. elim (id_cases id y) [
-        | inl here ↦ inl (Some-inj _ _ (sym e ∙ sym (ap (seen links (fill nodes id v)) here) ∙ ap (option_map links) (get-fill_new nodes id v new) ∙ ap Some free))
+        | inl here ↦ inl (same_Some _ _ (sym e ∙ sym (ap (seen links (fill nodes id v)) here) ∙ ap (option_map links) (get-fill_new nodes id v new) ∙ ap Some free))
         | inr ne ↦ inr (same y ne)
       ])
     where
@@ -126,7 +123,7 @@ module _ {C : Type 0} (ends : C → Ends) (h : Heap Links) (containers : Arena C
   AreLists-fill_container id v new free = record {
     chains = l.chains;
     ends = λ c e is. elim (id_cases id c) [
-      | inl here ↦ Some-inj _ _ (sym is ∙ sym (ap (seen ends (fill containers id v)) here) ∙ ap (option_map ends) (get-fill_new containers id v new) ∙ ap Some (free ∙ ap ends_of (sym (ap lists (sym here) ∙ none))))
+      | inl here ↦ same_Some _ _ (sym is ∙ sym (ap (seen ends (fill containers id v)) here) ∙ ap (option_map ends) (get-fill_new containers id v new) ∙ ap Some (free ∙ ap ends_of (sym (ap lists (sym here) ∙ none))))
       | inr ne ↦ l.ends c e (sym (same c ne) ∙ is)
     ];
     absent = λ c is. elim (id_cases id c) [
@@ -170,11 +167,7 @@ module _ {C : Type 0} (ends : C → Ends) (h : Heap Links) (containers : Arena C
 
 -- a container with no first node has an empty list
 pub list-empty : {h : Heap Links} {r : Heap Ends} {lists : ArenaIndex → List ArenaIndex} → AreLists h r lists → (c : ArenaIndex) (e : Ends) → r c ≡ Some e → e.head ≡ None → lists c ≡ []
-list-empty {h} {r} {lists} l c e is none = empty_of (lists c) (sym none ∙ ap (λ (e : Ends). e.head) (l.ends c e is))
-  where
-    empty_of : (xs : List ArenaIndex) → None ≡ head_or None xs → xs ≡ []
-    empty_of [] e = refl
-    empty_of (x ∷ xs) e = cc
+list-empty {h} {r} {lists} l c e is none = head-None (lists c) (sym none ∙ ap (λ (e : Ends). e.head) (l.ends c e is))
 
 -- ---- what an edit leaves
 

@@ -1,12 +1,14 @@
 -- Where a linked node stands, and what is live there.
-use Rattle.std.proofs.Common.{append_assoc, ◌≡◌, List, [], ◌∷◌, ◌++◌, Option, Some, None, IsSome, rules, refl, sym, ap, ◌∙◌, subst, inl, inr}
+use Rattle.std.proofs.Common.{append_assoc, ◌≡◌, List, [], ◌∷◌, ◌++◌, Option, Some, None, is_some, IsSome, rules, refl, sym, ap, ◌∙◌, subst, inl, inr}
 use Rattle.std.specs.Prelude.{IfSome}
 use Rattle.std.specs.Option.{option_map}
+use Rattle.std.proofs.lemmas.Option.{same_Some}
 use Rattle.ir_model.specs.declared.ids.ArenaIndex.{ArenaIndex}
+use Rattle.ir_model.proofs.Nests.{In-left, In-right}
 use Rattle.ir_base.specs.Arena.{Arena, get, IsLive}
 use Rattle.ir_model.specs.Nesting.{In}
 use Rattle.ir_base.specs.Lists.{seen, Links, Ends, unlinked, linked, Heap, head_or, last_or, IsChain, AreLists, AreWellFormed, container_in, container_of, IsLinked}
-use Rattle.ir_base.proofs.ListChains.{Some-inj, In-left, In-right, chain-split, chain-at, In-split}
+use Rattle.ir_base.proofs.ListChains.{chain-split, chain-at, In-split}
 use Rattle.ir_base.proofs.ListEdits.{head-In, last-In}
 
 -- an id is live where something is seen of it
@@ -28,12 +30,8 @@ seen-from_live view s i l = seen-in view (get s i) l
 pub in-linked : {h : Heap Links} {r : Heap Ends} {lists : ArenaIndex → List ArenaIndex} → AreLists h r lists → (c x : ArenaIndex) → In x (lists c) → container_of h x ≡ Some c
 in-linked {h} {r} {lists} a c x i = let s = chain-at h c None (lists c) None x (a.chains c) i in ap container_in s.1 ∙ s.2
 
-some_of : (o : Option ArenaIndex) (c : ArenaIndex) → o ≡ Some c → IsSome o
-some_of None c e = cc
-some_of (Some x) c e = search rules
-
 pub in-is_linked : {h : Heap Links} {r : Heap Ends} {lists : ArenaIndex → List ArenaIndex} → AreLists h r lists → (c x : ArenaIndex) → In x (lists c) → IsLinked h x
-in-is_linked {h} a c x i = some_of (container_of h x) c (in-linked a c x i)
+in-is_linked {h} a c x i = ap is_some (in-linked a c x i)
 
 -- a live node that is not linked has empty links
 pub unlinked-links : {h : Heap Links} {r : Heap Ends} {lists : ArenaIndex → List ArenaIndex} → AreLists h r lists → (x : ArenaIndex) (m : Links) → h x ≡ Some m → (IsLinked h x → ⊥) → h x ≡ Some unlinked
@@ -78,8 +76,8 @@ module _ {h : Heap Links} {r : Heap Ends} {lists : ArenaIndex → List ArenaInde
     | inl u ↦ let bad : None ≡ Some c = sym (ap (λ (m : Links). m.container) u) ∙ k in cc
     | inr s ↦
         let t = chain-at h s.0 None (lists s.0) None x (l.chains s.0) s.1 in
-        let same : m ≡ t.0 = Some-inj _ _ (sym e ∙ t.1) in
-        let cs : s.0 ≡ c = Some-inj _ _ (sym t.2 ∙ sym (ap (λ (m : Links). m.container) same) ∙ k) in
+        let same : m ≡ t.0 = same_Some _ _ (sym e ∙ t.1) in
+        let cs : s.0 ≡ c = same_Some _ _ (sym t.2 ∙ sym (ap (λ (m : Links). m.container) same) ∙ k) in
         place-in x c (subst (λ d. In x (lists d)) cs s.1)
   ]
 
@@ -117,11 +115,11 @@ pub read_links : (h : Heap Links) (x c d : ArenaIndex) (a b : List ArenaIndex) (
     → next ≡ m.next → prev ≡ m.prev → container ≡ m.container → container ≡ Some d
     → ReadLinks x c a b next prev d
 read_links h x c d a b m next prev container at_x e n p k u =
-    let same : m ≡ linked (last_or None a) (head_or None b) c = Some-inj _ _ (sym e ∙ at_x) in
+    let same : m ≡ linked (last_or None a) (head_or None b) c = same_Some _ _ (sym e ∙ at_x) in
     record {
       next_is = n ∙ ap (λ (l : Links). l.next) same;
       prev_is = p ∙ ap (λ (l : Links). l.prev) same;
-      container_is = Some-inj _ _ (sym u ∙ k ∙ ap (λ (l : Links). l.container) same);
+      container_is = same_Some _ _ (sym u ∙ k ∙ ap (λ (l : Links). l.container) same);
     }
 
 pub In-middle : (x : ArenaIndex) (a b : List ArenaIndex) → In x (a ++ x ∷ b)

@@ -1,14 +1,15 @@
 -- Nodes that move to another container, and two lists joined.
 use Rattle.std.proofs.Common.{◌≡◌, ◌<◌, Bool, true, false, cond, List, [], ◌∷◌, ◌++◌, length, Option, Some, None, refl, sym, ap, ◌∙◌, subst, inl, inr, arith, append-nil, append_assoc}
 use Rattle.std.specs.Option.{option_map, option_or}
+use Rattle.std.proofs.lemmas.Option.{same_Some}
 use Rattle.ir_model.specs.declared.ids.ArenaIndex.{ArenaIndex}
 use Rattle.ir_base.specs.Arena.{Arena}
 use Rattle.ir_model.specs.Ids.{Distinct}
 use Rattle.ir_model.specs.Nesting.{In}
-use Rattle.ir_model.proofs.Nests.{not_in-Absent}
+use Rattle.ir_model.proofs.Nests.{In-left, In-right, not_in-Absent}
 use Rattle.ir_base.specs.Lists.{seen, Links, Ends, linked, no_ends, is_at, unless, with_next, with_prev, with_head, with_tail, Heap, change, head_or, last_or, ends_of, IsChain, AreLists, with_list, with_container, rehome}
 use Rattle.ir_base.specs.Walks.{IsListFrom, Walked, piece}
-use Rattle.ir_base.proofs.ListChains.{Some-inj, id_cases, change-other, change-here, apart-both, chain-split, chain-join, chain-same, chain-apart, chain-unique, In-left, In-right, last_or-append}
+use Rattle.ir_base.proofs.ListChains.{id_cases, change-other, change-here, head-None, apart-both, chain-split, chain-join, chain-same, chain-apart, chain-unique, last_or-append}
 use Rattle.ir_base.proofs.ListEdits.{change-apart, relink, relink-sides, relink-other, lists-apart, with_list-here, with_list-other, In-either}
 use Rattle.ir_base.proofs.ListWalks.{piece-all}
 
@@ -38,7 +39,7 @@ pub record Step (start now : Heap Links) (first : Option ArenaIndex) (c node : A
 
 head-cases : (xs : List ArenaIndex) (x : ArenaIndex) → Some x ≡ head_or None xs → (ys : List ArenaIndex) × (xs ≡ x ∷ ys)
 head-cases [] x e = cc
-head-cases (y ∷ ys) x e = (ys, ap (λ z. z ∷ ys) (sym (Some-inj _ _ e)))
+head-cases (y ∷ ys) x e = (ys, ap (λ z. z ∷ ys) (sym (same_Some _ _ e)))
 
 pub step : (start now : Heap Links) (first : Option ArenaIndex) (c node : ArenaIndex) (w : Walked start now first (Some node) c) → Step start now first c node w
 step start now first c node w =
@@ -72,15 +73,11 @@ walk-more start now after first next c node w moves reads =
       moved = moves ∙ ap (change (with_container c) (Some node)) w.moved ∙ sym (rehome-push c w.done node start);
     }
 
-nothing : (xs : List ArenaIndex) → None ≡ head_or None xs → xs ≡ []
-nothing [] e = refl
-nothing (x ∷ xs) e = cc
-
 pub walk-end : (start now : Heap Links) (first : Option ArenaIndex) (c : ArenaIndex) → Walked start now first None c
     → (d : ArenaIndex) (p : Option ArenaIndex) (xs : List ArenaIndex) → IsChain start d p xs None → first ≡ head_or None xs → now ≡ rehome c xs start
 walk-end start now first c w d p xs k b =
     let same : w.whole.nodes ≡ xs = chain-unique start w.whole.owner d w.whole.before p w.whole.nodes xs w.whole.chain k (sym w.whole.begins ∙ b) in
-    let over : w.todo ≡ [] = nothing w.todo w.stands in
+    let over : w.todo ≡ [] = head-None w.todo w.stands in
     let all : xs ≡ w.done = sym same ∙ w.splits ∙ ap (λ ys. w.done ++ ys) over ∙ append-nil w.done in
     w.moved ∙ ap (λ ys. rehome c ys start) (sym all)
 
@@ -151,9 +148,9 @@ AreLists-join h h' r r' lists c d e f l ne is rc rd ro =
         ]
       ];
       ends = λ k g at_k. elim (id_cases c k) [
-        | inl same ↦ Some-inj _ _ (sym at_k ∙ ap r' (sym same) ∙ rc) ∙ ap ends_of (sym new-c ∙ ap new same)
+        | inl same ↦ same_Some _ _ (sym at_k ∙ ap r' (sym same) ∙ rc) ∙ ap ends_of (sym new-c ∙ ap new same)
         | inr nc ↦ elim (id_cases d k) [
-          | inl same ↦ Some-inj _ _ (sym at_k ∙ ap r' (sym same) ∙ rd) ∙ ap ends_of (sym new-d ∙ ap new same)
+          | inl same ↦ same_Some _ _ (sym at_k ∙ ap r' (sym same) ∙ rd) ∙ ap ends_of (sym new-d ∙ ap new same)
           | inr nd ↦ l.ends k g (sym (ro k nc nd) ∙ at_k) ∙ ap ends_of (sym (new-k k nc nd))
         ]
       ];
@@ -193,7 +190,7 @@ pub change-live : {A : Type 0} (f : A → A) (o : Option ArenaIndex) (h : Heap A
 change-live f o h i a e = change-live-if f (is_at o i) (h i) a e
 
 unless-other : (o : Option ArenaIndex) (c k : ArenaIndex) → (c ≡ k → ⊥) → unless o c ≡ Some k → ⊥
-unless-other None c k ne e = ne (Some-inj _ _ e)
+unless-other None c k ne e = ne (same_Some _ _ e)
 unless-other (Some x) c k ne e = cc
 
 or-head : (a b : List ArenaIndex) → option_or (head_or None a) (head_or None b) ≡ head_or None (a ++ b)

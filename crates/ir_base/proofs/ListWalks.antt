@@ -1,6 +1,7 @@
 -- What a walk by the links finds.
 use Rattle.std.proofs.Common.{◌≡◌, ℕ, suc, zero, ◌≤◌, Bool, true, false, cond, List, [], ◌∷◌, ◌++◌, length, Option, Some, None, refl, sym, ap, ◌∙◌, subst, inl, arith, length-append}
 use Rattle.std.specs.Option.{option_eq}
+use Rattle.std.proofs.lemmas.Option.{same_Some}
 use Rattle.ir_model.specs.declared.ids.ArenaIndex.{ArenaIndex}
 use Rattle.ir_model.specs.ContextIds.{same_id}
 use Rattle.ir_base.specs.Arena.{Arena}
@@ -8,10 +9,11 @@ use Rattle.ir_model.specs.Ids.{Distinct}
 use Rattle.ir_model.specs.Nesting.{In}
 use Rattle.ir_model.proofs.Nests.{not_in-Absent}
 use Rattle.ir_model.proofs.Redirected.{Distinct-front}
+use Rattle.ir_model.proofs.TwoRuns.{id_tells}
 use Rattle.ir_base.specs.Lists.{seen, Links, Ends, Heap, IsChain, linked, head_or, last_or, last_of, AreLists}
 use Rattle.ir_base.specs.Walks.{next_in, head_in, walk_to, piece, list_of, IsPiece}
 use Rattle.ir_base.proofs.ListArena.{live-fit}
-use Rattle.ir_base.proofs.ListChains.{Some-inj, id_same, id_differs, same_id-true, last_of-In, chain-apart, chain-at, chain-split, apart-both}
+use Rattle.ir_base.proofs.ListChains.{id_same, id_differs, head-None, last_of-In, chain-apart, chain-at, chain-split, apart-both}
 use Rattle.ir_base.proofs.ListPlaces.{live-from_seen}
 
 pub walk-all : (fuel : ℕ) (h : Heap Links) (c : ArenaIndex) (p : Option ArenaIndex) (xs : List ArenaIndex) → IsChain h c p xs None → length xs ≤ fuel → walk_to fuel h (head_or None xs) None ≡ xs
@@ -34,10 +36,6 @@ walk-piece (suc m) h c p n (x ∷ (y ∷ ys)) k a f =
 pub walk-nothing : (room : ℕ) (h : Heap Links) (last : Option ArenaIndex) → walk_to room h None last ≡ []
 walk-nothing zero h last = refl
 walk-nothing (suc n) h last = refl
-
-nothing : (xs : List ArenaIndex) → None ≡ head_or None xs → xs ≡ []
-nothing [] e = refl
-nothing (x ∷ xs) e = cc
 
 walk-found : (fuel : ℕ) (h : Heap Links) (r : Heap Ends) (lists : ArenaIndex → List ArenaIndex) → AreLists h r lists → ((c : ArenaIndex) → length (lists c) ≤ fuel) → (c : ArenaIndex) (o : Option Ends) → r c ≡ o → walk_to fuel h (head_in o) None ≡ lists c
 walk-found fuel h r lists l fits c None e = walk-nothing fuel h None ∙ sym (l.absent c e)
@@ -66,7 +64,7 @@ take-nodes : (h : Heap Links) (room : ℕ) (x c : ArenaIndex) (before after next
     → IsChain h c before xs after → Distinct xs → length xs ≤ room → Some x ≡ head_or None xs → back ≡ last_or None xs → walk_to room h next back ≡ xs → Taken h room x next back
 take-nodes h room x c before after next back [] k a f b e w = cc
 take-nodes h room x c before after next back (y ∷ []) k a f b e w =
-    let same : y ≡ x = sym (Some-inj _ _ b) in
+    let same : y ≡ x = sym (same_Some _ _ b) in
     record {
       links = linked before after c;
       here = subst (λ z. h z ≡ Some (linked before after c)) same k.0;
@@ -76,14 +74,14 @@ take-nodes h room x c before after next back (y ∷ []) k a f b e w =
       further = λ ne. absurd (ne (e ∙ ap Some same));
     }
 take-nodes h room x c before after next back (y ∷ (z ∷ zs)) k a f b e w =
-    let same : y ≡ x = sym (Some-inj _ _ b) in
+    let same : y ≡ x = sym (same_Some _ _ b) in
     let piece : IsPiece h room (Some z) back = record { container = c; before = Some y; after = after; nodes = z ∷ zs; chain = k.1; apart = a.1; fits = omega arith; begins = refl; ends = e } in
     record {
       links = linked before (Some z) c;
       here = subst (λ v. h v ≡ Some (linked before (Some z) c)) same k.0;
       rest = z ∷ zs;
       items = w ∙ ap (λ v. v ∷ (z ∷ zs)) same;
-      at_end = λ ends_here. absurd (not_in-Absent y (z ∷ zs) a.0 (subst (λ v. In v (z ∷ zs)) (Some-inj _ _ (sym e ∙ ends_here) ∙ sym same) (last_of-In z zs)));
+      at_end = λ ends_here. absurd (not_in-Absent y (z ∷ zs) a.0 (subst (λ v. In v (z ∷ zs)) (same_Some _ _ (sym e ∙ ends_here) ∙ sym same) (last_of-In z zs)));
       further = λ ne. (piece, piece-items piece);
     }
 
@@ -95,16 +93,16 @@ pub piece-none : (h : Heap Links) (room : ℕ) → IsPiece h room None None
 piece-none h room = record { container = record { slot = 0; version = 0 }; before = None; after = None; nodes = []; chain = tt; apart = tt; fits = omega arith; begins = refl; ends = refl }
 
 pub piece-empty : {h : Heap Links} {room : ℕ} {next back : Option ArenaIndex} → IsPiece h room next back → next ≡ None → walk_to room h next back ≡ []
-piece-empty {h} {room} {next} {back} w is = piece-items w ∙ nothing w.nodes (sym is ∙ w.begins)
+piece-empty {h} {room} {next} {back} w is = piece-items w ∙ head-None w.nodes (sym is ∙ w.begins)
 
 pub same-option : (o : Option ArenaIndex) (x : ArenaIndex) (b : Bool) → b ≡ option_eq same_id o (Some x) → b ≡ true → o ≡ Some x
 same-option None x b e t = cc
-same-option (Some y) x b e t = ap Some (same_id-true y x (sym e ∙ t))
+same-option (Some y) x b e t = ap Some ((id_tells y x).0 (sym e ∙ t))
 
 pub other-option : (o : Option ArenaIndex) (x : ArenaIndex) (b : Bool) → b ≡ option_eq same_id o (Some x) → b ≡ false → o ≡ Some x → ⊥
 other-option None x b e f s = cc
 other-option (Some y) x b e f s =
-    let here : same_id y x ≡ true = ap (λ z. same_id z x) (Some-inj _ _ s) ∙ id_same x in
+    let here : same_id y x ≡ true = ap (λ z. same_id z x) (same_Some _ _ s) ∙ id_same x in
     let not : same_id y x ≡ false = sym e ∙ f in
     cc
 
@@ -139,7 +137,7 @@ back-nodes h room x c before after next back (z ∷ zs) k a f b w =
       here = s.1.0;
       rest = z ∷ zs;
       items = w;
-      at_end = λ e. absurd (apart-both x (z ∷ zs) (x ∷ []) a (inl (Some-inj _ _ (sym e ∙ b))) (inl refl));
+      at_end = λ e. absurd (apart-both x (z ∷ zs) (x ∷ []) a (inl (same_Some _ _ (sym e ∙ b))) (inl refl));
       further = λ ne. (piece, piece-items piece);
     }
 
@@ -154,7 +152,7 @@ front-last x (y ∷ ys) = ap (λ zs. x ∷ zs) (front-last y ys)
 
 last-cases : (xs : List ArenaIndex) (x : ArenaIndex) → Some x ≡ last_or None xs → (ys : List ArenaIndex) × (xs ≡ ys ++ x ∷ [])
 last-cases [] x e = cc
-last-cases (y ∷ ys) x e = (front y ys, front-last y ys ∙ ap (λ z. front y ys ++ z ∷ []) (sym (Some-inj _ _ e)))
+last-cases (y ∷ ys) x e = (front y ys, front-last y ys ∙ ap (λ z. front y ys ++ z ∷ []) (sym (same_Some _ _ e)))
 
 pub take-back : {h : Heap Links} {room : ℕ} {x : ArenaIndex} {next back : Option ArenaIndex} → IsPiece h room next back → back ≡ Some x → TakenBack h room x next back
 take-back {h} {room} {x} {next} {back} w is =

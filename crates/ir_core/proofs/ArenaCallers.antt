@@ -1,43 +1,17 @@
 -- What a write under a live id does to an arena.
-use Rattle.std.proofs.Common.{◌≡◌, ◌⊎◌, ℕ, ◌-◌, ◌<◌, nat_eq, Bool, true, false, List, length, set, Option, Some, None, IsSome, is_some, cond, count_by, refl, sym, ap, ◌∙◌, inl, inr, arith, true≢false, ◌&&◌}
-use Rattle.std.proofs.lemmas.Bool.{cases_eq, eq-eqb, ne_eqb}
+use Rattle.std.proofs.Common.{◌≡◌, ℕ, ◌-◌, ◌<◌, Bool, List, length, set, Option, Some, None, IsSome, is_some, cond, count_by, refl, sym, ap, ◌∙◌, inl, inr, arith, true≢false}
 use Rattle.std.proofs.lemmas.List.{set-set, set-get_or}
 use Rattle.std.proofs.lemmas.List.Sums.{sum_by-set}
 use Rattle.ir_model.specs.declared.ids.ArenaIndex.{ArenaIndex}
-use Rattle.ir_model.specs.ContextIds.{same_id}
 use Rattle.ir_base.specs.declared.arena.Slot.{Slot}
-use Rattle.ir_base.specs.ArenaSlots.{had_version, never, slot_in, slot_at, is_taken, is_retired}
-use Rattle.ir_base.specs.Arena.{Arena, get, IsLive, fill, room, is_passed, arena_len}
-use Rattle.ir_base.proofs.ArenaSlots.{taken_at, slot_at-place, put-set, at-put_same, at-put_other, find-put_same, find-put_other}
+use Rattle.ir_base.specs.ArenaSlots.{never, slot_in, is_taken, is_retired}
+use Rattle.ir_base.specs.Arena.{Arena, get, IsLive, fill, room, arena_len}
+use Rattle.ir_base.proofs.ArenaSlots.{taken_at, put-set}
+use Rattle.ir_base.proofs.ArenaLaws.{get-fill_live, get-fill_live_other, passed-fill_live}
+use Rattle.ir_base.proofs.ListChains.{id_cases}
 use Rattle.std.specs.Option.{option_map}
 use Rattle.ir_core.specs.declared.operation.Operation.{Operation}
 use Rattle.ir_core.specs.Meaning.{SameIds}
-
--- whether two ids are one
-pub same_index : (p q : ArenaIndex) → p.slot ≡ q.slot → p.version ≡ q.version → p ≡ q
-same_index p q slot version = λ i. record { slot = slot i; version = version i }
-
-pub index_cases : (p q : ArenaIndex) → (p ≡ q) ⊎ (¬ (p ≡ q))
-index_cases p q =
-    elim (cases_eq p.slot q.slot) [
-      | inl slot ↦ elim (cases_eq p.version q.version) [ inl version ↦ inl (same_index p q slot version) | inr differs ↦ inr (λ e. differs (ap (λ (i : ArenaIndex). i.version) e)) ]
-      | inr differs ↦ inr (λ e. differs (ap (λ (i : ArenaIndex). i.slot) e))
-    ]
-
-pub same_id-true : (p q : ArenaIndex) → p ≡ q → same_id p q ≡ true
-same_id-true p q e =
-    let slot = eq-eqb p.slot q.slot (ap (λ (i : ArenaIndex). i.slot) e) in
-    let version = eq-eqb p.version q.version (ap (λ (i : ArenaIndex). i.version) e) in
-    ap (λ (b : Bool). b && nat_eq p.version q.version) slot ∙ version
-
-pub same_id-false : (p q : ArenaIndex) → ¬ (p ≡ q) → same_id p q ≡ false
-same_id-false p q differs =
-    elim (cases_eq p.slot q.slot) [
-      | inl slot ↦
-          let other = ne_eqb p.version q.version (λ version. differs (same_index p q slot version)) in
-          ap (λ (b : Bool). b && nat_eq p.version q.version) (eq-eqb p.slot q.slot slot) ∙ other
-      | inr other ↦ ap (λ (b : Bool). b && nat_eq p.version q.version) (ne_eqb p.slot q.slot other)
-    ]
 
 pub some_of : {A : Type 0} (x : Option A) → IsSome x → (y : A) × (x ≡ Some y)
 some_of None h = absurd (true≢false (sym h))
@@ -49,18 +23,6 @@ module _ {T : Type 0} where
       let taken = taken_at a.slots id (ap is_some e) in
       let item : (slot_in a.slots (id.slot - 1)).item ≡ Some x = sym taken.found ∙ e in
       λ i. record { version = taken.version i; item = item i }
-
-  -- what was written under a live id stands there, and each other id keeps what it had
-  pub get-fill : (a : Arena T) (id : ArenaIndex) (v : T) → IsLive a id → get (fill a id v) id ≡ Some v
-  get-fill a id v live =
-      let taken = taken_at a.slots id live in
-      find-put_same a.slots id (record { version = id.version; item = Some v }) refl taken.numbered (omega (arith, taken.within))
-
-  pub get-fill_other : (a : Arena T) (id q : ArenaIndex) (v : T) → IsLive a id → ¬ (q ≡ id) → get (fill a id v) q ≡ get a q
-  get-fill_other a id q v live differs =
-      let taken = taken_at a.slots id live in
-      find-put_other a.slots id q (record { version = id.version; item = Some v }) refl taken.numbered (omega (arith, taken.within))
-      (inl (ap (λ (s : Slot T). s.version) (slot_at-place a.slots id.slot taken.numbered) ∙ taken.version)) differs
 
   as_set : (a : Arena T) (id : ArenaIndex) (v : T) → IsLive a id → (fill a id v).slots ≡ set a.slots (id.slot - 1) (record { version = id.version; item = Some v })
   as_set a id v live =
@@ -79,24 +41,12 @@ module _ {T : Type 0} where
   pub fill-twice : (a : Arena T) (id : ArenaIndex) (v w : T) → IsLive a id → fill (fill a id v) id w ≡ fill a id w
   fill-twice a id v w live =
       let first = as_set a id v live in
-      let second = as_set (fill a id v) id w (ap is_some (get-fill a id v live)) in
+      let second = as_set (fill a id v) id w (ap is_some (get-fill_live a id v live)) in
       with_slots a (fill (fill a id v) id w).slots (fill a id w).slots
       (second
       ∙ ap (λ (xs : List (Slot T)). set xs (id.slot - 1) (record { version = id.version; item = Some w })) first
       ∙ set-set a.slots (id.slot - 1) (record { version = id.version; item = Some v }) (record { version = id.version; item = Some w })
       ∙ sym (as_set a id w live))
-
-  -- a write under a live id hands out no id
-  passed-fill : (a : Arena T) (id q : ArenaIndex) (v : T) → IsLive a id → is_passed (fill a id v) q ≡ is_passed a q
-  passed-fill a id q v live =
-      let taken = taken_at a.slots id live in
-      elim (cases_eq q.slot id.slot) [
-        | inl here ↦
-            let after : (slot_at (fill a id v).slots q.slot).version ≡ id.version = ap (λ n. (slot_at (fill a id v).slots n).version) here ∙ ap (λ (x : Slot T). x.version) (at-put_same a.slots id.slot (record { version = id.version; item = Some v }) taken.numbered (omega (arith, taken.within))) in
-            let before : (slot_at a.slots q.slot).version ≡ id.version = ap (λ n. (slot_at a.slots n).version) here ∙ ap (λ (x : Slot T). x.version) (slot_at-place a.slots id.slot taken.numbered) ∙ taken.version in
-            ap (λ n. had_version n q.version) (after ∙ sym before)
-        | inr there ↦ ap (λ (x : Slot T). had_version x.version q.version) (at-put_other a.slots id.slot q.slot (record { version = id.version; item = Some v }) taken.numbered (omega (arith, taken.within)) there)
-      ]
 
   count-set : (p : Slot T → Bool) (xs : List (Slot T)) (k : ℕ) (s : Slot T) → k < length xs → p (slot_in xs k) ≡ p s → count_by p (set xs k s) ≡ count_by p xs
   count-set p xs k s within same =
@@ -132,16 +82,16 @@ module _ {D A K B S X L : Type 0} where
   same_ids-fill a id op v at same =
       let live = ap is_some at in
       record {
-        passed = λ i. passed-fill a id i v live;
+        passed = λ i. passed-fill_live a id i v live;
         room = room-fill a id v live;
         limit = refl;
         last_version = refl;
         removals = refl;
-        own = λ i. elim (index_cases i id) [
+        own = λ i. elim (id_cases i id) [
           | inl e ↦
-              let now : get (fill a id v) i ≡ Some v = ap (get (fill a id v)) e ∙ get-fill a id v live in
+              let now : get (fill a id v) i ≡ Some v = ap (get (fill a id v)) e ∙ get-fill_live a id v live in
               let before : get a i ≡ Some op = ap (get a) e ∙ at in
               ap (option_map (λ (o : Operation D A K B S X L). o.index)) now ∙ ap Some same ∙ sym (ap (option_map (λ (o : Operation D A K B S X L). o.index)) before)
-          | inr e ↦ ap (option_map (λ (o : Operation D A K B S X L). o.index)) (get-fill_other a id i v live e)
+          | inr e ↦ ap (option_map (λ (o : Operation D A K B S X L). o.index)) (get-fill_live_other a id i v live e)
         ];
       }

@@ -3,7 +3,7 @@ use Rattle.std.proofs.Common.{◌≡◌, ℕ, zero, suc, ◌+◌, ◌-◌, ◌<�
 use Rattle.std.specs.List.{remove}
 use Rattle.std.specs.Option.{option_map}
 use Rattle.std.proofs.Math.Seq.{take-suc}
-use Rattle.std.proofs.lemmas.List.{length-map, map-append, length_push, length-take-le, take_all}
+use Rattle.std.proofs.lemmas.List.{length-map, map-append, length_push, length-take-le, nil_from_length, take_all}
 use Rattle.std.proofs.lemmas.List.Elements.{All-get_or}
 use Rattle.std.proofs.lemmas.Option.{slice_get-map}
 use Rattle.ir_model.specs.declared.ids.ArenaIndex.{ArenaIndex}
@@ -11,6 +11,7 @@ use Rattle.ir_model.specs.ContextIds.{context_ids, same_id}
 use Rattle.ir_model.specs.Forest.{Operand}
 use Rattle.ir_model.specs.Changes.{rewrite, on_operands}
 use Rattle.ir_base.specs.Arena.{Arena, IsLive}
+use Rattle.ir_base.proofs.ListChains.{id_cases}
 use Rattle.ir_core.specs.declared.operation.Operation.{Operation}
 use Rattle.ir_core.specs.declared.value.Value.{Value}
 use Rattle.ir_core.specs.declared.record.ValueIndex.{ValueIndex}
@@ -18,17 +19,13 @@ use Rattle.ir_core.specs.Table.{operands_at, IsResult}
 use Rattle.ir_core.specs.Links.{Linked, IsFreshUse}
 use Rattle.ir_core.specs.Meaning.{value_of, operand_of, operands_from, op_records, SameIds}
 use Rattle.ir_core.proofs.ListReads.{slice_get-push_cases}
-use Rattle.ir_core.proofs.ArenaCallers.{index_cases, same_ids-refl, same_ids-trans}
+use Rattle.ir_core.proofs.ArenaCallers.{same_ids-refl, same_ids-trans}
 use Rattle.ir_core.proofs.Meanings.{some_behind, operands_from-push, rewrite-twice, bare_meaning, live_after, operands_after, operands_away, result_after}
 
 length-remove_last : {T : Type 0} (xs : List T) (k : ℕ) → k < length xs → length (remove xs k) + 1 ≡ length xs
 length-remove_last [] k within = absurd (omega arith)
 length-remove_last (x ∷ xs) zero within = omega arith
 length-remove_last (x ∷ xs) (suc k) within = let e = length-remove_last xs k (omega arith) in omega (arith, e)
-
-none_left : {T : Type 0} (xs : List T) → length xs ≡ 0 → xs ≡ []
-none_left [] e = refl
-none_left (x ∷ xs) e = absurd (omega (arith, e))
 
 module _ {D A K B S X L : Type 0} where
   -- some of the operands were taken out
@@ -50,7 +47,7 @@ module _ {D A K B S X L : Type 0} where
   }
 
   pub unlinks-end : (old t : Arena (Operation D A K B S X L)) (o : ArenaIndex) → Unlinks old t o → length (operands_at t o) ≡ 0 → op_records t ≡ rewrite same_id o (on_operands (λ _. [])) (op_records old)
-  unlinks-end old t o so_far none = sym (bare_meaning t o so_far.live (none_left (operands_at t o) none)) ∙ so_far.records
+  unlinks-end old t o so_far none = sym (bare_meaning t o so_far.live (nil_from_length (operands_at t o) none)) ∙ so_far.records
 
   pub popped_count : (t s : Arena (Operation D A K B S X L)) (o : ArenaIndex) → op_records s ≡ rewrite same_id o (on_operands (λ xs. remove xs (length xs - 1))) (op_records t) → IsLive t o → 0 < length (operands_at t o) → length (operands_at s o) < length (operands_at t o)
   popped_count t s o e live some =
@@ -64,7 +61,7 @@ module _ {D A K B S X L : Type 0} where
   pub fresh_after : (t s : Arena (Operation D A K B S X L)) (o : ArenaIndex) (x : Operand context_ids) → op_records s ≡ rewrite same_id o (on_operands (λ xs. xs ++ x ∷ [])) (op_records t) → IsLive t o → (n : ℕ) → ¬ (x.use_number ≡ n) → IsFreshUse t n → IsFreshUse s n
   fresh_after t s o x e live n other fresh p i a at same =
       let seen : slice_get (map operand_of (operands_at s p)) i ≡ Some (operand_of a) = slice_get-map operand_of (operands_at s p) i ∙ ap (option_map operand_of) at in
-      elim (index_cases p o) [
+      elim (id_cases p o) [
         | inl q ↦
             let now : slice_get (map operand_of (operands_at t o) ++ x ∷ []) i ≡ Some (operand_of a) =
             ap (λ (xs : List (Operand context_ids)). slice_get xs i) (sym (operands_after t s o (λ xs. xs ++ x ∷ []) e live)) ∙ ap (λ (j : ArenaIndex). slice_get (map operand_of (operands_at s j)) i) (sym q) ∙ seen in

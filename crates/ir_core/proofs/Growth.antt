@@ -4,21 +4,15 @@ use Rattle.std.proofs.lemmas.List.{length-append}
 use Rattle.std.specs.Option.{OnSome, IfNone}
 use Rattle.ir_model.specs.declared.ids.ArenaIndex.{ArenaIndex}
 use Rattle.ir_model.specs.declared.ids.Limits.{Limits}
-use Rattle.ir_model.specs.ContextIds.{same_id}
 use Rattle.ir_model.specs.Nesting.{In}
 use Rattle.ir_model.specs.Sessions.{IsNewId}
 use Rattle.ir_model.proofs.Nests.{In-append, In-left, In-right, Distinct-append}
-use Rattle.ir_model.proofs.KeepsNew.{any_in}
-use Rattle.ir_model.proofs.TwoRuns.{id_tells}
 use Rattle.ir_base.specs.Arena.{Arena, get, IsLive, is_passed, fill, cut, miss, Inserts}
 use Rattle.ir_base.proofs.ArenaLaws.{get-new, get-fill_new, get-fill_new_other, get-cut, get-cut_other, passed-fill_new, passed-cut, new-is_new}
+use Rattle.ir_base.proofs.ListEdits.{In-either}
 use Rattle.ir_core.specs.Creation.{Grows, Fills, SkipsIds, Clears, SameRecords}
 use Rattle.ir_core.specs.declared.operation.Operation.{Operation}
 use Rattle.ir_core.specs.Meaning.{SameIds}
-
--- an id is in a list or not
-pub in_cases : (i : ArenaIndex) (xs : List ArenaIndex) → In i xs ⊎ (In i xs → ⊥)
-in_cases i xs = elim (any_in same_id id_tells i xs) [ inl h ↦ inl h.1 | inr h ↦ inr h.1 ]
 
 module _ {T : Type 0} where
   -- one insertion
@@ -64,7 +58,7 @@ module _ {T : Type 0} where
 
   -- what lives on, lives
   pub Fills-still : (a b : Arena T) (xs : List ArenaIndex) (v : T) → Fills a b xs v → (i : ArenaIndex) → IsLive a i → IsLive b i
-  Fills-still a b xs v f i live = elim (in_cases i xs) [
+  Fills-still a b xs v f i live = elim (In-either i xs) [
     | inl k ↦ ap is_some (f.filled i k)
     | inr k ↦ ap is_some (f.kept i k) ∙ live
   ]
@@ -121,7 +115,7 @@ module _ {T : Type 0} where
   pub Fills-more : (a b c : Arena T) (xs ys : List ArenaIndex) (v : T) → Fills a b xs v → Fills b c ys v → Fills a c (xs ++ ys) v
   Fills-more a b c xs ys v f g = record {
     grows = Grows-more a b c xs ys v f g.grows;
-    filled = λ i k. elim (in_cases i ys) [
+    filled = λ i k. elim (In-either i ys) [
       | inl there ↦ g.filled i there
       | inr not_there ↦ elim (In-append i xs ys k) [ inl here ↦ g.kept i not_there ∙ f.filled i here | inr there ↦ absurd (not_there there) ]
     ];
@@ -163,7 +157,7 @@ module _ {T : Type 0} where
 
   pub Clears-more : (a b c : Arena T) (xs ys : List ArenaIndex) → Clears a b xs → Clears b c ys → Clears a c (xs ++ ys)
   Clears-more a b c xs ys f g = record {
-    gone = λ i k. elim (in_cases i ys) [
+    gone = λ i k. elim (In-either i ys) [
       | inl there ↦ g.gone i there
       | inr not_there ↦ elim (In-append i xs ys k) [ inl here ↦ g.kept i not_there ∙ f.gone i here | inr there ↦ absurd (not_there there) ]
     ];
@@ -178,7 +172,7 @@ module _ {T : Type 0} where
 
   -- what was filled and then cleared is as it was, whatever ids were skipped in between
   pub same-cleared : (a b c d : Arena T) (xs : List ArenaIndex) (v : T) → Fills a b xs v → SameRecords b c → Clears c d xs → SameRecords a d
-  same-cleared a b c d xs v f s h i = elim (in_cases i xs) [
+  same-cleared a b c d xs v f s h i = elim (In-either i xs) [
     | inl k ↦ h.gone i k ∙ sym (f.grows.dead i k)
     | inr k ↦ h.kept i k ∙ s i ∙ f.kept i k
   ]

@@ -4,6 +4,7 @@ use Rattle.std.specs.List.{swap_remove, remove}
 use Rattle.std.proofs.lemmas.Bool.{cases_eq, cases_lt, cases_order}
 use Rattle.std.proofs.lemmas.Option.{slice_get_within, same_Some}
 use Rattle.ir_model.specs.declared.ids.ArenaIndex.{ArenaIndex}
+use Rattle.ir_base.proofs.ListChains.{id_cases}
 use Rattle.ir_core.specs.declared.record.Definer.{Definer}
 use Rattle.ir_core.specs.declared.record.Definer.TheVariants.{Op, Block}
 use Rattle.ir_core.specs.declared.record.ValueIndex.{ValueIndex}
@@ -11,13 +12,12 @@ use Rattle.ir_core.specs.declared.record.UseIndex.{UseIndex}
 use Rattle.ir_core.specs.declared.record.OperandRecord.{OperandRecord}
 use Rattle.ir_core.specs.Links.{LinkedBut, NoHole, HoleAt}
 use Rattle.ir_core.proofs.ListReads.{swap_remove-at, swap_remove-other, swap_remove-within, slice_get-remove_below, slice_get-remove_from, slice_get-push_at, slice_get-push_before, slice_get-push_cases, slice_get-set_same, slice_get-set_other}
-use Rattle.ir_core.proofs.ArenaCallers.{index_cases}
 
 definer_cases : (d e : Definer) → (d ≡ e) ⊎ (¬ (d ≡ e))
-definer_cases (Op o) (Op p) = elim (index_cases o p) [ inl e ↦ inl (ap Op e) | inr differs ↦ inr (λ e. differs (cc)) ]
+definer_cases (Op o) (Op p) = elim (id_cases o p) [ inl e ↦ inl (ap Op e) | inr differs ↦ inr (λ e. differs (cc)) ]
 definer_cases (Op o) (Block b) = inr (λ e. absurd (cc))
 definer_cases (Block b) (Op o) = inr (λ e. absurd (cc))
-definer_cases (Block b) (Block c) = elim (index_cases b c) [ inl e ↦ inl (ap Block e) | inr differs ↦ inr (λ e. differs (cc)) ]
+definer_cases (Block b) (Block c) = elim (id_cases b c) [ inl e ↦ inl (ap Block e) | inr differs ↦ inr (λ e. differs (cc)) ]
 
 -- whether two values are one
 pub value_cases : (v w : ValueIndex) → (v ≡ w) ⊎ (¬ (v ≡ w))
@@ -55,7 +55,7 @@ placed_cases v w k l =
 
 operand_cases : (o p : ArenaIndex) (i j : ℕ) → ((o ≡ p) × (i ≡ j)) ⊎ (¬ ((o ≡ p) × (i ≡ j)))
 operand_cases o p i j =
-    elim (index_cases o p) [
+    elim (id_cases o p) [
       | inl e ↦ elim (cases_eq i j) [ inl f ↦ inl (e, f) | inr f ↦ inr (λ t. f t.1) ]
       | inr e ↦ inr (λ t. e t.0)
     ]
@@ -165,7 +165,7 @@ module _ (os os' : ArenaIndex → List OperandRecord) (us : ValueIndex → List 
   was_at : OperandsChange o (remove (os o) i) os os' → (p : ArenaIndex) (j : ℕ) (b : OperandRecord) → slice_get (os' p) j ≡ Some b
       → (k : ℕ) × (slice_get (os p) k ≡ Some b) × (¬ (HoleAt o i p k)) × ((p ≡ o) × (j < i) × (k ≡ j) ⊎ ((p ≡ o) × (i ≤ j) × (k ≡ suc j) ⊎ (¬ (p ≡ o)) × (k ≡ j)))
   was_at C p j b at =
-      elim (index_cases p o) [
+      elim (id_cases p o) [
         | inl e ↦
             let at' : slice_get (remove (os o) i) j ≡ Some b = (λ q. slice_get (sym C.here q) j) ∙ (λ q. slice_get (os' (sym e q)) j) ∙ at in
             elim (cases_lt j i) [
@@ -177,7 +177,7 @@ module _ (os os' : ArenaIndex → List OperandRecord) (us : ValueIndex → List 
 
   goes_to : OperandsChange o (remove (os o) i) os os' → (p : ArenaIndex) (k : ℕ) (b : OperandRecord) → slice_get (os p) k ≡ Some b → ¬ (HoleAt o i p k) → (j : ℕ) × (slice_get (os' p) j ≡ Some b)
   goes_to C p k b at nh =
-      elim (index_cases p o) [
+      elim (id_cases p o) [
         | inl e ↦
             let at' : slice_get (os o) k ≡ Some b = (λ q. slice_get (os (sym e q)) k) ∙ at in
             let now : (j : ℕ) → slice_get (os' p) j ≡ slice_get (remove (os o) i) j = λ j. (λ q. slice_get (os' (e q)) j) ∙ (λ q. slice_get (C.here q) j) in
@@ -251,7 +251,7 @@ module _ (os : ArenaIndex → List OperandRecord) (us us' : ValueIndex → List 
 module _ (os os' : ArenaIndex → List OperandRecord) (us : ValueIndex → List UseIndex) (o : ArenaIndex) (a : OperandRecord) where
   grown_at : OperandsChange o (os o ++ a ∷ []) os os' → (p : ArenaIndex) (j : ℕ) (b : OperandRecord) → slice_get (os' p) j ≡ Some b → (slice_get (os p) j ≡ Some b) ⊎ ((p ≡ o) × (j ≡ length (os o)) × (a ≡ b))
   grown_at C p j b at =
-      elim (index_cases p o) [
+      elim (id_cases p o) [
         | inl e ↦
             let at' : slice_get (os o ++ a ∷ []) j ≡ Some b = (λ q. slice_get (sym C.here q) j) ∙ (λ q. slice_get (os' (sym e q)) j) ∙ at in
             elim (slice_get-push_cases (os o) a j b at') [ inl f ↦ inl ((λ q. slice_get (os (e q)) j) ∙ f) | inr f ↦ inr (e, f.0, f.1) ]
@@ -260,7 +260,7 @@ module _ (os os' : ArenaIndex → List OperandRecord) (us : ValueIndex → List 
 
   grows : OperandsChange o (os o ++ a ∷ []) os os' → (p : ArenaIndex) (j : ℕ) (b : OperandRecord) → slice_get (os p) j ≡ Some b → (slice_get (os' p) j ≡ Some b) × (¬ (HoleAt o (length (os o)) p j))
   grows C p j b at =
-      elim (index_cases p o) [
+      elim (id_cases p o) [
         | inl e ↦
             let at' : slice_get (os o) j ≡ Some b = (λ q. slice_get (os (sym e q)) j) ∙ at in
             let within = slice_get_within (os o) j b at' in
@@ -300,7 +300,7 @@ relabel {os} {os'} {us} v last k p j m L at ev el C =
     let within = slice_get_within (os p) j m at in
     let here : slice_get (os' p) j ≡ Some (record m { place = k }) = (λ q. slice_get (C.here q) j) ∙ slice_get-set_same (os p) j (record m { place = k }) within in
     let away : (q : ArenaIndex) (i : ℕ) → ¬ ((q ≡ p) × (i ≡ j)) → slice_get (os' q) i ≡ slice_get (os q) i = λ q i ne.
-    elim (index_cases q p) [
+    elim (id_cases q p) [
       | inl e ↦ (λ x. slice_get (os' (e x)) i) ∙ (λ x. slice_get (C.here x) i) ∙ slice_get-set_other (os p) j i (record m { place = k }) (λ f. ne (e, f)) ∙ (λ x. slice_get (os (sym e x)) i)
       | inr f ↦ λ x. slice_get (C.others q f x) i
     ] in

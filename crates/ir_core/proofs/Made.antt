@@ -3,8 +3,10 @@ use mathlib.Core.Path.{fun_ext}
 use Rattle.std.proofs.Common.{◌≡◌, ◌≢◌, ◌⊎◌, ◌↔◌, ℕ, zero, suc, ◌+◌, ◌<◌, ◌≤◌, Bool, true, false, cond, nat_eq, nat_lt, List, [], ◌∷◌, ◌++◌, length, map, get_or, All, Option, Some, None, IsSome, is_some, IsTrue, slice_get, refl, sym, ap, subst, ◌∙◌, inl, inr, arith, true≢false}
 use Rattle.std.specs.List.{range_with_len, zip}
 use Rattle.std.specs.Option.{option_map}
+use Rattle.std.proofs.lemmas.Bool.{le-ltb, lt-ltb, ltb-true}
 use Rattle.std.proofs.lemmas.Bool.Decides.{nat_tests, eqb_tells}
 use Rattle.std.proofs.lemmas.List.{length-map}
+use Rattle.std.proofs.lemmas.List.FromFn.{length-range_with_len}
 use Rattle.std.proofs.lemmas.Option.{same_Some}
 use Rattle.ir_model.specs.declared.ids.ArenaIndex.{ArenaIndex}
 use Rattle.ir_model.specs.declared.ids.Limits.{Limits}
@@ -24,18 +26,15 @@ use Rattle.ir_base.specs.Arena.{Arena, get, IsLive, is_passed}
 use Rattle.ir_core.specs.declared.operation.Operation.{Operation}
 use Rattle.ir_core.specs.declared.region.Region.{Region}
 use Rattle.ir_core.specs.declared.value.Value.{Value as Handle}
-use Rattle.ir_core.specs.declared.record.ResultRecord.{ResultRecord}
 use Rattle.ir_core.specs.Calls.{MakesOperation, SkipsAtMost, op_needs}
 use Rattle.ir_core.specs.Creation.{SkipsIds, SameRecords, InsertsWhole, results_from}
 use Rattle.ir_core.specs.declared.record.OperandRecord.{OperandRecord}
-use Rattle.ir_core.specs.declared.record.ValueIndex.{ValueIndex}
-use Rattle.ir_core.specs.declared.record.Definer.{Definer as DefinerIndex}
-use Rattle.ir_core.specs.declared.record.Definer.TheVariants.{Op, Block}
-use Rattle.ir_core.specs.Table.{HasNumber, IsResult, results_in, operands_in}
+use Rattle.ir_core.specs.Table.{IsResult, operands_in}
 use Rattle.ir_core.specs.Links.{Linked, KnowOwn, IsFreshUse}
-use Rattle.ir_core.specs.Meaning.{closed, op_record, op_records, operands_from, operand_of, definer_of, result_of, value_of}
+use Rattle.ir_core.specs.Meaning.{closed, op_record, op_records, operands_from, operand_of, result_of, value_of}
 use Rattle.ir_core.specs.Sound.{IsSound}
 use Rattle.ir_core.specs.State.{State, bare, forest_of, types_of}
+use Rattle.ir_core.proofs.ValueLemmas.{live-result}
 
 -- numbers from n on
 In-range : (n k i : ℕ) → In i (range_with_len n k) → (n ≤ i) × (i < n + k)
@@ -55,19 +54,6 @@ range-distinct : (n k : ℕ) → Distinct (range_with_len n k)
 range-distinct n zero = tt
 range-distinct n (suc k) = (Absent-not_in n (range_with_len (n + 1) k) (λ h. absurd (omega (arith, (In-range (n + 1) k n h).0))), range-distinct (n + 1) k)
 
-length-range : (n k : ℕ) → length (range_with_len n k) ≡ k
-length-range n zero = refl
-length-range n (suc k) = ap suc (length-range (n + 1) k)
-
-lt-true : (i n : ℕ) → i < n → nat_lt i n ≡ true
-lt-true i n h = grind (arith, nat_tests)
-
-lt-false : (i n : ℕ) → n ≤ i → nat_lt i n ≡ false
-lt-false i n h = grind (arith, nat_tests)
-
-lt-below : (i n : ℕ) → nat_lt i n ≡ true → i < n
-lt-below i n h = grind (arith, nat_tests)
-
 -- numbers are handed out in order
 passed-range : (n k i : ℕ) → IsTrue (nat_lt i (n + k)) ↔ (IsTrue (nat_lt i n) ⊎ In i (range_with_len n k))
 passed-range n k i = (forth, back)
@@ -77,14 +63,14 @@ passed-range n k i = (forth, back)
       where
         by : (b : Bool) → nat_lt i n ≡ b → IsTrue b ⊎ In i (range_with_len n k)
         by true e = inl refl
-        by false e = inr (range-In n k i (grind (arith, nat_tests)) (lt-below i (n + k) h))
+        by false e = inr (range-In n k i (grind (arith, nat_tests)) (ltb-true i (n + k) h))
 
     back : IsTrue (nat_lt i n) ⊎ In i (range_with_len n k) → IsTrue (nat_lt i (n + k))
-    back (inl h) = lt-true i (n + k) (omega (arith, lt-below i n h))
-    back (inr h) = lt-true i (n + k) (In-range n k i h).1
+    back (inl h) = lt-ltb i (n + k) (omega (arith, ltb-true i n h))
+    back (inr h) = lt-ltb i (n + k) (In-range n k i h).1
 
 new-range : (limit n k i : ℕ) → n + k ≤ limit → In i (range_with_len n k) → IsNewNumber limit (λ m. nat_lt m n) i
-new-range limit n k i fits h = let r = In-range n k i h in (omega (arith, r.1), lt-false i n r.0)
+new-range limit n k i fits h = let r = In-range n k i h in (omega (arith, r.1), le-ltb i n r.0)
 
 -- an id stays new under fewer live ids
 IsNewId-fewer : (limits : Limits) (passed : ArenaIndex → Bool) (live live' : ArenaIndex → Type 0) (i : ArenaIndex) → ((j : ArenaIndex) → live' j → live j) → IsNewId limits passed live i → IsNewId limits passed live' i
@@ -278,7 +264,7 @@ module _ {D A K B S X L : Type 0} (s : State D A K B S X L) (sound : IsSound s) 
     the_fresh = record { ops = u ∷ []; blocks = []; regions = w.ids; numbers = range_with_len s.next_value (length ts); uses = range_with_len s.next_use (length vs) }
 
     the_counts : counts context_ids the_fresh ≡ op_needs (length ts) (length vs) n
-    the_counts = λ i. record { ops = 1; blocks = 0; regions = w.number i; numbers = length-range s.next_value (length ts) i; uses = length-range s.next_use (length vs) i }
+    the_counts = λ i. record { ops = 1; blocks = 0; regions = w.number i; numbers = length-range_with_len s.next_value (length ts) i; uses = length-range_with_len s.next_use (length vs) i }
 
     pub made-makes : MakesOperation unknown (bare s) (bare made) u kind (map (λ t. t.place) ts) (map (λ v. value_of v.index) vs) n
     made-makes = record {
@@ -306,12 +292,7 @@ module _ {D A K B S X L : Type 0} (s : State D A K B S X L) (sound : IsSound s) 
       limits = refl;
     }
 
--- a kept result by its number, and a kept operand by its place
-number-kept : (A K B S X L : Type 0) (rs : List ResultRecord) (n : ℕ) → In n (map (λ (x : Definition context_ids (closed A K B S X L)). x.number) (map result_of rs)) → HasNumber rs n
-number-kept A K B S X L [] n h = absurd h
-number-kept A K B S X L (r ∷ others) n (inl e) = (0, r, refl, sym e)
-number-kept A K B S X L (r ∷ others) n (inr h) = let more = number-kept A K B S X L others n h in (suc more.0, more.1, more.2, more.3)
-
+-- a kept operand by its place
 operand-listed : (os : List OperandRecord) (i : ℕ) (a : OperandRecord) → slice_get os i ≡ Some a → In a.number (map (λ (p : Operand context_ids). p.use_number) (map operand_of os))
 operand-listed [] zero a e = absurd cc
 operand-listed [] (suc i) a e = absurd cc
@@ -319,19 +300,8 @@ operand-listed (x ∷ os) zero a e = inl (ap (λ (y : OperandRecord). y.number) 
 operand-listed (x ∷ os) (suc i) a e = inr (operand-listed os i a e)
 
 module _ {D A K B S X L : Type 0} (s : State D A K B S X L) where
-  pub live-result : (v : ValueIndex) → IsLiveNamed (forest_of s) (a_value (value_of v)) → IsResult s.ops v
-  live-result v h = by v.definer h
-    where
-      some : (x : Option (Operation D A K B S X L)) → In v.number (map (λ (y : Definition context_ids (closed A K B S X L)). y.number) (list_of (λ r. r.results) (option_map op_record x))) → HasNumber (results_in x) v.number
-      some None k = absurd k
-      some (Some op) k = number-kept A K B S X L op.results v.number k
-
-      by : (d : DefinerIndex) → In v.number (numbers_of (forest_of s) (definer_of d)) → IsResult s.ops (record { definer = d; number = v.number })
-      by (Op o) k = some (get s.ops o) k
-      by (Block b) k = absurd k
-
   pub live-results : (vs : List (Handle D A K B S X L)) → All (λ (v : Handle D A K B S X L). IsLiveNamed (forest_of s) (a_value (value_of v.index))) vs → All (λ (v : Handle D A K B S X L). IsResult s.ops v.index) vs
-  live-results vs h k d w = live-result (get_or vs k d).index (h k d w)
+  live-results vs h k d w = live-result s (get_or vs k d).index (h k d w)
 
   pub fresh-uses : IsSound s → (n : ℕ) → s.next_use ≤ n → IsFreshUse s.ops n
   fresh-uses sound n from o i a at e = absurd (omega (arith, e, from, sound.uses o a.number (In-left a.number _ _ (listed (get s.ops o) at))))

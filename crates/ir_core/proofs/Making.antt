@@ -14,6 +14,8 @@ use Rattle.ir_model.proofs.KeepsNew.{put_at}
 use Rattle.ir_model.proofs.TwoRuns.{id_tells}
 use Rattle.ir_base.specs.declared.type_handle.TypeHandle.{TypeHandle}
 use Rattle.ir_base.specs.Arena.{Arena, get, IsLive, fill}
+use Rattle.ir_base.proofs.ArenaLaws.{get-fill_live, get-fill_live_other}
+use Rattle.ir_base.proofs.ListChains.{id_cases}
 use Rattle.ir_core.specs.declared.operation.Operation.{Operation}
 use Rattle.ir_core.specs.declared.record.Definer.{Definer}
 use Rattle.ir_core.specs.declared.record.Definer.TheVariants.{Op, Block}
@@ -25,7 +27,7 @@ use Rattle.ir_core.specs.Creation.{Fills, Clears, results_from, with_parts}
 use Rattle.ir_core.specs.Links.{Linked, LinkedBut, NoHole, KnowOwn, IsFreshUse}
 use Rattle.ir_core.specs.Meaning.{closed, op_record, op_records, operand_of, definer_of, SameIds}
 use Rattle.ir_core.specs.Table.{operands_in, operands_at, results_in, results_at, uses_with, uses_at, HasNumber, IsResult}
-use Rattle.ir_core.proofs.ArenaCallers.{index_cases, get-fill, get-fill_other, same_ids-fill}
+use Rattle.ir_core.proofs.ArenaCallers.{same_ids-fill}
 
 -- results, one more
 pub results_from-push : (n : ℕ) (ts : List TypeHandle) (t : TypeHandle) → results_from n (ts ++ t ∷ []) ≡ results_from n ts ++ record { number = n + length ts; ty = t.place; uses = [] } ∷ []
@@ -112,13 +114,13 @@ module _ {D A K B S X L : Type 0} where
     was i e = fills.grows.dead i (inl e)
 
     pub bare-operands : op.operands ≡ [] → (o : ArenaIndex) → operands_at t o ≡ operands_at s o
-    bare-operands none o = elim (index_cases o u) [
+    bare-operands none o = elim (id_cases o u) [
       | inl e ↦ ap operands_in (here o e) ∙ none ∙ sym (ap operands_in (was o e))
       | inr e ↦ ap operands_in (other o e)
     ]
 
     pub bare-uses : All (λ (r : ResultRecord). r.uses ≡ []) op.results → (o : ArenaIndex) (n : ℕ) → uses_with (results_at t o) n ≡ uses_with (results_at s o) n
-    bare-uses unused o n = elim (index_cases o u) [
+    bare-uses unused o n = elim (id_cases o u) [
       | inl e ↦ ap (λ (x : Option (Operation D A K B S X L)). uses_with (results_in x) n) (here o e) ∙ unused-with op.results n unused ∙ sym (ap (λ (x : Option (Operation D A K B S X L)). uses_with (results_in x) n) (was o e))
       | inr e ↦ ap (λ (x : Option (Operation D A K B S X L)). uses_with (results_in x) n) (other o e)
     ]
@@ -127,7 +129,7 @@ module _ {D A K B S X L : Type 0} where
     bare-linked none unused = Linked-same t s (bare-operands none) (bare-uses unused)
 
     pub bare-own : op.index ≡ u → KnowOwn s → KnowOwn t
-    bare-own own know i p found = elim (index_cases i u) [
+    bare-own own know i p found = elim (id_cases i u) [
       | inl e ↦ ap (λ (o : Operation D A K B S X L). o.index) (sym (same_Some _ _ (sym (here i e) ∙ found))) ∙ own ∙ sym e
       | inr e ↦ know i p (sym (other i e) ∙ found)
     ]
@@ -141,7 +143,7 @@ module _ {D A K B S X L : Type 0} where
     -- a value of another operation stays
     pub bare-is_result : (d : Definer) (n : ℕ) → IsResult s (record { definer = d; number = n }) → IsResult t (record { definer = d; number = n })
     bare-is_result (Block b) n h = h
-    bare-is_result (Op o) n h = elim (index_cases o u) [
+    bare-is_result (Op o) n h = elim (id_cases o u) [
       | inl e ↦ absurd (none_has (subst (λ (x : Option (Operation D A K B S X L)). HasNumber (results_in x) n) (was o e) h))
       | inr e ↦ subst (λ (x : Option (Operation D A K B S X L)). HasNumber (results_in x) n) (sym (other o e)) h
     ]
@@ -159,7 +161,7 @@ module _ {D A K B S X L : Type 0} where
       stays i e = clears.kept i (λ k. elim k [ inl h ↦ e h | inr h ↦ h ])
 
       pub back-records : op_records f ≡ op_records s
-      back-records = fun_ext (λ i. elim (index_cases i u) [
+      back-records = fun_ext (λ i. elim (id_cases i u) [
         | inl e ↦ ap (option_map op_record) (gone i e) ∙ sym (ap (option_map op_record) (was i e))
         | inr e ↦ ap (option_map op_record) (stays i e) ∙ ap (λ m. m i) same ∙ ap (option_map op_record) (other i e)
       ])
@@ -200,18 +202,18 @@ module _ {D A K B S X L : Type 0} where
 
       pub back-linked : Linked f
       back-linked = Linked-same f r
-          (λ o. elim (index_cases o u) [
+          (λ o. elim (id_cases o u) [
             | inl e ↦ ap operands_in (gone o e) ∙ sym (no_operands o e)
             | inr e ↦ ap operands_in (stays o e)
           ])
-          (λ o n. elim (index_cases o u) [
+          (λ o n. elim (id_cases o u) [
             | inl e ↦ ap (λ (x : Option (Operation D A K B S X L)). uses_with (results_in x) n) (gone o e) ∙ sym (no_uses o n e)
             | inr e ↦ ap (λ (x : Option (Operation D A K B S X L)). uses_with (results_in x) n) (stays o e)
           ])
           still
 
       pub back-own : KnowOwn r → KnowOwn f
-      back-own know i p found = elim (index_cases i u) [
+      back-own know i p found = elim (id_cases i u) [
         | inl e ↦ absurd (let k : Some p ≡ None = sym found ∙ gone i e in cc)
         | inr e ↦ know i p (sym (stays i e) ∙ found)
       ]
@@ -233,20 +235,20 @@ module _ {D A K B S X L : Type 0} where
     live = ap is_some at
 
     here_given : (i : ArenaIndex) → i ≡ u → get (fill s u given) i ≡ Some given
-    here_given i e = ap (get (fill s u given)) e ∙ get-fill s u given live
+    here_given i e = ap (get (fill s u given)) e ∙ get-fill_live s u given live
 
     here_before : (i : ArenaIndex) → i ≡ u → get s i ≡ Some op
     here_before i e = ap (get s) e ∙ at
 
     pub given-linked : Linked s → Linked (fill s u given)
     given-linked = Linked-same (fill s u given) s
-        (λ o. elim (index_cases o u) [
+        (λ o. elim (id_cases o u) [
           | inl e ↦ ap operands_in (here_given o e) ∙ sym (ap operands_in (here_before o e))
-          | inr e ↦ ap operands_in (get-fill_other s u o given live e)
+          | inr e ↦ ap operands_in (get-fill_live_other s u o given live e)
         ])
-        (λ o n. elim (index_cases o u) [
+        (λ o n. elim (id_cases o u) [
           | inl e ↦ ap (λ (x : Option (Operation D A K B S X L)). uses_with (results_in x) n) (here_given o e) ∙ sym (ap (λ (x : Option (Operation D A K B S X L)). uses_with (results_in x) n) (here_before o e))
-          | inr e ↦ ap (λ (x : Option (Operation D A K B S X L)). uses_with (results_in x) n) (get-fill_other s u o given live e)
+          | inr e ↦ ap (λ (x : Option (Operation D A K B S X L)). uses_with (results_in x) n) (get-fill_live_other s u o given live e)
         ])
 
     pub given-same_ids : SameIds s (fill s u given)
@@ -266,7 +268,7 @@ module _ {D A K B S X L : Type 0} where
         by i (inl a) (inl b) = ap (option_map op_record) (here_given i b.0) ∙ sym (b.1 ∙ some (op_records t i) (sym a.1 ∙ sym (ap (λ m. m i) linked) ∙ ap (option_map op_record) (here_before i b.0)))
         by i (inl a) (inr b) = absurd (b.0 a.0)
         by i (inr a) (inl b) = absurd (a.0 b.0)
-        by i (inr a) (inr b) = ap (option_map op_record) (get-fill_other s u i given live b.0) ∙ ap (λ m. m i) linked ∙ a.1 ∙ sym b.1
+        by i (inr a) (inr b) = ap (option_map op_record) (get-fill_live_other s u i given live b.0) ∙ ap (λ m. m i) linked ∙ a.1 ∙ sym b.1
 
   -- the whole, from the bare operation and its parts
   pub whole-records : (s t f : Arena (Operation D A K B S X L)) (u : ArenaIndex) (op : Operation D A K B S X L) (xs : List (Operand context_ids)) (ids : List ArenaIndex)

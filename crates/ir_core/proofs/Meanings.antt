@@ -8,7 +8,9 @@ use Rattle.ir_model.specs.declared.ids.ArenaIndex.{ArenaIndex}
 use Rattle.ir_model.specs.ContextIds.{context_ids, same_id}
 use Rattle.ir_model.specs.Forest.{OpRecord, Operand, Definition}
 use Rattle.ir_model.specs.Changes.{rewrite, on_operands}
+use Rattle.ir_model.proofs.TwoRuns.{id_tells}
 use Rattle.ir_base.specs.Arena.{Arena, get, IsLive}
+use Rattle.ir_base.proofs.ListChains.{id_cases, id_differs}
 use Rattle.ir_core.specs.declared.operation.Operation.{Operation}
 use Rattle.ir_core.specs.declared.record.Definer.{Definer}
 use Rattle.ir_core.specs.declared.record.Definer.TheVariants.{Op, Block}
@@ -17,7 +19,6 @@ use Rattle.ir_core.specs.declared.record.OperandRecord.{OperandRecord}
 use Rattle.ir_core.specs.declared.record.ResultRecord.{ResultRecord}
 use Rattle.ir_core.specs.Table.{operands_in, operands_at, results_in, results_at, HasNumber, IsResult, with_operands}
 use Rattle.ir_core.specs.Meaning.{closed, value_of, operand_of, operands_from, result_of, op_record, op_records}
-use Rattle.ir_core.proofs.ArenaCallers.{index_cases, same_id-true, same_id-false}
 use Rattle.ir_core.proofs.TableReads.{with_operands-self, meaning-with_operands}
 use Rattle.ir_core.proofs.TableEdits.{map-remove}
 
@@ -44,10 +45,10 @@ module _ {A K B S X L : Type 0} where
 
   -- a rewrite, at its key and elsewhere
   rewrite-here : (g : OpRecord context_ids (closed A K B S X L) → OpRecord context_ids (closed A K B S X L)) (m : ArenaIndex → Option (OpRecord context_ids (closed A K B S X L))) (o p : ArenaIndex) → p ≡ o → rewrite same_id o g m p ≡ option_map g (m p)
-  rewrite-here g m o p e = ap (λ (b : Bool). cond b (option_map g (m p)) (m p)) (same_id-true p o e)
+  rewrite-here g m o p e = ap (λ (b : Bool). cond b (option_map g (m p)) (m p)) ((id_tells p o).1 e)
 
   rewrite-away : (g : OpRecord context_ids (closed A K B S X L) → OpRecord context_ids (closed A K B S X L)) (m : ArenaIndex → Option (OpRecord context_ids (closed A K B S X L))) (o p : ArenaIndex) → ¬ (p ≡ o) → rewrite same_id o g m p ≡ m p
-  rewrite-away g m o p e = ap (λ (b : Bool). cond b (option_map g (m p)) (m p)) (same_id-false p o e)
+  rewrite-away g m o p e = ap (λ (b : Bool). cond b (option_map g (m p)) (m p)) (id_differs p o e)
 
   -- two rewrites of one operation's operands
   pub rewrite-twice : (f g : List (Operand context_ids) → List (Operand context_ids)) (m : ArenaIndex → Option (OpRecord context_ids (closed A K B S X L))) (o : ArenaIndex) → rewrite same_id o (on_operands g) (rewrite same_id o (on_operands f) m) ≡ rewrite same_id o (on_operands (λ xs. g (f xs))) m
@@ -129,7 +130,7 @@ module _ {D A K B S X L : Type 0} (t s : Arena (Operation D A K B S X L)) (o : A
   pub live_after : (p : ArenaIndex) → IsLive t p → IsLive s p
   live_after p live =
       let is : is_some (rewrite same_id o (on_operands f) (op_records t) p) ≡ is_some (op_records t p) =
-      elim (index_cases p o) [
+      elim (id_cases p o) [
         | inl q ↦ ap is_some (rewrite-here (on_operands f) (op_records t) o p q) ∙ some-on_operands f (op_records t p)
         | inr q ↦ ap is_some (rewrite-away (on_operands f) (op_records t) o p q)
       ] in
@@ -150,7 +151,7 @@ module _ {D A K B S X L : Type 0} (t s : Arena (Operation D A K B S X L)) (o : A
   results_after : (p : ArenaIndex) → map (result_of {A = A} {K = K} {B = B} {S = S} {X = X} {L = L}) (results_at s p) ≡ map result_of (results_at t p)
   results_after p =
       let is : results_meant (rewrite same_id o (on_operands f) (op_records t) p) ≡ results_meant (op_records t p) =
-      elim (index_cases p o) [
+      elim (id_cases p o) [
         | inl q ↦ ap results_meant (rewrite-here (on_operands f) (op_records t) o p q) ∙ results-on_operands f (op_records t p)
         | inr q ↦ ap results_meant (rewrite-away (on_operands f) (op_records t) o p q)
       ] in

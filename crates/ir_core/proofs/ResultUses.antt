@@ -1,9 +1,10 @@
 -- The uses of all results of an operation: the kept lists, joined.
-use Rattle.std.proofs.Common.{cond, Bool, true, false, not, ◌||◌, ◌==◌, ◌≢◌, Option, IsTrue, ◌≡◌, refl, sym, ap, subst, ◌∙◌, ℕ, zero, suc, ◌↔◌, inl, inr, ◌≤◌, ◌<◌, List, [], ◌∷◌, ◌++◌, map, length, Some, slice_get, arith}
+use Rattle.std.proofs.Common.{cond, Bool, true, false, not, ◌||◌, ◌==◌, ◌≢◌, Option, IsTrue, ◌≡◌, refl, sym, ap, subst, ◌∙◌, ℕ, ◌↔◌, inl, inr, ◌≤◌, ◌<◌, List, [], ◌∷◌, ◌++◌, map, length, Some, slice_get, arith}
 use Rattle.std.specs.List.{flat_map, list_any}
-use Rattle.std.proofs.lemmas.Bool.{cases_eq, eq-eqb, ne_eqb}
+use Rattle.std.proofs.lemmas.Bool.{eq-eqb, ne_eqb}
 use Rattle.std.proofs.lemmas.List.{length-map, map-append}
 use Rattle.std.proofs.lemmas.List.Folds.{flat_map-map}
+use Rattle.std.proofs.lemmas.Option.{slice_get-map}
 use Rattle.ir_model.specs.declared.ids.ArenaIndex.{ArenaIndex}
 use Rattle.ir_model.specs.ContextIds.{context_ids}
 use Rattle.ir_model.specs.Ids.{Distinct}
@@ -28,26 +29,12 @@ use Rattle.ir_core.specs.Table.{operands_at, results_at, results_in, uses_at, us
 use Rattle.ir_core.specs.Values.{AreUsesOfResults, IsUseOfResult}
 use Rattle.ir_core.proofs.LinkLemmas.{same_operand}
 use Rattle.ir_core.proofs.Meanings.{some_behind}
-use Rattle.ir_core.proofs.ValueLemmas.{Distinct-places, place-In, numbers-op, slice_get-map, uses-exact}
-
--- the numbers below n
-numbers_below : ℕ → List ℕ
-numbers_below zero = []
-numbers_below (suc n) = n ∷ numbers_below n
-
-length-below : (n : ℕ) → length (numbers_below n) ≡ n
-unfolding numbers_below
-length-below zero = refl
-length-below (suc n) = let more = length-below n in omega arith
-
-In-below : (n m : ℕ) → m < n → In m (numbers_below n)
-unfolding numbers_below
-In-below zero m h = absurd (omega arith)
-In-below (suc n) m h = elim (cases_eq m n) [ inl e ↦ inl e | inr ne ↦ inr (In-below n m (omega arith)) ]
+use Rattle.ir_core.proofs.RoomLemmas.{below, below-In, length-below}
+use Rattle.ir_core.proofs.ValueLemmas.{Distinct-places, place-In, numbers-op, uses-exact}
 
 -- different numbers below n are at most n
 few-below : (n : ℕ) (xs : List ℕ) → Distinct xs → ((m : ℕ) → In m xs → m < n) → length xs ≤ n
-few-below n xs d h = let k = length-within xs (numbers_below n) d (λ m i. In-below n m (h m i)) in omega (arith, length-below n)
+few-below n xs d h = let k = length-within xs (below n) d (λ m i. below-In n m (h m i)) in omega (arith, length-below n)
 
 module _ {A B : Type 0} (f : A → List B) where
   In-flat_map : (x : A) (y : B) (xs : List A) → In x xs → In y (f x) → In y (flat_map f xs)

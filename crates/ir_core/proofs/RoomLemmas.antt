@@ -13,7 +13,7 @@ use Rattle.ir_core.specs.Calls.{Left}
 use Rattle.ir_core.specs.Sound.{Keeps}
 
 -- the numbers below n
-abbrev below : ℕ → List ℕ
+abbrev pub below : ℕ → List ℕ
 below zero = []
 below (suc n) = n ∷ below n
 
@@ -22,7 +22,7 @@ In-below zero m h = elim h [ ]
 In-below (suc n) m (inl e) = omega (arith, e)
 In-below (suc n) m (inr h) = let k : m < n = In-below n m h in omega arith
 
-below-In : (n m : ℕ) → m < n → In m (below n)
+pub below-In : (n m : ℕ) → m < n → In m (below n)
 below-In zero m h = absurd (omega arith)
 below-In (suc n) m h = by (below-In n m) (m == n) refl
   where
@@ -38,7 +38,7 @@ Distinct-below : (n : ℕ) → Distinct (below n)
 Distinct-below zero = tt
 Distinct-below (suc n) = (Absent-below n n (omega arith), Distinct-below n)
 
-length-below : (n : ℕ) → length (below n) ≡ n
+pub length-below : (n : ℕ) → length (below n) ≡ n
 length-below zero = refl
 length-below (suc n) = ap suc (length-below n)
 

@@ -1,7 +1,7 @@
 -- What is left of a count is enough, or isn't.
-use Rattle.std.proofs.Common.{◌≡◌, ◌⊎◌, ℕ, suc, ◌+◌, ◌<◌, ◌≤◌, List, [], ◌∷◌, length, IsTrue, nat_lt, Result, Ok, Err, true≢false, refl, sym, ap, subst, ◌∙◌, inl, inr, arith}
+use Rattle.std.proofs.Common.{◌≡◌, ◌⊎◌, ℕ, ◌+◌, ◌<◌, ◌≤◌, List, [], ◌∷◌, length, IsTrue, nat_lt, Result, Ok, Err, true≢false, refl, sym, subst, ◌∙◌, inl, inr, arith}
 use Rattle.ir_model.specs.declared.ids.ArenaIndex.{ArenaIndex}
-use Rattle.ir_model.specs.Ids.{Counts, Distinct}
+use Rattle.ir_model.specs.Ids.{Counts}
 use Rattle.ir_model.specs.Forest.{Dialect}
 use Rattle.ir_model.specs.Nesting.{In}
 use Rattle.ir_model.specs.Sessions.{Session, Number, HasRoom, LacksRoom, HasNumbers, LacksNumbers, LacksSlots, TakesSlot, live_op, live_block, live_region}
@@ -10,38 +10,16 @@ use Rattle.ir_core.specs.State.{State, bare}
 use Rattle.std.specs.Result.{IsErrAnd}
 use Rattle.ir_base.specs.declared.error.CoreError.{CoreError}
 use Rattle.ir_base.specs.declared.error.CoreError.TheVariants.{OutOfMemory, CounterSpent, SlotsSpent}
-use Rattle.ir_model.proofs.Nests.{not_in-Absent}
-use Rattle.ir_model.proofs.Entries.{AddsOne, here, later, AddsOne-in}
+use Rattle.ir_model.proofs.Removal.{length-same}
 use Rattle.ir_core.specs.Calls.{Left, IsRoom}
 use Rattle.ir_core.proofs.RoomLemmas.{Number-below}
 
 module _ {A : Type 0} where
-  without_one : (x : A) (ys : List A) → In x ys → (zs : List A) × AddsOne x zs ys
-  without_one x [] h = absurd h
-  without_one x (y ∷ ys) (inl e) = (ys, subst (λ z. AddsOne x ys (z ∷ ys)) e here)
-  without_one x (y ∷ ys) (inr h) = let more = without_one x ys h in (y ∷ more.0, later more.1)
-
-  length-one_more : {x : A} {zs ys : List A} → AddsOne x zs ys → length ys ≡ suc (length zs)
-  length-one_more here = refl
-  length-one_more (later a) = ap suc (length-one_more a)
-
-  -- a list without repeats is no longer than one that has all its elements
-  length-distinct : (xs ys : List A) → Distinct xs → ((z : A) → In z xs → In z ys) → length xs ≤ length ys
-  length-distinct [] ys d all = omega arith
-  length-distinct (x ∷ xs) ys d all =
-      let rest = without_one x ys (all x (inl refl)) in
-      let fewer = length-distinct xs rest.0 d.1 (λ z h. elim (AddsOne-in z rest.1 (all z (inr h))) [
-        | inl e ↦ absurd (not_in-Absent x xs d.0 (subst (λ y. In y xs) e h))
-        | inr k ↦ k
-      ]) in
-      omega (arith, fewer, length-one_more rest.1)
-
   -- a number of things is one number
   Number-unique : (P : A → Type 0) (m n : ℕ) → Number P m → Number P n → m ≡ n
   Number-unique P m n p q =
-      let up = length-distinct p.0 q.0 p.1 (λ z h. (q.2 z).1 ((p.2 z).0 h)) in
-      let down = length-distinct q.0 p.0 q.1 (λ z h. (p.2 z).1 ((q.2 z).0 h)) in
-      omega (arith, up, down, p.3, q.3)
+      let same = length-same p.0 q.0 p.1 q.1 (λ z h. (q.2 z).1 ((p.2 z).0 h)) (λ z h. (p.2 z).1 ((q.2 z).0 h)) in
+      omega (arith, same, p.3, q.3)
 
   pub left-lacks : (count : ℕ) (P : A → Type 0) (left n : ℕ) → Left count P left → left < n → LacksRoom count P n
   left-lacks count P left n l few = (l.gone, l.number, omega (arith, l.whole, few))

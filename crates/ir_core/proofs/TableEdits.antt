@@ -1,7 +1,7 @@
 -- What each edit of the arena of operations does to its links and to what the operations mean.
 use Rattle.std.proofs.Common.{◌≡◌, ℕ, suc, ◌-◌, ◌≤◌, List, [], ◌∷◌, ◌++◌, length, set, map, take, drop, Some, Result, Ok, Err, OnErr, slice_get, refl, sym, ap, subst, ◌∙◌, arith, IfSome, IfNone, Option, None}
 use Rattle.std.specs.List.{swap_remove, remove}
-use Rattle.std.proofs.lemmas.List.{map-append, take-map, drop-map, length_push}
+use Rattle.std.proofs.lemmas.List.{map-append, take-map, drop-map, length_push, same_from_push}
 use Rattle.std.proofs.lemmas.Option.{slice_get_within}
 use Rattle.ir_model.specs.declared.ids.ArenaIndex.{ArenaIndex}
 use Rattle.ir_model.specs.ContextIds.{same_id}
@@ -14,7 +14,7 @@ use Rattle.ir_core.specs.declared.record.OperandRecord.{OperandRecord}
 use Rattle.ir_core.specs.Table.{put_place, operands_at, uses_at, IsResult, with_operands, with_uses, HasOperand, with_place}
 use Rattle.ir_core.specs.Links.{LinkedBut, NoHole, HoleAt, Linked, LinkedButAt, IsFreshUse}
 use Rattle.ir_core.specs.Meaning.{operand_of, op_records, SameIds}
-use Rattle.ir_core.proofs.ListReads.{slice_get-push_at, moved_from_last, length-swap_remove, remove-push}
+use Rattle.ir_core.proofs.ListReads.{slice_get-push_at, moved_from_last, length-swap_remove}
 use Rattle.ir_core.proofs.ArenaCallers.{same_ids-trans}
 use Rattle.ir_core.proofs.TableReads.{used_result, operand_live, operands_at-with_uses, uses_at-with_uses, operands_at-with_operands, uses_at-with_operands, put_place-set, is_result-with_operands, with_uses-self, with_operands-self, with_operands-twice, meaning-with_uses, meaning-with_operands, meaning-with_place, same_ids-with_operands, same_ids-with_uses}
 use Rattle.ir_core.proofs.LinkLemmas.{OperandsChange, UsesChange, detach, relabel, relabel-none, drop_operand, grow, attach}
@@ -24,7 +24,7 @@ map-remove f xs i = map-append f (take i xs) (drop (suc i) xs) ∙ rw (take-map 
 
 -- the last item of a list that ends with x is x
 popped : {T : Type 0} (taken : Option T) (zs rest xs : List T) (x : T) → IfSome taken (λ y. zs ≡ rest ++ y ∷ []) → IfNone taken ((zs ≡ []) × (rest ≡ [])) → zs ≡ xs ++ x ∷ [] → rest ≡ xs
-popped (Some y) zs rest xs x last none e = remove-push rest xs y x (sym last ∙ e)
+popped (Some y) zs rest xs x last none e = (same_from_push rest xs y x (sym last ∙ e)).0
 popped None zs rest xs x last none e = absurd (omega (arith, ap length (sym none.0 ∙ e), length_push xs x))
 
 -- what holds anyway holds at an error, and after a success

@@ -10,8 +10,10 @@ use Rattle.ir_model.specs.declared.ids.ArenaIndex.{ArenaIndex}
 use Rattle.ir_model.specs.ContextIds.{context_ids, same_id}
 use Rattle.ir_model.specs.Forest.{OpRecord, Definition, Operand}
 use Rattle.ir_model.specs.Changes.{rewrite, on_operands}
+use Rattle.ir_model.proofs.TwoRuns.{id_tells}
 use Rattle.ir_base.specs.Arena.{Arena, get, IsLive, fill}
 use Rattle.ir_base.proofs.ArenaLaws.{get-fill_live, get-fill_live_other}
+use Rattle.ir_base.proofs.ListChains.{id_cases, id_differs}
 use Rattle.ir_core.specs.declared.operation.Operation.{Operation}
 use Rattle.ir_core.specs.declared.record.Definer.{Definer}
 use Rattle.ir_core.specs.declared.record.Definer.TheVariants.{Op, Block}
@@ -21,7 +23,7 @@ use Rattle.ir_core.specs.declared.record.OperandRecord.{OperandRecord}
 use Rattle.ir_core.specs.declared.record.ResultRecord.{ResultRecord}
 use Rattle.ir_core.specs.Table.{uses_with, put_uses, put_place, HasNumber, results_in, operands_in, results_at, operands_at, uses_at, IsResult, with_operands, with_uses, with_place}
 use Rattle.ir_core.specs.Meaning.{closed, operand_of, result_of, op_record, op_records, SameIds}
-use Rattle.ir_core.proofs.ArenaCallers.{index_cases, same_id-true, same_id-false, some_of, fill-self, fill-twice, same_ids-refl, same_ids-fill}
+use Rattle.ir_core.proofs.ArenaCallers.{some_of, fill-self, fill-twice, same_ids-refl, same_ids-fill}
 use Rattle.ir_core.proofs.LinkLemmas.{OperandsChange, UsesChange}
 
 pub position-None : {X : Type 0} (p : X → Bool) (xs : List X) (k : ℕ) (x : X) → position p xs ≡ None → slice_get xs k ≡ Some x → p x ≡ false
@@ -212,7 +214,7 @@ module _ {D A K B S X L : Type 0} where
   kept : {Y : Type 0} (f : Option (Operation D A K B S X L) → Y) (t : Arena (Operation D A K B S X L)) (o : ArenaIndex) (x y : Operation D A K B S X L) → get t o ≡ Some y → f (Some x) ≡ f (Some y) → (p : ArenaIndex) → f (get (fill t o x) p) ≡ f (get t p)
   kept f t o x y e same p =
       let live : IsLive t o = ap is_some e in
-      elim (index_cases p o) [
+      elim (id_cases p o) [
         | inl q ↦ ap (λ (i : ArenaIndex). f (get (fill t o x) i)) q ∙ ap f (get-fill_live t o x live) ∙ same ∙ ap f (sym e) ∙ ap (λ (i : ArenaIndex). f (get t i)) (sym q)
         | inr q ↦ ap f (get-fill_live_other t o p x live q)
       ]
@@ -299,7 +301,7 @@ module _ {D A K B S X L : Type 0} where
     where
       numbered : (o : ArenaIndex) (op : Operation D A K B S X L) → get t o ≡ Some op → (p : ArenaIndex) → HasNumber (results_at t p) w.number → HasNumber (results_at (fill t o (put_result_uses op v.number us)) p) w.number
       numbered o op e p has =
-          elim (index_cases p o) [
+          elim (id_cases p o) [
             | inl q ↦
                 let there : get t p ≡ Some op = ap (get t) q ∙ e in
                 let now : get (fill t o (put_result_uses op v.number us)) p ≡ Some (put_result_uses op v.number us) = ap (get (fill t o (put_result_uses op v.number us))) q ∙ get-fill_live t o (put_result_uses op v.number us) (ap is_some e) in
@@ -385,7 +387,7 @@ module _ {D A K B S X L : Type 0} where
           let same : op_record (put_operands some.0 xs) ≡ on_operands g (op_record some.0) = ap (λ (os : List (Operand context_ids)). record (op_record some.0) { operands = os }) means in
           let moved = ap (λ (s : Arena (Operation D A K B S X L)). op_records s p) is in
           let pick : Bool → Option (OpRecord context_ids (closed A K B S X L)) = λ b. cond b (option_map (on_operands g) (op_records t p)) (op_records t p) in
-          elim (index_cases p o) [
+          elim (id_cases p o) [
             | inl q ↦
                 moved
                 ∙ ap (λ (j : ArenaIndex). op_records (fill t o (put_operands some.0 xs)) j) q
@@ -393,6 +395,6 @@ module _ {D A K B S X L : Type 0} where
                 ∙ ap Some same
                 ∙ ap (λ (x : Option (Operation D A K B S X L)). option_map (on_operands g) (option_map op_record x)) (sym some.1)
                 ∙ ap (λ (j : ArenaIndex). option_map (on_operands g) (op_records t j)) (sym q)
-                ∙ ap pick (sym (same_id-true p o q))
-            | inr q ↦ moved ∙ ap (option_map op_record) (get-fill_live_other t o p (put_operands some.0 xs) live q) ∙ ap pick (sym (same_id-false p o q))
+                ∙ ap pick (sym ((id_tells p o).1 q))
+            | inr q ↦ moved ∙ ap (option_map op_record) (get-fill_live_other t o p (put_operands some.0 xs) live q) ∙ ap pick (sym (id_differs p o q))
           ]

@@ -1,10 +1,10 @@
 -- What a context knows of a value and of its uses, in the words of the forest.
-use Rattle.std.proofs.Common.{◌≡◌, refl, sym, ap, subst, ◌∙◌, ℕ, zero, suc, ◌==◌, ◌↔◌, inl, inr, Bool, true, false, List, [], ◌∷◌, map, length, Option, Some, None, slice_get, get_or, position, is_some, is_ok, take, not, ◌≤◌, ◌≢◌, Result, Ok, Err, IsTrue, arith, eqb-true}
+use Rattle.std.proofs.Common.{◌≡◌, refl, sym, ap, subst, ◌∙◌, ℕ, suc, ◌==◌, ◌↔◌, inl, inr, Bool, true, false, List, [], ◌∷◌, map, length, Option, Some, None, slice_get, get_or, position, is_some, is_ok, not, ◌≢◌, Result, Ok, Err, IsTrue, arith, eqb-true}
 use Rattle.std.specs.Prelude.{IfOk, IsErr}
 use Rattle.std.specs.Option.{option_map}
 use Rattle.std.proofs.lemmas.Bool.{eq-eqb, ne_eqb}
 use Rattle.std.proofs.lemmas.List.Quantifiers.{position-Some}
-use Rattle.std.proofs.lemmas.Option.{slice_get-get_or, same_Some, get_or_from_slice_get}
+use Rattle.std.proofs.lemmas.Option.{slice_get-get_or, slice_get-map, same_Some, get_or_from_slice_get}
 use Rattle.ir_model.specs.declared.ids.ArenaIndex.{ArenaIndex}
 use Rattle.ir_model.specs.ContextIds.{context_ids}
 use Rattle.ir_model.specs.Ids.{Distinct}
@@ -12,6 +12,7 @@ use Rattle.ir_model.specs.Forest.{Dialect, Forest, OpRecord, of_op, Value, Opera
 use Rattle.ir_model.specs.Nesting.{In, IsLive, IsLiveNamed, WellFormed, list_of, definitions_of, numbers_of, operands_of}
 use Rattle.ir_model.specs.Uses.{AreUses, IsOperandAt, IsUse, Use}
 use Rattle.ir_model.proofs.Nests.{In-left, In-map, In-map_back, Absent-not_in}
+use Rattle.ir_model.proofs.Back.{slice_get-in}
 use Rattle.ir_base.specs.Arena.{Arena, get}
 use Rattle.ir_core.specs.declared.operation.Operation.{Operation}
 use Rattle.ir_core.specs.declared.record.Definer.{Definer}
@@ -29,11 +30,6 @@ use Rattle.ir_core.proofs.Meanings.{some_behind}
 use Rattle.ir_core.proofs.TableReads.{has_number-found, has_operand-found}
 
 module _ {A : Type 0} where
-  pub In-place : (xs : List A) (i : ℕ) (x : A) → slice_get xs i ≡ Some x → In x xs
-  In-place [] i x e = cc
-  In-place (y ∷ ys) zero x e = inl (sym (same_Some y x e))
-  In-place (y ∷ ys) (suc i) x e = inr (In-place ys i x e)
-
   pub place-In : (xs : List A) (x : A) → In x xs → (i : ℕ) × (slice_get xs i ≡ Some x)
   place-In [] x h = elim h [ ]
   place-In (y ∷ ys) x (inl e) = (0, ap Some (sym e))
@@ -45,11 +41,6 @@ module _ {A : Type 0} where
     Absent-not_in y ys (λ h. let p = place-In ys y h in let e : 0 ≡ suc p.0 = one 0 (suc p.0) y refl p.1 in omega (arith, e)),
     Distinct-places ys (λ i j x e f. let k : suc i ≡ suc j = one (suc i) (suc j) x e f in omega (arith, k)),
   )
-
-pub slice_get-map : {A B : Type 0} (f : A → B) (xs : List A) (i : ℕ) → slice_get (map f xs) i ≡ option_map f (slice_get xs i)
-slice_get-map f [] i = refl
-slice_get-map f (x ∷ xs) zero = refl
-slice_get-map f (x ∷ xs) (suc i) = slice_get-map f xs i
 
 -- the first with the number stands where it was found
 pub number-found : (rs : List ResultRecord) (n i : ℕ) → position (λ (r : ResultRecord). r.number == n) rs ≡ Some i → slice_get (map (λ (r : ResultRecord). r.number) rs) i ≡ Some n
@@ -120,7 +111,7 @@ module _ {D A K B S X L : Type 0} (s : State D A K B S X L) where
       by : (d : Definer) → v.definer ≡ d → HasType (forest_of s) (value_of v) r.ty
       by (Op o) e =
           let k : ((i : ℕ) × (slice_get (results_at s.ops o) i ≡ Some r)) × (r.number ≡ v.number) = rw e at h in
-          let here : In (result_of {A = A} {K = K} {B = B} {S = S} {X = X} {L = L} r) (definitions_of (forest_of s) (of_op o)) = subst (In (result_of r)) (sym (definitions-op o)) (In-map result_of r (results_at s.ops o) (In-place (results_at s.ops o) k.0.0 r k.0.1)) in
+          let here : In (result_of {A = A} {K = K} {B = B} {S = S} {X = X} {L = L} r) (definitions_of (forest_of s) (of_op o)) = subst (In (result_of r)) (sym (definitions-op o)) (In-map result_of r (results_at s.ops o) (slice_get-in (results_at s.ops o) k.0.0 r k.0.1)) in
           record { definition = result_of r; defined = subst (λ d. In (result_of r) (definitions_of (forest_of s) (definer_of d))) (sym e) here; number = k.1; is = refl }
       by (Block b) e = let k : ⊥ = rw e at h in absurd k
 
@@ -141,7 +132,7 @@ module _ {D A K B S X L : Type 0} (s : State D A K B S X L) where
         let at = In-map_back use_of u (uses_at s.ops v) h in
         let p = place-In (uses_at s.ops v) at.0 at.1 in
         let q = linked.backward v p.0 at.0 p.1 in
-        let there : In (record { use_number = at.0.number; value = value_of v }) (map operand_of (operands_at s.ops at.0.user)) = In-map operand_of (record { number = at.0.number; value = v; place = p.0 }) (operands_at s.ops at.0.user) (In-place (operands_at s.ops at.0.user) q.0 _ q.1) in
+        let there : In (record { use_number = at.0.number; value = value_of v }) (map operand_of (operands_at s.ops at.0.user)) = In-map operand_of (record { number = at.0.number; value = v; place = p.0 }) (operands_at s.ops at.0.user) (slice_get-in (operands_at s.ops at.0.user) q.0 _ q.1) in
         subst (λ (w : Use context_ids). IsUse (forest_of s) (a_value (value_of v)) w) (sym at.2)
         (subst (In (record { use_number = at.0.number; value = value_of v })) (sym (operands-op at.0.user)) there)
 
@@ -153,7 +144,7 @@ module _ {D A K B S X L : Type 0} (s : State D A K B S X L) where
         let w : v ≡ at.0.value = value-same v at.0.value (ap (λ (x : Operand context_ids). x.value) at.2) in
         let there : slice_get (uses_at s.ops at.0.value) at.0.place ≡ Some (record { user = u.user; number = at.0.number }) = linked.forward u.user p.0 at.0 p.1 (λ x. x) in
         let here : slice_get (uses_at s.ops v) at.0.place ≡ Some (record { user = u.user; number = u.number }) = subst (λ k. slice_get (uses_at s.ops k) at.0.place ≡ Some (record { user = u.user; number = u.number })) (sym w) (subst (λ k. slice_get (uses_at s.ops at.0.value) at.0.place ≡ Some (record { user = u.user; number = k })) (sym n) there) in
-        In-map use_of (record { user = u.user; number = u.number }) (uses_at s.ops v) (In-place (uses_at s.ops v) at.0.place _ here)
+        In-map use_of (record { user = u.user; number = u.number }) (uses_at s.ops v) (slice_get-in (uses_at s.ops v) at.0.place _ here)
 
     -- the kept list has exactly the uses, each once
     pub uses-exact : AreUses (forest_of s) (a_value (value_of v)) (uses_of s v)
@@ -180,11 +171,11 @@ module _ {D A K B S X L : Type 0} (s : State D A K B S X L) where
   operand-use u i a h e =
       let at : slice_get (operands_of (forest_of s) u.user) i ≡ Some (operand_of a) = ap (λ xs. slice_get xs i) (operands-op u.user) ∙ slice_get-map operand_of (operands_at s.ops u.user) i ∙ ap (option_map operand_of) e in
       let n : u.number ≡ a.number = ap (λ (x : Operand context_ids). x.use_number) (same_Some _ _ (sym h.1 ∙ at)) in
-      subst (λ k. In (record { use_number = k; value = value_of a.value }) (operands_of (forest_of s) u.user)) (sym n) (In-place (operands_of (forest_of s) u.user) i (operand_of a) at)
+      subst (λ k. In (record { use_number = k; value = value_of a.value }) (operands_of (forest_of s) u.user)) (sym n) (slice_get-in (operands_of (forest_of s) u.user) i (operand_of a) at)
 
 -- a use whose operand stands somewhere is a live one
 pub placed-live : {W : Dialect} (f : Forest context_ids W) (u : Use context_ids) (i : ℕ) → IsOperandAt f u i → IsLiveUse f u
-placed-live f u i h = (h.0, In-place (operands_of f u.user) i (record { use_number = u.number; value = h.0 }) h.1)
+placed-live f u i h = (h.0, slice_get-in (operands_of f u.user) i (record { use_number = u.number; value = h.0 }) h.1)
 
 -- what a use names is live
 pub use-live : {W : Dialect} (f : Forest context_ids W) (keys : ℕ) (v : Value context_ids) (u : Use context_ids) → WellFormed f keys → IsUse f (a_value v) u → IsLiveNamed f (a_value v)
@@ -209,11 +200,11 @@ module _ {D A K B S X L : Type 0} (s : State D A K B S X L) (v : ValueIndex) (o 
   lacks-here none = record { op = o; definer = ap definer_of is; live = live-here; missing = missing-here none }
 
   pub has-here : (i : ℕ) → position (λ (r : ResultRecord). r.number == v.number) op.results ≡ Some i → LacksResult (forest_of s) (value_of v) → ⊥
-  has-here i e lacks = lacks.missing (In-place (numbers_of (forest_of s) (definer_of v.definer)) i v.number (found-here i e))
+  has-here i e lacks = lacks.missing (slice_get-in (numbers_of (forest_of s) (definer_of v.definer)) i v.number (found-here i e))
 
 -- a look-up that answers exactly where the number is there
 pub live-iff : {E : Type 0} (r : Result ℕ E) (ns : List ℕ) (n : ℕ) (b : Bool) → b ≡ is_ok r → IfOk r (λ i. slice_get ns i ≡ Some n) → (IsErr r → In n ns → ⊥) → IsTrue b ↔ In n ns
-live-iff (Ok i) ns n b e found missing = (λ h. In-place ns i n found, λ h. e)
+live-iff (Ok i) ns n b e found missing = (λ h. slice_get-in ns i n found, λ h. e)
 live-iff (Err x) ns n b e found missing = (λ h. absurd (let k : true ≡ false = sym h ∙ e in cc), λ h. absurd (missing refl h))
 
 module _ {D A K B S X L : Type 0} (t : Arena (Operation D A K B S X L)) (v : ValueIndex) (o : ArenaIndex) (op : Operation D A K B S X L) (is : v.definer ≡ Op o) (at : get t o ≡ Some op) where
@@ -228,13 +219,6 @@ module _ {D A K B S X L : Type 0} (t : Arena (Operation D A K B S X L)) (v : Val
       let is_r = get_or_from_slice_get op.results i r r e in
       let n : r.number ≡ v.number = ap (λ (x : ResultRecord). x.number) (sym is_r) ∙ eqb-true (get_or op.results i r).number v.number p.1 in
       rw is ((i, subst (λ (m : Option (Operation D A K B S X L)). slice_get (results_in m) i ≡ Some r) (sym at) e), n)
-
--- all of a list, and no more
-pub take_all : {A : Type 0} (xs : List A) (n : ℕ) → length xs ≤ n → take n xs ≡ xs
-take_all [] zero h = refl
-take_all [] (suc n) h = refl
-take_all (x ∷ xs) zero h = absurd (omega arith)
-take_all (x ∷ xs) (suc n) h = ap (λ ys. x ∷ ys) (take_all xs n (omega arith))
 
 pub map-index : {T : Type 0} (index : T → UseIndex) (us : List T) → map (λ u. use_of (index u)) us ≡ map use_of (map index us)
 map-index index [] = refl

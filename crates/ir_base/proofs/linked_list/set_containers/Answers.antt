@@ -1,12 +1,12 @@
 use Rattle.std.proofs.Common.{◌<◌, length, refl, sym, ap, ◌∙◌, subst, Some, None, Option}
 use Rattle.std.specs.Option.{option_map}
+use Rattle.std.proofs.lemmas.Option.{same_Some}
 use Rattle.ir_model.specs.declared.ids.ArenaIndex.{ArenaIndex}
 use Rattle.ir_base.specs.Arena.{fill}
 use Rattle.ir_base.specs.Lists.{seen, Links, Heap, unlinked, with_container}
 use Rattle.ir_base.specs.Walks.{Walked, piece}
 use Rattle.ir_base.proofs.ListArena.{live-at}
 use Rattle.ir_base.proofs.ArenaLaws.{get-fill_live}
-use Rattle.ir_base.proofs.ListChains.{Some-inj}
 use Rattle.ir_base.proofs.ListRecords.{put-seen, put-rest}
 use Rattle.ir_base.proofs.ListPlaces.{live-from_seen}
 use Rattle.ir_base.proofs.ListRehome.{step, walk-start, walk-more, walk-smaller, last-step}
@@ -41,7 +41,7 @@ loop-current-preserved g c =
     record {
       walked = walk-more h now (seen L.links (fill c.loop-current.nodes node y)) c.args.first c.get_next-current.result c.args.container node w
           (put-seen L.links L.with_links laws.get_put laws.put_put c.loop-current.nodes node x y (with_container c.args.container) found c.set_container.ensures)
-          (λ l is. c.get_next-current.ensures ∙ ap (λ (m : Links). m.next) (Some-inj _ _ (sym here ∙ is)));
+          (λ l is. c.get_next-current.ensures ∙ ap (λ (m : Links). m.next) (same_Some _ _ (sym here ∙ is)));
       rest = put-rest L.links L.with_links laws.get_put laws.put_put c.loop-current.nodes node x y _ unlinked found c.set_container.ensures ∙ c.loop-current.invariant.rest;
     }
 
@@ -61,7 +61,7 @@ loop-current-smaller g c =
     subst (λ (o : Option ArenaIndex). length (piece L.links (fill c.loop-current.nodes node y) next None) < length (piece L.links c.loop-current.nodes o None)) (sym c.in-Some.is)
     (walk-smaller L.links h c.args.first next c.args.container node c.loop-current.nodes (fill c.loop-current.nodes node y) w
     (put-seen L.links L.with_links laws.get_put laws.put_put c.loop-current.nodes node x y (with_container c.args.container) found c.set_container.ensures)
-    (λ l is. c.get_next-current.ensures ∙ ap (λ (m : Links). m.next) (Some-inj _ _ (sym here ∙ is))))
+    (λ l is. c.get_next-current.ensures ∙ ap (λ (m : Links). m.next) (same_Some _ _ (sym here ∙ is))))
 
 pub returns : goal.returns
 returns g c =

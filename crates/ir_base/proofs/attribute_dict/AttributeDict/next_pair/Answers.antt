@@ -1,8 +1,9 @@
 use Rattle.std.proofs.Common.{◌+◌, ◌&&◌, take, sym, ap, subst, ◌∙◌}
+use Rattle.std.proofs.lemmas.Bool.{and_right}
 use Rattle.std.specs.Option.{option_copied, option_map}
 use Rattle.std.specs.Map.Iter.{deref_pair}
 use Rattle.ir_base.specs.Attributes.{IsNext, is_below}
-use Rattle.ir_base.proofs.HashLemmas.{next-takes, next-leaves, not_second}
+use Rattle.ir_base.proofs.HashLemmas.{next-takes, next-leaves}
 use Rattle.ir_base.proofs.GroupLemmas.{none_in_range}
 use Rattle.ir_base.proofs.attribute_dict.AttributeDict.next_pair.Goals as goal
 use Rattle.ir_base.proofs.attribute_dict.AttributeDict.next_pair.Goals.{in-Some+then-is_after+then-is_before, in-Some+else-is_after, else-is_after-via-then-is_after+else-is_before, else-is_after-via-else-is_after, in_default}
@@ -19,7 +20,7 @@ loop-place-preserved g c =
           (next-leaves c.self.inside.pairs.entries c.len-place-end.ensures.unique c.loop-place.place w.in-Some.key.now w.in-Some.attr.now w.in-Some.ensures.entry
           (option_copied c.args.after) (option_map deref_pair c.loop-place.next) c.loop-place.invariant
           (elim w.else-is_after.branch [
-            | else-is_after-via-then-is_after+else-is_before v ↦ not_second _ _ (sym v.is_before.ensures ∙ v.if-is_before.false)
+            | else-is_after-via-then-is_after+else-is_before v ↦ and_right _ _ (sym v.is_before.ensures ∙ v.if-is_before.false)
             | else-is_after-via-else-is_after v ↦ ap (λ b. b && is_below w.in-Some.key.now (option_map deref_pair c.loop-place.next)) (sym w.is_after.ensures ∙ v.if-is_after.false)
           ]))
       | in_default w ↦ absurd (none_in_range c.self.inside.pairs.entries c.loop-place.place c.len-place-end.result w.in_default.ensures.entry c.loop-place-test.true c.len-place-end.ensures.len)
