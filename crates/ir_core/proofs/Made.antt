@@ -12,8 +12,8 @@ use Rattle.ir_model.specs.declared.ids.ArenaIndex.{ArenaIndex}
 use Rattle.ir_model.specs.declared.ids.Limits.{Limits}
 use Rattle.ir_model.specs.ContextIds.{context_ids, same_id}
 use Rattle.ir_model.specs.Ids.{Fresh, Counts, counts, Distinct}
-use Rattle.ir_model.specs.Forest.{Dialect, Definer, of_op, of_block, Definition, Operand, OpRecord, Forest, Named, a_value}
-use Rattle.ir_model.specs.Nesting.{In, IsLiveNamed, WellFormed, list_of, numbers_of, uses_of, regions_of}
+use Rattle.ir_model.specs.Forest.{Dialect, Definer, of_op, of_block, Definition, Operand, OpRecord, Forest, Named, Value, a_value, the_block, an_op}
+use Rattle.ir_model.specs.Nesting.{In, IsLive as IsLiveEntity, IsLiveNamed, WellFormed, list_of, numbers_of, uses_of, regions_of}
 use Rattle.ir_model.specs.Edits.{StoredType}
 use Rattle.ir_model.specs.Changes.{new_op, definition, operand}
 use Rattle.ir_model.specs.Sessions.{Session, IsNewId, IsNewNumber, live_op, live_region}
@@ -26,7 +26,7 @@ use Rattle.ir_base.specs.Arena.{Arena, get, IsLive, is_passed}
 use Rattle.ir_core.specs.declared.operation.Operation.{Operation}
 use Rattle.ir_core.specs.declared.region.Region.{Region}
 use Rattle.ir_core.specs.declared.value.Value.{Value as Handle}
-use Rattle.ir_core.specs.Calls.{MakesOperation, SkipsAtMost, op_needs}
+use Rattle.ir_core.specs.Calls.{MakesOperation, SkipsAtMost, StayLive, op_needs}
 use Rattle.ir_core.specs.Creation.{SkipsIds, SameRecords, InsertsWhole, results_from}
 use Rattle.ir_core.specs.declared.record.OperandRecord.{OperandRecord}
 use Rattle.ir_core.specs.Table.{IsResult, operands_in}
@@ -260,6 +260,17 @@ module _ {D A K B S X L : Type 0} (s : State D A K B S X L) (sound : IsSound s) 
       region_slots = record { limit = w.made.grows.limit ∙ sound.region_slots.limit; last_version = w.made.grows.last_version ∙ sound.region_slots.last_version };
     }
 
+    pub made-stay_live : StayLive (forest_of s) (forest_of made)
+    made-stay_live (the_block b) h = h
+    made-stay_live (a_value v) h = by v.definer h
+      where
+        by : (d : Definer context_ids) → In v.number (numbers_of (forest_of s) d) → In v.number (numbers_of (forest_of made) d)
+        by (of_block b) k = k
+        by (of_op o) k = elim (op_case o) [
+          | inl e ↦ absurd (subst (λ (x : Option (OpRecord context_ids (closed A K B S X L))). In v.number (map (λ (y : Definition context_ids (closed A K B S X L)). y.number) (list_of (λ r. r.results) x))) (ap (op_records s.ops) e.0 ∙ ap (option_map op_record) (w.grows.dead u (inl refl))) k)
+          | inr e ↦ subst (λ (x : Option (OpRecord context_ids (closed A K B S X L))). In v.number (map (λ (y : Definition context_ids (closed A K B S X L)). y.number) (list_of (λ r. r.results) x))) (sym e.1) k
+        ]
+
     abbrev the_fresh : Fresh context_ids
     the_fresh = record { ops = u ∷ []; blocks = []; regions = w.ids; numbers = range_with_len s.next_value (length ts); uses = range_with_len s.next_use (length vs) }
 
@@ -328,3 +339,11 @@ skips-nothing s n = record {
     uses = λ i. (λ h. inl h, λ h. elim h [ inl p ↦ p | inr k ↦ absurd k ]);
   };
 }
+
+-- the operation that was made is live
+module _ {W : Dialect} {unknown : W.Loc} {old new : Session W} {id : ArenaIndex} {kind : ℕ} {types : List ℕ} {operands : List (Value context_ids)} {regions : ℕ} (m : MakesOperation unknown old new id kind types operands regions) where
+  abbrev the_record : OpRecord context_ids W
+  the_record = record { kind = kind; results = map definition (zip m.fresh.numbers types); operands = map operand (zip m.fresh.uses operands); successors = []; regions = m.fresh.regions; attributes = []; loc = unknown }
+
+  pub made-live : IsLiveEntity new.state.forest (an_op id)
+  made-live = subst (λ f. IsLiveEntity f (an_op id)) (sym m.forest) (elim (put_at same_id id_tells id the_record old.state.forest.ops id) [ inl e ↦ ap is_some e.1 | inr e ↦ absurd (e.0 refl) ])

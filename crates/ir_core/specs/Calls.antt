@@ -4,7 +4,8 @@ use Rattle.std.specs.List.{zip}
 use Rattle.ir_model.specs.declared.ids.ArenaIndex.{ArenaIndex}
 use Rattle.ir_model.specs.ContextIds.{context_ids}
 use Rattle.ir_model.specs.Ids.{Fresh, Counts, counts, FreshDistinct}
-use Rattle.ir_model.specs.Forest.{Dialect, Behaviour, Forest, Value}
+use Rattle.ir_model.specs.Forest.{Dialect, Behaviour, Forest, Named, Value}
+use Rattle.ir_model.specs.Nesting.{IsLiveNamed}
 use Rattle.ir_model.specs.Edits.{StoredType}
 use Rattle.ir_model.specs.Changes.{definition, operand, new_op}
 use Rattle.ir_model.specs.Sessions.{Session, Number, TakesSlot, AreNew, Passes, Within, live_op, live_region}
@@ -59,6 +60,10 @@ module _ {W : Dialect} where
     pub beside : new.beside ≡ old.beside
     pub passed : Passes old.passed fresh new.passed
     pub limits : new.limits ≡ old.limits
+
+  -- each value and block that was live is live still
+  abbrev pub StayLive : Forest context_ids W → Forest context_ids W → Type 0
+  StayLive old new = (d : Named context_ids) → IsLiveNamed old d → IsLiveNamed new d
 
   -- all is as before, but that at most so many new ids and numbers were skipped
   pub record SkipsAtMost (old new : Session W) (most : Counts) : Type 0 where

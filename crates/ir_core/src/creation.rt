@@ -7,7 +7,7 @@ ghost use Rattle.ir_model.specs.Forest.{a_value};
 ghost use Rattle.ir_model.specs.Nesting.{IsLiveNamed};
 ghost use Rattle.ir_base.specs.Arena.{room, IsLive};
 ghost use Rattle.ir_model.specs.declared.ids.ArenaIndex.{ArenaIndex};
-ghost use Rattle.ir_core.specs.Calls.{MakesOperation, SkipsAtMost, op_needs};
+ghost use Rattle.ir_core.specs.Calls.{MakesOperation, SkipsAtMost, StayLive, op_needs};
 ghost use Rattle.ir_core.specs.Creation.{results_from, Completes, Fills, SkipsIds, Clears, SameRecords, InsertsWhole};
 ghost use Rattle.ir_core.specs.Links.{Linked, IsFreshUse, KnowOwn};
 ghost use Rattle.ir_core.specs.Meaning.{op_records, operands_from, value_of, SameIds};
@@ -221,6 +221,7 @@ pub(crate) fn create<D: Dialects>(
     requires op_slots { 0 < room ctx.old.ops }
     requires region_slots { num_regions ≤ room ctx.old.regions }
     ensures made { IfOk result (λ index. MakesOperation D.unknown (bare ctx.old) (bare ctx.new) index kind (map (λ t. t.place) types.now) (map (λ v. value_of v.index) operands.now) num_regions) }
+    ensures stay_live { OnOk result (StayLive (forest_of ctx.old) (forest_of ctx.new)) }
     ensures refused { OnErr result (SkipsAtMost (bare ctx.old) (bare ctx.new) (op_needs (length types.now) (length operands.now) num_regions)) }
 {
     let results = new_results(ctx.alloc, ctx.next_value, types)?;

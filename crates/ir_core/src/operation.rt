@@ -4,7 +4,7 @@ ghost use Rattle.std.specs.Prelude.{◌≡◌, ◌+◌, ◌<◌, ◌≤◌, ◌^
 ghost use Rattle.ir_model.specs.Forest.{a_block, a_value, an_op};
 ghost use Rattle.ir_model.specs.Nesting.{IsLive, IsLiveNamed};
 ghost use Rattle.ir_model.specs.Sessions.{HasNumbers, LacksNumbers, LacksSlots};
-ghost use Rattle.ir_core.specs.Calls.{MakesOperation, SkipsAtMost, op_needs};
+ghost use Rattle.ir_core.specs.Calls.{MakesOperation, SkipsAtMost, StayLive, op_needs};
 ghost use Rattle.ir_core.specs.Meaning.{use_of, value_of};
 ghost use Rattle.ir_core.specs.State.{bare, forest_of, types_of, uses_of_results};
 
@@ -52,6 +52,9 @@ impl<D: Dialects> Operation<D> {
         requires operands { All (λ v. IsLiveNamed (forest_of ctx.old) (a_value (value_of v.index))) operands.now }
         requires successors { All (λ b. IsLive (forest_of ctx.old) (a_block b.index)) successors.now }
         ensures made { IfOk result (λ op. MakesOperation D.unknown (bare ctx.old) (bare ctx.new) op.index kind (map (λ t. t.place) result_types.now) (map (λ v. value_of v.index) operands.now) num_regions) }
+        ensures live { IfOk result (λ op. IsLive (forest_of ctx.new) (an_op op.index)) }
+        ensures stay_live { StayLive (forest_of ctx.old) (forest_of ctx.new) }
+        ensures types_stay { types_of ctx.new ≡ types_of ctx.old }
         ensures counter { (result ≡ Err CoreError.CounterSpent) ↔ LacksNumbers (bare ctx.old) (op_needs (length result_types.now) (length operands.now) num_regions) }
         ensures slots { (result ≡ Err CoreError.SlotsSpent) ↔ (HasNumbers (bare ctx.old) (op_needs (length result_types.now) (length operands.now) num_regions) × LacksSlots (bare ctx.old) (op_needs (length result_types.now) (length operands.now) num_regions)) }
         ensures refused { OnErr result (SkipsAtMost (bare ctx.old) (bare ctx.new) (op_needs (length result_types.now) (length operands.now) num_regions)) }

@@ -1,5 +1,5 @@
 -- What a list of kept uses tells of each of them.
-use Rattle.std.proofs.Common.{◌≡◌, refl, sym, subst, ℕ, zero, suc, ◌<◌, List, [], ◌∷◌, map, length, inl, inr, slice_index_or, arith}
+use Rattle.std.proofs.Common.{◌≡◌, refl, subst, ℕ, zero, suc, ◌<◌, List, [], ◌∷◌, map, length, inl, inr, slice_index_or, arith}
 use Rattle.ir_model.specs.ContextIds.{context_ids}
 use Rattle.ir_model.specs.Forest.{Dialect, Forest, Value, a_value}
 use Rattle.ir_model.specs.Nesting.{In}

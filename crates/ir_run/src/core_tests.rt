@@ -41,7 +41,7 @@ fn two_uses<D: Dialects>(
     let Some(value) = first_result(ctx, maker) else {
         return Ok(None);
     };
-    if !value.is_live(ctx) || !ty.is_known(ctx) {
+    if !value.is_live(ctx) {
         return Ok(None);
     }
     let user = Operation::new(ctx, 4, &[ty], &[value, value], &[], 0)?;
@@ -460,17 +460,15 @@ fn two_uses_over_toy(ctx: &mut Context<Toy>, ty: TypeHandle) -> Result<usize, Co
         return Ok(0);
     }
     let maker: Ptr<Operation<Toy>> = Operation::new(ctx, 0, &[ty], &[], &[], 0)?;
-    let value: Value<Toy> = match maker.try_deref(ctx) {
-        Ok(maker) if maker.get_num_results() == 1 => maker.get_result(0),
-        _ => return Ok(0),
-    };
+    let maker = maker.deref(ctx);
+    if maker.get_num_results() == 0 {
+        return Ok(0);
+    }
+    let value: Value<Toy> = maker.get_result(0);
     if !value.is_live(ctx) {
         return Ok(0);
     }
-    let user = Operation::new(ctx, 4, &[], &[value, value], &[], 0)?;
-    if !value.is_live(ctx) {
-        return Ok(0);
-    }
+    let user = Operation::new(ctx, 4, &[ty], &[value, value], &[], 0)?;
     let uses: Vec<Use<Value<Toy>>> = value.uses(ctx)?;
     Ok(uses.iter().filter(|used| used.user_op() == user).count())
 }

@@ -6,7 +6,7 @@ use Rattle.ir_core.specs.Meaning.{operands_from}
 use Rattle.ir_core.specs.State.{State, bare}
 use Rattle.ir_core.proofs.TableEdits.{err_holds}
 use Rattle.ir_core.proofs.Making.{results_from-unused}
-use Rattle.ir_core.proofs.Made.{skips-nothing, live-results, fresh-uses, skipped-sound, skipped-skips, made-sound, made-makes}
+use Rattle.ir_core.proofs.Made.{skips-nothing, live-results, fresh-uses, skipped-sound, skipped-skips, made-sound, made-stay_live, made-makes}
 use Rattle.ir_core.proofs.creation.create.Goals as goal
 
 pub returns-in_err-results-clause-refused : goal.returns-in_err-results-clause-refused
@@ -61,3 +61,14 @@ returns-clause-made g c =
     let uses = rw (sym c.ctx.view_is) at c.requires.uses in
     let whole = subst (λ (rs : List ResultRecord). InsertsWhole g.D.Dialects.unknown c.ctx.inside.ops c.insert_whole.new.ops c.ctx.inside.regions c.insert_whole.new.regions c.in_ok-index.index c.args.kind rs (operands_from c.ctx.inside.next_use (map (λ v. v.index) c.args.operands.now)) c.args.num_regions) c.in_ok-results.ensures c.in_ok-index.ensures.made in
     rw (sym c.ctx.view_is) (made-makes s c.ctx.invariant c.insert_whole.new.ops c.insert_whole.new.regions g.D.Dialects.unknown c.in_ok-index.index c.args.kind c.args.types.now c.args.operands.now c.args.num_regions whole c.in_ok-index.ensures.linked c.in_ok-index.ensures.own known live values uses)
+
+pub returns-clause-stay_live : goal.returns-clause-stay_live
+returns-clause-stay_live g c =
+    let s : State g.row.D.Denot g.row.D-Attr.Denot g.row.D-TypeKey.Denot g.row.D-TypeBody.Denot g.row.D-Saved.Denot g.row.D-Aux.Denot g.row.D-Loc.Denot =
+    record { ops = c.ctx.inside.ops; regions = c.ctx.inside.regions; types = c.ctx.inside.types; next_value = c.ctx.inside.next_value; next_use = c.ctx.inside.next_use; limits = c.ctx.inside.limits } in
+    let known = rw (sym c.ctx.view_is) at c.requires.types in
+    let live = rw (sym c.ctx.view_is) at c.requires.operands in
+    let values = rw (sym c.ctx.view_is) at c.requires.values in
+    let uses = rw (sym c.ctx.view_is) at c.requires.uses in
+    let whole = subst (λ (rs : List ResultRecord). InsertsWhole g.D.Dialects.unknown c.ctx.inside.ops c.insert_whole.new.ops c.ctx.inside.regions c.insert_whole.new.regions c.in_ok-index.index c.args.kind rs (operands_from c.ctx.inside.next_use (map (λ v. v.index) c.args.operands.now)) c.args.num_regions) c.in_ok-results.ensures c.in_ok-index.ensures.made in
+    rw (sym c.ctx.view_is) (made-stay_live s c.ctx.invariant c.insert_whole.new.ops c.insert_whole.new.regions g.D.Dialects.unknown c.in_ok-index.index c.args.kind c.args.types.now c.args.operands.now c.args.num_regions whole c.in_ok-index.ensures.linked c.in_ok-index.ensures.own known live values uses)

@@ -1,4 +1,4 @@
-use Rattle.std.proofs.Common.{◌≡◌, sym, ap, map, ◌∙◌}
+use Rattle.std.proofs.Common.{ap, map, ◌∙◌}
 use Rattle.ir_core.specs.Meaning.{use_of, value_of}
 use Rattle.ir_core.specs.State.{forest_of, uses_of}
 use Rattle.ir_run.proofs.LiveUses.{live-use}

@@ -1,7 +1,9 @@
-use Rattle.std.proofs.Common.{◌⊎◌, ◌<◌, length, inl, inr, refl, arith}
+use Rattle.std.proofs.Common.{◌⊎◌, ◌<◌, length, inl, inr, refl, arith, sym, subst}
 use Rattle.ir_core.specs.Calls.{op_needs}
-use Rattle.ir_core.specs.State.{bare}
-use Rattle.ir_core.proofs.Made.{skips-nothing}
+use Rattle.ir_model.specs.Forest.{an_op}
+use Rattle.ir_model.specs.Nesting.{IsLive}
+use Rattle.ir_core.specs.State.{bare, forest_of}
+use Rattle.ir_core.proofs.Made.{skips-nothing, made-live}
 use Rattle.ir_core.proofs.Rooms.{has-numbers, not_lacking, not_having, lacks-slots, slots_enough, no_block, left-above, lacks-numbers, no_counter, no_slots}
 use Rattle.ir_core.proofs.operation.Operation.new.Goals as goal
 use Rattle.ir_core.proofs.operation.Operation.new.Goals.{then-room-result_types-via-then-room-result_types, then-room-result_types-via-else-room-result_types+then-room-operands, then-room-eq0-via-then-room-eq0, then-room-eq0-via-else-room-eq0+then-room-num_regions}
@@ -56,3 +58,6 @@ returns-clause-counter g c = (λ e. absurd cc, λ l. absurd (not_lacking (bare c
 
 pub returns-clause-slots : goal.returns-clause-slots
 returns-clause-slots g c = (λ e. absurd cc, λ h. absurd (slots_enough (bare c.args.ctx.now) c.room-room.result c.room-room.ensures.exact (op_needs (length c.args.result_types.now) (length c.args.operands.now) c.args.num_regions) refl (no_block c.args.ctx.now) (omega arith) (omega arith) h.1))
+
+pub returns-clause-live : goal.returns-clause-live
+returns-clause-live g c = subst (λ i. IsLive (forest_of c.create.new.ctx) (an_op i)) (sym c.from_index.ensures) (made-live c.in_ok-index.ensures.made)
