@@ -427,24 +427,21 @@ fn three_uses_of_two(rt: HostRuntime) -> Result<(), Fail> {
     Ok(())
 }
 
-// Makes an operation with one result of this type, and one that uses it twice. Answers how many uses the result has: two.
+/// Makes an operation with one result of this type, and one that uses it twice. Answers how many uses the result has: two.
 fn use_twice<D: Dialects>(ctx: &mut Context<D>, ty: TypeHandle) -> Result<usize, CoreError> {
     if !ty.is_known(ctx) {
         return Ok(0);
     }
-    let maker = Operation::new(ctx, 0, &[ty], &[], &[], 0)?;
-    let value = match maker.try_deref(ctx) {
-        Ok(maker) if maker.get_num_results() == 1 => maker.get_result(0),
-        _ => return Ok(0),
-    };
-    if value.is_live(ctx) {
-        Operation::new(ctx, 4, &[], &[value, value], &[], 0)?;
+    let maker = Operation::new(ctx, 0, &[ty], &[], &[], 0)?.deref(ctx);
+    if maker.get_num_results() == 0 {
+        return Ok(0);
     }
-    Ok(if value.is_live(ctx) {
-        value.num_uses(ctx)
-    } else {
-        0
-    })
+    let value = maker.get_result(0);
+    if !value.is_live(ctx) {
+        return Ok(0);
+    }
+    Operation::new(ctx, 4, &[ty], &[value, value], &[], 0)?;
+    Ok(value.num_uses(ctx))
 }
 
 #[test]
@@ -454,29 +451,11 @@ fn used_twice(rt: HostRuntime) -> Result<(), Fail> {
     Ok(())
 }
 
-// Makes an operation with one result, and one that uses it twice, as a caller does who has settled for one dialect. Answers how many uses by the second operation the result has.
-fn two_uses_over_toy(ctx: &mut Context<Toy>, ty: TypeHandle) -> Result<usize, CoreError> {
-    if !ty.is_known(ctx) {
-        return Ok(0);
-    }
-    let maker: Ptr<Operation<Toy>> = Operation::new(ctx, 0, &[ty], &[], &[], 0)?;
-    let maker = maker.deref(ctx);
-    if maker.get_num_results() == 0 {
-        return Ok(0);
-    }
-    let value: Value<Toy> = maker.get_result(0);
-    if !value.is_live(ctx) {
-        return Ok(0);
-    }
-    let user = Operation::new(ctx, 4, &[ty], &[value, value], &[], 0)?;
-    let uses: Vec<Use<Value<Toy>>> = value.uses(ctx)?;
-    Ok(uses.iter().filter(|used| used.user_op() == user).count())
-}
-
 #[test]
 fn calls_over_one_dialect(rt: HostRuntime) -> Result<(), Fail> {
     let mut ctx: Context<Toy> = Context::new(rt.alloc());
-    let ty = ctx.instantiate_key(ToyType::Int { width: 32 })?;
-    assert_eq!(rt; two_uses_over_toy(&mut ctx, ty)?, 2);
+    let last: Ptr<Operation<Toy>> = Operation::new(&mut ctx, 5, &[], &[], &[], 1)?;
+    assert!(rt; last.is_live(&ctx) && !last.has_use(&ctx));
+    assert_eq!(rt; last.deref(&ctx).num_regions(), 1);
     Ok(())
 }
