@@ -2,9 +2,10 @@
 ghost use Rattle.std.specs.Prelude.{◌≡◌, ℕ, Bool, true, Option, is_some, IfOk, IfErr};
 ghost use Rattle.ir_base.specs.declared.interfaces.TheConstants.{TYPED_ATTRIBUTE};
 ghost use Rattle.ir_base.specs.declared.error.CoreError.TheVariants.{OutOfMemory};
-ghost use Rattle.ir_base.specs.declared.names.attr_name.AttrId.{AttrId};
-ghost use Rattle.ir_base.specs.declared.names.op_name.OpId.{OpId};
-ghost use Rattle.ir_base.specs.declared.names.type_name.TypeId.{TypeId};
+ghost use Rattle.ir_base.specs.declared.names.Id.{Id};
+ghost use Rattle.ir_base.specs.declared.names.OfAttr.{OfAttr};
+ghost use Rattle.ir_base.specs.declared.names.OfOp.{OfOp};
+ghost use Rattle.ir_base.specs.declared.names.OfType.{OfType};
 ghost use Rattle.ir_base.specs.declared.type_handle.TypeHandle.{TypeHandle};
 
 use crate::error::CoreError;
@@ -54,11 +55,11 @@ pub trait Dialects: Drop {
 
     ghost attr_type_of: { Self.Attr → Option TypeHandle };
 
-    ghost op_id_of: { ℕ → OpId };
+    ghost op_id_of: { ℕ → Id OfOp };
 
-    ghost attr_id_of: { ℕ → AttrId };
+    ghost attr_id_of: { ℕ → Id OfAttr };
 
-    ghost type_id_of: { ℕ → TypeId };
+    ghost type_id_of: { ℕ → Id OfType };
 
     /// Whether operations of this kind implement this interface.
     fn op_impls(kind: u32, interface: u32) -> bool

@@ -45,7 +45,10 @@ pub use identifier::{IdentErr, Identifier, MalformedIdentifierErr};
 pub use ir_model::{Answer, ArenaIndex, Limits, Refused};
 pub use legaliser::Legaliser;
 pub use list_iter::Iter;
-pub use names::{AttrId, AttrName, DialectName, OpId, OpName, TypeId, TypeName};
+pub use names::{
+    AttrId, AttrName, DialectName, Id, Name, OfAttr, OfDialect, OfOp, OfType, OpId, OpName, TypeId,
+    TypeName,
+};
 pub use ptr::Ptr;
 pub use room::Room;
 pub use seq::Seq;
