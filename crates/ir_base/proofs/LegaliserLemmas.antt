@@ -181,11 +181,6 @@ module _ (free free' : List ℕ → Type 0) (there : (name : List ℕ) → free 
   pub HasNoName-along : (counter : ℕ) (source : List ℕ) → HasNoName free counter source → HasNoName free' counter source
   HasNoName-along counter source none = record { taken = λ f. none.taken (back _ f); none_free = λ c above below f. none.none_free c above below (back _ f) }
 
--- what is chosen is free
-pub Chooses-free : (free : List ℕ → Type 0) (counter : ℕ) (source name : List ℕ) (next : ℕ) → Chooses free counter source name next → free name
-Chooses-free free counter source name next (inl by) = subst free (sym by.name_is) by.is_free
-Chooses-free free counter source name next (inr by) = subst free (sym by.name_is) by.is_next.is_free
-
 -- what was given, and the tables that say so
 module _ {Y Z S : Type 0} (names : HashMap (String Y) (List ℕ) S) (sources : HashMap (List ℕ) (String Z) S) (counter : ℕ) (s : Given) (is : given_by names counter ≡ s) where
   -- a source's name is the one in the table

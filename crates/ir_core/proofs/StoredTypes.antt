@@ -1,27 +1,13 @@
 -- The store of types: keys with bodies, found by their keys.
-use Rattle.std.proofs.Common.{◌≡◌, refl, sym, ap, subst, ◌∙◌, ℕ, zero, suc, Some, slice_get, ◌+◌, ◌<◌, ◌≤◌, Bool, true, false, not, ◌||◌, cond, List, [], ◌∷◌, ◌++◌, map, length, arith}
+use Rattle.std.proofs.Common.{◌≡◌, refl, sym, ap, subst, ◌∙◌, ℕ, zero, suc, Some, slice_get, ◌+◌, ◌≤◌, Bool, true, false, not, ◌||◌, cond, List, [], ◌∷◌, ◌++◌, map, length, arith}
 use Rattle.std.specs.Prelude.{MatchBool}
 use Rattle.std.specs.List.{list_any}
 use Rattle.std.specs.Map.{keys_of}
 use Rattle.std.specs.Option.{option_map}
-use Rattle.ir_model.specs.Ids.{Ids}
-use Rattle.ir_model.specs.Forest.{Dialect, Forest}
-use Rattle.ir_model.specs.Nesting.{WellFormed}
 use Rattle.ir_model.specs.Edits.{StoredType, place_of, type_place, with_type}
 use Rattle.ir_base.specs.Stores.{Stores, has_key}
 use Rattle.ir_core.specs.Meaning.{closed}
 use Rattle.ir_core.specs.State.{behaviour}
-
-pub formed-more : {N : Ids} {W : Dialect} (f : Forest N W) (k m : ℕ) → k ≤ m → WellFormed f k → WellFormed f m
-formed-more f k m h w = record {
-  nested = w.nested;
-  numbers = w.numbers;
-  numbers_once = w.numbers_once;
-  uses = w.uses;
-  uses_once = w.uses_once;
-  named = w.named;
-  known = λ d t i. (let n : t < k = w.known d t i in omega arith);
-}
 
 module _ (A K B S X L : Type 0) (same : K → K → Bool) (first : B) (unknown : L) (impls : ℕ → ℕ → Bool) where
   abbrev stored : K × B → StoredType (closed A K B S X L)

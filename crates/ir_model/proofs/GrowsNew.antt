@@ -55,7 +55,8 @@ module _ {N : Ids} where
   numbered_in v d ns e h = subst (λ x. In v (numbered x ns)) e (In-map (λ n. record { definer = v.definer; number = n }) v.number ns h)
 
 module _ {N : Ids} {W : Dialect} where
-  WellFormed-more : (f : Forest N W) (keys more : ℕ) → keys ≤ more → WellFormed f keys → WellFormed f more
+  -- a forest stays well formed where more types are known
+  pub WellFormed-more : (f : Forest N W) (keys more : ℕ) → keys ≤ more → WellFormed f keys → WellFormed f more
   WellFormed-more f keys more h w = record {
     nested = w.nested;
     numbers = w.numbers;

@@ -16,7 +16,8 @@ use Rattle.ir_model.specs.DefinitionLaws.{SourcesApart, CallsSettle, NamesLeadBa
 Apart : Given → Type 0
 Apart s = (a b name : Text) → name_of s a ≡ Some name → name_of s b ≡ Some name → a ≡ b
 
-chosen_free : (free : Text → Type 0) (counter : ℕ) (source name : Text) (next : ℕ) → Chooses free counter source name next → free name
+-- what is chosen is free
+pub chosen_free : (free : Text → Type 0) (counter : ℕ) (source name : Text) (next : ℕ) → Chooses free counter source name next → free name
 chosen_free free counter source name next (inl c) = subst free (sym c.name_is) c.is_free
 chosen_free free counter source name next (inr c) = subst free (sym c.name_is) c.is_next.is_free
 

@@ -2,7 +2,8 @@ use Rattle.std.proofs.Common.{◌≡◌, Some, None, Err, ◌∙◌, rules}
 use Rattle.std.specs.HashMap.{get_by_text}
 use Rattle.ir_model.specs.Legaliser.{IsFree, HasNoName, IsSpent}
 use Rattle.ir_base.specs.LegaliserTables.{source_at}
-use Rattle.ir_base.proofs.LegaliserLemmas.{name_in, Gives-known, Gives-result, Chooses-in, Chooses-free, HasNoName-in, SpentOnlyWhere-along}
+use Rattle.ir_model.proofs.Legalisers.{chosen_free}
+use Rattle.ir_base.proofs.LegaliserLemmas.{name_in, Gives-known, Gives-result, Chooses-in, HasNoName-in, SpentOnlyWhere-along}
 use Rattle.ir_base.proofs.legaliser.Legaliser.legalise.Goals as goal
 
 pub returns-in-Some-clause-given : goal.returns-in-Some-clause-given
@@ -17,7 +18,7 @@ give-requires-clause-unknown c =
 
 pub give-requires-clause-free : goal.give-requires-clause-free
 give-requires-clause-free c =
-    Chooses-free (IsFree c.args.self.now) c.args.self.now.counter c.args.source.now c.in_ok-name.name c.in_ok-name.next
+    chosen_free (IsFree c.args.self.now) c.args.self.now.counter c.args.source.now c.in_ok-name.name c.in_ok-name.next
     (Chooses-in c.self.inside.names c.self.inside.sources c.self.inside.counter c.args.self.now c.self.view_is c.self.invariant c.args.source.now c.in_ok-name.name c.in_ok-name.next c.in_ok-name.ensures.chosen)
 
 pub returns-in_err-name-clause-refused : goal.returns-in_err-name-clause-refused

@@ -1,5 +1,6 @@
 use Rattle.std.proofs.Common.{sym, ◌∙◌}
-use Rattle.ir_core.proofs.StoredTypes.{formed-more, places, stores, stores-longer}
+use Rattle.ir_model.proofs.GrowsNew.{WellFormed-more}
+use Rattle.ir_core.proofs.StoredTypes.{places, stores, stores-longer}
 use Rattle.ir_core.proofs.context.Context.instantiate_key.Goals as goal
 
 pub invariant_of-self-2 : goal.invariant_of-self-2
@@ -10,7 +11,7 @@ invariant_of-self-2 g c =
       linked = s.linked;
       own = s.own;
       parents = s.parents;
-      formed = formed-more _ _ _ more s.formed;
+      formed = WellFormed-more _ _ _ more s.formed;
       values = s.values;
       uses = s.uses;
       value_limit = s.value_limit;
