@@ -16,3 +16,5 @@ pub mod Rooms
 pub mod DistinctTypes
 pub mod ResultUses
 pub mod Parents
+pub mod Leads
+pub mod LiveUses

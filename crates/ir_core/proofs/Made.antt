@@ -8,6 +8,7 @@ use Rattle.std.proofs.lemmas.Bool.Decides.{nat_tests, eqb_tells}
 use Rattle.std.proofs.lemmas.List.{length-map}
 use Rattle.std.proofs.lemmas.List.FromFn.{length-range_with_len}
 use Rattle.std.proofs.lemmas.Option.{same_Some}
+use Rattle.std.proofs.lemmas.Slice.Zip.{seconds-zip}
 use Rattle.ir_model.specs.declared.ids.ArenaIndex.{ArenaIndex}
 use Rattle.ir_model.specs.declared.ids.Limits.{Limits}
 use Rattle.ir_model.specs.ContextIds.{context_ids, same_id}
@@ -26,7 +27,7 @@ use Rattle.ir_base.specs.Arena.{Arena, get, IsLive, is_passed}
 use Rattle.ir_core.specs.declared.operation.Operation.{Operation}
 use Rattle.ir_core.specs.declared.region.Region.{Region}
 use Rattle.ir_core.specs.declared.value.Value.{Value as Handle}
-use Rattle.ir_core.specs.Calls.{MakesOperation, SkipsAtMost, StayLive, op_needs}
+use Rattle.ir_core.specs.Calls.{HasCounts, MakesOperation, SkipsAtMost, StayLive, op_needs}
 use Rattle.ir_core.specs.Creation.{SkipsIds, SameRecords, InsertsWhole, results_from}
 use Rattle.ir_core.specs.declared.record.OperandRecord.{OperandRecord}
 use Rattle.ir_core.specs.Table.{IsResult, operands_in}
@@ -340,10 +341,24 @@ skips-nothing s n = record {
   };
 }
 
+paired : {U V C : Type 0} (g : U × V → C) (xs : List U) (ys : List V) → length xs ≡ length ys → length (map g (zip xs ys)) ≡ length ys
+paired {U} {V} g xs ys e = length-map (zip xs ys) g ∙ sym (length-map (zip xs ys) (λ (p : U × V). p.1)) ∙ ap length (seconds-zip xs ys (sym e))
+
 -- the operation that was made is live
 module _ {W : Dialect} {unknown : W.Loc} {old new : Session W} {id : ArenaIndex} {kind : ℕ} {types : List ℕ} {operands : List (Value context_ids)} {regions : ℕ} (m : MakesOperation unknown old new id kind types operands regions) where
   abbrev the_record : OpRecord context_ids W
   the_record = record { kind = kind; results = map definition (zip m.fresh.numbers types); operands = map operand (zip m.fresh.uses operands); successors = []; regions = m.fresh.regions; attributes = []; loc = unknown }
 
+  made-found : new.state.forest.ops id ≡ Some the_record
+  made-found = subst (λ (f : Forest context_ids W). f.ops id ≡ Some the_record) (sym m.forest) (elim (put_at same_id id_tells id the_record old.state.forest.ops id) [ inl e ↦ e.1 | inr e ↦ absurd (e.0 refl) ])
+
   pub made-live : IsLiveEntity new.state.forest (an_op id)
-  made-live = subst (λ f. IsLiveEntity f (an_op id)) (sym m.forest) (elim (put_at same_id id_tells id the_record old.state.forest.ops id) [ inl e ↦ ap is_some e.1 | inr e ↦ absurd (e.0 refl) ])
+  made-live = ap is_some made-found
+
+  -- it has as many results, operands and regions as were asked for
+  pub made-counts : HasCounts new.state.forest id (length types) (length operands) regions
+  made-counts = record {
+    result_count = ap (option_map (λ (r : OpRecord context_ids W). length r.results)) made-found ∙ ap Some (paired definition m.fresh.numbers types (ap (λ (c : Counts). c.numbers) m.enough));
+    operand_count = ap (option_map (λ (r : OpRecord context_ids W). length r.operands)) made-found ∙ ap Some (paired operand m.fresh.uses operands (ap (λ (c : Counts). c.uses) m.enough));
+    region_count = ap (option_map (λ (r : OpRecord context_ids W). length r.regions)) made-found ∙ ap Some (ap (λ (c : Counts). c.regions) m.enough);
+  }

@@ -1,11 +1,12 @@
 -- The operation that a region knows is the one whose list has it.
-use Rattle.std.proofs.Common.{◌≡◌, sym, ap, subst, ◌∙◌, List, [], Option, Some, is_some}
+use Rattle.std.proofs.Common.{◌≡◌, refl, sym, ap, subst, ◌∙◌, List, [], map, Option, Some, None, is_some}
 use Rattle.std.specs.Prelude.{IsSome}
 use Rattle.std.specs.Option.{option_map}
 use Rattle.std.proofs.lemmas.Option.{same_Some}
 use Rattle.ir_model.specs.declared.ids.ArenaIndex.{ArenaIndex}
-use Rattle.ir_model.specs.Forest.{a_region, an_op}
-use Rattle.ir_model.specs.Nesting.{In, regions_of}
+use Rattle.ir_model.specs.ContextIds.{context_ids}
+use Rattle.ir_model.specs.Forest.{Dialect, Entity, Forest, OpRecord, a_region, an_op}
+use Rattle.ir_model.specs.Nesting.{In, IsLive, list_of, regions_of}
 use Rattle.ir_model.specs.Parent.{IsIn}
 use Rattle.ir_model.proofs.Nests.{In-map}
 use Rattle.ir_base.specs.Arena.{get}
@@ -23,3 +24,11 @@ region-parent s sound g r at =
     let p = sound.formed.nested.regions_linked g live in
     let e : p.0 ≡ r.parent = ap (λ (x : Region). x.parent) (same_Some _ _ (sym (sound.parents p.0 g p.1) ∙ at)) in
     In-map a_region g (regions_of (forest_of s) r.parent) (subst (λ o. In g (regions_of (forest_of s) o)) e p.1)
+
+-- what a region belongs to is live
+pub parent-live : {W : Dialect} (f : Forest context_ids W) (g o : ArenaIndex) → IsIn f (a_region g) (an_op o) → IsLive f (an_op o)
+parent-live {W} f g o h = by (f.ops o) h
+  where
+    by : (m : Option (OpRecord context_ids W)) → In {A = Entity context_ids} (a_region g) (map a_region (list_of (λ (r : OpRecord context_ids W). r.regions) m)) → IsSome m
+    by None h = absurd h
+    by (Some r) h = refl

@@ -1,5 +1,5 @@
 -- What a context knows of a value and of its uses, in the words of the forest.
-use Rattle.std.proofs.Common.{◌≡◌, refl, sym, ap, subst, ◌∙◌, ℕ, suc, ◌==◌, ◌↔◌, inl, inr, Bool, true, false, List, [], ◌∷◌, map, length, Option, Some, None, slice_get, get_or, position, is_some, is_ok, not, ◌≢◌, Result, Ok, Err, IsTrue, arith, eqb-true}
+use Rattle.std.proofs.Common.{◌≡◌, refl, sym, ap, subst, ◌∙◌, ℕ, suc, ◌<◌, ◌==◌, ◌↔◌, inl, inr, Bool, true, false, List, [], ◌∷◌, map, length, Option, Some, None, slice_get, get_or, position, is_some, is_ok, not, ◌≢◌, Result, Ok, Err, IsTrue, arith, eqb-true}
 use Rattle.std.specs.Prelude.{IfOk, IsErr}
 use Rattle.std.specs.Option.{option_map}
 use Rattle.std.proofs.lemmas.Bool.{eq-eqb, ne_eqb}
@@ -9,7 +9,7 @@ use Rattle.ir_model.specs.declared.ids.ArenaIndex.{ArenaIndex}
 use Rattle.ir_model.specs.ContextIds.{context_ids}
 use Rattle.ir_model.specs.Ids.{Distinct}
 use Rattle.ir_model.specs.Forest.{Dialect, Forest, OpRecord, of_op, Value, Operand, Definition, Named, a_value, an_op}
-use Rattle.ir_model.specs.Nesting.{In, IsLive, IsLiveNamed, WellFormed, list_of, definitions_of, numbers_of, operands_of}
+use Rattle.ir_model.specs.Nesting.{In, IsLive, IsLiveNamed, WellFormed, list_of, definitions_of, numbers_of, operands_of, types_of}
 use Rattle.ir_model.specs.Uses.{AreUses, IsOperandAt, IsUse, Use}
 use Rattle.ir_model.proofs.Nests.{In-left, In-map, In-map_back, Absent-not_in}
 use Rattle.ir_model.proofs.Back.{slice_get-in}
@@ -180,6 +180,10 @@ placed-live f u i h = (h.0, slice_get-in (operands_of f u.user) i (record { use_
 -- what a use names is live
 pub use-live : {W : Dialect} (f : Forest context_ids W) (keys : ℕ) (v : Value context_ids) (u : Use context_ids) → WellFormed f keys → IsUse f (a_value v) u → IsLiveNamed f (a_value v)
 use-live f keys v u w h = w.named u.user (a_value v) (In-left (a_value v) (map (λ (p : Operand context_ids). a_value p.value) (operands_of f u.user)) _ (In-map (λ (p : Operand context_ids). a_value p.value) (record { use_number = u.number; value = v }) (operands_of f u.user) h))
+
+-- the type of a value is known
+pub type-known : {W : Dialect} (f : Forest context_ids W) (keys : ℕ) (v : Value context_ids) (ty : ℕ) → WellFormed f keys → HasType f v ty → ty < keys
+type-known {W} f keys v ty w h = w.known v.definer ty (subst (λ t. In t (types_of f v.definer)) h.is (In-map (λ (x : Definition context_ids W). x.ty) h.definition (definitions_of f v.definer) h.defined))
 
 module _ {D A K B S X L : Type 0} (s : State D A K B S X L) (v : ValueIndex) (o : ArenaIndex) (op : Operation D A K B S X L) (is : v.definer ≡ Op o) (at : Some op ≡ get s.ops o) where
   numbers-here : numbers_of (forest_of s) (definer_of v.definer) ≡ map (λ (r : ResultRecord). r.number) op.results

@@ -1,17 +1,22 @@
 -- What the calls of a context promise.
-use Rattle.std.specs.Prelude.{◌≡◌, ◌↔◌, ℕ, ◌+◌, true, List, [], ◌∷◌, map, length, Some, None, IsTrue, slice_get}
+use Rattle.std.specs.Prelude.{◌≡◌, ◌↔◌, ℕ, ◌+◌, ◌<◌, true, List, [], ◌∷◌, map, length, Some, None, IsTrue, slice_get}
 use Rattle.std.specs.List.{zip}
+use Rattle.std.specs.Option.{option_map}
 use Rattle.ir_model.specs.declared.ids.ArenaIndex.{ArenaIndex}
 use Rattle.ir_model.specs.ContextIds.{context_ids}
 use Rattle.ir_model.specs.Ids.{Fresh, Counts, counts, FreshDistinct}
-use Rattle.ir_model.specs.Forest.{Dialect, Behaviour, Forest, Named, Value}
-use Rattle.ir_model.specs.Nesting.{IsLiveNamed}
+use Rattle.ir_model.specs.Forest.{Dialect, Behaviour, Forest, Named, Value, a_region, a_value}
+use Rattle.ir_model.specs.Nesting.{IsLive, IsLiveNamed}
 use Rattle.ir_model.specs.Edits.{StoredType}
 use Rattle.ir_model.specs.Changes.{definition, operand, new_op}
 use Rattle.ir_model.specs.Sessions.{Session, Number, TakesSlot, AreNew, Passes, Within, live_op, live_region}
 use Rattle.ir_base.specs.declared.room.Room.{Room}
 use Rattle.ir_core.specs.declared.operation.Operation.{Operation}
-use Rattle.ir_core.specs.Meaning.{closed, op_record}
+use Rattle.ir_core.specs.declared.record.Definer.TheVariants.{Op}
+use Rattle.ir_core.specs.declared.record.UseIndex.{UseIndex}
+use Rattle.ir_core.specs.declared.record.ValueIndex.{ValueIndex}
+use Rattle.ir_core.specs.Meaning.{closed, op_index, op_record, use_of, value_of}
+use Rattle.ir_core.specs.Values.{IsLiveUse}
 
 -- what an operation needs of numbers and slots
 abbrev pub op_needs : ℕ → ℕ → ℕ → Counts
@@ -61,6 +66,12 @@ module _ {W : Dialect} where
     pub passed : Passes old.passed fresh new.passed
     pub limits : new.limits ≡ old.limits
 
+  -- the operation under the id has so many results, operands and regions
+  pub record HasCounts (f : Forest context_ids W) (id : ArenaIndex) (results operands regions : ℕ) : Type 0 where
+    pub result_count : option_map (λ r. length r.results) (f.ops id) ≡ Some results
+    pub operand_count : option_map (λ r. length r.operands) (f.ops id) ≡ Some operands
+    pub region_count : option_map (λ r. length r.regions) (f.ops id) ≡ Some regions
+
   -- each value and block that was live is live still
   abbrev pub StayLive : Forest context_ids W → Forest context_ids W → Type 0
   StayLive old new = (d : Named context_ids) → IsLiveNamed old d → IsLiveNamed new d
@@ -81,3 +92,11 @@ module _ {D A K B S X L : Type 0} where
   pub record IsOperation (f : Forest context_ids (closed A K B S X L)) (index : ArenaIndex) (op : Operation D A K B S X L) : Type 0 where
     pub found : f.ops index ≡ Some (op_record op)
     pub own : op.index ≡ index
+
+  -- the results, operands, uses and regions that the operation gives are live, and its types are among so many known ones
+  pub record LeadsToLive (f : Forest context_ids (closed A K B S X L)) (known : ℕ) (op : Operation D A K B S X L) : Type 0 where
+    pub results : (v : ValueIndex) (k : ℕ) → v.definer ≡ Op (op_index op) → option_map (λ d. d.number) (slice_get (op_record op).results k) ≡ Some v.number → IsLiveNamed f (a_value (value_of v))
+    pub operands : (v : ValueIndex) (k : ℕ) → option_map (λ a. a.value) (slice_get (op_record op).operands k) ≡ Some (value_of v) → IsLiveNamed f (a_value (value_of v))
+    pub uses : (u : UseIndex) (k : ℕ) → u.user ≡ op_index op → option_map (λ a. a.use_number) (slice_get (op_record op).operands k) ≡ Some u.number → IsLiveUse f (use_of u)
+    pub regions : (g : ArenaIndex) (k : ℕ) → slice_get (op_record op).regions k ≡ Some g → IsLive f (a_region g)
+    pub types : (t k : ℕ) → option_map (λ d. d.ty) (slice_get (op_record op).results k) ≡ Some t → t < known

@@ -107,6 +107,7 @@ impl<D: Dialects> Context<D> {
     /// The key that was stored first stays, and the argument is dropped. `OutOfMemory` comes only for a key that isn't stored yet, and changes nothing.
     pub fn instantiate_key(&mut self, key: D::TypeKey) -> Result<TypeHandle, CoreError>
         ensures place { IfOk result (λ t. t.place ≡ type_place (behaviour D.TypeKey.eq D.first_body D.unknown D.op_impls_of) (types_of self.old) key) }
+        ensures known { IfOk result (λ t. t.place < length (types_of self.new)) }
         ensures types { OnOk result (types_of self.new ≡ with_type (behaviour D.TypeKey.eq D.first_body D.unknown D.op_impls_of) (types_of self.old) key) }
         ensures rest { SameButTypes (bare self.old) (bare self.new) }
         ensures memory { IfErr result (λ e. e ≡ CoreError.OutOfMemory) }

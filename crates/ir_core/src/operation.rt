@@ -4,7 +4,7 @@ ghost use Rattle.std.specs.Prelude.{◌≡◌, ◌+◌, ◌<◌, ◌≤◌, ◌^
 ghost use Rattle.ir_model.specs.Forest.{a_block, a_value, an_op};
 ghost use Rattle.ir_model.specs.Nesting.{IsLive, IsLiveNamed};
 ghost use Rattle.ir_model.specs.Sessions.{HasNumbers, LacksNumbers, LacksSlots};
-ghost use Rattle.ir_core.specs.Calls.{MakesOperation, SkipsAtMost, StayLive, op_needs};
+ghost use Rattle.ir_core.specs.Calls.{HasCounts, MakesOperation, SkipsAtMost, StayLive, op_needs};
 ghost use Rattle.ir_core.specs.Meaning.{use_of, value_of};
 ghost use Rattle.ir_core.specs.State.{bare, forest_of, types_of, uses_of_results};
 
@@ -53,6 +53,7 @@ impl<D: Dialects> Operation<D> {
         requires successors { All (λ b. IsLive (forest_of ctx.old) (a_block b.index)) successors.now }
         ensures made { IfOk result (λ op. MakesOperation D.unknown (bare ctx.old) (bare ctx.new) op.index kind (map (λ t. t.place) result_types.now) (map (λ v. value_of v.index) operands.now) num_regions) }
         ensures live { IfOk result (λ op. IsLive (forest_of ctx.new) (an_op op.index)) }
+        ensures counts { IfOk result (λ op. HasCounts (forest_of ctx.new) op.index (length result_types.now) (length operands.now) num_regions) }
         ensures stay_live { StayLive (forest_of ctx.old) (forest_of ctx.new) }
         ensures types_stay { types_of ctx.new ≡ types_of ctx.old }
         ensures counter { (result ≡ Err CoreError.CounterSpent) ↔ LacksNumbers (bare ctx.old) (op_needs (length result_types.now) (length operands.now) num_regions) }
@@ -173,7 +174,7 @@ pub trait OperationPtr<D: Dialects> {
     ghost use Rattle.ir_model.specs.declared.ids.ArenaIndex.{ArenaIndex};
     ghost use Rattle.ir_model.specs.ContextIds.{context_ids};
     ghost use Rattle.ir_model.specs.Uses.{Use as PlainUse};
-    ghost use Rattle.ir_core.specs.Calls.{IsOperation};
+    ghost use Rattle.ir_core.specs.Calls.{IsOperation, LeadsToLive};
     ghost use Rattle.ir_core.specs.Values.{AreUsesOfResults, IsUseOfResult};
 
     ghost index_of: { Self → ArenaIndex };
@@ -182,17 +183,19 @@ pub trait OperationPtr<D: Dialects> {
     fn is_live(self, ctx: &Context<D>) -> bool
         ensures { IsTrue result ↔ IsLive (forest_of ctx.now) (an_op (index_of self)) };
 
-    /// The operation under a live handle.
+    /// The operation under a live handle. What it gives is live, and its types are known.
     fn deref(self, ctx: &Context<D>) -> &Operation<D>
         requires { IsLive (forest_of ctx.now) (an_op (index_of self)) }
-        ensures { IsOperation (forest_of ctx.now) (index_of self) result.now };
+        ensures found { IsOperation (forest_of ctx.now) (index_of self) result.now }
+        ensures leads { LeadsToLive (forest_of ctx.now) (length (types_of ctx.now)) result.now };
 
-    /// The operation under a handle.
+    /// The operation under a handle. What it gives is live, and its types are known.
     ///
     /// # Errors
     /// `DanglingPtrDerefError` where it isn't live.
     fn try_deref(self, ctx: &Context<D>) -> Result<&Operation<D>, DanglingPtrDerefError>
         ensures found { IfOk result (λ op. IsOperation (forest_of ctx.now) (index_of self) op.now) }
+        ensures leads { IfOk result (λ op. LeadsToLive (forest_of ctx.now) (length (types_of ctx.now)) op.now) }
         ensures dangling { IsErr result ↔ (IsLive (forest_of ctx.now) (an_op (index_of self)) → ⊥) };
 
     /// Whether a result of the live operation has a use. It stands for pliron's `Operation::has_use`.
@@ -223,10 +226,12 @@ impl<D: Dialects> OperationPtr<D> for Ptr<Operation<D>> {
     }
 
     fn deref(self, ctx: &Context<D>) -> &Operation<D> {
+        ctx.is_well_formed();
         ctx.ops.at(self)
     }
 
     fn try_deref(self, ctx: &Context<D>) -> Result<&Operation<D>, DanglingPtrDerefError> {
+        ctx.is_well_formed();
         ctx.ops.get(self).ok_or(DanglingPtrDerefError)
     }
 

@@ -30,7 +30,8 @@ pub trait RegionPtr<D: Dialects> {
     /// The operation that a live region belongs to. It stands for pliron's `Region::get_parent_op`.
     fn get_parent_op(self, ctx: &Context<D>) -> Ptr<Operation<D>>
         requires { IsLive (forest_of ctx.now) (a_region (index_of self)) }
-        ensures { IsParent (forest_of ctx.now) (a_region (index_of self)) (Some (an_op result.index)) };
+        ensures parent { IsParent (forest_of ctx.now) (a_region (index_of self)) (Some (an_op result.index)) }
+        ensures live { IsLive (forest_of ctx.now) (an_op result.index) };
 }
 
 impl<D: Dialects> RegionPtr<D> for Ptr<Region> {

@@ -2,13 +2,13 @@
 //!
 //! The list of a value's uses is kept, and has exactly the operands that name the value, each once. Its order is open.
 
-ghost use Rattle.std.specs.Prelude.{◌≡◌, ◌<◌, ◌↔◌, length, map, Some, Err, IsTrue, IfOk, IfErr, IsErr, slice_get};
+ghost use Rattle.std.specs.Prelude.{◌≡◌, ◌<◌, ◌↔◌, All, length, map, Some, Err, IsTrue, IfOk, IfErr, IsErr, slice_get};
 ghost use Rattle.std.specs.Option.{option_map};
 ghost use Rattle.ir_model.specs.Forest.{a_value, an_op, definer_entity, Value as PlainValue};
 ghost use Rattle.ir_model.specs.ContextIds.{context_ids};
 ghost use Rattle.ir_model.specs.Nesting.{IsLive, IsLiveNamed, numbers_of};
 ghost use Rattle.ir_model.specs.Uses.{AreUses, IsOperandAt, IsUse, Use as PlainUse};
-ghost use Rattle.ir_core.specs.State.{forest_of, uses_of};
+ghost use Rattle.ir_core.specs.State.{forest_of, types_of, uses_of};
 ghost use Rattle.ir_core.specs.Meaning.{definer_of, use_of, value_of};
 ghost use Rattle.ir_core.specs.Values.{block_of, op_of, HasType, IsLiveUse, LacksArgument, LacksResult};
 
@@ -168,6 +168,7 @@ impl<D: Dialects> Value<D> {
         requires { IsLiveNamed (forest_of ctx.now) (a_value (value_of self.index)) }
         ensures kept { IfOk result (λ uses. map (λ u. use_of u.index) uses.items ≡ uses_of ctx.now self.index) }
         ensures exact { AreUses (forest_of ctx.now) (a_value (value_of self.index)) (uses_of ctx.now self.index) }
+        ensures live { IfOk result (λ uses. All (λ u. IsLiveUse (forest_of ctx.now) (use_of u.index)) uses.items) }
         ensures memory { IfErr result (λ e. e ≡ CoreError.OutOfMemory) }
     {
         let kept = chains::uses(&ctx.ops, self.index).as_slice();
@@ -181,8 +182,10 @@ impl<D: Dialects> Value<D> {
     /// The type of a live value.
     pub fn get_type(self, ctx: &Context<D>) -> TypeHandle
         requires { IsLiveNamed (forest_of ctx.now) (a_value (value_of self.index)) }
-        ensures { HasType (forest_of ctx.now) (value_of self.index) result.place }
+        ensures found { HasType (forest_of ctx.now) (value_of self.index) result.place }
+        ensures known { result.place < length (types_of ctx.now) }
     {
+        ctx.is_well_formed();
         TypeHandle::at(chains::result_at(&ctx.ops, self.index).ty)
     }
 }
@@ -229,8 +232,10 @@ impl<D: Dialects> Use<Value<D>> {
     /// The value that a live use names.
     pub fn get_def(self, ctx: &Context<D>) -> Value<D>
         requires { IsLiveUse (forest_of ctx.now) (use_of self.index) }
-        ensures { IsUse (forest_of ctx.now) (a_value (value_of result.index)) (use_of self.index) }
+        ensures found { IsUse (forest_of ctx.now) (a_value (value_of result.index)) (use_of self.index) }
+        ensures live { IsLiveNamed (forest_of ctx.now) (a_value (value_of result.index)) }
     {
+        ctx.is_well_formed();
         let index = self.find_index(ctx);
         Value::from_index(chains::operand_at(&ctx.ops, self.index.user, index).value)
     }
@@ -238,9 +243,9 @@ impl<D: Dialects> Use<Value<D>> {
     /// The type of the value that a live use names.
     pub fn get_type(self, ctx: &Context<D>) -> TypeHandle
         requires { IsLiveUse (forest_of ctx.now) (use_of self.index) }
-        ensures { (v : PlainValue context_ids) × (IsUse (forest_of ctx.now) (a_value v) (use_of self.index)) × HasType (forest_of ctx.now) v result.place }
+        ensures found { (v : PlainValue context_ids) × (IsUse (forest_of ctx.now) (a_value v) (use_of self.index)) × HasType (forest_of ctx.now) v result.place }
+        ensures known { result.place < length (types_of ctx.now) }
     {
-        ctx.is_well_formed();
         self.get_def(ctx).get_type(ctx)
     }
 }

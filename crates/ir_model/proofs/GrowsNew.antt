@@ -33,7 +33,8 @@ module _ {A : Type 0} where
   length_push (y ∷ xs) x = (let k = length_push xs x in omega arith)
 
 module _ {W : Dialect} (B : Behaviour W) where
-  stored_within : (store : List (StoredType W)) (key : W.Key) → (length store ≤ length (with_type B store key)) × (type_place B store key < length (with_type B store key))
+  -- the key has a place among the types that are then stored
+  pub stored_within : (store : List (StoredType W)) (key : W.Key) → (length store ≤ length (with_type B store key)) × (type_place B store key < length (with_type B store key))
   stored_within store key = by (list_any (λ t. B.same_key t.key key) store) refl
     where
       by : (b : Bool) → list_any (λ t. B.same_key t.key key) store ≡ b

@@ -1,4 +1,3 @@
 pub mod SessionLists
 pub mod SessionSteps
 pub mod SessionRuns
-mod LiveUses

@@ -1,6 +1,11 @@
 //! The calls of contexts, operations, values and uses, over the dialect Toy.
 
-ghost use Rattle.std.specs.Prelude.{◌<◌, ◌≤◌};
+ghost use Rattle.std.specs.Prelude.{◌≡◌, ◌<◌, ◌≤◌, length, IfOk};
+ghost use Rattle.ir_model.specs.Forest.{a_value};
+ghost use Rattle.ir_model.specs.Nesting.{IsLiveNamed};
+ghost use Rattle.ir_core.specs.Calls.{LeadsToLive};
+ghost use Rattle.ir_core.specs.Meaning.{value_of};
+ghost use Rattle.ir_core.specs.State.{forest_of, types_of};
 
 use crate::toy::{Toy, ToyType};
 use ir_base::{ArenaIndex, CoreError, Dialects, Limits, Ptr, Room, TypeHandle};
@@ -20,32 +25,16 @@ struct TwoUses<D: Dialects> {
     value: Value<D>,
 }
 
-// The first result of an operation.
-fn first_result<D: Dialects>(ctx: &Context<D>, op: Ptr<Operation<D>>) -> Option<Value<D>> {
-    let op = op.try_deref(ctx).ok()?;
-    if op.get_num_results() == 0 {
-        return None;
-    }
-    Some(op.get_result(0))
-}
-
-// Makes the two operations. Nothing where the type isn't known.
-fn two_uses<D: Dialects>(
-    ctx: &mut Context<D>,
-    ty: TypeHandle,
-) -> Result<Option<TwoUses<D>>, CoreError> {
-    if !ty.is_known(ctx) {
-        return Ok(None);
-    }
+// Makes the two operations.
+fn two_uses<D: Dialects>(ctx: &mut Context<D>, ty: TypeHandle) -> Result<TwoUses<D>, CoreError>
+    requires { ty.place < length (types_of ctx.old) }
+    ensures live { IfOk result (λ made. IsLiveNamed (forest_of ctx.new) (a_value (value_of made.value.index))) }
+    ensures types { types_of ctx.new ≡ types_of ctx.old }
+{
     let maker = Operation::new(ctx, 0, &[ty], &[], &[], 0)?;
-    let Some(value) = first_result(ctx, maker) else {
-        return Ok(None);
-    };
-    if !value.is_live(ctx) {
-        return Ok(None);
-    }
+    let value = maker.deref(ctx).get_result(0);
     let user = Operation::new(ctx, 4, &[ty], &[value, value], &[], 0)?;
-    Ok(Some(TwoUses { maker, user, value }))
+    Ok(TwoUses { maker, user, value })
 }
 
 // What the operations tell of themselves.
@@ -187,23 +176,23 @@ fn tell_strangers<D: Dialects, A: Abort>(rt: &A, ctx: &Context<D>, made: &TwoUse
 fn with_type(alloc: Global, limits: Limits) -> Result<(Context<Toy>, TypeHandle), CoreError>
     requires slots { limits.slots < 4294967295 }
     requires versions { 1 ≤ limits.last_version }
+    ensures { IfOk result (λ made. made.1.place < length (types_of made.0)) }
 {
     let mut ctx: Context<Toy> = Context::with_limits(alloc, limits);
     let ty = ctx.instantiate_key(ToyType::Int { width: 32 })?;
     Ok((ctx, ty))
 }
 
-// Makes the two operations, and asks all of them. Nothing made is a failure.
+// Makes the two operations, and asks all of them.
 fn tell_all<D: Dialects, A: Abort>(
     rt: &A,
     ctx: &mut Context<D>,
     ty: TypeHandle,
-) -> Result<(), CoreError> {
+) -> Result<(), CoreError>
+    requires { ty.place < length (types_of ctx.old) }
+{
     assert!(rt; ctx.is_ir_empty());
-    let Some(made) = two_uses(ctx, ty)? else {
-        assert!(rt; false);
-        return Ok(());
-    };
+    let made = two_uses(ctx, ty)?;
     assert!(rt; !ctx.is_ir_empty());
     tell_operations(rt, ctx, &made);
     tell_result_uses(rt, ctx, &made);
@@ -225,19 +214,12 @@ fn operations_values_and_uses(rt: HostRuntime) -> Result<(), Fail> {
 // Makes an operation with two regions, and asks it for them.
 fn tell_regions<D: Dialects, A: Abort>(rt: &A, ctx: &mut Context<D>) -> Result<(), CoreError> {
     let made = Operation::new(ctx, 7, &[], &[], &[], 2)?;
-    let Ok(op) = made.try_deref(ctx) else {
-        assert!(rt; false);
-        return Ok(());
-    };
+    let op = made.deref(ctx);
     assert_eq!(rt; op.num_regions(), 2);
-    if op.num_regions() == 2 {
-        let region = op.get_region(1);
-        assert!(rt; op.get_region(0) != region);
-        assert!(rt; region.is_live(ctx));
-        if region.is_live(ctx) {
-            assert!(rt; region.get_parent_op(ctx) == made);
-        }
-    }
+    let region = op.get_region(1);
+    assert!(rt; op.get_region(0) != region);
+    assert!(rt; region.is_live(ctx));
+    assert!(rt; region.get_parent_op(ctx) == made);
     let _loc = op.loc();
     assert_eq!(rt; ctx.room().regions, u32::MAX - 3);
     Ok(())
@@ -260,11 +242,9 @@ fn types_of_a_context(rt: HostRuntime) -> Result<(), Fail> {
     assert_eq!(rt; ctx.type_at(2), None);
     assert!(rt; !TypeHandle::at(2).is_known(&ctx));
     ctx.types_are_exact();
-    if ty.is_known(&ctx) {
-        assert!(rt; *ty.deref(&ctx) == ToyType::Int { width: 32 });
-        return Ok(());
-    }
-    Err("not known")?
+    assert!(rt; other.is_known(&ctx));
+    assert!(rt; *again.deref(&ctx) == ToyType::Int { width: 32 });
+    Ok(())
 }
 
 // Makes an operation with so many results, none or one, and regions: whether it is live, and what is left.
@@ -273,10 +253,9 @@ fn make<D: Dialects>(
     ty: TypeHandle,
     results: usize,
     regions: usize,
-) -> Result<(bool, Room), CoreError> {
-    if !ty.is_known(ctx) {
-        return Ok((false, ctx.room()));
-    }
+) -> Result<(bool, Room), CoreError>
+    requires { ty.place < length (types_of ctx.old) }
+{
     let made = match results {
         0 => Operation::new(ctx, 0, &[], &[], &[], regions),
         _ => Operation::new(ctx, 0, &[ty], &[], &[], regions),
@@ -359,19 +338,13 @@ fn make_or_stay<D: Dialects, A: Abort>(
     rt: &A,
     ctx: &mut Context<D>,
     value: Value<D>,
-) -> Result<(), CoreError> {
-    if !value.is_live(ctx) {
-        assert!(rt; false);
-        return Ok(());
-    }
+) -> Result<(), CoreError>
+    requires { IsLiveNamed (forest_of ctx.old) (a_value (value_of value.index)) }
+{
     let made = Operation::new(ctx, 5, &[], &[value, value, value], &[], 2);
     let wanted = if made.is_ok() { 5 } else { 2 };
     assert!(rt; !ctx.is_ir_empty());
-    if value.is_live(ctx) {
-        assert_eq!(rt; value.num_uses(ctx), wanted);
-    } else {
-        assert!(rt; false);
-    }
+    assert_eq!(rt; value.num_uses(ctx), wanted);
     made?;
     Ok(())
 }
@@ -381,11 +354,10 @@ fn make_or_stay_after<D: Dialects, A: Abort>(
     rt: &A,
     ctx: &mut Context<D>,
     ty: TypeHandle,
-) -> Result<(), CoreError> {
-    let Some(made) = two_uses(ctx, ty)? else {
-        assert!(rt; false);
-        return Ok(());
-    };
+) -> Result<(), CoreError>
+    requires { ty.place < length (types_of ctx.old) }
+{
+    let made = two_uses(ctx, ty)?;
     make_or_stay(rt, ctx, made.value)
 }
 
@@ -401,14 +373,11 @@ fn spend_uses<D: Dialects, A: Abort>(
     rt: &A,
     ctx: &mut Context<D>,
     ty: TypeHandle,
-) -> Result<Option<CoreError>, CoreError> {
-    let Some(made) = two_uses(ctx, ty)? else {
-        return Ok(None);
-    };
+) -> Result<Option<CoreError>, CoreError>
+    requires { ty.place < length (types_of ctx.old) }
+{
+    let made = two_uses(ctx, ty)?;
     assert_eq!(rt; ctx.room().uses, 0);
-    if !made.value.is_live(ctx) {
-        return Ok(None);
-    }
     match Operation::new(ctx, 4, &[], &[made.value], &[], 0) {
         Ok(_) => Ok(None),
         Err(error) => Ok(Some(error)),
@@ -427,27 +396,48 @@ fn three_uses_of_two(rt: HostRuntime) -> Result<(), Fail> {
     Ok(())
 }
 
-/// Makes an operation with one result of this type, and one that uses it twice. Answers how many uses the result has: two.
-fn use_twice<D: Dialects>(ctx: &mut Context<D>, ty: TypeHandle) -> Result<usize, CoreError> {
-    if !ty.is_known(ctx) {
-        return Ok(0);
-    }
-    let maker = Operation::new(ctx, 0, &[ty], &[], &[], 0)?.deref(ctx);
-    if maker.get_num_results() == 0 {
-        return Ok(0);
-    }
-    let value = maker.get_result(0);
-    if !value.is_live(ctx) {
-        return Ok(0);
-    }
+/// Makes an operation with one result of the type with this key, and one that uses it twice. Answers how many uses the result has: two.
+fn use_twice<D: Dialects>(ctx: &mut Context<D>, key: D::TypeKey) -> Result<usize, CoreError> {
+    let ty = ctx.instantiate_key(key)?;
+    let maker = Operation::new(ctx, 0, &[ty], &[], &[], 0)?;
+    let value = maker.deref(ctx).get_result(0);
     Operation::new(ctx, 4, &[ty], &[value, value], &[], 0)?;
     Ok(value.num_uses(ctx))
 }
 
 #[test]
 fn used_twice(rt: HostRuntime) -> Result<(), Fail> {
+    let mut ctx: Context<Toy> = Context::new(rt.alloc());
+    assert_eq!(rt; use_twice(&mut ctx, ToyType::Int { width: 32 })?, 2);
+    Ok(())
+}
+
+// Walks from an operation to all that it leads to: none of it is asked whether it is live. Answers how often its operands are used.
+fn walk<D: Dialects>(ctx: &Context<D>, op: &Operation<D>) -> usize
+    requires { LeadsToLive (forest_of ctx.now) (length (types_of ctx.now)) op.now }
+{
+    for index in 0..op.get_num_results() {
+        let _uses = op.get_result(index).is_used(ctx);
+        let _key = op.get_type(index).deref(ctx);
+    }
+    for index in 0..op.num_regions() {
+        let _op = op.get_region(index).get_parent_op(ctx).deref(ctx);
+    }
+    let mut uses = 0_usize;
+    for index in 0..op.get_num_operands() {
+        let _key = op.get_operand(index).get_type(ctx).deref(ctx);
+        let value = op.get_operand_as_use(index).get_def(ctx);
+        uses = uses.saturating_add(value.num_uses(ctx));
+    }
+    uses
+}
+
+#[test]
+fn what_live_operations_give_is_live(rt: HostRuntime) -> Result<(), Fail> {
     let (mut ctx, ty) = with_type(rt.alloc(), Limits::default())?;
-    assert_eq!(rt; use_twice(&mut ctx, ty)?, 2);
+    let made = two_uses(&mut ctx, ty)?;
+    let last = Operation::new(&mut ctx, 5, &[ty], &[made.value], &[], 2)?;
+    assert_eq!(rt; walk(&ctx, last.deref(&ctx)), 3);
     Ok(())
 }
 

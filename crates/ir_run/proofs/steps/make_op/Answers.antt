@@ -53,11 +53,11 @@ returns g c =
     op_made _ c.args.ctx.now (entries_of c.args.tables.now) c.args.kind c.args.types.now c.args.operands.now c.args.regions c.requires.condition _ _ (typed_is (λ t. t.place) c.args.tables.now.types.items c.deref.result.now c.in_ok-result_types.result_types.items c.deref-3.result.now c.args.types.now c.deref.ensures.value c.in_ok-result_types.ensures c.deref-3.ensures.value) (operated_is (λ v. v.index) value_of c.args.tables.now.values.items c.deref-2.result.now c.in_ok-values.values.items c.deref-4.result.now c.args.operands.now c.deref-2.ensures.value c.in_ok-values.ensures c.deref-4.ensures.value) c.new.new.ctx c.in_ok-op.op.index c.in_ok-op.ensures.made _ c.len-number.result
     (omega (arith, c.len-number.ensures, c.reserve.new.self.ops.ok, length-map c.reserve.new.self.ops.items (λ p. p.index), ap (λ t. length t.ops) c.reserve.ensures.same))
     h.0 h.1
-    (c.enter.ensures ∙ ap (λ t. with_op t op) c.reserve.ensures.same ∙ entered_is (behaviour g.D.TypeKey.PartialEq.eq g.D.Dialects.first_body g.D.Dialects.unknown g.D.Dialects.op_impls_of) c.args.ctx.now (entries_of c.args.tables.now) c.args.kind c.args.types.now c.args.operands.now c.args.regions c.requires.condition _ _ (typed_is (λ t. t.place) c.args.tables.now.types.items c.deref.result.now c.in_ok-result_types.result_types.items c.deref-3.result.now c.args.types.now c.deref.ensures.value c.in_ok-result_types.ensures c.deref-3.ensures.value) (operated_is (λ v. v.index) value_of c.args.tables.now.values.items c.deref-2.result.now c.in_ok-values.values.items c.deref-4.result.now c.args.operands.now c.deref-2.ensures.value c.in_ok-values.ensures c.deref-4.ensures.value) c.new.new.ctx c.in_ok-op.op.index c.in_ok-op.ensures.made op c.deref-5.ensures.found c.deref-5.ensures.own)
+    (c.enter.ensures ∙ ap (λ t. with_op t op) c.reserve.ensures.same ∙ entered_is (behaviour g.D.TypeKey.PartialEq.eq g.D.Dialects.first_body g.D.Dialects.unknown g.D.Dialects.op_impls_of) c.args.ctx.now (entries_of c.args.tables.now) c.args.kind c.args.types.now c.args.operands.now c.args.regions c.requires.condition _ _ (typed_is (λ t. t.place) c.args.tables.now.types.items c.deref.result.now c.in_ok-result_types.result_types.items c.deref-3.result.now c.args.types.now c.deref.ensures.value c.in_ok-result_types.ensures c.deref-3.ensures.value) (operated_is (λ v. v.index) value_of c.args.tables.now.values.items c.deref-2.result.now c.in_ok-values.values.items c.deref-4.result.now c.args.operands.now c.deref-2.ensures.value c.in_ok-values.ensures c.deref-4.ensures.value) c.new.new.ctx c.in_ok-op.op.index c.in_ok-op.ensures.made op c.deref-5.ensures.found.found c.deref-5.ensures.found.own)
 
 pub enter-requires : goal.enter-requires
 enter-requires g c =
-    let r = record_is (behaviour g.D.TypeKey.PartialEq.eq g.D.Dialects.first_body g.D.Dialects.unknown g.D.Dialects.op_impls_of) c.args.ctx.now (entries_of c.args.tables.now) c.args.kind c.args.types.now c.args.operands.now c.args.regions c.requires.condition _ _ (typed_is (λ t. t.place) c.args.tables.now.types.items c.deref.result.now c.in_ok-result_types.result_types.items c.deref-3.result.now c.args.types.now c.deref.ensures.value c.in_ok-result_types.ensures c.deref-3.ensures.value) (operated_is (λ v. v.index) value_of c.args.tables.now.values.items c.deref-2.result.now c.in_ok-values.values.items c.deref-4.result.now c.args.operands.now c.deref-2.ensures.value c.in_ok-values.ensures c.deref-4.ensures.value) c.new.new.ctx c.in_ok-op.op.index c.in_ok-op.ensures.made (op_record c.deref-5.result.now) c.deref-5.ensures.found in
+    let r = record_is (behaviour g.D.TypeKey.PartialEq.eq g.D.Dialects.first_body g.D.Dialects.unknown g.D.Dialects.op_impls_of) c.args.ctx.now (entries_of c.args.tables.now) c.args.kind c.args.types.now c.args.operands.now c.args.regions c.requires.condition _ _ (typed_is (λ t. t.place) c.args.tables.now.types.items c.deref.result.now c.in_ok-result_types.result_types.items c.deref-3.result.now c.args.types.now c.deref.ensures.value c.in_ok-result_types.ensures c.deref-3.ensures.value) (operated_is (λ v. v.index) value_of c.args.tables.now.values.items c.deref-2.result.now c.in_ok-values.values.items c.deref-4.result.now c.args.operands.now c.deref-2.ensures.value c.in_ok-values.ensures c.deref-4.ensures.value) c.new.new.ctx c.in_ok-op.op.index c.in_ok-op.ensures.made (op_record c.deref-5.result.now) c.deref-5.ensures.found.found in
     let place = c.in_ok-reserve.ensures.place in
     record {
       ops = place.ops;

@@ -1,5 +1,6 @@
-use Rattle.std.proofs.Common.{sym, ◌∙◌}
-use Rattle.ir_model.proofs.GrowsNew.{WellFormed-more}
+use Rattle.std.proofs.Common.{sym, ap, length, ◌∙◌, arith}
+use Rattle.ir_core.specs.State.{behaviour, types_of}
+use Rattle.ir_model.proofs.GrowsNew.{WellFormed-more, stored_within}
 use Rattle.ir_core.proofs.StoredTypes.{places, stores, stores-longer}
 use Rattle.ir_core.proofs.context.Context.instantiate_key.Goals as goal
 
@@ -31,3 +32,8 @@ pub returns-clause-types : goal.returns-clause-types
 returns-clause-types g c =
     rw (sym c.self.view_is)
     (stores g.row.D-Attr.Denot _ _ g.row.D-Saved.Denot g.row.D-Aux.Denot _ g.D.TypeKey.PartialEq.eq g.D.Dialects.first_body g.D.Dialects.unknown g.D.Dialects.op_impls_of _ g.met.D.Dialects.default_body c.self.inside.types c.get_or_insert.new.self c.args.key c.in_ok-place.ensures.stored)
+
+pub returns-clause-known : goal.returns-clause-known
+returns-clause-known g c =
+    let within = stored_within (behaviour {A = g.row.D-Attr.Denot} {S = g.row.D-Saved.Denot} {X = g.row.D-Aux.Denot} g.D.TypeKey.PartialEq.eq g.D.Dialects.first_body g.D.Dialects.unknown g.D.Dialects.op_impls_of) (types_of c.args.self.now) c.args.key in
+    omega (arith, within.1, returns-clause-place g c, ap length (returns-clause-types g c))

@@ -1,9 +1,12 @@
-use Rattle.std.proofs.Common.{◌⊎◌, ◌<◌, length, inl, inr, refl, arith, sym, subst}
-use Rattle.ir_core.specs.Calls.{op_needs}
+use Rattle.std.proofs.Common.{◌≡◌, ◌⊎◌, ◌<◌, length, map, inl, inr, refl, arith, sym, subst}
+use Rattle.std.proofs.lemmas.List.{length-map}
+use Rattle.ir_base.specs.declared.type_handle.TypeHandle.{TypeHandle}
+use Rattle.ir_core.specs.Calls.{HasCounts, op_needs}
 use Rattle.ir_model.specs.Forest.{an_op}
 use Rattle.ir_model.specs.Nesting.{IsLive}
+use Rattle.ir_core.specs.Meaning.{value_of}
 use Rattle.ir_core.specs.State.{bare, forest_of}
-use Rattle.ir_core.proofs.Made.{skips-nothing, made-live}
+use Rattle.ir_core.proofs.Made.{skips-nothing, made-live, made-counts}
 use Rattle.ir_core.proofs.Rooms.{has-numbers, not_lacking, not_having, lacks-slots, slots_enough, no_block, left-above, lacks-numbers, no_counter, no_slots}
 use Rattle.ir_core.proofs.operation.Operation.new.Goals as goal
 use Rattle.ir_core.proofs.operation.Operation.new.Goals.{then-room-result_types-via-then-room-result_types, then-room-result_types-via-else-room-result_types+then-room-operands, then-room-eq0-via-then-room-eq0, then-room-eq0-via-else-room-eq0+then-room-num_regions}
@@ -61,3 +64,12 @@ returns-clause-slots g c = (λ e. absurd cc, λ h. absurd (slots_enough (bare c.
 
 pub returns-clause-live : goal.returns-clause-live
 returns-clause-live g c = subst (λ i. IsLive (forest_of c.create.new.ctx) (an_op i)) (sym c.from_index.ensures) (made-live c.in_ok-index.ensures.made)
+
+pub returns-clause-counts : goal.returns-clause-counts
+returns-clause-counts g c =
+    let types : length (map (λ (t : TypeHandle). t.place) c.args.result_types.now) ≡ length c.args.result_types.now = length-map c.args.result_types.now (λ (t : TypeHandle). t.place) in
+    let operands = length-map c.args.operands.now (λ v. value_of v.index) in
+    subst (λ i. HasCounts (forest_of c.create.new.ctx) i (length c.args.result_types.now) (length c.args.operands.now) c.args.num_regions) (sym c.from_index.ensures)
+    (subst (λ n. HasCounts (forest_of c.create.new.ctx) c.in_ok-index.index (length c.args.result_types.now) n c.args.num_regions) operands
+    (subst (λ n. HasCounts (forest_of c.create.new.ctx) c.in_ok-index.index n (length (map (λ v. value_of v.index) c.args.operands.now)) c.args.num_regions) types
+    (made-counts c.in_ok-index.ensures.made)))

@@ -6,6 +6,7 @@ use Rattle.ir_model.specs.Uses.{AreUses}
 use Rattle.ir_core.specs.Meaning.{use_of, value_of}
 use Rattle.ir_core.specs.State.{State, forest_of, uses_of}
 use Rattle.ir_core.proofs.ValueLemmas.{live-result, map-index, uses-exact}
+use Rattle.ir_core.proofs.LiveUses.{live-use}
 use Rattle.ir_core.proofs.value.Value.uses.Goals as goal
 
 pub uses-requires : goal.uses-requires
@@ -33,3 +34,6 @@ returns-clause-kept g c =
     let s : State g.row.D.Denot g.row.D-Attr.Denot g.row.D-TypeKey.Denot g.row.D-TypeBody.Denot g.row.D-Saved.Denot g.row.D-Aux.Denot g.row.D-Loc.Denot = record { ops = c.ctx.inside.ops; regions = c.ctx.inside.regions; types = c.ctx.inside.types; next_value = c.ctx.inside.next_value; next_use = c.ctx.inside.next_use; limits = c.ctx.inside.limits } in
     let all = c.loop-index.invariant ∙ take_all c.loop-index.index-index c.as_slice-kept.result.now c.loop-index-test.false ∙ c.as_slice-kept.ensures ∙ c.uses.ensures in
     map-index (λ u. u.index) c.loop-index.uses.items ∙ ap (map use_of) all ∙ ap (λ (x : State g.row.D.Denot g.row.D-Attr.Denot g.row.D-TypeKey.Denot g.row.D-TypeBody.Denot g.row.D-Saved.Denot g.row.D-Aux.Denot g.row.D-Loc.Denot). uses_of x c.args.self.index) c.ctx.view_is
+
+pub returns-clause-live : goal.returns-clause-live
+returns-clause-live g c = λ k d h. live-use (forest_of c.args.ctx.now) (value_of c.args.self.index) (λ u. use_of u.index) c.loop-index.uses.items (uses_of c.args.ctx.now c.args.self.index) k d (returns-clause-kept g c) (returns-clause-exact g c) h
