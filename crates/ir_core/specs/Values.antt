@@ -4,7 +4,7 @@ use Rattle.ir_model.specs.declared.ids.ArenaIndex.{ArenaIndex}
 use Rattle.ir_model.specs.ContextIds.{context_ids}
 use Rattle.ir_model.specs.Ids.{Distinct}
 use Rattle.ir_model.specs.Forest.{Dialect, Forest, Value, Definition, an_op, a_block, a_value, of_op, of_block}
-use Rattle.ir_model.specs.Nesting.{In, IsLive, definitions_of, numbers_of, operands_of}
+use Rattle.ir_model.specs.Nesting.{In, IsLive, IsLiveNamed, definitions_of, numbers_of, operands_of}
 use Rattle.ir_model.specs.Uses.{IsUse, Use}
 use Rattle.ir_core.specs.declared.record.Definer.{Definer}
 use Rattle.ir_core.specs.declared.record.Definer.TheVariants.{Op, Block}
@@ -55,3 +55,11 @@ module _ {W : Dialect} where
   pub record AreUsesOfResults (f : Forest context_ids W) (o : ArenaIndex) (uses : List (Use context_ids)) : Type 0 where
     pub once : Distinct uses
     pub exact : (u : Use context_ids) → In u uses ↔ IsUseOfResult f o u
+
+-- the operation is live wherever the value is
+abbrev pub LiveWhereValue : Dialect → Value context_ids → ArenaIndex → Type 0
+LiveWhereValue W v o = (f : Forest context_ids W) → IsLiveNamed f (a_value v) → IsLive f (an_op o)
+
+-- the operation is live wherever the use is
+abbrev pub LiveWhereUse : Dialect → Use context_ids → ArenaIndex → Type 0
+LiveWhereUse W u o = (f : Forest context_ids W) → IsLiveUse f u → IsLive f (an_op o)

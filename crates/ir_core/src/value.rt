@@ -2,15 +2,15 @@
 //!
 //! The list of a value's uses is kept, and has exactly the operands that name the value, each once. Its order is open.
 
-ghost use Rattle.std.specs.Prelude.{◌≡◌, ◌<◌, ◌↔◌, All, length, map, Some, Err, IsTrue, IfOk, IfErr, IsErr, slice_get};
+ghost use Rattle.std.specs.Prelude.{◌≡◌, ◌<◌, ◌↔◌, All, length, map, Some, Err, IsTrue, IfOk, IfErr, IfSome, IsErr, slice_get};
 ghost use Rattle.std.specs.Option.{option_map};
 ghost use Rattle.ir_model.specs.Forest.{a_value, an_op, definer_entity, Value as PlainValue};
 ghost use Rattle.ir_model.specs.ContextIds.{context_ids};
 ghost use Rattle.ir_model.specs.Nesting.{IsLive, IsLiveNamed, numbers_of};
 ghost use Rattle.ir_model.specs.Uses.{AreUses, IsOperandAt, IsUse, Use as PlainUse};
 ghost use Rattle.ir_core.specs.State.{forest_of, types_of, uses_of};
-ghost use Rattle.ir_core.specs.Meaning.{definer_of, use_of, value_of};
-ghost use Rattle.ir_core.specs.Values.{block_of, op_of, HasType, IsLiveUse, LacksArgument, LacksResult};
+ghost use Rattle.ir_core.specs.Meaning.{closed, definer_of, use_of, value_of};
+ghost use Rattle.ir_core.specs.Values.{block_of, op_of, HasType, IsLiveUse, LacksArgument, LacksResult, LiveWhereUse, LiveWhereValue};
 
 use crate::basic_block::BasicBlock;
 use crate::chains;
@@ -82,9 +82,10 @@ impl<D: Dialects> Value<D> {
         }
     }
 
-    /// The operation of which the value is a result; none for an argument.
+    /// The operation of which the value is a result; none for an argument. It is live wherever the value is.
     pub fn defining_op(self) -> Option<Ptr<Operation<D>>>
-        ensures { option_map (λ p. p.index) result ≡ op_of self.index.definer }
+        ensures op { option_map (λ p. p.index) result ≡ op_of self.index.definer }
+        ensures live { IfSome result (λ p. LiveWhereValue (closed D.Attr D.TypeKey D.TypeBody D.Saved D.Aux D.Loc) (value_of self.index) p.index) }
     {
         match self.index.definer {
             Definer::Op(op) => Some(Ptr::from_index(op)),
@@ -191,9 +192,10 @@ impl<D: Dialects> Value<D> {
 }
 
 impl<D: Dialects> Use<Value<D>> {
-    /// The operation that has the use.
+    /// The operation that has the use. It is live wherever the use is.
     pub fn user_op(self) -> Ptr<Operation<D>>
-        ensures { result.index ≡ self.index.user }
+        ensures op { result.index ≡ self.index.user }
+        ensures live { LiveWhereUse (closed D.Attr D.TypeKey D.TypeBody D.Saved D.Aux D.Loc) (use_of self.index) result.index }
     {
         Ptr::from_index(self.index.user)
     }

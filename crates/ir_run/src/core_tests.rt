@@ -425,9 +425,14 @@ fn walk<D: Dialects>(ctx: &Context<D>, op: &Operation<D>) -> usize
     }
     let mut uses = 0_usize;
     for index in 0..op.get_num_operands() {
-        let _key = op.get_operand(index).get_type(ctx).deref(ctx);
-        let value = op.get_operand_as_use(index).get_def(ctx);
-        uses = uses.saturating_add(value.num_uses(ctx));
+        let value = op.get_operand(index);
+        let _key = value.get_type(ctx).deref(ctx);
+        if let Some(maker) = value.defining_op() {
+            let _kind = maker.deref(ctx).kind();
+        }
+        let used = op.get_operand_as_use(index);
+        let _kind = used.user_op().deref(ctx).kind();
+        uses = uses.saturating_add(used.get_def(ctx).num_uses(ctx));
     }
     uses
 }
