@@ -412,6 +412,15 @@ fn used_twice(rt: HostRuntime) -> Result<(), Fail> {
     Ok(())
 }
 
+// Refuses an `Operation::new` that answers want of memory although it is there.
+#[test]
+fn new_always_memory(rt: HostRuntime) -> Result<(), Fail> {
+    let (mut ctx, ty) = with_type(rt.alloc(), Limits::default())?;
+    let made = two_uses(&mut ctx, ty)?;
+    assert!(rt; made.user.is_live(&ctx));
+    Ok(())
+}
+
 // Walks from an operation to all that it leads to: none of it is asked whether it is live. Answers how often its operands are used.
 fn walk<D: Dialects>(ctx: &Context<D>, op: &Operation<D>) -> usize
     requires { LeadsToLive (forest_of ctx.now) (length (types_of ctx.now)) op.now }

@@ -108,6 +108,14 @@ fn refused_slots(rt: HostRuntime) -> Result<(), Fail> {
     Ok(())
 }
 
+// Refuses a `run` that answers want of memory although it is there.
+#[test]
+fn run_always_memory(rt: HostRuntime) -> Result<(), Fail> {
+    let wanted = [Answer::Made(0), Answer::Made(0), Answer::Made(1)];
+    expect(&rt, rt.alloc(), Limits::default(), wanted, 2, 1)?;
+    Ok(())
+}
+
 // What the tables give after a type and two operations, of which the first has a result and the second two regions.
 fn tell_tables<D: Dialects>(rt: &impl Abort, session: &Session<D>) {
     assert!(rt; session.ty(0).is_some() && session.ty(1).is_none());

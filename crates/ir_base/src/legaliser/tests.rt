@@ -53,6 +53,18 @@ fn legalise_clashes(rt: HostRuntime) -> Result<(), Fail> {
     Ok(())
 }
 
+// Refuses calls that answer want of memory although it is there.
+#[test]
+fn marked_always_memory(rt: HostRuntime) -> Result<(), Fail> {
+    let mut legaliser = Legaliser::new(rt.alloc());
+    let name = legaliser.legalise("a.")?;
+    assert!(rt; source_is(&legaliser, &name, "a.")?);
+    let joined = name.join(rt.alloc(), &name.clone()?)?;
+    assert!(rt; joined == Identifier::from_text(rt.alloc(), "a_a_")?);
+    assert!(rt; joined.into_text(rt.alloc())?.as_str() == "a_a_");
+    Ok(())
+}
+
 #[test]
 fn legalise_first_letters(rt: HostRuntime) -> Result<(), Fail> {
     let mut legaliser = Legaliser::new(rt.alloc());
