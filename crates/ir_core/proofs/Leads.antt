@@ -1,12 +1,12 @@
 -- What a live operation gives is live, and its types are known.
-use Rattle.std.proofs.Common.{◌≡◌, sym, ap, subst, ◌∙◌, ℕ, ◌<◌, List, map, Option, Some, None, Result, Ok, Err, IfOk, slice_get}
+use Rattle.std.proofs.Common.{◌≡◌, sym, ap, subst, ◌∙◌, ℕ, ◌<◌, List, map, Some, Result, Ok, Err, IfOk, slice_get}
 use Rattle.std.specs.Option.{option_map}
-use Rattle.std.proofs.lemmas.Option.{slice_get-map, same_Some}
+use Rattle.std.proofs.lemmas.Option.{slice_get-map}
 use Rattle.ir_model.specs.declared.ids.ArenaIndex.{ArenaIndex}
 use Rattle.ir_model.specs.ContextIds.{context_ids}
 use Rattle.ir_model.specs.Forest.{Forest, OpRecord, Definition, Operand, of_op, a_region, a_value, an_op}
 use Rattle.ir_model.specs.Nesting.{In, IsLive, IsLiveNamed, WellFormed, list_of, definitions_of, numbers_of, operands_of, regions_of}
-use Rattle.ir_model.proofs.Nests.{In-left, In-map}
+use Rattle.ir_model.proofs.Nests.{In-map}
 use Rattle.ir_model.proofs.Back.{slice_get-in}
 use Rattle.ir_core.specs.declared.operation.Operation.{Operation}
 use Rattle.ir_core.specs.declared.record.Definer.TheVariants.{Op}
@@ -16,14 +16,11 @@ use Rattle.ir_core.specs.Calls.{IsOperation, LeadsToLive}
 use Rattle.ir_core.specs.Meaning.{closed, definer_of, op_record, use_of, value_of}
 use Rattle.ir_core.specs.Values.{IsLiveUse}
 use Rattle.ir_core.proofs.Meanings.{some_behind}
+use Rattle.ir_core.proofs.ValueLemmas.{use-live}
 
 -- what is read at a place stands among what is read of all
 read-in : {A B : Type 0} (g : A → B) (xs : List A) (k : ℕ) (b : B) → option_map g (slice_get xs k) ≡ Some b → In b (map g xs)
 read-in g xs k b e = slice_get-in (map g xs) k b (slice_get-map g xs k ∙ e)
-
-read-through : {A B C : Type 0} (g : A → B) (h : B → C) (m : Option A) (b : B) → option_map g m ≡ Some b → option_map (λ x. h (g x)) m ≡ Some (h b)
-read-through g h None b e = absurd cc
-read-through g h (Some x) b e = ap (λ y. Some (h y)) (same_Some _ _ e)
 
 module _ {D A K B S X L : Type 0} (f : Forest context_ids (closed A K B S X L)) (keys : ℕ) (o : ArenaIndex) (op : Operation D A K B S X L) (formed : WellFormed f keys) (is : IsOperation f o op) where
   abbrev Defined : Type 0
@@ -45,11 +42,12 @@ module _ {D A K B S X L : Type 0} (f : Forest context_ids (closed A K B S X L)) 
 
   operand-live : (v : ValueIndex) (k : ℕ) → option_map (λ (a : Operand context_ids). a.value) (slice_get (op_record op).operands k) ≡ Some (value_of v) → IsLiveNamed f (a_value (value_of v))
   operand-live v k e =
-      let read = read-in (λ (p : Operand context_ids). a_value p.value) (op_record op).operands k (a_value (value_of v)) (read-through (λ (p : Operand context_ids). p.value) a_value (slice_get (op_record op).operands k) (value_of v) e) in
-      formed.named o (a_value (value_of v)) (In-left (a_value (value_of v)) (map (λ (p : Operand context_ids). a_value p.value) (operands_of f o)) _ (subst (λ xs. In (a_value (value_of v)) (map (λ (p : Operand context_ids). a_value p.value) xs)) (sym operands-here) read))
+      let at = some_behind (λ (a : Operand context_ids). a.value) (slice_get (op_record op).operands k) (value_of v) e in
+      let here : In (record { use_number = at.0.use_number; value = at.0.value }) (operands_of f o) = subst (In at.0) (sym operands-here) (slice_get-in (op_record op).operands k at.0 at.1) in
+      subst (λ w. IsLiveNamed f (a_value w)) at.2 (use-live f keys at.0.value (record { user = o; number = at.0.use_number }) formed here)
 
-  use-live : (u : UseIndex) (k : ℕ) → u.user ≡ op.index → option_map (λ (a : Operand context_ids). a.use_number) (slice_get (op_record op).operands k) ≡ Some u.number → IsLiveUse f (use_of u)
-  use-live u k d e =
+  operand-use-live : (u : UseIndex) (k : ℕ) → u.user ≡ op.index → option_map (λ (a : Operand context_ids). a.use_number) (slice_get (op_record op).operands k) ≡ Some u.number → IsLiveUse f (use_of u)
+  operand-use-live u k d e =
       let at = some_behind (λ (a : Operand context_ids). a.use_number) (slice_get (op_record op).operands k) u.number e in
       let here : operands_of f u.user ≡ (op_record op).operands = ap (operands_of f) (d ∙ is.own) ∙ operands-here in
       let there : In (record { use_number = at.0.use_number; value = at.0.value }) (operands_of f u.user) = subst (In at.0) (sym here) (slice_get-in (op_record op).operands k at.0 at.1) in
@@ -62,7 +60,7 @@ module _ {D A K B S X L : Type 0} (f : Forest context_ids (closed A K B S X L)) 
   type-known t k e = formed.known (of_op o) t (subst (In t) (sym (ap (map (λ (x : Defined). x.ty)) results-here)) (read-in (λ (x : Defined). x.ty) (op_record op).results k t e))
 
   pub leads-to-live : LeadsToLive f keys op
-  leads-to-live = record { results = result-live; operands = operand-live; uses = use-live; regions = region-live; types = type-known }
+  leads-to-live = record { results = result-live; operands = operand-live; uses = operand-use-live; regions = region-live; types = type-known }
 
 -- a look-up that may answer a fault
 pub leads-found : {D A K B S X L T E : Type 0} (f : Forest context_ids (closed A K B S X L)) (keys : ℕ) (o : ArenaIndex) (now : T → Operation D A K B S X L) (r : Result T E) → WellFormed f keys → IfOk r (λ x. IsOperation f o (now x)) → IfOk r (λ x. LeadsToLive f keys (now x))
