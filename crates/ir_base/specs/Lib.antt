@@ -1,17 +1,4 @@
-pub mod ArenaSlots
-pub mod ArenaSound
-pub mod Arena
-pub mod ArenaLends
-pub mod IdentErr
-pub mod IdentifierText
 pub mod Stores
-pub mod Lists
-pub mod Walks
-pub mod SeqLends
-pub mod Spent
-pub mod LegaliserTables
-pub mod LegaliserFields
-pub mod NameLaws
 pub mod VerifierGroups
 pub mod Attributes
 pub mod AttributeLends

@@ -2,16 +2,16 @@
 ghost use Rattle.std.specs.Prelude.{◌≡◌, ◌&&◌, ℕ, Bool, true, false, Option, Some, is_some, nat_eq, IfOk, IfErr};
 ghost use Rattle.std.specs.Option.{option_copied, option_copied_mut};
 ghost use Rattle.ir_base.specs.declared.interfaces.TheConstants.{OUTLINED_ATTRIBUTE};
-ghost use Rattle.ir_base.specs.declared.error.CoreError.TheVariants.{OutOfMemory};
+ghost use Rattle.ir_model.specs.declared.error.CoreError.TheVariants.{OutOfMemory};
 ghost use Rattle.std.specs.Borrow.{sem, LendsIf};
 
 pub use crate::attribute_dict::AttributeDict;
 use crate::dialects::Dialects;
-use crate::error::CoreError;
 use crate::interfaces;
 use crate::interfaces::AttrInterfaceMarker;
-use crate::names::AttrId;
 use crate::type_handle::TypeHandle;
+use ir_model::CoreError;
+use ir_text::AttrId;
 use std::alloc::Global;
 
 /// A type of attributes of one kind of the dialect.

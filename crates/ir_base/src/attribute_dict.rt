@@ -3,7 +3,7 @@ ghost use Rattle.std.specs.Prelude.{◌≡◌, ◌↔◌, ◌&&◌, ◌<◌, [],
 ghost use Rattle.std.specs.Option.{option_copied, option_copied_mut};
 ghost use Rattle.std.specs.Borrow.{sem};
 ghost use Rattle.std.specs.Map.Iter.{ShowsInOrder, deref_pair};
-ghost use Rattle.ir_base.specs.declared.error.CoreError.TheVariants.{OutOfMemory};
+ghost use Rattle.ir_model.specs.declared.error.CoreError.TheVariants.{OutOfMemory};
 ghost use Rattle.ir_base.specs.declared.interfaces.TheConstants.{OUTLINED_ATTRIBUTE};
 ghost use Rattle.ir_model.specs.Stores.{attribute_at, set_attribute, without_attribute, HasDistinctKeys};
 ghost use Rattle.ir_base.specs.Attributes.{passing, is_outlined, kept_pairs, same_pairs, AreCopies, dict_input, IsNext, is_above, is_below};
@@ -11,11 +11,11 @@ ghost use Rattle.ir_base.specs.AttributeLaws.{same_pairs-laws, same_pairs-equiva
 
 use crate::attribute::{Attribute, attr_impls, attr_should_outline};
 use crate::dialects::Dialects;
-use crate::error::CoreError;
-use crate::identifier::Identifier;
 use crate::interfaces::AttrInterfaceMarker;
 use indexmap::IndexMap;
 use indexmap::map::Iter;
+use ir_model::CoreError;
+use ir_text::Identifier;
 use std::alloc::Global;
 use std::hash::{Hash, Hasher};
 use std::marker::Model;

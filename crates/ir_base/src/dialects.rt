@@ -1,16 +1,16 @@
 //! What one compiler brings: its closed types, and the tables that say what each kind implements.
 ghost use Rattle.std.specs.Prelude.{◌≡◌, ℕ, Bool, true, Option, is_some, IfOk, IfErr};
 ghost use Rattle.ir_base.specs.declared.interfaces.TheConstants.{TYPED_ATTRIBUTE};
-ghost use Rattle.ir_base.specs.declared.error.CoreError.TheVariants.{OutOfMemory};
-ghost use Rattle.ir_base.specs.declared.names.Id.{Id};
-ghost use Rattle.ir_base.specs.declared.names.OfAttr.{OfAttr};
-ghost use Rattle.ir_base.specs.declared.names.OfOp.{OfOp};
-ghost use Rattle.ir_base.specs.declared.names.OfType.{OfType};
+ghost use Rattle.ir_model.specs.declared.error.CoreError.TheVariants.{OutOfMemory};
+ghost use Rattle.ir_text.specs.declared.names.Id.{Id};
+ghost use Rattle.ir_text.specs.declared.names.OfAttr.{OfAttr};
+ghost use Rattle.ir_text.specs.declared.names.OfOp.{OfOp};
+ghost use Rattle.ir_text.specs.declared.names.OfType.{OfType};
 ghost use Rattle.ir_base.specs.declared.type_handle.TypeHandle.{TypeHandle};
 
-use crate::error::CoreError;
-use crate::names::{AttrId, OpId, TypeId};
 use crate::type_handle::TypeHandle;
+use ir_model::CoreError;
+use ir_text::{AttrId, OpId, TypeId};
 use std::alloc::Global;
 use std::hash::Hash;
 

@@ -4,11 +4,11 @@
 ghost use Rattle.std.specs.Prelude.{◌≡◌, ◌↔◌, false, [], length, position, slice_get, IsTrue, IfOk, IfErr, OnOk, OnErr};
 ghost use Rattle.std.specs.List.{list_any, IsDistinct};
 ghost use Rattle.std.specs.Option.{option_copied};
-ghost use Rattle.ir_base.specs.declared.error.CoreError.TheVariants.{OutOfMemory};
+ghost use Rattle.ir_model.specs.declared.error.CoreError.TheVariants.{OutOfMemory};
 ghost use Rattle.ir_model.specs.Edits.{place_of, with_key};
 
-use crate::error::CoreError;
 use indexmap::IndexSet;
+use ir_model::CoreError;
 use std::alloc::Global;
 use std::hash::Hash;
 use std::marker::Model;

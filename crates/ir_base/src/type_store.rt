@@ -6,12 +6,12 @@ ghost use Rattle.std.specs.List.{list_any, IsDistinct};
 ghost use Rattle.std.specs.Map.{keys_of, values_of};
 ghost use Rattle.std.specs.Option.{option_copied};
 ghost use Rattle.indexmap.specs.IndexMap.{set_value_at};
-ghost use Rattle.ir_base.specs.declared.error.CoreError.TheVariants.{OutOfMemory};
+ghost use Rattle.ir_model.specs.declared.error.CoreError.TheVariants.{OutOfMemory};
 ghost use Rattle.ir_base.specs.Stores.{has_key, Stores};
 ghost use Rattle.ir_model.specs.Edits.{place_of, with_key};
 
-use crate::error::CoreError;
 use indexmap::IndexMap;
+use ir_model::CoreError;
 use std::alloc::Global;
 use std::hash::Hash;
 use std::marker::Model;

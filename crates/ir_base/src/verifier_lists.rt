@@ -1,16 +1,16 @@
 //! Lists that a compiler hands in: the verifiers of its interfaces, and the keys of its attribute dictionaries.
 ghost use Rattle.std.specs.Prelude.{◌≡◌, ◌<◌, map, length, nat_eq, position, MatchResult, IfOk, IfErr, OnOk};
 ghost use Rattle.std.specs.Cmp.Lexicographic.{pointwise};
-ghost use Rattle.ir_base.specs.declared.error.CoreError.TheVariants.{OutOfMemory};
+ghost use Rattle.ir_model.specs.declared.error.CoreError.TheVariants.{OutOfMemory};
 ghost use Rattle.std.specs.Map.{keys_of};
 ghost use Rattle.ir_model.specs.VerifierLists.{deduplicated, DifferBelow, IsFirstRepeat};
 ghost use Rattle.ir_base.specs.VerifierGroups.{with_each, with_owner, with_entry, plain};
 ghost use Rattle.ir_model.specs.Edits.{place_of};
 
-use crate::error::CoreError;
-use crate::identifier::Identifier;
 use crate::storage_uniquer::UniqueStore;
 use indexmap::IndexMap;
+use ir_model::CoreError;
+use ir_text::Identifier;
 use std::alloc::Global;
 use thiserror::Error;
 

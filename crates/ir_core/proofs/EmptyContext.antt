@@ -6,8 +6,8 @@ use Rattle.ir_model.specs.Ids.{Ids, Distinct}
 use Rattle.ir_model.specs.Forest.{Dialect, Forest, Entity, an_op, a_block, a_region, Definer, of_op, of_block}
 use Rattle.ir_model.specs.Nesting.{In, WellFormed, children, numbers_of, uses_of, names_of, types_of}
 use Rattle.ir_model.specs.Sessions.{IsNewSession}
-use Rattle.ir_base.specs.Arena.{get, empty}
-use Rattle.ir_base.proofs.ArenaLaws.{get-empty, passed-empty}
+use Rattle.ir_arena.specs.Arena.{get, empty}
+use Rattle.ir_arena.proofs.ArenaLaws.{get-empty, passed-empty}
 use Rattle.ir_core.specs.Sound.{AreLimits, IsSound}
 use Rattle.ir_core.specs.declared.operation.Operation.{Operation}
 use Rattle.ir_core.specs.declared.region.Region.{Region}

@@ -23,7 +23,7 @@ use Rattle.ir_model.proofs.Loops.{Lawful}
 use Rattle.ir_model.proofs.KeepsNew.{put_at, any_in, NewOp-keeps}
 use Rattle.ir_model.proofs.TwoRuns.{id_tells}
 use Rattle.ir_base.specs.declared.type_handle.TypeHandle.{TypeHandle}
-use Rattle.ir_base.specs.Arena.{Arena, get, IsLive, is_passed}
+use Rattle.ir_arena.specs.Arena.{Arena, get, IsLive, is_passed}
 use Rattle.ir_core.specs.declared.operation.Operation.{Operation}
 use Rattle.ir_core.specs.declared.region.Region.{Region}
 use Rattle.ir_core.specs.declared.value.Value.{Value as Handle}

@@ -9,7 +9,7 @@ use Rattle.ir_model.specs.Forest.{Dialect, Entity, Forest, OpRecord, a_region, a
 use Rattle.ir_model.specs.Nesting.{In, IsLive, list_of, regions_of}
 use Rattle.ir_model.specs.Parent.{IsIn}
 use Rattle.ir_model.proofs.Nests.{In-map}
-use Rattle.ir_base.specs.Arena.{get}
+use Rattle.ir_arena.specs.Arena.{get}
 use Rattle.ir_core.specs.declared.region.Region.{Region}
 use Rattle.ir_core.specs.Sound.{IsSound}
 use Rattle.ir_core.specs.State.{State, forest_of}

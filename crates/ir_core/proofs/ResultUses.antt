@@ -14,7 +14,7 @@ use Rattle.ir_model.specs.Uses.{Use}
 use Rattle.ir_model.proofs.Nests.{In-append, In-left, In-right, In-map, In-map_back, not_in-Absent, Distinct-append, Distinct-map}
 use Rattle.ir_model.proofs.Keeps.{Distinct-unmap}
 use Rattle.ir_model.proofs.Removal.{length-within}
-use Rattle.ir_base.specs.Arena.{Arena, get}
+use Rattle.ir_arena.specs.Arena.{Arena, get}
 use Rattle.ir_core.specs.declared.operation.Operation.{Operation}
 use Rattle.ir_core.specs.declared.record.Definer.TheVariants.{Op}
 use Rattle.ir_core.specs.declared.record.ValueIndex.{ValueIndex}

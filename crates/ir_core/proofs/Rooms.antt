@@ -5,11 +5,11 @@ use Rattle.ir_model.specs.Ids.{Counts}
 use Rattle.ir_model.specs.Forest.{Dialect}
 use Rattle.ir_model.specs.Nesting.{In}
 use Rattle.ir_model.specs.Sessions.{Session, Number, HasRoom, LacksRoom, HasNumbers, LacksNumbers, LacksSlots, TakesSlot, live_op, live_block, live_region}
-use Rattle.ir_base.specs.declared.room.Room.{Room}
+use Rattle.ir_arena.specs.declared.room.Room.{Room}
 use Rattle.ir_core.specs.State.{State, bare}
 use Rattle.std.specs.Result.{IsErrAnd}
-use Rattle.ir_base.specs.declared.error.CoreError.{CoreError}
-use Rattle.ir_base.specs.declared.error.CoreError.TheVariants.{OutOfMemory, CounterSpent, SlotsSpent}
+use Rattle.ir_model.specs.declared.error.CoreError.{CoreError}
+use Rattle.ir_model.specs.declared.error.CoreError.TheVariants.{OutOfMemory, CounterSpent, SlotsSpent}
 use Rattle.ir_model.proofs.Removal.{length-same}
 use Rattle.ir_core.specs.Calls.{Left, IsRoom}
 use Rattle.ir_core.proofs.RoomLemmas.{Number-below}

@@ -6,7 +6,7 @@ use Rattle.std.proofs.lemmas.Option.{slice_get_within}
 use Rattle.ir_model.specs.declared.ids.ArenaIndex.{ArenaIndex}
 use Rattle.ir_model.specs.ContextIds.{same_id}
 use Rattle.ir_model.specs.Changes.{rewrite, on_operands}
-use Rattle.ir_base.specs.Arena.{Arena, IsLive}
+use Rattle.ir_arena.specs.Arena.{Arena, IsLive}
 use Rattle.ir_core.specs.declared.operation.Operation.{Operation}
 use Rattle.ir_core.specs.declared.record.ValueIndex.{ValueIndex}
 use Rattle.ir_core.specs.declared.record.UseIndex.{UseIndex}

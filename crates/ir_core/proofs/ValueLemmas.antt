@@ -13,7 +13,7 @@ use Rattle.ir_model.specs.Nesting.{In, IsLive, IsLiveNamed, WellFormed, list_of,
 use Rattle.ir_model.specs.Uses.{AreUses, IsOperandAt, IsUse, Use}
 use Rattle.ir_model.proofs.Nests.{In-left, In-map, In-map_back, Absent-not_in}
 use Rattle.ir_model.proofs.Back.{slice_get-in}
-use Rattle.ir_base.specs.Arena.{Arena, get}
+use Rattle.ir_arena.specs.Arena.{Arena, get}
 use Rattle.ir_core.specs.declared.operation.Operation.{Operation}
 use Rattle.ir_core.specs.declared.record.Definer.{Definer}
 use Rattle.ir_core.specs.declared.record.Definer.TheVariants.{Op, Block}

@@ -10,7 +10,7 @@ use Rattle.ir_model.specs.Nesting.{IsLive, IsLiveNamed}
 use Rattle.ir_model.specs.Edits.{StoredType}
 use Rattle.ir_model.specs.Changes.{definition, operand, new_op}
 use Rattle.ir_model.specs.Sessions.{Session, Number, TakesSlot, AreNew, Passes, Within, live_op, live_region}
-use Rattle.ir_base.specs.declared.room.Room.{Room}
+use Rattle.ir_arena.specs.declared.room.Room.{Room}
 use Rattle.ir_core.specs.declared.operation.Operation.{Operation}
 use Rattle.ir_core.specs.declared.record.Definer.TheVariants.{Op}
 use Rattle.ir_core.specs.declared.record.UseIndex.{UseIndex}

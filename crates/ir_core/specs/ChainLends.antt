@@ -2,9 +2,9 @@
 use Rattle.std.specs.Prelude.{ℕ, List}
 use Rattle.std.specs.Borrow.{Lends, Fml, MutBor, RattleType}
 use Rattle.ir_model.specs.declared.ids.ArenaIndex.{ArenaIndex}
-use Rattle.ir_base.specs.Arena.{Arena}
-use Rattle.ir_base.specs.contracts.arena.Arena.{the_row as arena_row}
-use Rattle.ir_base.specs.contracts.seq.Seq.{the_row as seq_row}
+use Rattle.ir_arena.specs.Arena.{Arena}
+use Rattle.ir_arena.specs.contracts.arena.Arena.{the_row as arena_row}
+use Rattle.ir_arena.specs.contracts.seq.Seq.{the_row as seq_row}
 use Rattle.ir_core.specs.declared.operation.Operation.{Operation}
 use Rattle.ir_core.specs.declared.record.ValueIndex.{ValueIndex}
 use Rattle.ir_core.specs.declared.record.UseIndex.{UseIndex}

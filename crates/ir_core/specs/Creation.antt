@@ -8,7 +8,7 @@ use Rattle.ir_model.specs.Changes.{put, rewrite}
 use Rattle.ir_model.specs.Ids.{Distinct}
 use Rattle.ir_model.specs.Nesting.{In}
 use Rattle.ir_model.specs.Sessions.{IsNewId}
-use Rattle.ir_base.specs.Arena.{Arena, get, is_passed, IsLive}
+use Rattle.ir_arena.specs.Arena.{Arena, get, is_passed, IsLive}
 use Rattle.ir_base.specs.declared.type_handle.TypeHandle.{TypeHandle}
 use Rattle.ir_core.specs.declared.operation.Operation.{Operation}
 use Rattle.ir_core.specs.declared.region.Region.{Region}

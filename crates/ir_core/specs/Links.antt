@@ -1,7 +1,7 @@
 -- The kept uses and the operands name each other.
 use Rattle.std.specs.Prelude.{◌≡◌, ℕ, List, Some, slice_get}
 use Rattle.ir_model.specs.declared.ids.ArenaIndex.{ArenaIndex}
-use Rattle.ir_base.specs.Arena.{Arena, get}
+use Rattle.ir_arena.specs.Arena.{Arena, get}
 use Rattle.ir_core.specs.declared.operation.Operation.{Operation}
 use Rattle.ir_core.specs.declared.record.ValueIndex.{ValueIndex}
 use Rattle.ir_core.specs.declared.record.UseIndex.{UseIndex}

@@ -5,7 +5,7 @@ use Rattle.ir_model.specs.declared.ids.ArenaIndex.{ArenaIndex}
 use Rattle.ir_model.specs.ContextIds.{context_ids}
 use Rattle.ir_model.specs.Forest.{Dialect, Definer as DefinedBy, of_op, of_block, Value, Definition, Operand, OpRecord}
 use Rattle.ir_model.specs.Uses.{Use}
-use Rattle.ir_base.specs.Arena.{Arena, get, room, is_passed}
+use Rattle.ir_arena.specs.Arena.{Arena, get, room, is_passed}
 use Rattle.ir_core.specs.declared.operation.Operation.{Operation}
 use Rattle.ir_core.specs.declared.record.Definer.{Definer}
 use Rattle.ir_core.specs.declared.record.Definer.TheVariants.{Op, Block}

@@ -5,7 +5,7 @@ use Rattle.ir_model.specs.declared.ids.Limits.{Limits}
 use Rattle.ir_model.specs.ContextIds.{context_ids}
 use Rattle.ir_model.specs.Forest.{Definer}
 use Rattle.ir_model.specs.Nesting.{In, WellFormed, numbers_of, uses_of, regions_of}
-use Rattle.ir_base.specs.Arena.{Arena, get}
+use Rattle.ir_arena.specs.Arena.{Arena, get}
 use Rattle.ir_core.specs.declared.operation.Operation.{Operation}
 use Rattle.ir_core.specs.Links.{Linked}
 use Rattle.ir_core.specs.State.{State, forest_of}

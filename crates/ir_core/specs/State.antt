@@ -10,7 +10,7 @@ use Rattle.ir_model.specs.Nesting.{numbers_of}
 use Rattle.ir_model.specs.Edits.{StoredType, Tables}
 use Rattle.ir_model.specs.Sessions.{Passed, Session, Beside}
 use Rattle.ir_model.specs.Uses.{Use}
-use Rattle.ir_base.specs.Arena.{Arena, get, is_passed}
+use Rattle.ir_arena.specs.Arena.{Arena, get, is_passed}
 use Rattle.ir_core.specs.declared.operation.Operation.{Operation}
 use Rattle.ir_core.specs.declared.region.Region.{Region}
 use Rattle.ir_core.specs.declared.record.Definer.TheVariants.{Op}

@@ -1,7 +1,7 @@
 -- The arena of operations, read and edited by index and number.
 use Rattle.std.specs.Prelude.{◌≡◌, ℕ, List, [], ◌∷◌, Option, Some, None, slice_get, if◌then◌else◌, ◌==◌}
 use Rattle.ir_model.specs.declared.ids.ArenaIndex.{ArenaIndex}
-use Rattle.ir_base.specs.Arena.{Arena, get, fill}
+use Rattle.ir_arena.specs.Arena.{Arena, get, fill}
 use Rattle.ir_core.specs.declared.operation.Operation.{Operation}
 use Rattle.ir_core.specs.declared.record.Definer.TheVariants.{Op, Block}
 use Rattle.ir_core.specs.declared.record.ValueIndex.{ValueIndex}

@@ -6,7 +6,7 @@ ghost use Rattle.std.specs.Prelude.{◌≡◌, ℕ, ◌+◌, ◌-◌, ◌^◌, �
 ghost use Rattle.std.specs.Borrow.{sem};
 ghost use Rattle.ir_model.specs.Changes.{rewrite, on_operands};
 ghost use Rattle.ir_model.specs.ContextIds.{same_id};
-ghost use Rattle.ir_base.specs.Arena.{IsLive};
+ghost use Rattle.ir_arena.specs.Arena.{IsLive};
 ghost use Rattle.ir_core.specs.Table.{operands_at, uses_at, uses_with, IsResult, ResultIs, HasNumber, HasOperand, with_place};
 ghost use Rattle.ir_core.specs.Links.{Linked, LinkedButAt, IsFreshUse};
 ghost use Rattle.ir_core.specs.Meaning.{op_records, operands_from, value_of, SameIds};

@@ -11,7 +11,7 @@ ghost use Rattle.ir_model.specs.Nesting.{IsLiveNamed, WellFormed};
 ghost use Rattle.ir_model.specs.Uses.{AreUses};
 ghost use Rattle.ir_model.specs.Edits.{type_place, with_type};
 ghost use Rattle.ir_model.specs.Sessions.{IsNewSession, Session};
-ghost use Rattle.ir_base.specs.Arena.{room};
+ghost use Rattle.ir_arena.specs.Arena.{room};
 ghost use Rattle.ir_core.specs.declared.record.ValueIndex.{ValueIndex as PlainIndex};
 ghost use Rattle.ir_core.specs.Meaning.{value_of};
 ghost use Rattle.ir_core.specs.State.{bare, behaviour, forest_of, types_of, uses_of};

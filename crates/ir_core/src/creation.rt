@@ -5,7 +5,7 @@
 ghost use Rattle.std.specs.Prelude.{◌≡◌, ℕ, ◌+◌, ◌<◌, ◌≤◌, ◌^◌, ◌∷◌, ◌++◌, All, [], length, map, IfOk, OnOk, OnErr};
 ghost use Rattle.ir_model.specs.Forest.{a_value};
 ghost use Rattle.ir_model.specs.Nesting.{IsLiveNamed};
-ghost use Rattle.ir_base.specs.Arena.{room, IsLive};
+ghost use Rattle.ir_arena.specs.Arena.{room, IsLive};
 ghost use Rattle.ir_model.specs.declared.ids.ArenaIndex.{ArenaIndex};
 ghost use Rattle.ir_core.specs.Calls.{MakesOperation, SkipsAtMost, StayLive, op_needs};
 ghost use Rattle.ir_core.specs.Creation.{results_from, Completes, Fills, SkipsIds, Clears, SameRecords, InsertsWhole};

@@ -14,12 +14,12 @@ use Rattle.ir_model.specs.Forest.{Dialect, Behaviour, Forest, Value, of_op, OpRe
 use Rattle.ir_model.specs.Changes.{definition, operand, successor, new_op}
 use Rattle.ir_model.specs.Edits.{Edit, NewType, NewOp, State as Holds, StoredType, Tables, Condition, these, needs, no_needs, numbered, type_place, with_type}
 use Rattle.ir_model.specs.Sessions.{Session, Passed, Passes, AreNew, Skips, Step, counter, slots, memory, made, HasNumbers, HasSlots, LacksNumbers, LacksSlots, HasRoom, LacksRoom, Number}
-use Rattle.ir_base.specs.declared.room.Room.{Room}
+use Rattle.ir_arena.specs.declared.room.Room.{Room}
 use Rattle.ir_core.specs.State.{State, bare, session_of}
 use Rattle.ir_core.specs.Calls.{Left, IsRoom, SameButTypes, MakesOperation, SkipsAtMost, op_needs}
 use Rattle.ir_core.specs.Meaning.{closed, op_record}
-use Rattle.ir_base.specs.declared.error.CoreError.{CoreError}
-use Rattle.ir_base.specs.declared.error.CoreError.TheVariants.{OutOfMemory, CounterSpent, SlotsSpent}
+use Rattle.ir_model.specs.declared.error.CoreError.{CoreError}
+use Rattle.ir_model.specs.declared.error.CoreError.TheVariants.{OutOfMemory, CounterSpent, SlotsSpent}
 use Rattle.ir_core.specs.declared.operation.Operation.{Operation}
 use Rattle.ir_run.specs.SessionTables.{HasRoomFor, HasRoomForNothing, answer_of, with_op}
 use Rattle.ir_model.proofs.TwoRuns.{id_tells}

@@ -8,8 +8,8 @@ use Rattle.ir_model.specs.Ids.{Counts}
 use Rattle.ir_model.specs.Forest.{Dialect, of_op}
 use Rattle.ir_model.specs.Edits.{Tables as PlainTables, no_needs, numbered}
 use Rattle.ir_model.specs.Sessions.{Session, HasNumbers, HasSlots, LacksNumbers, LacksSlots}
-use Rattle.ir_base.specs.declared.error.CoreError.{CoreError}
-use Rattle.ir_base.specs.declared.error.CoreError.TheVariants.{OutOfMemory, CounterSpent, SlotsSpent}
+use Rattle.ir_model.specs.declared.error.CoreError.{CoreError}
+use Rattle.ir_model.specs.declared.error.CoreError.TheVariants.{OutOfMemory, CounterSpent, SlotsSpent}
 use Rattle.ir_core.specs.declared.operation.Operation.{Operation}
 use Rattle.ir_run.specs.declared.session_tables.Tables.{Tables}
 use Rattle.ir_core.specs.Meaning.{op_index, op_record, value_of}

@@ -1,5 +1,5 @@
 use Rattle.std.proofs.Common.{sym, ◌∙◌, ap}
-use Rattle.ir_base.specs.Arena.{get}
+use Rattle.ir_arena.specs.Arena.{get}
 use Rattle.ir_core.proofs.TableReads.{has_number-found}
 use Rattle.ir_core.proofs.ValueLemmas.{kept-here, result-here}
 use Rattle.ir_core.proofs.chains.result_at.Goals as goal

@@ -2,7 +2,7 @@ use Rattle.std.proofs.Common.{◌≡◌, true, not, is_ok, map, sym, ap, ◌∙�
 use Rattle.ir_model.specs.declared.ids.ArenaIndex.{ArenaIndex}
 use Rattle.ir_model.specs.ContextIds.{same_id}
 use Rattle.ir_model.specs.Changes.{rewrite, on_operands}
-use Rattle.ir_base.specs.Arena.{fill}
+use Rattle.ir_arena.specs.Arena.{fill}
 use Rattle.ir_core.specs.Creation.{with_parts}
 use Rattle.ir_core.specs.Meaning.{op_records, operands_from}
 use Rattle.ir_core.proofs.ArenaCallers.{same_ids-trans}

@@ -1,5 +1,5 @@
 use Rattle.std.proofs.Common.{◌≡◌, ◌+◌, length}
-use Rattle.ir_base.specs.Arena.{room}
+use Rattle.ir_arena.specs.Arena.{room}
 use Rattle.ir_core.specs.Creation.{Fills}
 use Rattle.ir_core.proofs.creation.insert_regions.Given as goal
 

@@ -6,7 +6,7 @@ use Rattle.ir_model.specs.Uses.{IsOperandAt}
 use Rattle.ir_core.specs.Meaning.{use_of}
 use Rattle.ir_core.specs.State.{State, forest_of}
 use Rattle.ir_core.specs.Values.{IsLiveUse}
-use Rattle.ir_base.specs.Arena.{get}
+use Rattle.ir_arena.specs.Arena.{get}
 use Rattle.ir_core.proofs.ValueLemmas.{operand-found, operand-missing, placed-live}
 use Rattle.ir_core.proofs.value.Use+Value+D.try_find_index.Goals as goal
 

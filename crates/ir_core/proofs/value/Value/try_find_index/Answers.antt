@@ -3,7 +3,7 @@ use Rattle.ir_model.specs.Nesting.{In, numbers_of}
 use Rattle.ir_core.specs.Meaning.{definer_of, value_of}
 use Rattle.ir_core.specs.State.{State, forest_of}
 use Rattle.ir_core.specs.Values.{LacksResult}
-use Rattle.ir_base.specs.Arena.{get}
+use Rattle.ir_arena.specs.Arena.{get}
 use Rattle.ir_core.proofs.ValueLemmas.{found-here, missing-here, lacks-here, has-here}
 use Rattle.ir_core.proofs.value.Value.try_find_index.Goals as goal
 

@@ -1,0 +1,12 @@
+pub mod ArenaSlots
+pub mod ArenaSound
+pub mod ArenaLaws
+pub mod ArenaRoom
+pub mod ListArena
+pub mod ListChains
+pub mod ListEdits
+pub mod ListRecords
+pub mod ListPlaces
+pub mod ListWalks
+pub mod ListRehome
+pub mod ListLaws

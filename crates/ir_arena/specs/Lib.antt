@@ -1,0 +1,7 @@
+pub mod ArenaSlots
+pub mod ArenaSound
+pub mod Arena
+pub mod ArenaLends
+pub mod Lists
+pub mod Walks
+pub mod SeqLends

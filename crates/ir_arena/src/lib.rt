@@ -1,0 +1,18 @@
+//! Storage for records: arenas under handles that are never given out twice, the lists that lie in the records' links, and the lists inside a record.
+#![tactic(auto)]
+
+mod arena;
+pub mod linked_list;
+mod list_iter;
+pub mod list_laws;
+mod ptr;
+mod room;
+mod seq;
+mod tally;
+
+pub use arena::Arena;
+pub use ir_model::{ArenaIndex, CoreError};
+pub use list_iter::Iter;
+pub use ptr::Ptr;
+pub use room::Room;
+pub use seq::Seq;

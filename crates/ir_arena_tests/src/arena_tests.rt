@@ -1,0 +1,371 @@
+//! Arenas as their callers use them: first callers that are proved from the contracts alone, then tests that run.
+
+ghost use Rattle.std.specs.Prelude.{◌≡◌, ◌≢◌, ◌+◌, ◌↔◌, IfOk, IfSome, IfNone, OnErr, OnOk, Some, None, Err};
+ghost use Rattle.ir_arena.specs.Arena.{get, fill, room, IsNew};
+ghost use Rattle.ir_model.specs.declared.ids.ArenaIndex.{ArenaIndex as Index};
+
+use ir_arena::{Arena, ArenaIndex, CoreError, Ptr, Room, Seq};
+use std::alloc::Global;
+use std::hash::{BuildHasher, BuildHasherDefault, FoldHasher};
+use std::test::Fail;
+
+/// A record that owns memory and knows its own place.
+#[derive(Drop)]
+struct Knot {
+    links: Seq<ArenaIndex>,
+    me: ArenaIndex,
+}
+
+/// Plain data that names another record.
+#[derive(Drop)]
+struct Root {
+    first: Option<ArenaIndex>,
+    count: u32,
+}
+
+/// Two arenas that are changed together.
+#[derive(Drop)]
+struct Pair {
+    knots: Arena<Knot>,
+    roots: Arena<Root>,
+}
+
+/// Stores a record that a closure makes of memory that it owns.
+fn insert_knot(knots: &mut Arena<Knot>, links: Seq<ArenaIndex>) -> Result<Ptr<Knot>, CoreError>
+    ensures made { IfOk result (λ ptr. get knots.new ptr.index ≡ Some record { links = links; me = ptr.index }) }
+    ensures filled { IfOk result (λ ptr. knots.new ≡ fill knots.old ptr.index record { links = links; me = ptr.index }) }
+    ensures new_id { IfOk result (λ ptr. IsNew knots.old ptr.index) }
+    ensures err { OnErr result (knots.new ≡ knots.old) }
+    ensures spent { (result ≡ Err CoreError.SlotsSpent) ↔ (room knots.old ≡ 0) }
+    ensures room { OnOk result (room knots.new + 1 ≡ room knots.old) }
+{
+    knots.insert_with(move |ptr: Ptr<Knot>| Knot {
+        links,
+        me: ptr.index(),
+    })
+}
+
+/// Stores a record that was made before.
+fn insert_made(knots: &mut Arena<Knot>, knot: Knot) -> Result<Ptr<Knot>, CoreError>
+    ensures made { IfOk result (λ ptr. get knots.new ptr.index ≡ Some knot) }
+    ensures filled { IfOk result (λ ptr. knots.new ≡ fill knots.old ptr.index knot) }
+    ensures err { OnErr result (knots.new ≡ knots.old) }
+{
+    knots.insert_with(move |_: Ptr<Knot>| knot)
+}
+
+/// Writes one field of one record, if it is live.
+fn set_count(pair: &mut Pair, root: Ptr<Root>, count: u32)
+    ensures changed { IfSome (get pair.old.roots root.index) (λ r. pair.new.roots ≡ fill pair.old.roots root.index (record r { count = count })) }
+    ensures absent { IfNone (get pair.old.roots root.index) (pair.new.roots ≡ pair.old.roots) }
+    ensures rest { pair.new.knots ≡ pair.old.knots }
+{
+    if let Some(r) = pair.roots.get_mut(root) {
+        r.count = count;
+    }
+}
+
+/// Two writes in turn: each other record stays.
+#[tactic(auto, using(crate::proofs::ArenaLaws::arena_laws))]
+fn set_two(pair: &mut Pair, a: Ptr<Root>, b: Ptr<Root>, count: u32)
+    ensures others { (q : Index) → q ≢ a.index → q ≢ b.index → get pair.new.roots q ≡ get pair.old.roots q }
+{
+    if let Some(r) = pair.roots.get_mut(a) {
+        r.count = count;
+    }
+    if let Some(r) = pair.roots.get_mut(b) {
+        r.count = count;
+    }
+}
+
+/// A root for a knot, which takes room in one arena and none in the other.
+fn insert_root(pair: &mut Pair, knot: Ptr<Knot>) -> Result<Ptr<Root>, CoreError>
+    ensures made { IfOk result (λ ptr. get pair.new.roots ptr.index ≡ Some record { first = Some knot.index; count = 1 }) }
+    ensures rest { pair.new.knots ≡ pair.old.knots }
+    ensures err { OnErr result (pair.new ≡ pair.old) }
+{
+    let index = knot.index();
+    pair.roots.insert_with(move |_| Root {
+        first: Some(index),
+        count: 1,
+    })
+}
+
+/// Two removals, the second of which finds nothing.
+fn remove_twice(roots: &mut Arena<Root>, root: Ptr<Root>) -> bool
+    ensures counted { roots.new.removals ≡ roots.old.removals + 2 }
+    ensures gone { get roots.new root.index ≡ None }
+{
+    roots.remove(root);
+    roots.remove(root).is_none()
+}
+
+// Stores a root that names nothing.
+fn make(roots: &mut Arena<Root>) -> Result<Ptr<Root>, CoreError> {
+    roots.insert_with(|_| Root {
+        first: None,
+        count: 0,
+    })
+}
+
+// Stores such a root, and answers its place.
+fn make_at(roots: &mut Arena<Root>) -> Result<ArenaIndex, CoreError> {
+    Ok(make(roots)?.index())
+}
+
+// Whether a root was there to be removed.
+fn free(roots: &mut Arena<Root>, root: Ptr<Root>) -> bool {
+    roots.remove(root).is_some()
+}
+
+// How many more roots there can be, and how many are live.
+fn room_and_len(roots: &Arena<Root>) -> (u32, usize) {
+    (roots.room(), roots.len())
+}
+
+// Whether nothing is left of a handle.
+fn is_gone(roots: &mut Arena<Root>, root: Ptr<Root>) -> bool {
+    !roots.is_live(root) && roots.get(root).is_none() && roots.get_mut(root).is_none()
+}
+
+#[test]
+fn room_follows_each_change(rt: HostRuntime) -> Result<(), Fail> {
+    let mut roots = Arena::new(rt.alloc(), 2, 3);
+    let mut passed = Vec::new(rt.alloc());
+    assert!(rt; roots.is_empty());
+    assert_eq!(rt; room_and_len(&roots), (2, 0));
+    for (after_making, after_removing) in [(1, 2), (1, 1), (0, 1)] {
+        let root = make(&mut roots)?;
+        assert_eq!(rt; room_and_len(&roots), (after_making, 1));
+        assert!(rt; free(&mut roots, root));
+        assert_eq!(rt; room_and_len(&roots), (after_removing, 0));
+        passed.push(root)?;
+    }
+    for root in &passed {
+        assert!(rt; is_gone(&mut roots, *root));
+    }
+    Ok(())
+}
+
+#[test]
+fn a_slot_ends_with_its_last_version(rt: HostRuntime) -> Result<(), Fail> {
+    for (last_version, times) in [(1, 1), (2, 1), (3, 2), (4, 2), (5, 3)] {
+        let mut roots = Arena::new(rt.alloc(), 1, last_version);
+        for _ in 0..times {
+            let root = make(&mut roots)?;
+            assert!(rt; free(&mut roots, root));
+        }
+        assert_eq!(rt;
+            make_at(&mut roots),
+            Err(CoreError::SlotsSpent),
+            "last version {last_version}"
+        );
+    }
+    let mut none = Arena::new(rt.alloc(), 0, 1);
+    assert_eq!(rt; make_at(&mut none), Err(CoreError::SlotsSpent));
+    Ok(())
+}
+
+#[test]
+fn versions_go_up_by_two(rt: HostRuntime) -> Result<(), Fail> {
+    let mut roots = Arena::new(rt.alloc(), 1, u32::MAX);
+    let mut passed = Vec::new(rt.alloc());
+    for k in 0..1000u32 {
+        let root = make(&mut roots)?;
+        let version = 2 * k + 1;
+        assert_eq!(rt; root.index(), ArenaIndex { slot: 1, version });
+        assert!(rt; free(&mut roots, root));
+        passed.push(root)?;
+    }
+    for root in &passed {
+        assert!(rt; is_gone(&mut roots, *root));
+    }
+    Ok(())
+}
+
+#[test]
+fn the_slot_freed_last_is_used_first(rt: HostRuntime) -> Result<(), Fail> {
+    let mut roots = Arena::new(rt.alloc(), 9, 9);
+    let a = make(&mut roots)?;
+    let b = make(&mut roots)?;
+    let c = make(&mut roots)?;
+    assert!(rt; free(&mut roots, a));
+    assert!(rt; free(&mut roots, c));
+    for (slot, version) in [(3, 3), (1, 3), (4, 1)] {
+        assert_eq!(rt; make_at(&mut roots)?, ArenaIndex { slot, version });
+    }
+    assert!(rt; roots.is_live(b));
+    Ok(())
+}
+
+#[test]
+fn places_print_with_their_versions(rt: HostRuntime) -> Result<(), Fail> {
+    let place = ArenaIndex {
+        slot: 1,
+        version: 1999,
+    };
+    assert_eq!(rt; format!(in rt.alloc(); "{place}")?.as_str(), "1v1999");
+    Ok(())
+}
+
+#[test]
+fn refused_insertion_changes_nothing(rt: HostRuntime) -> Result<(), Fail> {
+    let mut roots = Arena::new(rt.alloc(), 40, 9);
+    for slot in 1..=40u32 {
+        let place = ArenaIndex { slot, version: 1 };
+        let answer = make_at(&mut roots);
+        if answer != Ok(place) {
+            assert_eq!(rt; answer, Err(CoreError::OutOfMemory));
+            assert_eq!(rt; room_and_len(&roots), (41 - slot, slot as usize - 1));
+            assert!(rt; !roots.is_live(Ptr::from_index(place)));
+            assert_eq!(rt; make_at(&mut roots)?, place);
+        }
+        answer?;
+    }
+    Ok(())
+}
+
+/// Two knots, and a root of each.
+#[derive(Drop)]
+struct Filled {
+    pair: Pair,
+    knot: Ptr<Knot>,
+    other: Ptr<Knot>,
+    root: Ptr<Root>,
+    more: Ptr<Root>,
+}
+
+// The first knot has one link, and the other none and the place of the first.
+fn fill_pair(alloc: Global) -> Result<Filled, CoreError> {
+    let mut pair = Pair {
+        knots: Arena::new(alloc, 4, 9),
+        roots: Arena::new(alloc, 4, 9),
+    };
+    let mut links = Seq::new(alloc);
+    links.push(ArenaIndex {
+        slot: 7,
+        version: 1,
+    })?;
+    let knot = insert_knot(&mut pair.knots, links)?;
+    let made = Knot {
+        links: Seq::new(alloc),
+        me: knot.index(),
+    };
+    let other = insert_made(&mut pair.knots, made)?;
+    let root = insert_root(&mut pair, knot)?;
+    let more = insert_root(&mut pair, other)?;
+    Ok(Filled {
+        pair,
+        knot,
+        other,
+        root,
+        more,
+    })
+}
+
+// How many links a knot has, and its place as it knows it.
+fn read_knot(knots: &Arena<Knot>, knot: Ptr<Knot>) -> Option<(usize, ArenaIndex)> {
+    let record = knots.get(knot)?;
+    Some((record.links.len(), record.me))
+}
+
+// What a root names, and its count.
+fn read_root(roots: &Arena<Root>, root: Ptr<Root>) -> Option<(Option<ArenaIndex>, u32)> {
+    let record = roots.get(root)?;
+    Some((record.first, record.count))
+}
+
+// Reads the count of a live root in the place of which the handle is known, and writes the next.
+fn count_on(roots: &mut Arena<Root>, root: Ptr<Root>) -> u32 {
+    if !roots.is_live(root) {
+        return 0;
+    }
+    let count = roots.at(root).count;
+    roots.at_mut(root).count = count.saturating_add(1);
+    count
+}
+
+#[test]
+fn records_are_read(rt: HostRuntime) -> Result<(), Fail> {
+    let filled = fill_pair(rt.alloc())?;
+    let place = filled.knot.index();
+    let knots = &filled.pair.knots;
+    assert!(rt; filled.knot != filled.other);
+    assert_eq!(rt; read_knot(knots, filled.knot), Some((1, place)));
+    assert_eq!(rt; read_knot(knots, filled.other), Some((0, place)));
+    let roots = &filled.pair.roots;
+    assert_eq!(rt; read_root(roots, filled.root), Some((Some(place), 1)));
+    assert_eq!(rt;
+        read_root(roots, filled.more),
+        Some((Some(filled.other.index()), 1))
+    );
+    Ok(())
+}
+
+#[test]
+fn records_are_written(rt: HostRuntime) -> Result<(), Fail> {
+    let Filled {
+        mut pair,
+        knot,
+        other: _,
+        root,
+        more,
+    } = fill_pair(rt.alloc())?;
+    set_count(&mut pair, root, 5);
+    assert_eq!(rt; read_root(&pair.roots, root), Some((Some(knot.index()), 5)));
+    set_two(&mut pair, root, more, 6);
+    assert_eq!(rt; count_on(&mut pair.roots, root), 6);
+    assert_eq!(rt; count_on(&mut pair.roots, more), 6);
+    assert_eq!(rt; count_on(&mut pair.roots, more), 7);
+    assert!(rt; remove_twice(&mut pair.roots, root));
+    assert!(rt; is_gone(&mut pair.roots, root));
+    assert_eq!(rt; pair.roots.len(), 1);
+    Ok(())
+}
+
+#[test]
+fn handles_are_their_indices(rt: HostRuntime) -> Result<(), Fail> {
+    let index = ArenaIndex {
+        slot: 2,
+        version: 3,
+    };
+    let handle = Ptr::<Root>::from_index(index);
+    let same = handle.clone()?;
+    assert!(rt; handle == same);
+    assert_eq!(rt; same.index(), index);
+    assert!(rt;
+        handle
+            != Ptr::from_index(ArenaIndex {
+                slot: 2,
+                version: 5
+            })
+    );
+    let hasher = BuildHasherDefault::<FoldHasher>::default();
+    assert_eq!(rt; hasher.hash_one(&handle), hasher.hash_one(&same));
+    let zero = ArenaIndex {
+        slot: 0,
+        version: 1,
+    };
+    let roots = Arena::<Root>::new(rt.alloc(), 1, 1);
+    assert!(rt; !roots.is_live(Ptr::from_index(zero)));
+    Ok(())
+}
+
+#[test]
+fn room_is_plain_data(rt: HostRuntime) -> Result<(), Fail> {
+    let room = Room {
+        values: 1,
+        uses: 2,
+        ops: 3,
+        blocks: 4,
+        regions: 5,
+        aux: 6,
+    };
+    let same = room;
+    assert_eq!(rt; room, same);
+    assert_eq!(rt;
+        format!(in rt.alloc(); "{room:?}")?.as_str(),
+        "Room { values: 1, uses: 2, ops: 3, blocks: 4, regions: 5, aux: 6 }"
+    );
+    Ok(())
+}

@@ -1,0 +1,9 @@
+//! Tests of arenas and lists, and callers of them that are proved from the contracts alone.
+#![tactic(auto)]
+
+#[cfg(test)]
+mod arena_tests;
+#[cfg(test)]
+mod linked_list_tests;
+#[cfg(test)]
+mod seq_tests;

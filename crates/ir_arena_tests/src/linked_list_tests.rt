@@ -1,0 +1,588 @@
+//! The list functions over a node and a container of the tests' own, and over a record that is both.
+
+ghost use Rattle.std.specs.Prelude.{◌≡◌, IfOk, OnErr, None};
+ghost use Rattle.ir_arena.specs.Arena.{fill, IsNew};
+ghost use Rattle.ir_arena.specs.Lists.{Links, Ends, unlinked, no_ends};
+
+use ir_arena::linked_list::{
+    ContainsLinkedList, LinkedList, append_linked_list, insert_after, insert_at_back,
+    insert_at_front, insert_before, is_linked, iter, unlink,
+};
+use ir_arena::list_laws::{
+    container_changes_keep_lists, edits_keep_fields, edits_keep_ids, empty_arenas,
+    links_are_neighbours, lists_are_one, lists_hold_nodes, node_changes_keep_lists,
+};
+use ir_arena::{Arena, ArenaIndex, CoreError, Ptr};
+use std::alloc::Global;
+use std::marker::Model;
+use std::test::Fail;
+
+/// A node, with a payload.
+#[derive(Drop)]
+struct Node {
+    payload: u64,
+    next: Option<ArenaIndex>,
+    prev: Option<ArenaIndex>,
+    container: Option<ArenaIndex>,
+}
+
+impl LinkedList for Node {
+    ghost use Rattle.std.specs.Prelude.{refl};
+
+    ghost links = { λ x. record { next = x.next; prev = x.prev; container = x.container } };
+
+    ghost with_links = { λ x l. record x { next = l.next; prev = l.prev; container = l.container } };
+
+    ghost get_put = { λ x l. refl };
+
+    ghost put_put = { λ x l m. refl };
+
+    ghost put_get = { λ x. refl };
+
+    fn get_next(&self) -> Option<ArenaIndex> {
+        self.next
+    }
+
+    fn get_prev(&self) -> Option<ArenaIndex> {
+        self.prev
+    }
+
+    fn get_container(&self) -> Option<ArenaIndex> {
+        self.container
+    }
+
+    fn set_next(&mut self, next: Option<ArenaIndex>) {
+        self.next = next;
+    }
+
+    fn set_prev(&mut self, prev: Option<ArenaIndex>) {
+        self.prev = prev;
+    }
+
+    fn set_container(&mut self, container: Option<ArenaIndex>) {
+        self.container = container;
+    }
+}
+
+/// A container of nodes that is itself a node, as a block is.
+#[derive(Drop)]
+struct Part {
+    name: u64,
+    head: Option<ArenaIndex>,
+    tail: Option<ArenaIndex>,
+    next: Option<ArenaIndex>,
+    prev: Option<ArenaIndex>,
+    container: Option<ArenaIndex>,
+}
+
+impl LinkedList for Part {
+    ghost use Rattle.std.specs.Prelude.{refl};
+
+    ghost links = { λ x. record { next = x.next; prev = x.prev; container = x.container } };
+
+    ghost with_links = { λ x l. record x { next = l.next; prev = l.prev; container = l.container } };
+
+    ghost get_put = { λ x l. refl };
+
+    ghost put_put = { λ x l m. refl };
+
+    ghost put_get = { λ x. refl };
+
+    fn get_next(&self) -> Option<ArenaIndex> {
+        self.next
+    }
+
+    fn get_prev(&self) -> Option<ArenaIndex> {
+        self.prev
+    }
+
+    fn get_container(&self) -> Option<ArenaIndex> {
+        self.container
+    }
+
+    fn set_next(&mut self, next: Option<ArenaIndex>) {
+        self.next = next;
+    }
+
+    fn set_prev(&mut self, prev: Option<ArenaIndex>) {
+        self.prev = prev;
+    }
+
+    fn set_container(&mut self, container: Option<ArenaIndex>) {
+        self.container = container;
+    }
+}
+
+impl ContainsLinkedList<Node> for Part {
+    ghost use Rattle.std.specs.Prelude.{refl};
+
+    ghost ends = { λ x. record { head = x.head; tail = x.tail } };
+
+    ghost with_ends = { λ x e. record x { head = e.head; tail = e.tail } };
+
+    ghost get_put = { λ x e. refl };
+
+    ghost put_put = { λ x e f. refl };
+
+    ghost put_get = { λ x. refl };
+
+    fn get_head(&self) -> Option<ArenaIndex> {
+        self.head
+    }
+
+    fn get_tail(&self) -> Option<ArenaIndex> {
+        self.tail
+    }
+
+    fn set_head(&mut self, head: Option<ArenaIndex>) {
+        self.head = head;
+    }
+
+    fn set_tail(&mut self, tail: Option<ArenaIndex>) {
+        self.tail = tail;
+    }
+}
+
+/// A container of parts.
+#[derive(Drop)]
+struct Root {
+    head: Option<ArenaIndex>,
+    tail: Option<ArenaIndex>,
+    name: u64,
+}
+
+impl ContainsLinkedList<Part> for Root {
+    ghost use Rattle.std.specs.Prelude.{refl};
+
+    ghost ends = { λ x. record { head = x.head; tail = x.tail } };
+
+    ghost with_ends = { λ x e. record x { head = e.head; tail = e.tail } };
+
+    ghost get_put = { λ x e. refl };
+
+    ghost put_put = { λ x e f. refl };
+
+    ghost put_get = { λ x. refl };
+
+    fn get_head(&self) -> Option<ArenaIndex> {
+        self.head
+    }
+
+    fn get_tail(&self) -> Option<ArenaIndex> {
+        self.tail
+    }
+
+    fn set_head(&mut self, head: Option<ArenaIndex>) {
+        self.head = head;
+    }
+
+    fn set_tail(&mut self, tail: Option<ArenaIndex>) {
+        self.tail = tail;
+    }
+}
+
+// Stores a record that was made before.
+fn store<R: Drop>(arena: &mut Arena<R>, value: R) -> Result<Ptr<R>, CoreError>
+    ensures filled { IfOk result (λ ptr. arena.new ≡ fill arena.old ptr.index value) }
+    ensures new_id { IfOk result (λ ptr. IsNew arena.old ptr.index) }
+    ensures err { OnErr result (arena.new ≡ arena.old) }
+{
+    arena.insert_with(move |_: Ptr<R>| value)
+}
+
+/// Two arenas whose lists are well formed. Its calls answer false where a condition doesn't hold, and then change nothing.
+#[derive(Drop)]
+struct Lists<T: LinkedList, C: ContainsLinkedList<T>> {
+    nodes: Arena<T>,
+    containers: Arena<C>,
+}
+
+impl<T: LinkedList, C: ContainsLinkedList<T>> Model for Lists<T, C> {
+    ghost use Rattle.std.specs.Prelude.{ℕ};
+    ghost use Rattle.ir_arena.specs.Arena.{arena_len};
+
+    ghost Value = { ℕ };
+
+    ghost view = { λ a. arena_len a.nodes };
+
+    ghost use Rattle.ir_arena.specs.Lists.{seen, AreWellFormed};
+
+    ghost invariant = { λ a. AreWellFormed (seen T.links a.nodes) (seen C.ends a.containers) };
+}
+
+impl<T: LinkedList, C: ContainsLinkedList<T>> Lists<T, C> {
+    fn new(alloc: Global) -> Self {
+        Lists {
+            nodes: Arena::new(alloc, 100, 100),
+            containers: Arena::new(alloc, 100, 100),
+        }
+    }
+
+    fn add_node(&mut self, node: T) -> Result<Ptr<T>, CoreError>
+    where
+        T: Drop,
+        requires { T.links node ≡ unlinked }
+    {
+        store(&mut self.nodes, node)
+    }
+
+    fn add_container(&mut self, container: C) -> Result<Ptr<C>, CoreError>
+    where
+        C: Drop,
+        requires { C.ends container ≡ no_ends }
+    {
+        store(&mut self.containers, container)
+    }
+
+    fn put_front(&mut self, node: Ptr<T>, container: Ptr<C>) -> bool {
+        let live = self.nodes.is_live(node) && self.containers.is_live(container);
+        if !live || is_linked(&self.nodes, node) {
+            return false;
+        }
+        insert_at_front(&mut self.nodes, &mut self.containers, node, container);
+        true
+    }
+
+    fn put_back(&mut self, node: Ptr<T>, container: Ptr<C>) -> bool {
+        let live = self.nodes.is_live(node) && self.containers.is_live(container);
+        if !live || is_linked(&self.nodes, node) {
+            return false;
+        }
+        insert_at_back(&mut self.nodes, &mut self.containers, node, container);
+        true
+    }
+
+    fn put_after(&mut self, node: Ptr<T>, mark: Ptr<T>) -> bool {
+        let free = self.nodes.is_live(node) && !is_linked(&self.nodes, node);
+        if !free || !is_linked(&self.nodes, mark) {
+            return false;
+        }
+        insert_after(&mut self.nodes, &mut self.containers, node, mark);
+        true
+    }
+
+    fn put_before(&mut self, node: Ptr<T>, mark: Ptr<T>) -> bool {
+        let free = self.nodes.is_live(node) && !is_linked(&self.nodes, node);
+        if !free || !is_linked(&self.nodes, mark) {
+            return false;
+        }
+        insert_before(&mut self.nodes, &mut self.containers, node, mark);
+        true
+    }
+
+    fn take_out(&mut self, node: Ptr<T>) -> bool {
+        if !is_linked(&self.nodes, node) {
+            return false;
+        }
+        unlink(&mut self.nodes, &mut self.containers, node);
+        true
+    }
+
+    fn append(&mut self, donee: Ptr<C>, donor: Ptr<C>) -> bool {
+        let live = self.containers.is_live(donee) && self.containers.is_live(donor);
+        if !live || donee.index == donor.index {
+            return false;
+        }
+        append_linked_list(&mut self.nodes, &mut self.containers, donee, donor);
+        true
+    }
+
+    // Puts the nodes at the back in this order, as far as each may be put there.
+    fn put_all(&mut self, nodes: &[Ptr<T>], container: Ptr<C>) -> bool {
+        for node in nodes {
+            if !self.put_back(*node, container) {
+                return false;
+            }
+        }
+        true
+    }
+
+    // Whether the container's list is this one from both ends, and each of its nodes names the container. It is not where the container is dead.
+    fn is_list(&self, container: Ptr<C>, expected: &[Ptr<T>]) -> bool {
+        if !self.containers.is_live(container) {
+            return false;
+        }
+        let mut forward = iter(&self.nodes, &self.containers, container);
+        let mut backward = iter(&self.nodes, &self.containers, container);
+        for node in expected {
+            if forward.next() != Some(*node) || !self.is_within(*node, container) {
+                return false;
+            }
+        }
+        for node in expected.iter().rev() {
+            if backward.next_back() != Some(*node) {
+                return false;
+            }
+        }
+        forward.next().is_none() && backward.next_back().is_none()
+    }
+
+    // Whether a live node names the container.
+    fn is_within(&self, node: Ptr<T>, container: Ptr<C>) -> bool {
+        match self.nodes.get(node) {
+            Some(record) => record.get_container() == Some(container.index),
+            None => false,
+        }
+    }
+}
+
+fn a_node(payload: u64) -> Node
+    ensures { result ≡ record { payload = payload; next = None; prev = None; container = None } }
+{
+    Node {
+        payload,
+        next: None,
+        prev: None,
+        container: None,
+    }
+}
+
+fn a_part(name: u64) -> Part
+    ensures { result ≡ record { name = name; head = None; tail = None; next = None; prev = None; container = None } }
+{
+    Part {
+        name,
+        head: None,
+        tail: None,
+        next: None,
+        prev: None,
+        container: None,
+    }
+}
+
+fn a_root(name: u64) -> Root
+    ensures { result ≡ record { head = None; tail = None; name = name } }
+{
+    Root {
+        head: None,
+        tail: None,
+        name,
+    }
+}
+
+/// Nodes in the lists of parts.
+type Nodes = Lists<Node, Part>;
+
+/// Parts in the lists of roots.
+type Parts = Lists<Part, Root>;
+
+/// Whether the links of a live node are empty.
+fn has_no_links(nodes: &Arena<Node>, node: Ptr<Node>) -> bool {
+    match nodes.get(node) {
+        Some(found) => found.next.is_none() && found.prev.is_none() && found.container.is_none(),
+        None => false,
+    }
+}
+
+/// What a live node has beside its links.
+fn payload_of(nodes: &Arena<Node>, node: Ptr<Node>) -> Option<u64> {
+    Some(nodes.get(node)?.payload)
+}
+
+/// What a live part has beside its links and ends.
+fn name_of(parts: &Arena<Part>, part: Ptr<Part>) -> Option<u64> {
+    Some(parts.get(part)?.name)
+}
+
+/// What a live root has beside its ends.
+fn root_name_of(roots: &Arena<Root>, root: Ptr<Root>) -> Option<u64> {
+    Some(roots.get(root)?.name)
+}
+
+/// Two parts with the names 7 and 8, and four nodes with the payloads 1 to 4, all unlinked.
+#[derive(Drop)]
+struct Fixture {
+    lists: Nodes,
+    donee: Ptr<Part>,
+    donor: Ptr<Part>,
+    nodes: [Ptr<Node>; 4],
+}
+
+impl Fixture {
+    fn new(alloc: Global) -> Result<Fixture, CoreError> {
+        let mut lists = Nodes::new(alloc);
+        let donee = lists.add_container(a_part(7))?;
+        let donor = lists.add_container(a_part(8))?;
+        let first = lists.add_node(a_node(1))?;
+        let second = lists.add_node(a_node(2))?;
+        let third = lists.add_node(a_node(3))?;
+        let fourth = lists.add_node(a_node(4))?;
+        let nodes = [first, second, third, fourth];
+        Ok(Fixture {
+            lists,
+            donee,
+            donor,
+            nodes,
+        })
+    }
+}
+
+#[test]
+fn list_inserts(rt: HostRuntime) -> Result<(), Fail> {
+    let Fixture {
+        mut lists,
+        donee: root,
+        donor: _,
+        nodes: [n1, n2, n3, n4],
+    } = Fixture::new(rt.alloc())?;
+    assert!(rt; lists.put_front(n1, root));
+    assert!(rt; lists.put_after(n2, n1));
+    assert!(rt; lists.put_after(n4, n2));
+    assert!(rt; lists.is_list(root, &[n1, n2, n4]));
+    assert!(rt; !is_linked(&lists.nodes, n3));
+    assert!(rt; lists.put_before(n3, n1));
+    assert!(rt; lists.is_list(root, &[n3, n1, n2, n4]));
+    Ok(())
+}
+
+// Front and back by turns take each node once, and a copy goes on by itself.
+#[test]
+fn list_inserts_from_both_ends(rt: HostRuntime) -> Result<(), Fail> {
+    let Fixture {
+        mut lists,
+        donee: root,
+        donor: _,
+        nodes: [n1, n2, _, n4],
+    } = Fixture::new(rt.alloc())?;
+    assert!(rt; lists.put_front(n1, root));
+    assert!(rt; lists.put_after(n2, n1));
+    assert!(rt; lists.put_after(n4, n2));
+    assert!(rt; lists.containers.is_live(root));
+    let mut both = iter(&lists.nodes, &lists.containers, root);
+    let mut copy = both.clone()?;
+    assert!(rt; both.next() == Some(n1));
+    assert!(rt; both.next_back() == Some(n4));
+    assert!(rt; both.next() == Some(n2));
+    assert!(rt; both.next().is_none());
+    assert!(rt; both.next_back().is_none());
+    assert!(rt; copy.next_back() == Some(n4));
+    Ok(())
+}
+
+#[test]
+fn list_unlinks(rt: HostRuntime) -> Result<(), Fail> {
+    let Fixture {
+        mut lists,
+        donee: root,
+        donor: _,
+        nodes: [n1, n2, _, n4],
+    } = Fixture::new(rt.alloc())?;
+    assert!(rt; lists.put_back(n1, root));
+    assert!(rt; lists.put_back(n4, root));
+    assert!(rt; lists.put_before(n2, n4));
+    assert!(rt; lists.is_list(root, &[n1, n2, n4]));
+    assert!(rt; lists.take_out(n2));
+    assert!(rt; lists.is_list(root, &[n1, n4]));
+    assert!(rt; lists.take_out(n1));
+    assert!(rt; lists.is_list(root, &[n4]));
+    assert!(rt; lists.take_out(n4));
+    assert!(rt; lists.is_list(root, &[]));
+    assert!(rt; has_no_links(&lists.nodes, n1));
+    assert!(rt; has_no_links(&lists.nodes, n2));
+    assert!(rt; has_no_links(&lists.nodes, n4));
+    Ok(())
+}
+
+#[test]
+fn list_conditions(rt: HostRuntime) -> Result<(), Fail> {
+    let Fixture {
+        mut lists,
+        donee: root,
+        donor: _,
+        nodes: [n1, n2, n3, _],
+    } = Fixture::new(rt.alloc())?;
+    assert!(rt; lists.put_front(n1, root));
+    assert!(rt; !lists.put_front(n1, root));
+    assert!(rt; !lists.put_back(n1, root));
+    assert!(rt; !lists.take_out(n2));
+    assert!(rt; !lists.put_after(n2, n3));
+    assert!(rt; !lists.put_before(n2, n3));
+    assert!(rt; !lists.put_after(n1, n1));
+    assert!(rt; !lists.append(root, root));
+    assert!(rt; lists.is_list(root, &[n1]));
+    Ok(())
+}
+
+#[test]
+fn list_append(rt: HostRuntime) -> Result<(), Fail> {
+    let Fixture {
+        mut lists,
+        donee,
+        donor,
+        nodes: [n1, n2, n3, n4],
+    } = Fixture::new(rt.alloc())?;
+    assert!(rt; lists.put_all(&[n1, n2], donee));
+    assert!(rt; lists.put_all(&[n3, n4], donor));
+    assert!(rt; lists.append(donee, donor));
+    assert!(rt; lists.is_list(donee, &[n1, n2, n3, n4]));
+    assert!(rt; lists.is_list(donor, &[]));
+    assert_eq!(rt; payload_of(&lists.nodes, n3), Some(3));
+    assert_eq!(rt; name_of(&lists.containers, donee), Some(7));
+    assert_eq!(rt; name_of(&lists.containers, donor), Some(8));
+    Ok(())
+}
+
+#[test]
+fn list_append_to_nothing(rt: HostRuntime) -> Result<(), Fail> {
+    let Fixture {
+        mut lists,
+        donee,
+        donor,
+        nodes: [n1, _, _, _],
+    } = Fixture::new(rt.alloc())?;
+    assert!(rt; lists.append(donee, donor));
+    assert!(rt; lists.is_list(donee, &[]));
+    assert!(rt; lists.is_list(donor, &[]));
+    assert!(rt; lists.put_back(n1, donor));
+    assert!(rt; lists.append(donee, donor));
+    assert!(rt; lists.is_list(donee, &[n1]));
+    assert!(rt; lists.is_list(donor, &[]));
+    Ok(())
+}
+
+#[test]
+fn list_append_then_unlink(rt: HostRuntime) -> Result<(), Fail> {
+    let Fixture {
+        mut lists,
+        donee,
+        donor,
+        nodes: [n1, n2, n3, n4],
+    } = Fixture::new(rt.alloc())?;
+    assert!(rt; lists.put_all(&[n1, n2, n3], donee));
+    assert!(rt; lists.put_back(n4, donor));
+    assert!(rt; lists.append(donee, donor));
+    assert!(rt; lists.is_list(donee, &[n1, n2, n3, n4]));
+    assert!(rt; lists.take_out(n3));
+    assert!(rt; lists.take_out(n4));
+    assert!(rt; lists.is_list(donee, &[n1, n2]));
+    Ok(())
+}
+
+// A part has a list of its own, and stands in a root's.
+#[test]
+fn list_of_lists(rt: HostRuntime) -> Result<(), Fail> {
+    let mut parts = Parts::new(rt.alloc());
+    let root = parts.add_container(a_root(9))?;
+    let first = parts.add_node(a_part(7))?;
+    let second = parts.add_node(a_part(8))?;
+    assert!(rt; parts.put_back(second, root));
+    assert!(rt; parts.put_before(first, second));
+    assert!(rt; parts.is_list(root, &[first, second]));
+    assert_eq!(rt; root_name_of(&parts.containers, root), Some(9));
+    assert_eq!(rt; name_of(&parts.nodes, first), Some(7));
+    assert_eq!(rt; name_of(&parts.nodes, second), Some(8));
+    Ok(())
+}
+
+// Each law can be called at a concrete type.
+#[test]
+fn list_laws(_rt: HostRuntime) {
+    empty_arenas::<Node, Part>();
+    lists_are_one::<Node, Part>();
+    lists_hold_nodes::<Part, Root>();
+    links_are_neighbours::<Part, Root>();
+    node_changes_keep_lists::<Node, Part>();
+    container_changes_keep_lists::<Node, Part>();
+    edits_keep_ids::<Node>();
+    edits_keep_fields::<Node, u64>();
+}

@@ -1,6 +1,0 @@
-use Rattle.std.proofs.Common.{[]}
-use Rattle.ir_base.proofs.ListLaws.{AreLists-empty}
-use Rattle.ir_base.proofs.linked_list_tests.Lists.new.Goals as goal
-
-pub invariant_of-result : goal.invariant_of-result
-invariant_of-result g c = (λ _. [], rw (c.new.ensures, c.new-2.ensures) (AreLists-empty g.T.LinkedList.links g.C.ContainsLinkedList.ends 100 100 100 100))

@@ -1,0 +1,3 @@
+pub mod IdentifierLemmas
+pub mod LegaliserLemmas
+pub mod NameLawLemmas

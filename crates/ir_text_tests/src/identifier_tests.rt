@@ -1,0 +1,112 @@
+// Worked identifiers, and each call with ample memory.
+use ir_model::CoreError;
+use ir_text::{IdentErr, Identifier, MalformedIdentifierErr, ident};
+use std::alloc::{AllocError, Global};
+use std::collections::HashMap;
+use std::test::Fail;
+
+#[test]
+fn identifier_equality(rt: HostRuntime) -> Result<(), Fail> {
+    let alloc = rt.alloc();
+    let owned = Identifier::try_new(String::from_str(alloc, "foo")?)?;
+    assert!(rt; owned == ident!("foo"));
+    let mut map = HashMap::new(alloc);
+    let _ = map.insert(ident!("foo"), 1)?;
+    assert_eq!(rt; map.get(&owned).copied(), Some(1));
+    Ok(())
+}
+
+#[test]
+fn identifier_order(rt: HostRuntime) {
+    assert!(rt; ident!("z") > ident!("a"));
+    assert!(rt; ident!("a") < ident!("aa"));
+    assert!(rt; !Identifier::is_valid("1b"));
+}
+
+// Whether the two joined are this text.
+fn joins(
+    alloc: Global,
+    first: &Identifier,
+    second: &Identifier,
+    text: &str,
+) -> Result<bool, CoreError> {
+    Ok(first.join(alloc, second)?.as_str() == text)
+}
+
+#[test]
+fn identifier_join(rt: HostRuntime) -> Result<(), Fail> {
+    assert!(rt; joins(rt.alloc(), &ident!("a"), &ident!("_1"), "a_1")?);
+    Ok(())
+}
+
+// Whether an identifier is this text, by each way to read it.
+fn is_text(alloc: Global, identifier: Identifier, text: &str) -> Result<bool, CoreError> {
+    let same = identifier.clone()? == identifier && identifier.as_str() == text;
+    let printed = format!(in alloc; "{identifier}")?;
+    Ok(same && printed.as_str() == text && identifier.into_text(alloc)?.as_str() == text)
+}
+
+#[test]
+fn owned_identifier(rt: HostRuntime) -> Result<(), Fail> {
+    let owned = Identifier::from_text(rt.alloc(), "op_1")?;
+    assert!(rt; is_text(rt.alloc(), owned, "op_1")?);
+    Ok(())
+}
+
+#[test]
+fn borrowed_identifier(rt: HostRuntime) -> Result<(), Fail> {
+    assert!(rt; is_text(rt.alloc(), ident!("op_1"), "op_1")?);
+    Ok(())
+}
+
+#[test]
+fn converted_identifier(rt: HostRuntime) -> Result<(), Fail> {
+    let converted: Identifier = String::from_str(rt.alloc(), "op_1")?.try_into()?;
+    assert!(rt; converted == ident!("op_1"));
+    Ok(())
+}
+
+// A malformed text that has to be copied is handed back, or wants memory.
+fn is_copied_back(alloc: Global, text: &str) -> Result<bool, IdentErr> {
+    match Identifier::from_text(alloc, text) {
+        Ok(_) => Ok(false),
+        Err(IdentErr::MalformedIdentifierErr(malformed)) => Ok(malformed.0.as_str() == text),
+        Err(IdentErr::OutOfMemory) => Err(IdentErr::OutOfMemory),
+    }
+}
+
+#[test]
+fn malformed_copies(rt: HostRuntime) -> Result<(), Fail> {
+    assert!(rt; is_copied_back(rt.alloc(), "1b")?);
+    Ok(())
+}
+
+fn is_handed_back(alloc: Global, text: &str) -> Result<bool, AllocError> {
+    match Identifier::try_new(String::from_str(alloc, text)?) {
+        Ok(_) => Ok(false),
+        Err(malformed) => Ok(malformed.0.as_str() == text),
+    }
+}
+
+#[test]
+fn malformed_texts(rt: HostRuntime) -> Result<(), Fail> {
+    for text in ["", "hi12.", "12ab", ".a12ab", "é"] {
+        assert!(rt; is_handed_back(rt.alloc(), text)?, "{text}");
+    }
+    for text in ["hi12", "A12ab"] {
+        assert!(rt; !is_handed_back(rt.alloc(), text)?, "{text}");
+    }
+    Ok(())
+}
+
+#[test]
+fn fault_texts(rt: HostRuntime) -> Result<(), Fail> {
+    let alloc = rt.alloc();
+    let malformed = MalformedIdentifierErr(String::from_str(alloc, "1b")?);
+    assert!(rt; format!(in alloc; "{malformed}")?.as_str() == "Malformed identifier 1b");
+    let error = IdentErr::from(malformed);
+    assert!(rt; format!(in alloc; "{error}")?.as_str() == "Malformed identifier 1b");
+    let error = IdentErr::OutOfMemory;
+    assert!(rt; format!(in alloc; "{error}")?.as_str() == "out of memory");
+    Ok(())
+}
