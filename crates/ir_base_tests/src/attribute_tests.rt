@@ -7,13 +7,9 @@ ghost use Rattle.std.proofs.Common.{rules, true≢false, sym};
 use ir_base::attribute::{
     Attribute, AttributeDict, attr_impls, attr_impls_static, attr_should_outline, attr_type,
 };
-use ir_base::{Dialects, unknown_loc};
-use ir_base::CoreError;
-use ir_base::Identifier;
+use ir_base::{AttrId, AttrName, CoreError, DialectName, Dialects, Identifier, OpId, OpName, TypeHandle, TypeId, TypeName, unknown_loc};
 use ir_base::interfaces::{OutlinedAttr, TypedAttrInterface};
-use ir_base::{AttrId, AttrName, DialectName, OpId, OpName, TypeId, TypeName};
 use ir_base::laws::{dictionaries_compare_by_keys, equal_dictionaries_hash_equally};
-use ir_base::TypeHandle;
 use std::alloc::Global;
 use std::hash::{DefaultHasher, Hash, Hasher};
 use std::test::Fail;

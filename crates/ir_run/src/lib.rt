@@ -1,23 +1,15 @@
 //! Sessions, which carry out lists of edits, the dialect `Toy`, and the reading of scripts.
 #![tactic(auto)]
 
-#[cfg(test)]
-mod core_tests;
 mod edit;
 mod laws;
 mod script_parse;
 mod script_print;
 mod script_run;
-#[cfg(test)]
-mod script_tests;
 mod session;
 mod session_tables;
-#[cfg(test)]
-mod session_tests;
 mod steps;
 mod toy;
-#[cfg(test)]
-mod toy_tests;
 
 pub use edit::Edit;
 pub use ir_base::{Answer, Refused};

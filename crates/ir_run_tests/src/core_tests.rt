@@ -7,12 +7,13 @@ ghost use Rattle.ir_core.specs.Calls.{LeadsToLive};
 ghost use Rattle.ir_core.specs.Meaning.{value_of};
 ghost use Rattle.ir_core.specs.State.{forest_of, types_of};
 
-use crate::toy::{Toy, ToyType};
+use example::chain;
 use ir_base::{ArenaIndex, CoreError, Dialects, Limits, Ptr, Room, TypeHandle};
 use ir_core::{
     Context, DanglingPtrDerefError, DefiningEntity, IndexErr, Operation, OperationPtr, RegionPtr,
     TypeQueries, Use, UseError, UseIndex, Value, ValueError, ValueIndex,
 };
+use ir_run::{Toy, ToyType};
 use std::alloc::Global;
 use std::process::Abort;
 use std::test::Fail;
@@ -396,19 +397,13 @@ fn three_uses_of_two(rt: HostRuntime) -> Result<(), Fail> {
     Ok(())
 }
 
-/// Makes an operation with one result of the type with this key, and one that uses it twice. Answers how many uses the result has: two.
-fn use_twice<D: Dialects>(ctx: &mut Context<D>, key: D::TypeKey) -> Result<usize, CoreError> {
-    let ty = ctx.instantiate_key(key)?;
-    let maker = Operation::new(ctx, 0, &[ty], &[], &[], 0)?;
-    let value = maker.deref(ctx).get_result(0);
-    Operation::new(ctx, 4, &[ty], &[value, value], &[], 0)?;
-    Ok(value.num_uses(ctx))
-}
-
 #[test]
-fn used_twice(rt: HostRuntime) -> Result<(), Fail> {
+fn the_last_of_a_chain_has_no_use(rt: HostRuntime) -> Result<(), Fail> {
     let mut ctx: Context<Toy> = Context::new(rt.alloc());
-    assert_eq!(rt; use_twice(&mut ctx, ToyType::Int { width: 32 })?, 2);
+    let last = chain(&mut ctx, ToyType::Int { width: 32 }, 10)?;
+    assert!(rt; last.is_live(&ctx));
+    assert!(rt; !last.is_used(&ctx));
+    assert_eq!(rt; ctx.room().uses, u64::MAX - 10);
     Ok(())
 }
 

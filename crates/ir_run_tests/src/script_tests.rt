@@ -1,10 +1,7 @@
 //! Scripts over memory, with what the program prints for them and its status.
 
-use crate::edit::Edit;
-use crate::script_run::run_script;
-use crate::session::Session;
-use crate::toy::{Toy, ToyType};
 use ir_base::{Answer, Limits, Refused};
+use ir_run::{Edit, Session, Toy, ToyType, run_script};
 use std::alloc::Global;
 use std::io;
 use std::io::{ErrorKind, Read, Write};

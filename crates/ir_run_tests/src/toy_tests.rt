@@ -1,10 +1,10 @@
 //! The tables of the dialect Toy, ids, and copies.
 
-use crate::toy::{SIZED_TYPE, Toy, ToyAttr, ToyLoc, ToySaved, ToyType};
 use ir_base::interfaces::{
     NO_TERMINATOR, OUTLINED_ATTRIBUTE, PURE_OPERATION, REGION_KIND, TERMINATOR, TYPED_ATTRIBUTE,
 };
 use ir_base::{Dialects, Identifier, TypeHandle};
+use ir_run::{SIZED_TYPE, Toy, ToyAttr, ToyLoc, ToySaved, ToyType};
 use std::test::Fail;
 
 #[test]

@@ -2,11 +2,8 @@
 
 ghost use Rattle.std.specs.Prelude.{◌<◌, ◌≤◌};
 
-use crate::edit::Edit;
-use crate::laws::choices_unseen;
-use crate::session::Session;
-use crate::toy::{Toy, ToyType};
 use ir_base::{Answer, CoreError, Dialects, Limits, Refused};
+use ir_run::{Edit, Session, Toy, ToyType, choices_unseen};
 use std::alloc::{AllocError, Global};
 use std::process::Abort;
 use std::test::Fail;

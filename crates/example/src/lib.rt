@@ -1,0 +1,35 @@
+//! How a crate of one's own stands on the core: a function that builds a chain of operations, generic in the dialect.
+//!
+//! Each call of the core settles the condition of the next: a type that was made is known, what a live operation gives is live, and an index below the number of results that were asked for is in range. So nothing is tested here.
+#![tactic(auto)]
+
+ghost use Rattle.std.specs.Prelude.{IfOk};
+ghost use Rattle.ir_model.specs.Forest.{a_value};
+ghost use Rattle.ir_model.specs.Nesting.{IsLiveNamed};
+ghost use Rattle.ir_core.specs.Meaning.{value_of};
+ghost use Rattle.ir_core.specs.State.{forest_of};
+
+use ir_base::{CoreError, Dialects};
+use ir_core::{Context, Operation, OperationPtr, Value};
+
+/// Makes an operation with one result of the type with this key, and behind it a chain of so many operations, each of which uses the result of the one before. Answers the last result, which is live.
+///
+/// # Errors
+/// What `Context::instantiate_key` and `Operation::new` lack. What was made until then stays.
+pub fn chain<D: Dialects>(
+    ctx: &mut Context<D>,
+    key: D::TypeKey,
+    length: usize,
+) -> Result<Value<D>, CoreError>
+    ensures { IfOk result (λ last. IsLiveNamed (forest_of ctx.new) (a_value (value_of last.index))) }
+{
+    let ty = ctx.instantiate_key(key)?;
+    let mut last = Operation::new(ctx, 0, &[ty], &[], &[], 0)?
+        .deref(ctx)
+        .get_result(0);
+    for _ in 0..length {
+        let next = Operation::new(ctx, 4, &[ty], &[last], &[], 0)?;
+        last = next.deref(ctx).get_result(0);
+    }
+    Ok(last)
+}
