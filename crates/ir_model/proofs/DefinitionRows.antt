@@ -1,7 +1,7 @@
 -- The rows of results and arguments.
-use mathlib.Core.Path.{◌≡◌, refl, ap}
-use Rattle.std.proofs.Common.{List, length, map}
-use Rattle.ir_model.specs.Forest.{Definition, of_op, of_block}
+use mathlib.Core.Path.{refl, ap}
+use Rattle.std.proofs.Common.{List, length}
+use Rattle.ir_model.specs.Forest.{of_op, of_block}
 use Rattle.ir_model.specs.Nesting.{types_of, numbers_of}
 use Rattle.ir_model.specs.Edits.{State}
 use Rattle.ir_model.specs.EditStart.{NumberName, o1, b0, row_ids, row_dialect}

@@ -1,6 +1,6 @@
 -- What the rows of all edits share: a map is told by its rows.
-use mathlib.Core.Path.{◌≡◌, refl, sym, ap, ◌∙◌, fun_ext}
-use Rattle.std.proofs.Common.{Option, Some}
+use mathlib.Core.Path.{◌≡◌, refl, fun_ext}
+use Rattle.std.proofs.Common.{Some}
 use Rattle.ir_model.specs.declared.answer.Answer.{Answer}
 use Rattle.ir_model.specs.Ids.{Fresh, counts}
 use Rattle.ir_model.specs.Edits.{Edit, State, Change, The, answer, needs}

@@ -1,9 +1,9 @@
 -- The rows of lists.
-use mathlib.Core.Path.{◌≡◌, refl, ap}
+use mathlib.Core.Path.{refl, ap}
 use Rattle.std.proofs.Common.{List}
 use Rattle.ir_model.specs.Nesting.{ops_of, blocks_of, regions_of}
 use Rattle.ir_model.specs.Edits.{State}
-use Rattle.ir_model.specs.EditStart.{OpName, BlockName, RegionName, o0, o4, b0, b4, r0, row_ids, row_dialect}
+use Rattle.ir_model.specs.EditStart.{OpName, BlockName, o0, o4, b0, b4, r0, row_ids, row_dialect}
 use Rattle.ir_model.specs.ListRows.{OpRows, BlockRows, RegionRows}
 use Rattle.ir_model.proofs.EditStart.{same_ops, same_blocks, same_regions, same_state, here, leads}
 

@@ -1,10 +1,10 @@
 -- The rows of operands and successors.
-use mathlib.Core.Path.{◌≡◌, refl, ap}
+use mathlib.Core.Path.{refl, ap}
 use Rattle.std.proofs.Common.{List, map}
 use Rattle.ir_model.specs.Forest.{Operand, Successor}
 use Rattle.ir_model.specs.Nesting.{operands_of, successors_of}
 use Rattle.ir_model.specs.Edits.{State}
-use Rattle.ir_model.specs.EditStart.{OpName, UseName, BlockName, o2, o3, o6, row_ids, row_dialect}
+use Rattle.ir_model.specs.EditStart.{UseName, BlockName, o2, o3, o6, row_ids, row_dialect}
 use Rattle.ir_model.specs.OperandRows.{OperandRows, SuccessorRows, ReplaceAllRows}
 use Rattle.ir_model.proofs.EditStart.{same_ops, same_state, here, leads}
 

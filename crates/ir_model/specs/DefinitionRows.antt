@@ -4,7 +4,7 @@ use Rattle.ir_model.specs.declared.answer.Answer.TheVariants.{Made, Done}
 use Rattle.ir_model.specs.Ids.{Fresh}
 use Rattle.ir_model.specs.Forest.{Definition, Value}
 use Rattle.ir_model.specs.Edits.{State, PushResult, PushArgument, InsertResult, InsertArgument, RemoveResult, RemoveArgument}
-use Rattle.ir_model.specs.EditStart.{o1, o2, o3, o5, o6, b0, v0, v1, v2, v3, v4, v5, v6, v7, row_ids, row_dialect, result, argument, named, unnamed, operation, block, root, giver, taker, brancher, spare, holder, inner, entry, empty, ops_then, blocks_then, regions_then, tables_then, with_records, made, nothing, Leads}
+use Rattle.ir_model.specs.EditStart.{o1, o2, o3, o5, o6, b0, v0, v1, v2, v3, v4, v5, v6, v7, row_ids, row_dialect, result, argument, named, unnamed, operation, block, root, taker, brancher, spare, holder, inner, empty, ops_then, blocks_then, regions_then, tables_then, with_records, made, nothing, Leads}
 
 -- one value number is made
 abbrev pub one_number : Fresh row_ids

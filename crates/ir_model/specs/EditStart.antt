@@ -1,5 +1,5 @@
 -- The state in which each edit is tried: things linked, used and nested, written as tables.
-use Rattle.std.specs.Prelude.{ℕ, Bool, false, ◌≡◌, List, [], ◌∷◌, Option, Some, None, slice_get, nat_eq}
+use Rattle.std.specs.Prelude.{ℕ, false, ◌≡◌, List, [], ◌∷◌, Some, None, slice_get, nat_eq}
 use Rattle.ir_model.specs.declared.answer.Answer.{Answer}
 use Rattle.ir_model.specs.Ids.{Ids, Fresh, counts}
 use Rattle.ir_model.specs.Forest.{Dialect, Behaviour, Value, of_op, of_block, Operand, Successor, Definition, OpRecord, BlockRecord, Forest}

@@ -3,7 +3,7 @@ use Rattle.std.specs.Prelude.{ℕ, List, [], ◌∷◌, Some}
 use Rattle.ir_model.specs.declared.answer.Answer.TheVariants.{Made}
 use Rattle.ir_model.specs.Ids.{Fresh}
 use Rattle.ir_model.specs.Forest.{Definition, Operand, Successor, Value}
-use Rattle.ir_model.specs.Edits.{State, StoredType, Tables, NewType, NewOp, NewBlock, AddRegion}
+use Rattle.ir_model.specs.Edits.{State, StoredType, NewType, NewOp, NewBlock, AddRegion}
 use Rattle.ir_model.specs.EditStart.{RegionName, o0, o1, o2, o3, o4, o5, o6, o7, b0, b1, b2, b3, b4, b5, b6, r0, r1, r2, r3, r4, r5, r6, v0, v1, v2, v3, v4, v5, v6, v7, v8, u10, u11, u12, u13, row_ids, row_dialect, result, argument, operand, successor, unnamed, operation, block, root, giver, taker, brancher, spare, holder, inner, entry, empty, ops_then, blocks_then, regions_then, store_then, tables_then, forest, start, made, nothing, Leads, LeadsNot}
 
 -- ## Types

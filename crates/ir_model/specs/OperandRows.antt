@@ -2,9 +2,9 @@
 use Rattle.std.specs.Prelude.{List, [], ◌∷◌}
 use Rattle.ir_model.specs.declared.answer.Answer.TheVariants.{Done}
 use Rattle.ir_model.specs.Ids.{Fresh}
-use Rattle.ir_model.specs.Forest.{Operand, Successor, Value}
+use Rattle.ir_model.specs.Forest.{Operand, Successor}
 use Rattle.ir_model.specs.Edits.{State, PushOperand, PushSuccessor, InsertOperand, InsertSuccessor, RemoveOperand, RemoveSuccessor, ReplaceOperand, ReplaceSuccessor, ReplaceAllUses, RetargetAll}
-use Rattle.ir_model.specs.EditStart.{o1, b0, b1, b2, r4, v0, v2, v3, v4, v6, u0, u1, u2, u3, u4, u5, u6, u7, u8, u9, u10, row_ids, row_dialect, result, argument, operand, successor, named, operation, root, giver, taker, brancher, spare, holder, inner, blocks_then, regions_then, with_records, made, nothing, Leads}
+use Rattle.ir_model.specs.EditStart.{o1, b0, b1, b2, v0, v2, v4, v6, u0, u1, u2, u3, u4, u5, u6, u8, u9, u10, row_ids, row_dialect, result, argument, operand, successor, named, operation, root, giver, taker, brancher, spare, holder, inner, blocks_then, regions_then, with_records, made, nothing, Leads}
 
 -- one use number is made
 abbrev pub one_use : Fresh row_ids

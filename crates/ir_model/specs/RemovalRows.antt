@@ -1,9 +1,9 @@
 -- What dropping uses and erasing lead to, each beside a neighbour to which it does not lead.
-use Rattle.std.specs.Prelude.{List, [], ◌∷◌}
+use Rattle.std.specs.Prelude.{[], ◌∷◌}
 use Rattle.ir_model.specs.declared.answer.Answer.TheVariants.{Done}
 use Rattle.ir_model.specs.Forest.{OpRecord}
 use Rattle.ir_model.specs.Edits.{State, DropOpUses, DropBlockUses, DropRegionUses, EraseOp, EraseBlock, EraseRegion}
-use Rattle.ir_model.specs.EditStart.{o5, o6, b0, b1, b2, b4, b5, r0, r1, r3, r4, v6, row_ids, row_dialect, named, operation, block, root, giver, taker, brancher, spare, holder, inner, entry, empty, blocks_then, regions_then, start, with_records, nothing, Leads}
+use Rattle.ir_model.specs.EditStart.{b0, b1, b2, b4, b5, r0, r1, r3, r4, v6, row_ids, row_dialect, named, operation, block, root, giver, taker, brancher, spare, holder, inner, entry, empty, blocks_then, regions_then, start, with_records, nothing, Leads}
 
 -- ## Dropped uses
 

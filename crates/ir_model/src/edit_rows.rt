@@ -4,12 +4,14 @@
 
 ghost use Rattle.ir_model.specs.OperandRows.{OperandRows, SuccessorRows, ReplaceAllRows};
 ghost use Rattle.ir_model.specs.DefinitionRows.{ResultRows, ArgumentRows};
-ghost use Rattle.ir_model.specs.NewRows.{TypeRows, NewBlockRows};
+ghost use Rattle.ir_model.specs.NewRows.{TypeRows, NewOpRows, NewBlockRows};
 ghost use Rattle.ir_model.specs.ListRows.{OpRows, BlockRows, RegionRows};
+ghost use Rattle.ir_model.specs.RemovalRows.{DropRows, EraseRows};
 
 /// What edits that make types, operations, blocks and regions lead to.
 pub fn new_entity_rows()
     ensures types { TypeRows }
+    ensures operations { NewOpRows }
     ensures blocks { NewBlockRows }
 {}
 
@@ -31,4 +33,10 @@ pub fn list_rows()
     ensures ops { OpRows }
     ensures blocks { BlockRows }
     ensures regions { RegionRows }
+{}
+
+/// What dropping uses and erasing lead to.
+pub fn removal_rows()
+    ensures dropped { DropRows }
+    ensures erased { EraseRows }
 {}
