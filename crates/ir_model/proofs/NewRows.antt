@@ -4,7 +4,7 @@ use Rattle.std.proofs.Common.{[], ◌∷◌, length, map}
 use Rattle.ir_model.specs.Forest.{Operand, Value}
 use Rattle.ir_model.specs.Nesting.{operands_of, regions_of}
 use Rattle.ir_model.specs.Edits.{State, Change, NewOp}
-use Rattle.ir_model.specs.EditStart.{o0, o1, o7, b0, b1, b2, r0, r1, r2, r3, r4, r5, r6, v0, v4, v7, v8, u10, u11, u12, u13, row_ids, row_dialect, row_behaviour, result, argument, operand, successor, unnamed, start}
+use Rattle.ir_model.specs.EditStart.{o0, o1, o7, b0, b1, b2, r0, r1, r2, r3, r4, r5, r6, v0, v4, v7, v8, u11, u12, u13, u14, row_ids, row_dialect, row_behaviour, result, argument, operand, successor, unnamed, start}
 use Rattle.ir_model.specs.NewRows.{TypeRows, NewOpRows, NewBlockRows, for_an_op, new_op_is, values_and_two}
 use Rattle.ir_model.proofs.EditStart.{same_ops, same_blocks, same_regions, same_state, here, leads}
 use Rattle.ir_model.proofs.Unique.{Change-unique}
@@ -19,8 +19,8 @@ type_rows = record {
 -- what a new operation leads to
 op_made : Change row_behaviour start (NewOp 2 (0 ∷ 1 ∷ []) (0 ∷ 4 ∷ []) (2 ∷ 1 ∷ []) 2) for_an_op (new_op_is
     (unnamed v7 1 ∷ unnamed v8 0 ∷ [])
-    (operand u10 (result o1 v0) ∷ operand u11 (argument b0 v4) ∷ [])
-    (successor u12 b2 ∷ successor u13 b1 ∷ [])
+    (operand u11 (result o1 v0) ∷ operand u12 (argument b0 v4) ∷ [])
+    (successor u13 b2 ∷ successor u14 b1 ∷ [])
     (r0 ∷ r1 ∷ r2 ∷ r3 ∷ r4 ∷ r5 ∷ r6 ∷ [])
     (values_and_two (result o7 v7) (result o7 v8)))
 op_made = here _ (same_state (same_ops _ _ refl refl refl refl refl refl refl refl) refl (same_regions _ _ refl refl refl refl refl refl refl) refl refl)

@@ -25,6 +25,7 @@ operand_rows = record {
   push = leads (here _ (here _ (here _ (same_state (same_ops _ _ refl refl refl refl refl refl refl refl) refl refl refl refl)))) refl refl (λ e. let f = ap operand_uses e in cc);
   insert = leads (here _ (here _ (here _ (same_state (same_ops _ _ refl refl refl refl refl refl refl refl) refl refl refl refl)))) refl refl (λ e. let f = ap operand_uses e in cc);
   remove = leads (here _ (same_state (same_ops _ _ refl refl refl refl refl refl refl refl) refl refl refl refl)) refl refl (λ e. let f = ap operand_uses e in cc);
+  remove_first = leads (here _ (same_state (same_ops _ _ refl refl refl refl refl refl refl refl) refl refl refl refl)) refl refl (λ e. let f = ap operand_uses e in cc);
   replace = leads (here _ (here _ (here _ (same_state (same_ops _ _ refl refl refl refl refl refl refl refl) refl refl refl refl)))) refl refl (λ e. let f = ap operand_uses e in cc);
 }
 

@@ -1,41 +1,15 @@
 -- The rows of dropped uses and of what is erased.
-use mathlib.Core.Path.{◌≡◌, refl, sym, ap, ◌∙◌}
-use Rattle.std.proofs.Common.{Bool, true, false, cond, ◌⊎◌, inl, inr, None, List, [], ◌∷◌, length}
+use mathlib.Core.Path.{◌≡◌, refl, ap}
+use Rattle.std.proofs.Common.{Bool, true, false, cond, ◌⊎◌, inl, inr, None, length}
 use Rattle.std.specs.Option.{option_map}
 use Rattle.ir_model.specs.Forest.{Forest, Entity, an_op, a_block, a_region}
-use Rattle.ir_model.specs.Nesting.{In, Inside, itself, below, children, operands_of, regions_of, blocks_of}
+use Rattle.ir_model.specs.Nesting.{operands_of, regions_of, blocks_of}
 use Rattle.ir_model.specs.Changes.{DropsUses, Removes, no_uses, unlist}
 use Rattle.ir_model.specs.Edits.{State}
-use Rattle.ir_model.specs.EditStart.{OpName, BlockName, RegionName, o0, o1, o2, o3, o5, o6, b0, b1, b2, b4, b5, r0, r3, r4, row_ids, row_dialect, start, taker, brancher, holder, inner}
+use Rattle.ir_model.specs.EditStart.{OpName, BlockName, RegionName, o0, o5, o6, b0, b4, r0, r3, r4, row_ids, row_dialect, start, taker, brancher, holder, inner}
 use Rattle.ir_model.specs.RemovalRows.{DropRows, EraseRows, users_are, bare_taker, bare_brancher, bare_holder, bare_inner, without_holder, without_block, without_region}
 use Rattle.ir_model.proofs.EditStart.{here, leads}
-
--- ## What is inside
-
--- all of the list are among those that the test names
-abbrev all_among : (Entity row_ids → Bool) → List (Entity row_ids) → Bool
-all_among among [] = true
-all_among among (x ∷ xs) = cond (among x) (all_among among xs) false
-
-among_each : (among : Entity row_ids → Bool) (xs : List (Entity row_ids)) (x : Entity row_ids) → all_among among xs ≡ true → In x xs → among x ≡ true
-among_each among [] x all h = elim h [ ]
-among_each among (y ∷ ys) x all h = by (among y) refl (among_each among ys x) all h
-  where
-    by : (t : Bool) → among y ≡ t → (all_among among ys ≡ true → In x ys → among x ≡ true) → cond t (all_among among ys) false ≡ true → In x (y ∷ ys) → among x ≡ true
-    by true e rest all (inl same) = ap among same ∙ e
-    by true e rest all (inr later) = rest all later
-    by false e rest all h = absurd cc
-
--- the test names exactly what is inside e
-record Tells (e : Entity row_ids) (among : Entity row_ids → Bool) : Type 0 where
-  inside : (x : Entity row_ids) → among x ≡ true → Inside start.forest e x
-  outside : (x : Entity row_ids) → Inside start.forest e x → among x ≡ true
-
--- what has the root, and the list of each that it has, has all that is inside
-holds_all : (e : Entity row_ids) (among : Entity row_ids → Bool) → among e ≡ true → ((c : Entity row_ids) → cond (among c) (all_among among (children start.forest c)) true ≡ true)
-    → (x : Entity row_ids) → Inside start.forest e x → among x ≡ true
-holds_all e among root closed x itself = root
-holds_all e among root closed x (below {c = c} h w) = among_each among (children start.forest c) x (ap (λ t. cond t (all_among among (children start.forest c)) true) (sym (holds_all e among root closed c w)) ∙ closed c) h
+use Rattle.ir_model.proofs.EditSubtrees.{Tells, with_holder, with_block, with_region, with_first, holder_tells, block_tells, region_tells, first_tells}
 
 -- ## What holds where the rows do
 
@@ -75,107 +49,6 @@ removes e among g tells ops blocks regions = record {
   regions_inside = λ r i. where_true (among (a_region r)) _ _ _ (regions r) (tells.outside (a_region r) i);
   regions_outside = λ r out. where_false (among (a_region r)) _ _ _ (regions r) (λ t. out (tells.inside (a_region r) t));
 }
-
--- ## The four subtrees
-
--- o5 and what is inside it
-abbrev with_holder : Entity row_ids → Bool
-with_holder (an_op o5) = true
-with_holder (a_region r4) = true
-with_holder (a_block b5) = true
-with_holder (an_op o6) = true
-with_holder _ = false
-
--- b4 and what is inside it
-abbrev with_block : Entity row_ids → Bool
-with_block (a_block b4) = true
-with_block x = with_holder x
-
--- r3 and what is inside it
-abbrev with_region : Entity row_ids → Bool
-with_region (a_region r3) = true
-with_region x = with_block x
-
--- r0 and what is inside it
-abbrev with_first : Entity row_ids → Bool
-with_first (a_region r0) = true
-with_first (a_block b0) = true
-with_first (a_block b1) = true
-with_first (a_block b2) = true
-with_first (an_op o1) = true
-with_first (an_op o2) = true
-with_first (an_op o3) = true
-with_first _ = false
-
-holder_tells : Tells (an_op o5) with_holder
-holder_tells = record { inside = by; outside = holds_all (an_op o5) with_holder refl closed }
-  where
-    by : (x : Entity row_ids) → with_holder x ≡ true → Inside start.forest (an_op o5) x
-    by (an_op o5) e = itself
-    by (a_region r4) e = below {c = an_op o5} (inl refl) itself
-    by (a_block b5) e = below {c = a_region r4} (inl refl) (below {c = an_op o5} (inl refl) itself)
-    by (an_op o6) e = below {c = a_block b5} (inl refl) (below {c = a_region r4} (inl refl) (below {c = an_op o5} (inl refl) itself))
-    by x e = absurd cc
-
-    closed : (c : Entity row_ids) → cond (with_holder c) (all_among with_holder (children start.forest c)) true ≡ true
-    closed (an_op o5) = refl
-    closed (a_region r4) = refl
-    closed (a_block b5) = refl
-    closed _ = refl
-
-block_tells : Tells (a_block b4) with_block
-block_tells = record { inside = by; outside = holds_all (a_block b4) with_block refl closed }
-  where
-    by : (x : Entity row_ids) → with_block x ≡ true → Inside start.forest (a_block b4) x
-    by (a_block b4) e = itself
-    by (an_op o5) e = below {c = a_block b4} (inl refl) itself
-    by (a_region r4) e = below {c = an_op o5} (inl refl) (below {c = a_block b4} (inl refl) itself)
-    by (a_block b5) e = below {c = a_region r4} (inl refl) (below {c = an_op o5} (inl refl) (below {c = a_block b4} (inl refl) itself))
-    by (an_op o6) e = below {c = a_block b5} (inl refl) (below {c = a_region r4} (inl refl) (below {c = an_op o5} (inl refl) (below {c = a_block b4} (inl refl) itself)))
-    by x e = absurd cc
-
-    closed : (c : Entity row_ids) → cond (with_block c) (all_among with_block (children start.forest c)) true ≡ true
-    closed (an_op o5) = refl
-    closed (a_region r4) = refl
-    closed (a_block b4) = refl
-    closed _ = refl
-
-region_tells : Tells (a_region r3) with_region
-region_tells = record { inside = by; outside = holds_all (a_region r3) with_region refl closed }
-  where
-    by : (x : Entity row_ids) → with_region x ≡ true → Inside start.forest (a_region r3) x
-    by (a_region r3) e = itself
-    by (a_block b4) e = below {c = a_region r3} (inl refl) itself
-    by (an_op o5) e = below {c = a_block b4} (inl refl) (below {c = a_region r3} (inl refl) itself)
-    by (a_region r4) e = below {c = an_op o5} (inl refl) (below {c = a_block b4} (inl refl) (below {c = a_region r3} (inl refl) itself))
-    by (a_block b5) e = below {c = a_region r4} (inl refl) (below {c = an_op o5} (inl refl) (below {c = a_block b4} (inl refl) (below {c = a_region r3} (inl refl) itself)))
-    by (an_op o6) e = below {c = a_block b5} (inl refl) (below {c = a_region r4} (inl refl) (below {c = an_op o5} (inl refl) (below {c = a_block b4} (inl refl) (below {c = a_region r3} (inl refl) itself))))
-    by x e = absurd cc
-
-    closed : (c : Entity row_ids) → cond (with_region c) (all_among with_region (children start.forest c)) true ≡ true
-    closed (an_op o5) = refl
-    closed (a_region r4) = refl
-    closed (a_block b4) = refl
-    closed _ = refl
-
-first_tells : Tells (a_region r0) with_first
-first_tells = record { inside = by; outside = holds_all (a_region r0) with_first refl closed }
-  where
-    by : (x : Entity row_ids) → with_first x ≡ true → Inside start.forest (a_region r0) x
-    by (a_region r0) e = itself
-    by (a_block b0) e = below {c = a_region r0} (inl refl) itself
-    by (a_block b1) e = below {c = a_region r0} (inr (inl refl)) itself
-    by (a_block b2) e = below {c = a_region r0} (inr (inr (inl refl))) itself
-    by (an_op o1) e = below {c = a_block b0} (inl refl) (below {c = a_region r0} (inl refl) itself)
-    by (an_op o2) e = below {c = a_block b0} (inr (inl refl)) (below {c = a_region r0} (inl refl) itself)
-    by (an_op o3) e = below {c = a_block b0} (inr (inr (inl refl))) (below {c = a_region r0} (inl refl) itself)
-    by x e = absurd cc
-
-    closed : (c : Entity row_ids) → cond (with_first c) (all_among with_first (children start.forest c)) true ≡ true
-    closed (an_op o1) = refl
-    closed (a_block b0) = refl
-    closed (a_region r0) = refl
-    closed _ = refl
 
 -- ## The rows
 

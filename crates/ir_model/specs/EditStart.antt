@@ -25,7 +25,7 @@ pub data NumberName : Type 0 where
 
 -- numbers of uses; the last four are not given yet
 pub data UseName : Type 0 where
-  u0 u1 u2 u3 u4 u5 u6 u7 u8 u9 u10 u11 u12 u13 : UseName
+  u0 u1 u2 u3 u4 u5 u6 u7 u8 u9 u10 u11 u12 u13 u14 : UseName
 
 -- the place of the operation in the tables
 abbrev pub op_row : OpName → ℕ
@@ -152,9 +152,9 @@ taker = operation 4 [] (operand u0 (result o1 v0) ∷ operand u1 (result o1 v2) 
 abbrev pub brancher : OpRecord row_ids row_dialect
 brancher = operation 3 [] (operand u3 (result o1 v0) ∷ []) (successor u4 b1 ∷ successor u5 b2 ∷ successor u6 b1 ∷ []) []
 
--- o4 stands in no list and has an empty region
+-- o4, which stands in no list, names a block and has an empty region
 abbrev pub spare : OpRecord row_ids row_dialect
-spare = operation 5 [] [] [] (r2 ∷ [])
+spare = operation 7 [] [] (successor u10 b2 ∷ []) (r2 ∷ [])
 
 -- o5 names an argument, and holds the block b5
 abbrev pub holder : OpRecord row_ids row_dialect

@@ -37,4 +37,5 @@ pub mod DefinitionRows
 pub mod NewRows
 pub mod ListRows
 pub mod RemovalRows
+pub mod ConditionRows
 pub mod DefinitionLaws

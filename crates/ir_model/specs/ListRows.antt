@@ -2,7 +2,7 @@
 use Rattle.std.specs.Prelude.{List, [], ◌∷◌}
 use Rattle.ir_model.specs.declared.answer.Answer.TheVariants.{Done}
 use Rattle.ir_model.specs.Edits.{State, OpFront, OpBack, OpBefore, OpAfter, UnlinkOp, UnlinkBlock, BlockFront, BlockBack, BlockBefore, BlockAfter, AppendOps, AppendBlocks, MoveRegion}
-use Rattle.ir_model.specs.EditStart.{OpName, BlockName, RegionName, o1, o2, o3, o4, o5, o6, b0, b1, b2, b3, b4, b5, r0, r1, r2, r3, v3, v4, v5, row_ids, row_dialect, named, operation, block, giver, taker, brancher, holder, inner, empty, ops_then, blocks_then, regions_then, with_records, nothing, Leads}
+use Rattle.ir_model.specs.EditStart.{OpName, BlockName, RegionName, o1, o2, o3, o4, o5, o6, b0, b1, b2, b3, b4, b5, r0, r1, r2, r3, v3, v4, v5, u10, row_ids, row_dialect, successor, named, operation, block, giver, taker, brancher, holder, inner, empty, ops_then, blocks_then, regions_then, with_records, nothing, Leads}
 
 -- ## Operations of a block
 
@@ -50,7 +50,7 @@ pub record BlockRows : Type 0 where
 
 -- o0 and o4 hold these regions, and all else is as at the start
 abbrev pub regions_are : List RegionName → List RegionName → State row_ids row_dialect
-regions_are of_o0 of_o4 = with_records (operation 5 [] [] [] of_o0 ∷ giver ∷ taker ∷ brancher ∷ operation 5 [] [] [] of_o4 ∷ holder ∷ inner ∷ []) blocks_then regions_then
+regions_are of_o0 of_o4 = with_records (operation 5 [] [] [] of_o0 ∷ giver ∷ taker ∷ brancher ∷ operation 7 [] [] (successor u10 b2 ∷ []) of_o4 ∷ holder ∷ inner ∷ []) blocks_then regions_then
 
 -- a region goes last, and those that it leaves keep their order
 pub record RegionRows : Type 0 where

@@ -4,7 +4,7 @@ use Rattle.ir_model.specs.declared.answer.Answer.TheVariants.{Made}
 use Rattle.ir_model.specs.Ids.{Fresh}
 use Rattle.ir_model.specs.Forest.{Definition, Operand, Successor, Value}
 use Rattle.ir_model.specs.Edits.{State, StoredType, NewType, NewOp, NewBlock, AddRegion}
-use Rattle.ir_model.specs.EditStart.{RegionName, o0, o1, o2, o3, o4, o5, o6, o7, b0, b1, b2, b3, b4, b5, b6, r0, r1, r2, r3, r4, r5, r6, v0, v1, v2, v3, v4, v5, v6, v7, v8, u10, u11, u12, u13, row_ids, row_dialect, result, argument, operand, successor, unnamed, operation, block, root, giver, taker, brancher, spare, holder, inner, entry, empty, ops_then, blocks_then, regions_then, store_then, tables_then, forest, start, made, nothing, Leads, LeadsNot}
+use Rattle.ir_model.specs.EditStart.{RegionName, o0, o1, o2, o3, o4, o5, o6, o7, b0, b1, b2, b3, b4, b5, b6, r0, r1, r2, r3, r4, r5, r6, v0, v1, v2, v3, v4, v5, v6, v7, v8, u11, u12, u13, u14, row_ids, row_dialect, result, argument, operand, successor, unnamed, operation, block, root, giver, taker, brancher, spare, holder, inner, entry, empty, ops_then, blocks_then, regions_then, store_then, tables_then, forest, start, made, nothing, Leads, LeadsNot}
 
 -- ## Types
 
@@ -31,7 +31,7 @@ pub record TypeRows : Type 0 where
 
 -- what a new operation with two results, two operands, two successors and two regions takes
 abbrev pub for_an_op : Fresh row_ids
-for_an_op = made (o7 ∷ []) [] (r5 ∷ r6 ∷ []) (v7 ∷ v8 ∷ []) (u10 ∷ u11 ∷ u12 ∷ u13 ∷ [])
+for_an_op = made (o7 ∷ []) [] (r5 ∷ r6 ∷ []) (v7 ∷ v8 ∷ []) (u11 ∷ u12 ∷ u13 ∷ u14 ∷ [])
 
 -- o7 is there with these results, operands and successors, no attributes and the location 99; its regions are empty; the tables list it, the regions and the values
 abbrev pub new_op_is : List (Definition row_ids row_dialect) → List (Operand row_ids) → List (Successor row_ids) → List RegionName → List (Value row_ids) → State row_ids row_dialect
@@ -61,14 +61,14 @@ pub record NewOpRows : Type 0 where
       Leads (NewOp 2 (0 ∷ 1 ∷ []) (0 ∷ 4 ∷ []) (2 ∷ 1 ∷ []) 2) for_an_op (Made 7)
       (new_op_is
       (unnamed v7 1 ∷ unnamed v8 0 ∷ [])
-      (operand u10 (result o1 v0) ∷ operand u11 (argument b0 v4) ∷ [])
-      (successor u12 b2 ∷ successor u13 b1 ∷ [])
+      (operand u11 (result o1 v0) ∷ operand u12 (argument b0 v4) ∷ [])
+      (successor u13 b2 ∷ successor u14 b1 ∷ [])
       (r0 ∷ r1 ∷ r2 ∷ r3 ∷ r4 ∷ r5 ∷ r6 ∷ [])
       (values_and_two (result o7 v7) (result o7 v8)))
       (new_op_is
       (unnamed v7 1 ∷ unnamed v8 0 ∷ [])
-      (operand u12 (result o1 v0) ∷ operand u13 (argument b0 v4) ∷ [])
-      (successor u10 b2 ∷ successor u11 b1 ∷ [])
+      (operand u13 (result o1 v0) ∷ operand u14 (argument b0 v4) ∷ [])
+      (successor u11 b2 ∷ successor u12 b1 ∷ [])
       (r0 ∷ r1 ∷ r2 ∷ r3 ∷ r4 ∷ r5 ∷ r6 ∷ [])
       (values_and_two (result o7 v7) (result o7 v8)))
   -- its regions are listed
@@ -76,8 +76,8 @@ pub record NewOpRows : Type 0 where
       LeadsNot (NewOp 2 (0 ∷ 1 ∷ []) (0 ∷ 4 ∷ []) (2 ∷ 1 ∷ []) 2) for_an_op
       (new_op_is
       (unnamed v7 1 ∷ unnamed v8 0 ∷ [])
-      (operand u10 (result o1 v0) ∷ operand u11 (argument b0 v4) ∷ [])
-      (successor u12 b2 ∷ successor u13 b1 ∷ [])
+      (operand u11 (result o1 v0) ∷ operand u12 (argument b0 v4) ∷ [])
+      (successor u13 b2 ∷ successor u14 b1 ∷ [])
       (r0 ∷ r1 ∷ r2 ∷ r3 ∷ r4 ∷ [])
       (values_and_two (result o7 v7) (result o7 v8)))
   -- its results are listed in order
@@ -85,8 +85,8 @@ pub record NewOpRows : Type 0 where
       LeadsNot (NewOp 2 (0 ∷ 1 ∷ []) (0 ∷ 4 ∷ []) (2 ∷ 1 ∷ []) 2) for_an_op
       (new_op_is
       (unnamed v7 1 ∷ unnamed v8 0 ∷ [])
-      (operand u10 (result o1 v0) ∷ operand u11 (argument b0 v4) ∷ [])
-      (successor u12 b2 ∷ successor u13 b1 ∷ [])
+      (operand u11 (result o1 v0) ∷ operand u12 (argument b0 v4) ∷ [])
+      (successor u13 b2 ∷ successor u14 b1 ∷ [])
       (r0 ∷ r1 ∷ r2 ∷ r3 ∷ r4 ∷ r5 ∷ r6 ∷ [])
       (values_and_two (result o7 v8) (result o7 v7)))
 

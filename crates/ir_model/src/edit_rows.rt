@@ -7,6 +7,7 @@ ghost use Rattle.ir_model.specs.DefinitionRows.{ResultRows, ArgumentRows};
 ghost use Rattle.ir_model.specs.NewRows.{TypeRows, NewOpRows, NewBlockRows};
 ghost use Rattle.ir_model.specs.ListRows.{OpRows, BlockRows, RegionRows};
 ghost use Rattle.ir_model.specs.RemovalRows.{DropRows, EraseRows};
+ghost use Rattle.ir_model.specs.ConditionRows.{MayMake, MayDefine, MayUse, MayList, MayJoinRows, MayRemove};
 
 /// What edits that make types, operations, blocks and regions lead to.
 pub fn new_entity_rows()
@@ -39,4 +40,14 @@ pub fn list_rows()
 pub fn removal_rows()
     ensures dropped { DropRows }
     ensures erased { EraseRows }
+{}
+
+/// Each edit of these rows may be made in that state, and a neighbour of each may not.
+pub fn condition_rows()
+    ensures made { MayMake }
+    ensures definitions { MayDefine }
+    ensures uses { MayUse }
+    ensures lists { MayList }
+    ensures joins { MayJoinRows }
+    ensures removals { MayRemove }
 {}

@@ -1,6 +1,8 @@
 //! The rows of the edits are called once.
 
-use crate::{definition_rows, list_rows, new_entity_rows, operand_rows, removal_rows};
+use crate::{
+    condition_rows, definition_rows, list_rows, new_entity_rows, operand_rows, removal_rows,
+};
 
 #[test]
 fn rows_of_edits_are_called() {
@@ -9,4 +11,5 @@ fn rows_of_edits_are_called() {
     operand_rows();
     list_rows();
     removal_rows();
+    condition_rows();
 }

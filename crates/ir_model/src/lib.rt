@@ -27,7 +27,9 @@ pub use definition_laws::{
     retargeted_takes_uses, searches_agree, sources_apart, subtree_size_is_one,
     successors_meet_predecessors, unique_names_tell, unlinked_goes_back,
 };
-pub use edit_rows::{definition_rows, list_rows, new_entity_rows, operand_rows, removal_rows};
+pub use edit_rows::{
+    condition_rows, definition_rows, list_rows, new_entity_rows, operand_rows, removal_rows,
+};
 pub use examples::worked_rows;
 pub use ids::{ArenaIndex, Limits};
 pub use laws::{
