@@ -31,4 +31,11 @@ pub mod IdForests
 pub mod WorkedRows
 pub mod NamedRows
 pub mod FaultRows
+pub mod EditStart
+pub mod OperandRows
+pub mod DefinitionRows
+pub mod NewRows
+pub mod ListRows
+pub mod RemovalRows
+pub mod ConditionRows
 pub mod DefinitionLaws

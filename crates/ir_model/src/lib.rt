@@ -11,6 +11,9 @@ mod definition_laws;
 #[cfg(test)]
 mod definition_laws_tests;
 mod error;
+mod edit_rows;
+#[cfg(test)]
+mod edit_rows_tests;
 mod examples;
 mod ids;
 #[cfg(test)]
@@ -26,6 +29,9 @@ pub use definition_laws::{
     successors_meet_predecessors, unique_names_tell, unlinked_goes_back,
 };
 pub use error::CoreError;
+pub use edit_rows::{
+    condition_rows, definition_rows, list_rows, new_entity_rows, operand_rows, removal_rows,
+};
 pub use examples::worked_rows;
 pub use ids::{ArenaIndex, Limits};
 pub use laws::{
