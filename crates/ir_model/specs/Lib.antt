@@ -15,6 +15,7 @@ pub mod Gone
 pub mod NamesDead
 pub mod Uniquing
 pub mod StepLaws
+pub mod StepTells
 pub mod OneOfEach
 pub mod Parent
 pub mod BlockGraph
