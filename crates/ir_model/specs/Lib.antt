@@ -32,4 +32,5 @@ pub mod IdForests
 pub mod WorkedRows
 pub mod NamedRows
 pub mod FaultRows
+pub mod LimitRows
 pub mod DefinitionLaws

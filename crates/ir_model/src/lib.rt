@@ -17,6 +17,9 @@ mod ids_tests;
 mod laws;
 #[cfg(test)]
 mod laws_tests;
+mod limit_rows;
+#[cfg(test)]
+mod limit_rows_tests;
 mod step_laws;
 #[cfg(test)]
 mod step_laws_tests;
@@ -34,6 +37,7 @@ pub use laws::{
     new_sessions_are_sound, refusals_change_nothing, runs_keep_sound, steps_keep_sound,
     versions_rise,
 };
+pub use limit_rows::limits_tell;
 pub use step_laws::steps_tell;
 
 /// The law on two runs: whatever ids and numbers each run chose, they give the same answers and the same view.
