@@ -12,6 +12,7 @@ pub mod Views
 pub mod Sessions
 pub mod Soundness
 pub mod Gone
+pub mod GoneHandles
 pub mod NamesDead
 pub mod Uniquing
 pub mod StepLaws

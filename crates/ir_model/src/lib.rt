@@ -11,6 +11,9 @@ mod definition_laws;
 #[cfg(test)]
 mod definition_laws_tests;
 mod examples;
+mod handle_laws;
+#[cfg(test)]
+mod handle_laws_tests;
 mod ids;
 #[cfg(test)]
 mod ids_tests;
@@ -31,6 +34,7 @@ pub use definition_laws::{
     successors_meet_predecessors, unique_names_tell, unlinked_goes_back,
 };
 pub use examples::worked_rows;
+pub use handle_laws::handles_stay_refused;
 pub use ids::{ArenaIndex, Limits};
 pub use laws::{
     changes_are_settled, edits_can_be_made, gone_for_good, handles_are_exact,
