@@ -38,7 +38,7 @@ all_remembered : (p : Passed) → Remembers p p
 all_remembered p = record { ops = λ i h. h; blocks = λ i h. h; regions = λ i h. h; numbers = λ i h. h; uses = λ i h. h }
 
 -- the one is passed, and the other is new
-clash : {A : Type 0} (passed : A → Bool) (x : A) → IsTrue (passed x) → passed x ≡ false → ⊥
+pub clash : {A : Type 0} (passed : A → Bool) (x : A) → IsTrue (passed x) → passed x ≡ false → ⊥
 clash passed x h e = (let t : passed x ≡ true = h in cc)
 
 module _ {W : Dialect} where
@@ -91,7 +91,7 @@ module _ {W : Dialect} where
     gone_for_good (edit ∷ rest) s t answers k r =
         then_stays s r.2 t (step_stays s r.2 edit r.0 k r.4) (gone_for_good rest r.2 t r.1 (steps_sound B edit s r.2 r.0 k r.4) r.5)
 
-    step_remembers : (s t : Session W) (edit : Edit W) (a : Answer) → Step B s edit a t → Remembers s.passed t.passed
+    pub step_remembers : (s t : Session W) (edit : Edit W) (a : Answer) → Step B s edit a t → Remembers s.passed t.passed
     step_remembers s t edit a (condition c e f) = rw f (all_remembered s.passed)
     step_remembers s t edit a (counter c n e p) = remembered s.passed t.passed p.skipped p.passed
     step_remembers s t edit a (slots c n m e p) = remembered s.passed t.passed p.skipped p.passed
@@ -107,7 +107,7 @@ module _ {W : Dialect} where
       uses = λ i h. q.uses i (p.uses i h);
     }
 
-    run_remembers : (edits : List (Edit W)) (s t : Session W) (answers : List Answer) → Run B s edits answers t → Remembers s.passed t.passed
+    pub run_remembers : (edits : List (Edit W)) (s t : Session W) (answers : List Answer) → Run B s edits answers t → Remembers s.passed t.passed
     run_remembers [] s t answers r = rw r.1 (all_remembered s.passed)
     run_remembers (edit ∷ rest) s t answers r = then_remembers s.passed (r.2).passed t.passed (step_remembers s r.2 edit r.0 r.4) (run_remembers rest r.2 t r.1 r.5)
 

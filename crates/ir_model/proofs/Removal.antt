@@ -44,7 +44,7 @@ gone_or_kept Ins (Some x) h kept a b c d = let out : Ins → ⊥ = λ i. (let e 
 gone_or_kept Ins None (Some y) kept a b c d = let out : Ins → ⊥ = λ i. (let e : Some y ≡ None = b i in cc) in c out ∙ sym (d out)
 
 -- a list that is read off a record is empty, or what it was outside
-read_off : {A B : Type 0} (Ins : Type 0) (of : B → List A) (now kept : Option B) → (Ins → now ≡ None) → ((Ins → ⊥) → now ≡ kept) → (x : A) → In x (list_of of now) → (Ins → ⊥) × In x (list_of of kept)
+pub read_off : {A B : Type 0} (Ins : Type 0) (of : B → List A) (now kept : Option B) → (Ins → now ≡ None) → ((Ins → ⊥) → now ≡ kept) → (x : A) → In x (list_of of now) → (Ins → ⊥) × In x (list_of of kept)
 read_off Ins of None kept gone out x h = elim h [ ]
 read_off Ins of (Some r) kept gone out x h =
     let not_in : Ins → ⊥ = λ i. (let e : Some r ≡ None = gone i in cc) in

@@ -12,9 +12,11 @@ pub mod Views
 pub mod Sessions
 pub mod Soundness
 pub mod Gone
+pub mod GoneHandles
 pub mod NamesDead
 pub mod Uniquing
 pub mod StepLaws
+pub mod StepTells
 pub mod OneOfEach
 pub mod Parent
 pub mod BlockGraph
@@ -38,4 +40,5 @@ pub mod NewRows
 pub mod ListRows
 pub mod RemovalRows
 pub mod ConditionRows
+pub mod LimitRows
 pub mod DefinitionLaws

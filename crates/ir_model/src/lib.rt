@@ -15,12 +15,21 @@ mod edit_rows;
 #[cfg(test)]
 mod edit_rows_tests;
 mod examples;
+mod handle_laws;
+#[cfg(test)]
+mod handle_laws_tests;
 mod ids;
 #[cfg(test)]
 mod ids_tests;
 mod laws;
 #[cfg(test)]
 mod laws_tests;
+mod limit_rows;
+#[cfg(test)]
+mod limit_rows_tests;
+mod step_laws;
+#[cfg(test)]
+mod step_laws_tests;
 
 pub use answer::{Answer, Refused};
 pub use definition_laws::{
@@ -33,12 +42,15 @@ pub use edit_rows::{
     condition_rows, definition_rows, list_rows, new_entity_rows, operand_rows, removal_rows,
 };
 pub use examples::worked_rows;
+pub use handle_laws::handles_stay_refused;
 pub use ids::{ArenaIndex, Limits};
 pub use laws::{
     changes_are_settled, edits_can_be_made, gone_for_good, handles_are_exact,
     new_sessions_are_sound, refusals_change_nothing, runs_keep_sound, steps_keep_sound,
     versions_rise,
 };
+pub use limit_rows::limits_tell;
+pub use step_laws::steps_tell;
 
 /// The law on two runs: whatever ids and numbers each run chose, they give the same answers and the same view.
 ///
