@@ -31,4 +31,6 @@ pub mod IdForests
 pub mod WorkedRows
 pub mod NamedRows
 pub mod FaultRows
+pub mod ViewRows
+pub mod MovedUseRows
 pub mod DefinitionLaws

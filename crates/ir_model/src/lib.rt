@@ -17,6 +17,9 @@ mod ids_tests;
 mod laws;
 #[cfg(test)]
 mod laws_tests;
+mod small_sessions;
+#[cfg(test)]
+mod small_sessions_tests;
 
 pub use answer::{Answer, Refused};
 pub use definition_laws::{
@@ -31,6 +34,7 @@ pub use laws::{
     new_sessions_are_sound, refusals_change_nothing, runs_keep_sound, steps_keep_sound,
     versions_rise,
 };
+pub use small_sessions::{uses_move_as_told, views_show_all};
 
 /// The law on two runs: whatever ids and numbers each run chose, they give the same answers and the same view.
 ///

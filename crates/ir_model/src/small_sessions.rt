@@ -1,0 +1,21 @@
+//! What the definitions say of small sessions, written out: further worked examples, each beside a neighbour that the definitions refuse.
+
+ghost use Rattle.ir_model.specs.ViewRows.{SmallView};
+ghost use Rattle.ir_model.specs.MovedUseRows.{ReplaceAll, RemovedOperand, TwoResultsMoved, AskedBefore};
+
+/// The view of a small session is what is written out, with each record, each erased entry and a type that is listed twice.
+///
+/// The views of its neighbours are others: operands, successors, regions, operations or blocks in another order, another type, an entry that is not erased.
+pub fn views_show_all()
+    ensures small_view { SmallView }
+{}
+
+/// Uses go where the edits say, and keep their numbers or get new ones as the edits say.
+///
+/// All uses of a value are replaced, an operand is removed from before others, two results change places one by one, and a set of uses is asked of the state before it is redirected.
+pub fn uses_move_as_told()
+    ensures replace_all { ReplaceAll }
+    ensures removed_operand { RemovedOperand }
+    ensures two_results_moved { TwoResultsMoved }
+    ensures asked_before { AskedBefore }
+{}

@@ -1,0 +1,9 @@
+//! Each function of worked examples is called once.
+
+use crate::{uses_move_as_told, views_show_all};
+
+#[test]
+fn small_sessions_are_called() {
+    views_show_all();
+    uses_move_as_told();
+}
