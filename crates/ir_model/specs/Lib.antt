@@ -33,4 +33,5 @@ pub mod NamedRows
 pub mod FaultRows
 pub mod ViewRows
 pub mod MovedUseRows
+pub mod HostileRows
 pub mod DefinitionLaws

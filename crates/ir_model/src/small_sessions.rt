@@ -1,6 +1,7 @@
 //! What the definitions say of small sessions, written out: further worked examples, each beside a neighbour that the definitions refuse.
 
 ghost use Rattle.ir_model.specs.ViewRows.{SmallView};
+ghost use Rattle.ir_model.specs.HostileRows.{HostileEdits, EraseInnerSuccessor};
 ghost use Rattle.ir_model.specs.MovedUseRows.{ReplaceAll, RemovedOperand, TwoResultsMoved, AskedBefore};
 
 /// The view of a small session is what is written out, with each record, each erased entry and a type that is listed twice.
@@ -18,4 +19,12 @@ pub fn uses_move_as_told()
     ensures removed_operand { RemovedOperand }
     ensures two_results_moved { TwoResultsMoved }
     ensures asked_before { AskedBefore }
+{}
+
+/// Edits that would break a forest are refused for their condition, and each is allowed in a neighbour.
+///
+/// A block that only an operation inside it names can be erased, and both go.
+pub fn hostile_edits_are_refused()
+    ensures hostile_edits { HostileEdits }
+    ensures erase_inner_successor { EraseInnerSuccessor }
 {}

@@ -1,9 +1,10 @@
 //! Each function of worked examples is called once.
 
-use crate::{uses_move_as_told, views_show_all};
+use crate::{hostile_edits_are_refused, uses_move_as_told, views_show_all};
 
 #[test]
 fn small_sessions_are_called() {
     views_show_all();
     uses_move_as_told();
+    hostile_edits_are_refused();
 }
