@@ -34,4 +34,5 @@ pub mod FaultRows
 pub mod ViewRows
 pub mod MovedUseRows
 pub mod HostileRows
+pub mod LetterRows
 pub mod DefinitionLaws

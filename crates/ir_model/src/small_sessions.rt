@@ -2,6 +2,7 @@
 
 ghost use Rattle.ir_model.specs.ViewRows.{SmallView};
 ghost use Rattle.ir_model.specs.HostileRows.{HostileEdits, EraseInnerSuccessor};
+ghost use Rattle.ir_model.specs.LetterRows.{LegaliseFirstLetters, LegaliseCounterSpent};
 ghost use Rattle.ir_model.specs.MovedUseRows.{ReplaceAll, RemovedOperand, TwoResultsMoved, AskedBefore};
 
 /// The view of a small session is what is written out, with each record, each erased entry and a type that is listed twice.
@@ -27,4 +28,10 @@ pub fn uses_move_as_told()
 pub fn hostile_edits_are_refused()
     ensures hostile_edits { HostileEdits }
     ensures erase_inner_successor { EraseInnerSuccessor }
+{}
+
+/// Identifiers start with the letters that may start one, and a legaliser that has no number left gives no name.
+pub fn identifiers_are_given_by_letters()
+    ensures first_letters { LegaliseFirstLetters }
+    ensures counter_spent { LegaliseCounterSpent }
 {}
