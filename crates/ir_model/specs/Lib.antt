@@ -35,4 +35,5 @@ pub mod ViewRows
 pub mod MovedUseRows
 pub mod HostileRows
 pub mod LetterRows
+pub mod OwnCheckRows
 pub mod DefinitionLaws

@@ -1,5 +1,6 @@
 //! What the definitions say of small sessions, written out: further worked examples, each beside a neighbour that the definitions refuse.
 
+ghost use Rattle.ir_model.specs.OwnCheckRows.{TypeFault, OwnCheck};
 ghost use Rattle.ir_model.specs.ViewRows.{SmallView};
 ghost use Rattle.ir_model.specs.HostileRows.{HostileEdits, EraseInnerSuccessor};
 ghost use Rattle.ir_model.specs.LetterRows.{LegaliseFirstLetters, LegaliseCounterSpent};
@@ -34,4 +35,12 @@ pub fn hostile_edits_are_refused()
 pub fn identifiers_are_given_by_letters()
     ensures first_letters { LegaliseFirstLetters }
     ensures counter_spent { LegaliseCounterSpent }
+{}
+
+/// The own check of a type, or of an operation, is at fault where it says so, and nothing else is.
+///
+/// A type that is made twice is stored once, and a result of it has its faults.
+pub fn own_checks_tell()
+    ensures type_fault { TypeFault }
+    ensures own_check { OwnCheck }
 {}
