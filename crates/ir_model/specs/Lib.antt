@@ -37,3 +37,4 @@ pub mod HostileRows
 pub mod LetterRows
 pub mod OwnCheckRows
 pub mod DefinitionLaws
+pub mod EditLaws
