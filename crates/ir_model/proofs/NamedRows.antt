@@ -19,7 +19,7 @@ use Rattle.ir_model.proofs.Legalisers.{sources_apart, calls_settle, names_lead_b
 use Rattle.ir_model.specs.IdForests.{first, second, first_again}
 use Rattle.ir_model.specs.NamedRows.{UniqueNames, named, constant, LegaliseClashes, clashing_calls}
 
-zero_text : decimal 0 ≡ codes "0"
+pub zero_text : decimal 0 ≡ codes "0"
 zero_text = decimal_digit 0 (omega arith)
 
 one_text : decimal 1 ≡ codes "1"
@@ -81,21 +81,21 @@ unique_names = record {
 }
 
 -- what is given, as a list of pairs
-abbrev names_given : List (Text × Text) → finite.FinMap (slice_cmp nat_cmp) Text
+abbrev pub names_given : List (Text × Text) → finite.FinMap (slice_cmp nat_cmp) Text
 names_given [] = finite.empty
 names_given (p ∷ pairs) = finite.insert (names_given pairs) p.0 p.1
 
-abbrev given : List (Text × Text) → ℕ → Given
+abbrev pub given : List (Text × Text) → ℕ → Given
 given pairs counter = record { names = names_given pairs; counter = counter }
 
-abbrev same_text : Text → Text → Bool
+abbrev pub same_text : Text → Text → Bool
 same_text = eq_by_cmp (slice_cmp nat_cmp)
 
-abbrev look_up : List (Text × Text) → Text → Option Text
+abbrev pub look_up : List (Text × Text) → Text → Option Text
 look_up [] q = None
 look_up (p ∷ pairs) q = cond (same_text q p.0) (Some p.1) (look_up pairs q)
 
-found : (pairs : List (Text × Text)) (counter : ℕ) (q : Text) → name_of (given pairs counter) q ≡ look_up pairs q
+pub found : (pairs : List (Text × Text)) (counter : ℕ) (q : Text) → name_of (given pairs counter) q ≡ look_up pairs q
 found [] counter q = finite.get-empty (slice_cmp nat_cmp) q
 found (p ∷ pairs) counter q =
     finite.get-insert nat_list_cmp_total (names_given pairs) p.0 p.1 q ∙ ap (λ m. cond (same_text q p.0) (Some p.1) m) (found pairs counter q)
@@ -112,10 +112,10 @@ not_found (p ∷ pairs) name q n h = at (not_found pairs name q) (same_text q p.
     at more false true e n h = cc
     at more false false e n h = more n h
 
-free_by : (pairs : List (Text × Text)) (counter : ℕ) (name : Text) → list_any (λ p. same_text name p.1) pairs ≡ false → IsFree (given pairs counter) name
+pub free_by : (pairs : List (Text × Text)) (counter : ℕ) (name : Text) → list_any (λ p. same_text name p.1) pairs ≡ false → IsFree (given pairs counter) name
 free_by pairs counter name none q e = not_found pairs name q none (sym (found pairs counter q) ∙ e)
 
-taken_by : (pairs : List (Text × Text)) (counter : ℕ) (name q : Text) → look_up pairs q ≡ Some name → IsFree (given pairs counter) name → ⊥
+pub taken_by : (pairs : List (Text × Text)) (counter : ℕ) (name q : Text) → look_up pairs q ≡ Some name → IsFree (given pairs counter) name → ⊥
 taken_by pairs counter name q e free = free q (found pairs counter q ∙ e)
 
 -- what a call gives a new source
@@ -126,13 +126,13 @@ new_given pairs counter next source name unknown chosen =
     (sym (found pairs counter source ∙ unknown)) (record { chosen = chosen; new_is = refl })
 
 -- its base, where that is free
-gives_base : (pairs : List (Text × Text)) (counter : ℕ) (source name : Text) → look_up pairs source ≡ None → base source ≡ name → list_any (λ p. same_text name p.1) pairs ≡ false
+pub gives_base : (pairs : List (Text × Text)) (counter : ℕ) (source name : Text) → look_up pairs source ≡ None → base source ≡ name → list_any (λ p. same_text name p.1) pairs ≡ false
     → Gives (given pairs counter) source name (given ((source, name) ∷ pairs) counter)
 gives_base pairs counter source name unknown is free = new_given pairs counter counter source name unknown
     (inl (record { is_free = subst (IsFree (given pairs counter)) (sym is) (free_by pairs counter name free); name_is = sym is; next_is = refl }))
 
 -- its base with the counter, where the base is taken and that is free
-gives_numbered : (pairs : List (Text × Text)) (counter : ℕ) (source text name holder : Text) → look_up pairs source ≡ None → base source ≡ text → look_up pairs holder ≡ Some text
+pub gives_numbered : (pairs : List (Text × Text)) (counter : ℕ) (source text name holder : Text) → look_up pairs source ≡ None → base source ≡ text → look_up pairs holder ≡ Some text
     → numbered text counter ≡ name → list_any (λ p. same_text name p.1) pairs ≡ false → counter < 2 ^ 64 - 1
     → Gives (given pairs counter) source name (given ((source, name) ∷ pairs) (counter + 1))
 gives_numbered pairs counter source text name holder unknown is held named free small = new_given pairs counter (counter + 1) source name unknown
@@ -144,7 +144,7 @@ gives_numbered pairs counter source text name holder unknown is held named free 
         is_free = subst (λ t. IsFree (given pairs counter) (numbered t counter)) (sym is) (subst (IsFree (given pairs counter)) (sym named) (free_by pairs counter name free));
         least = λ d p q. absurd (omega (arith, p, q));
       };
-      below = small;
+      below = omega (arith, small);
       name_is = sym named ∙ ap (λ t. numbered t counter) (sym is);
       next_is = refl;
     }))
@@ -153,7 +153,7 @@ hello_dot : base (codes "hello.") ≡ codes "hello_"
 unfolding chars
 hello_dot = refl
 
-empty_base : base (codes "") ≡ codes "_"
+pub empty_base : base (codes "") ≡ codes "_"
 unfolding chars
 empty_base = refl
 

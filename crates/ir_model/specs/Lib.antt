@@ -41,4 +41,10 @@ pub mod ListRows
 pub mod RemovalRows
 pub mod ConditionRows
 pub mod LimitRows
+pub mod ViewRows
+pub mod MovedUseRows
+pub mod HostileRows
+pub mod LetterRows
+pub mod OwnCheckRows
 pub mod DefinitionLaws
+pub mod EditLaws

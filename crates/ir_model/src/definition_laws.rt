@@ -3,13 +3,16 @@
 //! Each is the contract of a function that takes and does nothing, for every choice of a dialect's types.
 
 ghost use Rattle.ir_model.specs.Forest.{Behaviour};
+ghost use Rattle.ir_model.specs.EditLaws.{UnlinkEditsGoBack, UnlinkedMayGoBack, ReplaceEditsTakeUses, RetargetEditsTakeUses};
 ghost use Rattle.ir_model.specs.DefinitionLaws.{UnlinkedGoesBack, UniqueNamesTell, RemovalIsOne, SubtreeSizeIsOne, ReplacedTakesUses, RetargetedTakesUses, SuccessorsMeetPredecessors, AllUsesAreRedirected, ClosedByDefinitions, SourcesApart, NamesLeadBack, CallsSettle, SearchesAgree};
 
 /// An operation or block that is unlinked and put back where it stood leaves the forest as it was.
 ///
-/// It stood behind another one, or at the front.
+/// It stood behind another one, or at the front. So it is for the edits that unlink and put back, and the second of them may always be made.
 pub fn unlinked_goes_back<Key, Body, Attr, Saved, Aux, Loc>()
-    ensures { UnlinkedGoesBack (record { Key = Key; Body = Body; Attr = Attr; Saved = Saved; Aux = Aux; Loc = Loc }) }
+    ensures forest { UnlinkedGoesBack (record { Key = Key; Body = Body; Attr = Attr; Saved = Saved; Aux = Aux; Loc = Loc }) }
+    ensures edits { (behaviour : Behaviour (record { Key = Key; Body = Body; Attr = Attr; Saved = Saved; Aux = Aux; Loc = Loc })) → UnlinkEditsGoBack _ behaviour }
+    ensures allowed { (behaviour : Behaviour (record { Key = Key; Body = Body; Attr = Attr; Saved = Saved; Aux = Aux; Loc = Loc })) → UnlinkedMayGoBack _ behaviour }
 {}
 
 /// Equal unique names of two values, or of two blocks, are names of one, and no value shares its name with a block.
@@ -30,13 +33,19 @@ pub fn subtree_size_is_one<Key, Body, Attr, Saved, Aux, Loc>()
 {}
 
 /// After all uses of a value were replaced by another value, the first has none and the other has as many as both had.
+///
+/// So it is for the edit that replaces them; where both are one value, it changes nothing.
 pub fn replaced_takes_uses<Key, Body, Attr, Saved, Aux, Loc>()
-    ensures { ReplacedTakesUses (record { Key = Key; Body = Body; Attr = Attr; Saved = Saved; Aux = Aux; Loc = Loc }) }
+    ensures forest { ReplacedTakesUses (record { Key = Key; Body = Body; Attr = Attr; Saved = Saved; Aux = Aux; Loc = Loc }) }
+    ensures edits { (behaviour : Behaviour (record { Key = Key; Body = Body; Attr = Attr; Saved = Saved; Aux = Aux; Loc = Loc })) → ReplaceEditsTakeUses _ behaviour }
 {}
 
 /// After all uses of a block were retargeted to another block, the first has none and the other has as many as both had.
+///
+/// So it is for the edit that retargets them; where both are one block, it changes nothing.
 pub fn retargeted_takes_uses<Key, Body, Attr, Saved, Aux, Loc>()
-    ensures { RetargetedTakesUses (record { Key = Key; Body = Body; Attr = Attr; Saved = Saved; Aux = Aux; Loc = Loc }) }
+    ensures forest { RetargetedTakesUses (record { Key = Key; Body = Body; Attr = Attr; Saved = Saved; Aux = Aux; Loc = Loc }) }
+    ensures edits { (behaviour : Behaviour (record { Key = Key; Body = Body; Attr = Attr; Saved = Saved; Aux = Aux; Loc = Loc })) → RetargetEditsTakeUses _ behaviour }
 {}
 
 /// To redirect a set that has exactly the uses of a value or a block is to redirect all that names it.

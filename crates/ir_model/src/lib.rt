@@ -30,6 +30,9 @@ mod limit_rows_tests;
 mod step_laws;
 #[cfg(test)]
 mod step_laws_tests;
+mod small_sessions;
+#[cfg(test)]
+mod small_sessions_tests;
 
 pub use answer::{Answer, Refused};
 pub use definition_laws::{
@@ -51,6 +54,7 @@ pub use laws::{
 };
 pub use limit_rows::limits_tell;
 pub use step_laws::steps_tell;
+pub use small_sessions::{hostile_edits_are_refused, identifiers_are_given_by_letters, own_checks_tell, uses_move_as_told, views_show_all};
 
 /// The law on two runs: whatever ids and numbers each run chose, they give the same answers and the same view.
 ///
