@@ -23,6 +23,9 @@ mod laws_tests;
 mod limit_rows;
 #[cfg(test)]
 mod limit_rows_tests;
+mod progress_laws;
+#[cfg(test)]
+mod progress_laws_tests;
 mod step_laws;
 #[cfg(test)]
 mod step_laws_tests;
@@ -42,6 +45,7 @@ pub use laws::{
     versions_rise,
 };
 pub use limit_rows::limits_tell;
+pub use progress_laws::{closed_can_be_erased, sessions_go_on};
 pub use step_laws::steps_tell;
 
 /// The law on two runs: whatever ids and numbers each run chose, they give the same answers and the same view.
