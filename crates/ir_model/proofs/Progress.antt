@@ -31,7 +31,7 @@ use Rattle.ir_model.proofs.StepTells.{takes_so, answers_so, makes_by}
 use Rattle.ir_model.proofs.Decided.{Decided, not_so, both, either, at_most, one}
 use Rattle.ir_model.proofs.Conditions.{some_so, condition_so}
 use Rattle.ir_model.proofs.Supply.{bit_so, above, supply_numbers, supply_ids, counted}
-use Rattle.ir_model.proofs.Changes.{list_there, removes_it, change_is}
+use Rattle.ir_model.proofs.Outcomes.{list_there, removes_it, change_is}
 
 or_iff : (a b : Bool) → IsTrue (a || b) ↔ (IsTrue a ⊎ IsTrue b)
 or_iff true b = (λ h. inl refl, λ h. refl)

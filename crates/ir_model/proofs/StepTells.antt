@@ -9,7 +9,7 @@ use Rattle.ir_model.specs.Ids.{Counts}
 use Rattle.ir_model.specs.ContextIds.{context_ids}
 use Rattle.ir_model.specs.Forest.{Dialect, Behaviour, OpRecord}
 use Rattle.ir_model.specs.Nesting.{In, list_of, regions_of}
-use Rattle.ir_model.specs.Edits.{Edit, State, NewType, MoveRegion, ReplaceAllUses, needs, answer as reply, MayRunOut}
+use Rattle.ir_model.specs.Edits.{Edit, State, Condition, NewType, MoveRegion, ReplaceAllUses, needs, answer as reply, MayRunOut}
 use Rattle.ir_model.specs.Sessions.{Session, Passed, Passes, Step, condition, counter, slots, memory, made, Number, HasRoom, LacksRoom, HasNumbers, HasSlots, LacksNumbers, LacksSlots, Makes, Skips, live_op, live_block, live_region}
 use Rattle.ir_model.specs.StepTells.{line, AreGone, NumbersFit, NumbersLack, SlotsFit, SlotsLack, AtMostMore, PassesExactly, PassesAtMost, CounterIsTold, SlotsAreTold, OthersAreMade, OnlyGrowthIsRefused, MadePassExactly, RefusedPassAtMost, ConditionLeavesAll}
 use Rattle.ir_model.proofs.Removal.{length-same}
@@ -143,6 +143,13 @@ module _ (W : Dialect) (B : Behaviour W) where
   makes_by edit s t a r (slots c n m e k) = absurd (not_refused s.state edit Slots (sym r ∙ e))
   makes_by edit s t a r (memory c n m x e k) = absurd (not_refused s.state edit Memory (sym r ∙ e))
   makes_by edit s t a r (made c n m e k) = k
+
+  pub conditions_by : (edit : Edit W) (s t : Session W) (a : Answer) → a ≡ (line s.state edit).answer → Step B s edit a t → Condition s.state edit
+  conditions_by edit s t a r (condition c e f) = absurd (not_refused s.state edit ForCondition (sym r ∙ e))
+  conditions_by edit s t a r (counter c n e k) = c
+  conditions_by edit s t a r (slots c n m e k) = c
+  conditions_by edit s t a r (memory c n m x e k) = c
+  conditions_by edit s t a r (made c n m e k) = c
 
   pub made_pass_exactly : MadePassExactly W B
   made_pass_exactly edit s t step = passes_exactly B s t edit (makes_by edit s t (line s.state edit).answer refl step)
