@@ -18,7 +18,7 @@ use Rattle.ir_model.specs.Sessions.{Passed, Passes, Session, Step, condition, co
 use Rattle.ir_model.specs.Soundness.{Sound}
 use Rattle.ir_model.specs.OneOfEach.{HasStep, NewSessionsStep}
 use Rattle.ir_model.specs.StepTells.{line, AreGone, NumbersFit, SlotsFit}
-use Rattle.ir_model.specs.Progress.{IsRoomFor, IsTakenOut, RoomIsEnough, SoundSessionsGoOn, RunsGoOn, ClosedCanGo, ClosedAreErased}
+use Rattle.ir_model.specs.Progress.{IsRoomFor, IsTakenOut, RoomIsEnough, SoundSessionsGoOn, RunsAreCounted, RunsGoOn, ClosedCanGo, ClosedAreErased}
 use Rattle.ir_model.proofs.Renaming.{Tells}
 use Rattle.ir_model.proofs.Nests.{In-append, In-left, In-right}
 use Rattle.ir_model.proofs.TwoRuns.{lawful, id_tells, number_tells}
@@ -220,12 +220,14 @@ module _ {W : Dialect} (B : Behaviour W) where
     uses = λ i h. absurd (let g : false ≡ true = h in cc);
   })
 
+  pub runs_are_counted : RunsAreCounted W B
+  runs_are_counted edits s t answers n r = are_gone t (runs_sound B edits s t answers (new_sound s n) r) (handed_run edits s t answers r (none_handed s n)).0
+
   pub runs_go_on : RunsGoOn W B
   runs_go_on edits s t answers edit n first r =
-      let sound = runs_sound B edits s t answers (new_sound s n) r in
-      let handed = handed_run edits s t answers r (none_handed s n) in
-      let gone = are_gone t sound handed.0 in
-      sound_sessions_go_on edit t gone.0 sound gone.1 (subst (λ (l : Limits). 1 ≤ l.last_version) (sym handed.1) first)
+      let gone = runs_are_counted edits s t answers n r in
+      let same = (handed_run edits s t answers r (none_handed s n)).1 in
+      sound_sessions_go_on edit t gone.0 (runs_sound B edits s t answers (new_sound s n) r) gone.1 (subst (λ (l : Limits). 1 ≤ l.last_version) (sym same) first)
 
   pub new_sessions_step : NewSessionsStep W B
   new_sessions_step s edit n first = runs_go_on [] s s [] edit n first (refl, refl)

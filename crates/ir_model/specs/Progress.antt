@@ -41,6 +41,10 @@ module _ (W : Dialect) (B : Behaviour W) where
   abbrev pub SoundSessionsGoOn : Type 0
   SoundSessionsGoOn = (edit : Edit W) (s : Session W) (gone : Counts) → Sound s → AreGone s gone → 1 ≤ s.limits.last_version → HasStep B s edit
 
+  -- after every run from a new session so many are gone, of each kind
+  abbrev pub RunsAreCounted : Type 0
+  RunsAreCounted = (edits : List (Edit W)) (s t : Session W) (answers : List Answer) → IsNewSession s → Run B s edits answers t → (gone : Counts) × AreGone t gone
+
   -- after every run from a new session each edit has a step
   abbrev pub RunsGoOn : Type 0
   RunsGoOn =
