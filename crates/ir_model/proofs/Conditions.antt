@@ -1,13 +1,12 @@
 -- In a sound session each edit's condition is decided, since all that is live is listed.
-use mathlib.Core.Path.{◌≡◌, refl, sym, ap, ◌∙◌, subst}
-use Rattle.std.proofs.Common.{ℕ, zero, suc, ◌+◌, ◌≤◌, ◌≢◌, ◌⊎◌, inl, inr, true, Option, Some, None, List, [], ◌∷◌, ◌++◌, map, length, is_some, IsSome, arith}
-use Rattle.std.specs.Prelude.{slice_get}
+use mathlib.Core.Path.{◌≡◌, refl, sym, ap, subst}
+use Rattle.std.proofs.Common.{ℕ, zero, suc, ◌+◌, ◌≤◌, ◌≢◌, ◌⊎◌, inl, inr, true, Option, Some, None, List, [], ◌∷◌, ◌++◌, map, length, IsSome, arith}
 use Rattle.ir_model.specs.declared.ids.ArenaIndex.{ArenaIndex}
 use Rattle.ir_model.specs.ContextIds.{context_ids}
 use Rattle.ir_model.specs.Forest.{Dialect, Value, OpRecord, BlockRecord, Forest, Operand, Successor, Entity, an_op, a_block, a_region, same_entity, same_value, Named, a_value, the_block, owner}
-use Rattle.ir_model.specs.Nesting.{In, Within, itself, below, list_of, children, Inside, IsLinked, IsLiveNamed, IsClosed, names_of, operands_of, successors_of}
+use Rattle.ir_model.specs.Nesting.{In, Within, itself, below, list_of, children, Inside, IsLinked, IsClosed, names_of}
 use Rattle.ir_model.specs.Edits.{Edit, Condition, The, Each, KnownTypes, LiveOp, LiveBlock, LiveRegion, LiveValue, Unused, UsersLinked, MayGoInto, MayGoBeside, MayJoin, NewType, NewOp, NewBlock, AddRegion, PushResult, PushArgument, InsertResult, InsertArgument, RemoveResult, RemoveArgument, PushOperand, PushSuccessor, InsertOperand, InsertSuccessor, RemoveOperand, RemoveSuccessor, ReplaceOperand, ReplaceSuccessor, ReplaceAllUses, RetargetAll, OpFront, OpBack, OpBefore, OpAfter, UnlinkOp, UnlinkBlock, BlockFront, BlockBack, BlockBefore, BlockAfter, AppendOps, AppendBlocks, MoveRegion, DropOpUses, DropBlockUses, DropRegionUses, EraseOp, EraseBlock, EraseRegion}
-use Rattle.ir_model.specs.Sessions.{Session, live_op, live_block, live_region}
+use Rattle.ir_model.specs.Sessions.{Session}
 use Rattle.ir_model.specs.Soundness.{Sound}
 use Rattle.ir_model.proofs.Renaming.{Tells}
 use Rattle.ir_model.proofs.TwoRuns.{lawful, number_tells}
@@ -117,11 +116,14 @@ module _ {W : Dialect} (s : Session W) (k : Sound s) where
   -- one is left fewer with each parent
   fewer : (a y : Entity context_ids) (left : List (Entity context_ids)) → Covers a left → In y listed → In a (children f y) → (rest : List (Entity context_ids)) × (length left ≡ length rest + 1) × Covers y rest
   fewer a y left covers i c =
-      let at = splits y left (parent_left a y left covers i c) in
-      (at.0, AddsOne-length at.1, λ x j. elim (covers x j) [
-        | inl h ↦ elim (AddsOne-in x at.1 h) [ inl same ↦ inr (subst (λ z. Inside f y z) (sym same) itself) | inr r ↦ inl r ]
-        | inr w ↦ inr (Within-trans (children f) (children f) y a x (below c itself) w)
-      ])
+      let at = splits y left (parent_left a y left covers i c) in (
+        at.0,
+        AddsOne-length at.1,
+        λ x j. elim (covers x j) [
+          | inl h ↦ elim (AddsOne-in x at.1 h) [ inl same ↦ inr (subst (λ z. Inside f y z) (sym same) itself) | inr r ↦ inl r ]
+          | inr w ↦ inr (Within-trans (children f) (children f) y a x (below c itself) w)
+        ],
+      )
 
   climb : (e : Entity context_ids) (n : ℕ) (left : List (Entity context_ids)) (a : Entity context_ids) → length left ≤ n → Covers a left → Decided (Inside f e a)
   climb e zero left a few covers = climb_by e a (one (same_entity context_ids) entity_tells e a) (parent_so a) (λ y i c. (let rest = fewer a y left covers i c in let longer = rest.1 in absurd (omega (arith, longer, few))))

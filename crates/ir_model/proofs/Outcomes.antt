@@ -1,12 +1,11 @@
 -- What an edit leaves is there, where its condition holds and its ids and numbers are there.
 use mathlib.Core.Path.{◌≡◌, refl, ap}
-use Rattle.std.proofs.Common.{ℕ, ◌⊎◌, inl, inr, Option, Some, None, List, [], ◌∷◌, length, IsSome, arith}
+use Rattle.std.proofs.Common.{◌⊎◌, inl, inr, Option, Some, None, List, [], ◌∷◌, length, IsSome, arith}
 use Rattle.std.specs.Prelude.{slice_get}
 use Rattle.std.specs.Option.{option_map}
 use Rattle.ir_model.specs.Ids.{Fresh, Counts, counts}
 use Rattle.ir_model.specs.ContextIds.{context_ids}
 use Rattle.ir_model.specs.Forest.{Dialect, Behaviour, Entity, an_op, a_block, a_region, Forest}
-use Rattle.ir_model.specs.Nesting.{Inside}
 use Rattle.ir_model.specs.Changes.{DropsUses, Removes, no_uses, unlist}
 use Rattle.ir_model.specs.Edits.{Edit, State, The, Condition, Change, needs, over, NewType, NewOp, NewBlock, AddRegion, PushResult, PushArgument, InsertResult, InsertArgument, RemoveResult, RemoveArgument, PushOperand, PushSuccessor, InsertOperand, InsertSuccessor, RemoveOperand, RemoveSuccessor, ReplaceOperand, ReplaceSuccessor, ReplaceAllUses, RetargetAll, OpFront, OpBack, OpBefore, OpAfter, UnlinkOp, UnlinkBlock, BlockFront, BlockBack, BlockBefore, BlockAfter, AppendOps, AppendBlocks, MoveRegion, DropOpUses, DropBlockUses, DropRegionUses, EraseOp, EraseBlock, EraseRegion}
 use Rattle.ir_model.specs.Sessions.{Session}
@@ -63,23 +62,29 @@ module _ {W : Dialect} (B : Behaviour W) (s : Session W) (k : Sound s) where
 
   pub removes_it : (e : Entity context_ids) → (g : Forest context_ids W) × Removes f e g
   unfolding without_it
-  removes_it e = (without_it e, record {
-    ops_inside = λ o h. pick-yes (inside_so s k e (an_op o)) None _ h;
-    ops_outside = λ o h. pick-no (inside_so s k e (an_op o)) None _ h;
-    blocks_inside = λ b h. pick-yes (inside_so s k e (a_block b)) None _ h;
-    blocks_outside = λ b h. pick-no (inside_so s k e (a_block b)) None _ h;
-    regions_inside = λ r h. pick-yes (inside_so s k e (a_region r)) None _ h;
-    regions_outside = λ r h. pick-no (inside_so s k e (a_region r)) None _ h;
-  })
+  removes_it e = (
+    without_it e,
+    record {
+      ops_inside = λ o h. pick-yes (inside_so s k e (an_op o)) None _ h;
+      ops_outside = λ o h. pick-no (inside_so s k e (an_op o)) None _ h;
+      blocks_inside = λ b h. pick-yes (inside_so s k e (a_block b)) None _ h;
+      blocks_outside = λ b h. pick-no (inside_so s k e (a_block b)) None _ h;
+      regions_inside = λ r h. pick-yes (inside_so s k e (a_region r)) None _ h;
+      regions_outside = λ r h. pick-no (inside_so s k e (a_region r)) None _ h;
+    },
+  )
 
   drops_it : (e : Entity context_ids) → (g : Forest context_ids W) × DropsUses f e g
-  drops_it e = (record f { ops = λ o. pick (inside_so s k e (an_op o)) (option_map no_uses (f.ops o)) (f.ops o) }, record {
-    inside = λ o h. pick-yes (inside_so s k e (an_op o)) _ _ h;
-    outside = λ o h. pick-no (inside_so s k e (an_op o)) _ _ h;
-    either = λ o. pick-either (inside_so s k e (an_op o)) _ _;
-    blocks = refl;
-    regions = refl;
-  })
+  drops_it e = (
+    record f { ops = λ o. pick (inside_so s k e (an_op o)) (option_map no_uses (f.ops o)) (f.ops o) },
+    record {
+      inside = λ o h. pick-yes (inside_so s k e (an_op o)) _ _ h;
+      outside = λ o h. pick-no (inside_so s k e (an_op o)) _ _ h;
+      either = λ o. pick-either (inside_so s k e (an_op o)) _ _;
+      blocks = refl;
+      regions = refl;
+    },
+  )
 
   dropped : (e : Entity context_ids) → (t : State context_ids W) × (DropsUses f e t.forest × (t ≡ over s.state t.forest))
   dropped e = let d = drops_it e in (over s.state d.0, (d.1, refl))

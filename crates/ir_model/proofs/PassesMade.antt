@@ -1,13 +1,13 @@
 -- An edit that is made passes what it makes.
 use mathlib.Core.Path.{◌≡◌, refl, sym, subst}
-use Rattle.std.proofs.Common.{ℕ, ◌⊎◌, ◌↔◌, inl, inr, Bool, false, List, ◌++◌, IsTrue}
+use Rattle.std.proofs.Common.{◌⊎◌, ◌↔◌, inl, inr, Bool, false, List, ◌++◌, IsTrue}
 use Rattle.ir_model.specs.Forest.{Dialect, Behaviour}
 use Rattle.ir_model.specs.Nesting.{In}
 use Rattle.ir_model.specs.Edits.{Edit, Condition}
 use Rattle.ir_model.specs.Sessions.{Session, Makes, live_op, live_block, live_region}
 use Rattle.ir_model.specs.Soundness.{Sound}
 use Rattle.ir_model.specs.StepTells.{line, ListsWhatPassed, MadePassWhatTheyMake}
-use Rattle.ir_model.proofs.Nests.{In-append, In-left, In-right}
+use Rattle.ir_model.proofs.Nests.{In-append, In-right}
 use Rattle.ir_model.proofs.TwoRuns.{lawful, new_unpassed}
 use Rattle.ir_model.proofs.Grows.{Grows, new_not_in}
 use Rattle.ir_model.proofs.GrowsEach.{grows_each}

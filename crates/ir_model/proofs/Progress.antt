@@ -1,6 +1,6 @@
 -- Sessions go on.
 use mathlib.Core.Path.{◌≡◌, refl, sym, ap, ◌∙◌, subst}
-use Rattle.std.proofs.Common.{ℕ, ◌+◌, ◌<◌, ◌≤◌, ◌⊎◌, ◌↔◌, inl, inr, Bool, true, false, eqb, ◌||◌, Option, Some, None, List, [], ◌∷◌, ◌++◌, length, is_some, IsSome, IsTrue, arith}
+use Rattle.std.proofs.Common.{ℕ, ◌+◌, ◌≤◌, ◌⊎◌, ◌↔◌, inl, inr, Bool, true, false, eqb, ◌||◌, Option, Some, None, List, [], ◌∷◌, ◌++◌, length, IsSome, IsTrue, arith}
 use Rattle.std.specs.Prelude.{slice_get}
 use Rattle.std.specs.List.{list_any}
 use Rattle.ir_model.specs.declared.ids.ArenaIndex.{ArenaIndex}
@@ -10,25 +10,24 @@ use Rattle.ir_model.specs.declared.answer.Answer.TheVariants.{Done, Refused}
 use Rattle.ir_model.specs.declared.answer.Refused.TheVariants.{Condition as ForCondition, Counter, Slots}
 use Rattle.ir_model.specs.Ids.{Fresh, Counts, counts}
 use Rattle.ir_model.specs.ContextIds.{context_ids, same_id}
-use Rattle.ir_model.specs.Forest.{Dialect, Behaviour, OpRecord, BlockRecord, Forest, Entity, an_op, a_block, a_region}
-use Rattle.ir_model.specs.Nesting.{In, list_of, IsClosed, WellFormed, regions_of}
+use Rattle.ir_model.specs.Forest.{Dialect, Behaviour, OpRecord, Entity, an_op, a_block, a_region}
+use Rattle.ir_model.specs.Nesting.{In, list_of}
 use Rattle.ir_model.specs.Changes.{Removes}
-use Rattle.ir_model.specs.Edits.{Edit, The, Condition, needs, no_needs, answer as reply, EraseOp, EraseBlock, EraseRegion}
-use Rattle.ir_model.specs.Sessions.{Passed, Passes, Session, Step, condition, counter, slots, memory, made, Run, Skips, Makes, Number, HasRoom, HasNumbers, HasSlots, LacksNumbers, LacksSlots, TakesSlot, IsNewSession, live_op, live_block, live_region}
+use Rattle.ir_model.specs.Edits.{Edit, The, Condition, needs, answer as reply, EraseOp, EraseBlock, EraseRegion}
+use Rattle.ir_model.specs.Sessions.{Passed, Passes, Session, Step, condition, counter, slots, memory, made, Run, Skips, Makes, Number, HasNumbers, HasSlots, LacksNumbers, LacksSlots, TakesSlot, IsNewSession, live_op, live_block, live_region}
 use Rattle.ir_model.specs.Soundness.{Sound}
 use Rattle.ir_model.specs.OneOfEach.{HasStep, NewSessionsStep}
 use Rattle.ir_model.specs.StepTells.{line, AreGone, NumbersFit, SlotsFit}
 use Rattle.ir_model.specs.Progress.{IsRoomFor, IsTakenOut, RoomIsEnough, SoundSessionsGoOn, RunsAreCounted, RunsGoOn, ClosedCanGo, ClosedAreErased}
 use Rattle.ir_model.proofs.Renaming.{Tells}
-use Rattle.ir_model.proofs.Nests.{In-append, In-left, In-right}
+use Rattle.ir_model.proofs.Nests.{In-left, In-right}
 use Rattle.ir_model.proofs.TwoRuns.{lawful, id_tells, number_tells}
-use Rattle.ir_model.proofs.Back.{slice_get-in}
 use Rattle.ir_model.proofs.Roomy.{any_iff}
 use Rattle.ir_model.proofs.Grows.{new_sound}
 use Rattle.ir_model.proofs.StepSound.{steps_sound, runs_sound}
 use Rattle.ir_model.proofs.KeepsErase.{Removes-kept}
 use Rattle.ir_model.proofs.StepTells.{takes_so, answers_so, makes_by}
-use Rattle.ir_model.proofs.Decided.{Decided, not_so, both, either, at_most, one}
+use Rattle.ir_model.proofs.Decided.{Decided, at_most, one}
 use Rattle.ir_model.proofs.Conditions.{some_so, condition_so}
 use Rattle.ir_model.proofs.Supply.{bit_so, above, supply_numbers, supply_ids, counted}
 use Rattle.ir_model.proofs.Outcomes.{list_there, removes_it, change_is}
@@ -152,32 +151,34 @@ module _ {W : Dialect} (B : Behaviour W) where
       let uses = supply_numbers s.limits.uses s.passed.uses (needs edit).uses n.uses in
       let new : Fresh context_ids = record { ops = ops.0; blocks = blocks.0; regions = regions.0; numbers = numbers.0; uses = uses.0 } in
       let enough : counts context_ids new ≡ needs edit = (λ i. record { ops = ops.2 i; blocks = blocks.2 i; regions = regions.2 i; numbers = numbers.2 i; uses = uses.2 i }) in
-      let after = change_is B s k new edit c enough in
-      (record s {
-        state = after.0;
-        passed = record {
-          ops = λ i. s.passed.ops i || list_any (λ j. same_id j i) ops.0;
-          blocks = λ i. s.passed.blocks i || list_any (λ j. same_id j i) blocks.0;
-          regions = λ i. s.passed.regions i || list_any (λ j. same_id j i) regions.0;
-          numbers = λ i. s.passed.numbers i || list_any (λ j. eqb j i) numbers.0;
-          uses = λ i. s.passed.uses i || list_any (λ j. eqb j i) uses.0;
-        };
-      }, made c n m refl (record {
-        new = new;
-        enough = enough;
-        distinct = record { ops = ops.1; blocks = blocks.1; regions = regions.1; numbers = numbers.1; uses = uses.1 };
-        are_new = record { ops = ops.3; blocks = blocks.3; regions = regions.3; numbers = numbers.3; uses = uses.3 };
-        change = after.1;
-        passed = record {
-          ops = more_iff same_id id_tells s.passed.ops ops.0;
-          blocks = more_iff same_id id_tells s.passed.blocks blocks.0;
-          regions = more_iff same_id id_tells s.passed.regions regions.0;
-          numbers = more_iff eqb number_tells s.passed.numbers numbers.0;
-          uses = more_iff eqb number_tells s.passed.uses uses.0;
-        };
-        beside = refl;
-        limits = refl;
-      }))
+      let after = change_is B s k new edit c enough in (
+        record s {
+          state = after.0;
+          passed = record {
+            ops = λ i. s.passed.ops i || list_any (λ j. same_id j i) ops.0;
+            blocks = λ i. s.passed.blocks i || list_any (λ j. same_id j i) blocks.0;
+            regions = λ i. s.passed.regions i || list_any (λ j. same_id j i) regions.0;
+            numbers = λ i. s.passed.numbers i || list_any (λ j. eqb j i) numbers.0;
+            uses = λ i. s.passed.uses i || list_any (λ j. eqb j i) uses.0;
+          };
+        },
+        made c n m refl (record {
+          new = new;
+          enough = enough;
+          distinct = record { ops = ops.1; blocks = blocks.1; regions = regions.1; numbers = numbers.1; uses = uses.1 };
+          are_new = record { ops = ops.3; blocks = blocks.3; regions = regions.3; numbers = numbers.3; uses = uses.3 };
+          change = after.1;
+          passed = record {
+            ops = more_iff same_id id_tells s.passed.ops ops.0;
+            blocks = more_iff same_id id_tells s.passed.blocks blocks.0;
+            regions = more_iff same_id id_tells s.passed.regions regions.0;
+            numbers = more_iff eqb number_tells s.passed.numbers numbers.0;
+            uses = more_iff eqb number_tells s.passed.uses uses.0;
+          };
+          beside = refl;
+          limits = refl;
+        }),
+      )
 
   pub room_is_enough : RoomIsEnough W B
   room_is_enough edit s k c r =
@@ -253,15 +254,15 @@ module _ {W : Dialect} (B : Behaviour W) where
   pub closed_are_erased : ClosedAreErased W B
   closed_are_erased = record {
     ops = λ s n o k r e live closed. (
-      let found = list_there (s.state.forest.ops o) live in
-      taken_out (EraseOp n) s (an_op o) k (record { value = o; found = e; holds = record { value = found.value; found = found.found; holds = closed } }) r refl (λ t m. (the_one m.change o e).0));
+        let found = list_there (s.state.forest.ops o) live in
+        taken_out (EraseOp n) s (an_op o) k (record { value = o; found = e; holds = record { value = found.value; found = found.found; holds = closed } }) r refl (λ t m. (the_one m.change o e).0));
     blocks = λ s n b k r e live closed. (
-      let found = list_there (s.state.forest.blocks b) live in
-      taken_out (EraseBlock n) s (a_block b) k (record { value = b; found = e; holds = record { value = found.value; found = found.found; holds = closed } }) r refl (λ t m. (the_one m.change b e).0));
+        let found = list_there (s.state.forest.blocks b) live in
+        taken_out (EraseBlock n) s (a_block b) k (record { value = b; found = e; holds = record { value = found.value; found = found.found; holds = closed } }) r refl (λ t m. (the_one m.change b e).0));
     regions = λ s n at o g k r e i closed. (
-      let found = region_at (s.state.forest.ops o) at g i in
-      taken_out (EraseRegion n at) s (a_region g) k (record { value = o; found = e; holds = record { value = found.value; found = found.found; holds = record { value = g; found = found.holds; holds = closed } } }) r refl
-          (λ t m. (the_one (the_one (the_one m.change o e) found.value found.found) g found.holds).0));
+        let found = region_at (s.state.forest.ops o) at g i in
+        taken_out (EraseRegion n at) s (a_region g) k (record { value = o; found = e; holds = record { value = found.value; found = found.found; holds = record { value = g; found = found.holds; holds = closed } } }) r refl
+        (λ t m. (the_one (the_one (the_one m.change o e) found.value found.found) g found.holds).0));
   }
     where
       region_at : (m : Option (OpRecord context_ids W)) (at : ℕ) (g : ArenaIndex) → slice_get (list_of (λ (q : OpRecord context_ids W). q.regions) m) at ≡ Some g → The m (λ q. slice_get q.regions at ≡ Some g)

@@ -98,10 +98,13 @@ module _ (limits : Limits) (passed : ArenaIndex → Bool) (live : ArenaIndex →
   -- an id that has passed and takes no slot is dead, and has a successor
   module _ (xs : List ArenaIndex) (takers : (i : ArenaIndex) → TakesSlot limits passed live i → In i xs) where
     has_next : (i : ArenaIndex) → IsTrue (passed i) → (In i xs → ⊥) → (live i → ⊥) × (i.version + 2 ≤ limits.last_version)
-    has_next i p out = (λ l. out (takers i (inl l)), elim (at_most (i.version + 2) limits.last_version) [
-      | inl h ↦ h
-      | inr n ↦ absurd (out (takers i (inr (p, λ l. out (takers i (inl l)), above (i.version + 2) limits.last_version n))))
-    ])
+    has_next i p out = (
+      λ l. out (takers i (inl l)),
+      elim (at_most (i.version + 2) limits.last_version) [
+        | inl h ↦ h
+        | inr n ↦ absurd (out (takers i (inr (p, λ l. out (takers i (inl l)), above (i.version + 2) limits.last_version n))))
+      ],
+    )
 
     -- a slot is taken, or has a new id
     slot_so : (k : ℕ) → 1 ≤ k → k ≤ limits.slots → ((i : ArenaIndex) × In i xs × (i.slot ≡ k)) ⊎ ((i : ArenaIndex) × (i.slot ≡ k) × New i)
@@ -116,11 +119,26 @@ module _ (limits : Limits) (passed : ArenaIndex → Bool) (live : ArenaIndex →
         new_at : (((i : ArenaIndex) × In i xs × (i.slot ≡ k)) → ⊥) → Top k limits.last_version → (i : ArenaIndex) × (i.slot ≡ k) × New i
         new_at none (inr never) = (at k 1, refl, (low, high, first, inl (refl, λ j p e. never j.version (late none j p e) (subst (λ x. IsTrue (passed (at x j.version))) e p))))
         new_at none (inl t) =
-            let n = has_next (at k t.0) t.1 (λ h. none (at k t.0, h, refl)) in
-            (at k (t.0 + 2), refl, (low, high, n.1, inr (at k t.0, refl, refl, t.1, n.0, λ j p e. elim (at_most j.version t.0) [
-              | inl h ↦ h
-              | inr m ↦ absurd (t.2 j.version (above j.version t.0 m) (late none j p e) (subst (λ x. IsTrue (passed (at x j.version))) e p))
-            ])))
+            let n = has_next (at k t.0) t.1 (λ h. none (at k t.0, h, refl)) in (
+              at k (t.0 + 2),
+              refl,
+              (
+                low,
+                high,
+                n.1,
+                inr (
+                  at k t.0,
+                  refl,
+                  refl,
+                  t.1,
+                  n.0,
+                  λ j p e. elim (at_most j.version t.0) [
+                    | inl h ↦ h
+                    | inr m ↦ absurd (t.2 j.version (above j.version t.0 m) (late none j p e) (subst (λ x. IsTrue (passed (at x j.version))) e p))
+                  ],
+                ),
+              ),
+            )
 
     -- these slots sorted into those that have a new id and those that are taken
     record Sorted (ks : List ℕ) : Type 0 where
