@@ -10,14 +10,14 @@ use Rattle.ir_model.specs.Nesting.{In, list_of, uses_of}
 use Rattle.ir_model.specs.Edits.{Edit, Condition}
 use Rattle.ir_model.specs.Sessions.{Session, Step, condition, counter, slots, memory, made, Run, Skips, Makes}
 use Rattle.ir_model.specs.Soundness.{Sound}
-use Rattle.ir_model.specs.GoneHandles.{HasDefinition, HasOperand, HasSuccessor, NumbersStay, StaysRefused, RunsKeepNumbers, RefusedForGood}
+use Rattle.ir_model.specs.GoneHandles.{HasDefinition, HasOperand, HasSuccessor, RunsKeepNumbers, RefusedForGood}
 use Rattle.ir_model.proofs.Nests.{In-map, In-left, In-right, not_in-Absent}
 use Rattle.ir_model.proofs.TwoRuns.{lawful}
 use Rattle.ir_model.proofs.Grows.{Grows, new_not_in}
 use Rattle.ir_model.proofs.GrowsEach.{grows_each}
 use Rattle.ir_model.proofs.StepSound.{steps_sound}
 use Rattle.ir_model.proofs.RefusedForGood.{Remembers, step_remembers, clash}
-use Rattle.ir_model.proofs.Places.{operand_numbers, successor_numbers, Places, Change-places}
+use Rattle.ir_model.proofs.Places.{operand_numbers, successor_numbers, Change-places}
 
 -- what stands in the front of a list without repeats does not stand behind it
 front_only : {A : Type 0} (xs ys : List A) → Distinct (xs ++ ys) → (x : A) → In x xs → In x ys → ⊥

@@ -1,7 +1,7 @@
 -- What operands and successors an edit leaves: each use number stood at the same operation, among the same ones, or is new.
 use mathlib.Core.Path.{◌≡◌, refl, sym, ap, ◌∙◌, subst}
-use Rattle.std.proofs.Common.{ℕ, ◌⊎◌, inl, inr, Bool, true, false, Option, Some, None, List, [], ◌∷◌, ◌++◌, map, cond, length, take, drop}
-use Rattle.std.specs.List.{insert, remove, zip}
+use Rattle.std.proofs.Common.{ℕ, ◌⊎◌, inl, inr, Bool, true, false, Option, Some, None, List, [], ◌∷◌, ◌++◌, map, cond, take, drop}
+use Rattle.std.specs.List.{remove, zip}
 use Rattle.std.specs.Option.{option_map}
 use Rattle.ir_model.specs.Ids.{Ids, Fresh}
 use Rattle.ir_model.specs.Forest.{Dialect, Behaviour, Value, OpRecord, Forest, Entity, a_region, Operand, Successor, same_value}

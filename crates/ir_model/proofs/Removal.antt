@@ -12,12 +12,12 @@ use Rattle.ir_model.proofs.Keeps.{list_of-map}
 use Rattle.ir_model.proofs.Entries.{AddsOne, here, later, AddsOne-in}
 
 -- what is there is in some place
-splits : {A : Type 0} (x : A) (xs : List A) → In x xs → (rest : List A) × AddsOne x rest xs
+pub splits : {A : Type 0} (x : A) (xs : List A) → In x xs → (rest : List A) × AddsOne x rest xs
 splits x [] h = elim h [ ]
 splits x (y ∷ xs) (inl e) = (xs, subst (λ z. AddsOne z xs (y ∷ xs)) (sym e) here)
 splits x (y ∷ xs) (inr h) = let more = splits x xs h in (y ∷ more.0, later more.1)
 
-AddsOne-length : {A : Type 0} {x : A} {xs ys : List A} → AddsOne x xs ys → length ys ≡ length xs + 1
+pub AddsOne-length : {A : Type 0} {x : A} {xs ys : List A} → AddsOne x xs ys → length ys ≡ length xs + 1
 AddsOne-length here = omega arith
 AddsOne-length (later h) = let more = AddsOne-length h in omega (arith, more)
 

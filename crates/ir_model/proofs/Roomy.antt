@@ -34,7 +34,7 @@ ids_from-in n zero i h = elim h [ ]
 ids_from-in n (suc k) i (inl e) = rw e (refl, omega arith, omega arith)
 ids_from-in n (suc k) i (inr h) = let more = ids_from-in (suc n) k i h in (more.0, omega arith, omega arith)
 
-numbers_from-in : (n k : ℕ) (m : ℕ) → In m (numbers_from n k) → (n ≤ m) × (m < n + k)
+pub numbers_from-in : (n k : ℕ) (m : ℕ) → In m (numbers_from n k) → (n ≤ m) × (m < n + k)
 numbers_from-in n zero m h = elim h [ ]
 numbers_from-in n (suc k) m (inl e) = (omega arith, omega arith)
 numbers_from-in n (suc k) m (inr h) = let more = numbers_from-in (suc n) k m h in (omega arith, omega arith)
@@ -46,7 +46,7 @@ ids_from-distinct n (suc k) = (
   ids_from-distinct (suc n) k,
 )
 
-numbers_from-distinct : (n k : ℕ) → Distinct (numbers_from n k)
+pub numbers_from-distinct : (n k : ℕ) → Distinct (numbers_from n k)
 numbers_from-distinct n zero = tt
 numbers_from-distinct n (suc k) = (
   Absent-not_in n (numbers_from (suc n) k) (λ h. (let at = numbers_from-in (suc n) k n h in absurd (omega arith))),
@@ -57,7 +57,7 @@ pub ids_from-length : (n k : ℕ) → length (ids_from n k) ≡ k
 ids_from-length n zero = refl
 ids_from-length n (suc k) = (let more = ids_from-length (suc n) k in omega arith)
 
-numbers_from-length : (n k : ℕ) → length (numbers_from n k) ≡ k
+pub numbers_from-length : (n k : ℕ) → length (numbers_from n k) ≡ k
 numbers_from-length n zero = refl
 numbers_from-length n (suc k) = (let more = numbers_from-length (suc n) k in omega arith)
 

@@ -5,12 +5,12 @@ use Rattle.ir_model.specs.declared.answer.Answer.{Answer}
 use Rattle.ir_model.specs.declared.answer.Answer.TheVariants.{Refused}
 use Rattle.ir_model.specs.declared.answer.Refused.{Refused as Reason}
 use Rattle.ir_model.specs.declared.answer.Refused.TheVariants.{Condition as ForCondition, Counter, Slots, Memory}
-use Rattle.ir_model.specs.Ids.{Fresh, Counts, counts, FreshDistinct}
+use Rattle.ir_model.specs.Ids.{Counts}
 use Rattle.ir_model.specs.ContextIds.{context_ids}
 use Rattle.ir_model.specs.Forest.{Dialect, Behaviour, OpRecord}
 use Rattle.ir_model.specs.Nesting.{In, list_of, regions_of}
-use Rattle.ir_model.specs.Edits.{Edit, State, NewType, MoveRegion, ReplaceAllUses, needs, answer as reply, MayRunOut}
-use Rattle.ir_model.specs.Sessions.{Session, Passed, Passes, Step, condition, counter, slots, memory, made, Number, HasRoom, LacksRoom, HasNumbers, HasSlots, LacksNumbers, LacksSlots, AreNew, Skips, live_op, live_block, live_region}
+use Rattle.ir_model.specs.Edits.{Edit, State, Condition, NewType, MoveRegion, ReplaceAllUses, needs, answer as reply, MayRunOut}
+use Rattle.ir_model.specs.Sessions.{Session, Passed, Step, condition, counter, slots, memory, made, Number, HasRoom, LacksRoom, HasNumbers, HasSlots, LacksNumbers, LacksSlots, Makes, Skips, live_op, live_block, live_region}
 use Rattle.ir_model.specs.StepTells.{line, AreGone, NumbersFit, NumbersLack, SlotsFit, SlotsLack, AtMostMore, PassesExactly, PassesAtMost, CounterIsTold, SlotsAreTold, OthersAreMade, OnlyGrowthIsRefused, MadePassExactly, RefusedPassAtMost, ConditionLeavesAll}
 use Rattle.ir_model.proofs.Removal.{length-same}
 use Rattle.ir_model.proofs.TwoRuns.{new_unpassed}
@@ -32,11 +32,11 @@ passes_none p n = record { ops = none p.ops n.ops; blocks = none p.blocks n.bloc
     none q k = ([], omega arith, (λ x h. elim h [ ], λ x. (λ h. inl h, λ h. elim h [ inl i ↦ i | inr i ↦ elim i [ ] ])))
 
 module _ {W : Dialect} where
-  takes_so : (s : State context_ids W) (edit : Edit W) → needs edit ≡ (line s edit).takes
+  pub takes_so : (s : State context_ids W) (edit : Edit W) → needs edit ≡ (line s edit).takes
   takes_so s (NewType key) = refl
   takes_so s _ = refl
 
-  answers_so : (s : State context_ids W) (edit : Edit W) → reply s edit ≡ (line s edit).answer
+  pub answers_so : (s : State context_ids W) (edit : Edit W) → reply s edit ≡ (line s edit).answer
   answers_so s (NewType key) = refl
   answers_so s _ = refl
 
@@ -81,13 +81,13 @@ module _ {W : Dialect} where
   may_grow s (ReplaceAllUses v w) may = may
   may_grow s _ may = may
 
-  passes_exactly : (s : Session W) (t : Session W) (new : Fresh context_ids) (edit : Edit W) → counts context_ids new ≡ needs edit → (distinct : FreshDistinct context_ids new) → AreNew s new → Passes s.passed new t.passed → PassesExactly s.passed t.passed (line s.state edit).takes
-  passes_exactly s t new edit enough distinct are passes = subst (PassesExactly s.passed t.passed) (enough ∙ takes_so s.state edit) (record {
-    ops = (new.ops, distinct.ops, refl, (λ i h. new_unpassed s.limits s.passed.ops (live_op s.state) i (are.ops i h), passes.ops));
-    blocks = (new.blocks, distinct.blocks, refl, (λ i h. new_unpassed s.limits s.passed.blocks (live_block s.state) i (are.blocks i h), passes.blocks));
-    regions = (new.regions, distinct.regions, refl, (λ i h. new_unpassed s.limits s.passed.regions (live_region s.state) i (are.regions i h), passes.regions));
-    numbers = (new.numbers, distinct.numbers, refl, (λ n h. (are.numbers n h).1, passes.numbers));
-    uses = (new.uses, distinct.uses, refl, (λ n h. (are.uses n h).1, passes.uses));
+  passes_exactly : (B : Behaviour W) (s t : Session W) (edit : Edit W) → Makes B s edit t → PassesExactly s.passed t.passed (line s.state edit).takes
+  passes_exactly B s t edit k = subst (PassesExactly s.passed t.passed) (k.enough ∙ takes_so s.state edit) (record {
+    ops = (k.new.ops, k.distinct.ops, refl, (λ i h. new_unpassed s.limits s.passed.ops (live_op s.state) i (k.are_new.ops i h), k.passed.ops));
+    blocks = (k.new.blocks, k.distinct.blocks, refl, (λ i h. new_unpassed s.limits s.passed.blocks (live_block s.state) i (k.are_new.blocks i h), k.passed.blocks));
+    regions = (k.new.regions, k.distinct.regions, refl, (λ i h. new_unpassed s.limits s.passed.regions (live_region s.state) i (k.are_new.regions i h), k.passed.regions));
+    numbers = (k.new.numbers, k.distinct.numbers, refl, (λ n h. (k.are_new.numbers n h).1, k.passed.numbers));
+    uses = (k.new.uses, k.distinct.uses, refl, (λ n h. (k.are_new.uses n h).1, k.passed.uses));
   })
 
   passes_at_most : (s : Session W) (t : Session W) (edit : Edit W) → Skips s edit t → PassesAtMost s.passed t.passed (line s.state edit).takes
@@ -136,15 +136,23 @@ module _ (W : Dialect) (B : Behaviour W) where
   pub only_growth_is_refused : OnlyGrowthIsRefused W B
   only_growth_is_refused edit s t step = grows_by edit s t (Refused Memory) refl step
 
-  exactly_by : (edit : Edit W) (s t : Session W) (a : Answer) → a ≡ (line s.state edit).answer → Step B s edit a t → PassesExactly s.passed t.passed (line s.state edit).takes
-  exactly_by edit s t a r (condition c e f) = absurd (not_refused s.state edit ForCondition (sym r ∙ e))
-  exactly_by edit s t a r (counter c n e k) = absurd (not_refused s.state edit Counter (sym r ∙ e))
-  exactly_by edit s t a r (slots c n m e k) = absurd (not_refused s.state edit Slots (sym r ∙ e))
-  exactly_by edit s t a r (memory c n m x e k) = absurd (not_refused s.state edit Memory (sym r ∙ e))
-  exactly_by edit s t a r (made c n m e k) = passes_exactly s t k.new edit k.enough k.distinct k.are_new k.passed
+  -- what is answered by the table is made
+  pub makes_by : (edit : Edit W) (s t : Session W) (a : Answer) → a ≡ (line s.state edit).answer → Step B s edit a t → Makes B s edit t
+  makes_by edit s t a r (condition c e f) = absurd (not_refused s.state edit ForCondition (sym r ∙ e))
+  makes_by edit s t a r (counter c n e k) = absurd (not_refused s.state edit Counter (sym r ∙ e))
+  makes_by edit s t a r (slots c n m e k) = absurd (not_refused s.state edit Slots (sym r ∙ e))
+  makes_by edit s t a r (memory c n m x e k) = absurd (not_refused s.state edit Memory (sym r ∙ e))
+  makes_by edit s t a r (made c n m e k) = k
+
+  pub conditions_by : (edit : Edit W) (s t : Session W) (a : Answer) → a ≡ (line s.state edit).answer → Step B s edit a t → Condition s.state edit
+  conditions_by edit s t a r (condition c e f) = absurd (not_refused s.state edit ForCondition (sym r ∙ e))
+  conditions_by edit s t a r (counter c n e k) = c
+  conditions_by edit s t a r (slots c n m e k) = c
+  conditions_by edit s t a r (memory c n m x e k) = c
+  conditions_by edit s t a r (made c n m e k) = c
 
   pub made_pass_exactly : MadePassExactly W B
-  made_pass_exactly edit s t step = exactly_by edit s t (line s.state edit).answer refl step
+  made_pass_exactly edit s t step = passes_exactly B s t edit (makes_by edit s t (line s.state edit).answer refl step)
 
   at_most_by : (edit : Edit W) (s t : Session W) (a : Answer) (reason : Reason) → a ≡ Refused reason → Step B s edit a t → PassesAtMost s.passed t.passed (line s.state edit).takes
   at_most_by edit s t a reason r (condition c e f) = subst (λ (u : Session W). PassesAtMost s.passed u.passed (line s.state edit).takes) (sym f) (passes_none s.passed (line s.state edit).takes)

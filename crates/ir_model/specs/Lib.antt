@@ -18,6 +18,7 @@ pub mod Uniquing
 pub mod StepLaws
 pub mod StepTells
 pub mod OneOfEach
+pub mod Progress
 pub mod Parent
 pub mod BlockGraph
 pub mod Subtree

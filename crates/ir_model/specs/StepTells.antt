@@ -1,5 +1,5 @@
 -- What a step tells: the table of the edits, line by line, and what each answer says of room and of what was passed.
-use Rattle.std.specs.Prelude.{◌≡◌, ◌≢◌, ◌⊎◌, ◌↔◌, ℕ, ◌+◌, ◌<◌, ◌≤◌, Bool, false, List, length, Some, IsTrue, slice_get}
+use Rattle.std.specs.Prelude.{◌≡◌, ◌≢◌, ◌⊎◌, ◌↔◌, ℕ, ◌+◌, ◌<◌, ◌≤◌, Bool, false, List, map, length, Some, IsTrue, slice_get}
 use Rattle.ir_model.specs.declared.ids.ArenaIndex.{ArenaIndex}
 use Rattle.ir_model.specs.declared.answer.Answer.{Answer}
 use Rattle.ir_model.specs.declared.answer.Answer.TheVariants.{Made, Done, Refused}
@@ -8,9 +8,10 @@ use Rattle.ir_model.specs.declared.answer.Refused.TheVariants.{Condition as ForC
 use Rattle.ir_model.specs.Ids.{Counts, Distinct}
 use Rattle.ir_model.specs.ContextIds.{context_ids}
 use Rattle.ir_model.specs.Forest.{Dialect, Behaviour}
-use Rattle.ir_model.specs.Nesting.{In, regions_of}
+use Rattle.ir_model.specs.Nesting.{In, regions_of, uses_of}
 use Rattle.ir_model.specs.Edits.{Edit, State, Condition, NewType, NewOp, NewBlock, AddRegion, PushResult, PushArgument, InsertResult, InsertArgument, RemoveResult, RemoveArgument, PushOperand, PushSuccessor, InsertOperand, InsertSuccessor, RemoveOperand, RemoveSuccessor, ReplaceOperand, ReplaceSuccessor, ReplaceAllUses, RetargetAll, OpFront, OpBack, OpBefore, OpAfter, UnlinkOp, UnlinkBlock, BlockFront, BlockBack, BlockBefore, BlockAfter, AppendOps, AppendBlocks, MoveRegion, DropOpUses, DropBlockUses, DropRegionUses, EraseOp, EraseBlock, EraseRegion}
 use Rattle.ir_model.specs.Sessions.{Session, Passed, Step, Number, TakesSlot, live_op, live_block, live_region}
+use Rattle.ir_model.specs.Soundness.{Sound}
 
 -- a line of the table of edits: the answer of the edit where it is made, when it may grow, and how much it takes
 pub record Line : Type 1 where
@@ -78,6 +79,10 @@ module _ {W : Dialect} where
   line s (EraseBlock n) = line_of Done No 0 0 0 0 0
   line s (EraseRegion n at) = line_of Done No 0 0 0 0 0
 
+  -- the numbers of the values in the table
+  abbrev pub numbers_in : Session W → List ℕ
+  numbers_in s = map (λ v. v.number) s.state.tables.values
+
   -- exactly so many of each kind are gone: value and use numbers that were passed, and slots that are taken
   pub record AreGone (s : Session W) (gone : Counts) : Type 0 where
     pub numbers : Number (λ n. IsTrue (s.passed.numbers n)) gone.numbers
@@ -130,6 +135,15 @@ pub record PassesAtMost (old new : Passed) (n : Counts) : Type 0 where
   pub numbers : AtMostMore old.numbers new.numbers n.numbers
   pub uses : AtMostMore old.uses new.uses n.uses
 
+module _ {W : Dialect} where
+  -- what stands newly in the tables, or at a use, is what has newly passed
+  pub record ListsWhatPassed (s t : Session W) : Type 0 where
+    pub ops : (i : ArenaIndex) → (In i t.state.tables.ops × (In i s.state.tables.ops → ⊥)) ↔ (IsTrue (t.passed.ops i) × (s.passed.ops i ≡ false))
+    pub blocks : (i : ArenaIndex) → (In i t.state.tables.blocks × (In i s.state.tables.blocks → ⊥)) ↔ (IsTrue (t.passed.blocks i) × (s.passed.blocks i ≡ false))
+    pub regions : (i : ArenaIndex) → (In i t.state.tables.regions × (In i s.state.tables.regions → ⊥)) ↔ (IsTrue (t.passed.regions i) × (s.passed.regions i ≡ false))
+    pub numbers : (n : ℕ) → (In n (numbers_in t) × (In n (numbers_in s) → ⊥)) ↔ (IsTrue (t.passed.numbers n) × (s.passed.numbers n ≡ false))
+    pub uses : (o : ArenaIndex) (u : ℕ) → In u (uses_of t.state.forest o) → (In u (uses_of s.state.forest o) → ⊥) → IsTrue (t.passed.uses u) × (s.passed.uses u ≡ false)
+
 module _ (W : Dialect) (B : Behaviour W) where
   -- refused for a counter exactly where the condition holds and numbers lack
   abbrev pub CounterIsTold : Type 0
@@ -156,6 +170,10 @@ module _ (W : Dialect) (B : Behaviour W) where
   -- an edit that is made passes exactly what it takes
   abbrev pub MadePassExactly : Type 0
   MadePassExactly = (edit : Edit W) (s t : Session W) → Step B s edit (line s.state edit).answer t → PassesExactly s.passed t.passed (line s.state edit).takes
+
+  -- from a sound session an edit that is made passes what it makes, and nothing else
+  abbrev pub MadePassWhatTheyMake : Type 0
+  MadePassWhatTheyMake = (edit : Edit W) (s t : Session W) → Sound s → Step B s edit (line s.state edit).answer t → ListsWhatPassed s t
 
   -- a refused edit passes at most what it takes
   abbrev pub RefusedPassAtMost : Type 0

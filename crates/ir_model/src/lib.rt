@@ -27,6 +27,9 @@ mod laws_tests;
 mod limit_rows;
 #[cfg(test)]
 mod limit_rows_tests;
+mod progress_laws;
+#[cfg(test)]
+mod progress_laws_tests;
 mod step_laws;
 #[cfg(test)]
 mod step_laws_tests;
@@ -53,6 +56,7 @@ pub use laws::{
     versions_rise,
 };
 pub use limit_rows::limits_tell;
+pub use progress_laws::{closed_can_be_erased, sessions_go_on};
 pub use step_laws::steps_tell;
 pub use small_sessions::{hostile_edits_are_refused, identifiers_are_given_by_letters, own_checks_tell, uses_move_as_told, views_show_all};
 

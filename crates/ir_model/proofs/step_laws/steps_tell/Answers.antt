@@ -1,4 +1,5 @@
 use Rattle.ir_model.proofs.StepTells.{counter_is_told, slots_are_told, others_are_made, only_growth_is_refused, made_pass_exactly, refused_pass_at_most, condition_leaves_all}
+use Rattle.ir_model.proofs.PassesMade.{made_pass_what_they_make}
 use Rattle.ir_model.proofs.step_laws.steps_tell.Goals as goal
 
 pub returns-clause-counter : goal.returns-clause-counter
@@ -15,6 +16,9 @@ returns-clause-memory g c = λ behaviour. only_growth_is_refused _ behaviour
 
 pub returns-clause-passed : goal.returns-clause-passed
 returns-clause-passed g c = λ behaviour. made_pass_exactly _ behaviour
+
+pub returns-clause-listed : goal.returns-clause-listed
+returns-clause-listed g c = λ behaviour. made_pass_what_they_make _ behaviour
 
 pub returns-clause-skipped : goal.returns-clause-skipped
 returns-clause-skipped g c = λ behaviour. refused_pass_at_most _ behaviour
