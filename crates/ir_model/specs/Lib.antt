@@ -38,4 +38,5 @@ pub mod NewRows
 pub mod ListRows
 pub mod RemovalRows
 pub mod ConditionRows
+pub mod MemoryRows
 pub mod DefinitionLaws

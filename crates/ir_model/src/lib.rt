@@ -28,7 +28,8 @@ pub use definition_laws::{
     successors_meet_predecessors, unique_names_tell, unlinked_goes_back,
 };
 pub use edit_rows::{
-    condition_rows, definition_rows, list_rows, new_entity_rows, operand_rows, removal_rows,
+    condition_rows, definition_rows, list_rows, memory_rows, new_entity_rows, operand_rows,
+    removal_rows,
 };
 pub use examples::worked_rows;
 pub use ids::{ArenaIndex, Limits};
