@@ -1,40 +1,33 @@
 -- Which edits may be made at the start.
-use mathlib.Core.Path.{◌≡◌, refl, sym, ap, ◌∙◌, subst}
-use Rattle.std.proofs.Common.{ℕ, Bool, true, false, cond, not, ◌≤◌, ◌<◌, inl, inr, Some, None, [], arith}
+use mathlib.Core.Path.{◌≡◌, refl, ap, ◌∙◌, subst}
+use Rattle.std.proofs.Common.{ℕ, Bool, true, false, cond, not, ◌≤◌, ◌<◌, inl, inr, [], arith}
 use Rattle.std.specs.Prelude.{nat_eq}
 use Rattle.ir_model.specs.Forest.{Entity, an_op, a_block, a_region, Named, a_value, the_block, owner}
 use Rattle.ir_model.specs.Nesting.{In, Inside, itself, below, children, names_of, IsLinked, IsClosed}
-use Rattle.ir_model.specs.Edits.{The, Unused, UsersLinked, MayJoin}
+use Rattle.ir_model.specs.Edits.{Unused, UsersLinked, MayJoin}
 use Rattle.ir_model.specs.EditStart.{OpName, o0, o1, o2, o3, o4, o5, o6, o7, b0, b1, b3, b4, b5, r0, r2, r3, r4, v0, v1, v3, v4, number_row, row_ids, result, argument, start}
-use Rattle.ir_model.specs.ConditionRows.{MayMake, MayDefine, MayUse, MayList, MayJoinRows, MayRemove}
-use Rattle.ir_model.proofs.EditStart.{here}
+use Rattle.ir_model.specs.ConditionRows.{MayMake, MayDefine, MayUse, MayList, MayJoinLists, MayRemove}
+use Rattle.ir_model.proofs.EditStart.{here, out, none}
 use Rattle.ir_model.proofs.EditSubtrees.{all_pass, each_passes, holds_all, with_holder, with_block, with_region, with_first, holder_tells, block_tells, region_tells, first_tells, unlinked_by, closed_by}
-
--- ## What is there
-
--- what holds of what is found
-out : {A : Type 0} {P : A → Type 0} (x : A) → The (Some x) P → P x
-out {A} {P} x t = let e : Some t.value ≡ Some x = sym t.found in let f : t.value ≡ x = cc in subst P f t.holds
-
--- nothing is found
-none : {A : Type 0} {P : A → Type 0} → The None P → ⊥
-none {A} {P} t = let e : None ≡ Some t.value = t.found in cc
 
 -- ## What is linked and what is inside
 
--- whether it is another one than o4, o0, b3, o2
+-- whether it is another one than o4
 abbrev not_spare : Entity row_ids → Bool
 not_spare (an_op o4) = false
 not_spare _ = true
 
+-- whether it is another one than o0
 abbrev not_root : Entity row_ids → Bool
 not_root (an_op o0) = false
 not_root _ = true
 
+-- whether it is another one than b3
 abbrev not_loose : Entity row_ids → Bool
 not_loose (a_block b3) = false
 not_loose _ = true
 
+-- whether it is another one than o2
 abbrev not_taker : Entity row_ids → Bool
 not_taker (an_op o2) = false
 not_taker _ = true
@@ -255,7 +248,7 @@ ops_join = (λ e. cc, λ x h. (let lone = each_passes lone_ones (children start.
 blocks_join : MayJoin start.forest (a_region r3) (a_region r0)
 blocks_join = (λ e. cc, λ x h. (let some = each_passes with_blocks (children start.forest (a_region r0)) x refl h in (λ i. (let e = in_blocks x some (a_region r3) i in cc), λ i. (let e = in_blocks x some (a_region r0) i in cc))))
 
-pub may_join : MayJoinRows
+pub may_join : MayJoinLists
 may_join = record {
   append_ops = record {
     allowed = here _ (here _ (here _ (here _ ops_join)));

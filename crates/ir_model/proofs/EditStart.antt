@@ -1,6 +1,6 @@
 -- What the rows of all edits share: a map is told by its rows.
-use mathlib.Core.Path.{◌≡◌, refl, fun_ext}
-use Rattle.std.proofs.Common.{Some}
+use mathlib.Core.Path.{◌≡◌, refl, sym, subst, fun_ext}
+use Rattle.std.proofs.Common.{Some, None}
 use Rattle.ir_model.specs.declared.answer.Answer.{Answer}
 use Rattle.ir_model.specs.Ids.{Fresh, counts}
 use Rattle.ir_model.specs.Edits.{Edit, State, Change, The, answer, needs}
@@ -66,3 +66,11 @@ leads {edit} {new} {given} {t} {neighbour} there answered makes apart = record {
   answered = answered;
   makes = makes;
 }
+
+-- what holds of what is found
+pub out : {A : Type 0} {P : A → Type 0} (x : A) → The (Some x) P → P x
+out {A} {P} x t = let e : Some t.value ≡ Some x = sym t.found in let f : t.value ≡ x = cc in subst P f t.holds
+
+-- nothing is found
+pub none : {A : Type 0} {P : A → Type 0} → The None P → ⊥
+none {A} {P} t = let e : None ≡ Some t.value = t.found in cc

@@ -73,7 +73,7 @@ pub record MayList : Type 0 where
   pub block_after : May (BlockAfter 3 1) (BlockAfter 2 1)
 
 -- what is joined or moved does not go into itself
-pub record MayJoinRows : Type 0 where
+pub record MayJoinLists : Type 0 where
   -- b5 is inside an operation of b4
   pub append_ops : May (AppendOps 4 0) (AppendOps 5 4)
   -- a region is not joined to itself

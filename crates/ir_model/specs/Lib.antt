@@ -47,5 +47,6 @@ pub mod MovedUseRows
 pub mod HostileRows
 pub mod LetterRows
 pub mod OwnCheckRows
+pub mod MemoryRows
 pub mod DefinitionLaws
 pub mod EditLaws

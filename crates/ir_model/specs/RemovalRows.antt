@@ -82,6 +82,9 @@ first_unlisted = with_records
 
 -- what is erased goes with all that is inside it, and the tables still list it
 pub record EraseRows : Type 0 where
+  -- not its operations alone
   pub op : Leads (EraseOp 5) nothing Done without_holder shell_left
+  -- it stands in no list any more
   pub block : Leads (EraseBlock 4) nothing Done without_block block_listed
+  -- the second of three, not the first
   pub region : Leads (EraseRegion 0 1) nothing Done without_region first_unlisted

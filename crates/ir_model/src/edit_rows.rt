@@ -7,7 +7,8 @@ ghost use Rattle.ir_model.specs.DefinitionRows.{ResultRows, ArgumentRows};
 ghost use Rattle.ir_model.specs.NewRows.{TypeRows, NewOpRows, NewBlockRows};
 ghost use Rattle.ir_model.specs.ListRows.{OpRows, BlockRows, RegionRows};
 ghost use Rattle.ir_model.specs.RemovalRows.{DropRows, EraseRows};
-ghost use Rattle.ir_model.specs.ConditionRows.{MayMake, MayDefine, MayUse, MayList, MayJoinRows, MayRemove};
+ghost use Rattle.ir_model.specs.MemoryRows.{MemoryRows};
+ghost use Rattle.ir_model.specs.ConditionRows.{MayMake, MayDefine, MayUse, MayList, MayJoinLists, MayRemove};
 
 /// What edits that make types, operations, blocks and regions lead to.
 pub fn new_entity_rows()
@@ -48,6 +49,11 @@ pub fn condition_rows()
     ensures definitions { MayDefine }
     ensures uses { MayUse }
     ensures lists { MayList }
-    ensures joins { MayJoinRows }
+    ensures joins { MayJoinLists }
     ensures removals { MayRemove }
+{}
+
+/// Each edit of these rows may run out of memory in that state, or never does.
+pub fn memory_rows()
+    ensures memory { MemoryRows }
 {}

@@ -1,7 +1,8 @@
 //! The rows of the edits are called once.
 
 use crate::{
-    condition_rows, definition_rows, list_rows, new_entity_rows, operand_rows, removal_rows,
+    condition_rows, definition_rows, list_rows, memory_rows, new_entity_rows, operand_rows,
+    removal_rows,
 };
 
 #[test]
@@ -12,4 +13,5 @@ fn rows_of_edits_are_called() {
     list_rows();
     removal_rows();
     condition_rows();
+    memory_rows();
 }

@@ -45,7 +45,8 @@ pub use definition_laws::{
 };
 pub use error::CoreError;
 pub use edit_rows::{
-    condition_rows, definition_rows, list_rows, new_entity_rows, operand_rows, removal_rows,
+    condition_rows, definition_rows, list_rows, memory_rows, new_entity_rows, operand_rows,
+    removal_rows,
 };
 pub use examples::worked_rows;
 pub use handle_laws::handles_stay_refused;
