@@ -1,18 +1,15 @@
 -- The facts of the edits that would break a forest.
-use mathlib.Core.Path.{◌≡◌, refl, sym, ap, ◌∙◌, subst}
-use Rattle.std.proofs.Common.{ℕ, inl, inr, Option, Some, List, [], ◌∷◌, length, arith}
-use Rattle.ir_model.specs.Forest.{Entity, an_op, a_block, a_region, Named, a_value, the_block}
+use mathlib.Core.Path.{◌≡◌, refl, sym, ◌∙◌, subst}
+use Rattle.std.proofs.Common.{inl, inr, List, [], ◌∷◌, length, arith}
+use Rattle.ir_model.specs.Forest.{Entity, an_op, a_block, a_region, a_value, the_block}
 use Rattle.ir_model.specs.Nesting.{In, Inside, itself, below, IsClosed, IsLinked, children, names_of}
-use Rattle.ir_model.specs.Edits.{The, MayJoin}
+use Rattle.ir_model.specs.Edits.{MayJoin}
 use Rattle.ir_model.specs.Subtree.{ListsSubtree}
 use Rattle.ir_model.specs.SmallForests.{Small, n0, n1, n2, n3, small_ids, result}
 use Rattle.ir_model.specs.HostileRows.{nested_twice, HostileEdits, self_named, EraseInnerSuccessor}
+use Rattle.ir_model.proofs.Found.{held}
 use Rattle.ir_model.proofs.Removal.{one_size}
 use Rattle.ir_model.proofs.SmallChecks.{in_no_list, inside_among, not_inside, distinct_entities}
-
--- what is said of a thing that is there
-held : {A : Type 0} {P : A → Type 0} (a : A) → The (Some a) P → P a
-held {P = P} a c = let e : Some a ≡ Some c.value = c.found in let s : a ≡ c.value = cc in subst P (sym s) c.holds
 
 -- the user outside
 abbrev out : List Small

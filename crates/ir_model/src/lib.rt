@@ -34,7 +34,10 @@ pub use laws::{
     new_sessions_are_sound, refusals_change_nothing, runs_keep_sound, steps_keep_sound,
     versions_rise,
 };
-pub use small_sessions::{hostile_edits_are_refused, identifiers_are_given_by_letters, own_checks_tell, uses_move_as_told, views_show_all};
+pub use small_sessions::{
+    hostile_edits_are_refused, identifiers_are_given_by_letters, own_checks_tell,
+    uses_move_as_told, views_show_all,
+};
 
 /// The law on two runs: whatever ids and numbers each run chose, they give the same answers and the same view.
 ///
