@@ -1,18 +1,16 @@
 -- The facts of the edits that would break a forest.
-use mathlib.Core.Path.{◌≡◌, refl, sym, ap, ◌∙◌, subst}
-use Rattle.std.proofs.Common.{ℕ, inl, inr, Option, Some, List, [], ◌∷◌, length, arith}
-use Rattle.ir_model.specs.Forest.{Entity, an_op, a_block, a_region, Named, a_value, the_block}
+use mathlib.Core.Path.{◌≡◌, refl, sym, ◌∙◌, subst}
+use Rattle.std.proofs.Common.{inl, inr, None, List, [], ◌∷◌, length, arith}
+use Rattle.ir_model.specs.Forest.{Entity, an_op, a_block, a_region, a_value, the_block}
 use Rattle.ir_model.specs.Nesting.{In, Inside, itself, below, IsClosed, IsLinked, children, names_of}
-use Rattle.ir_model.specs.Edits.{The, MayJoin}
+use Rattle.ir_model.specs.Edits.{MayJoin}
+use Rattle.ir_model.specs.Changes.{Removes, unlist}
 use Rattle.ir_model.specs.Subtree.{ListsSubtree}
-use Rattle.ir_model.specs.SmallForests.{Small, n0, n1, n2, n3, small_ids, result}
-use Rattle.ir_model.specs.HostileRows.{nested_twice, HostileEdits, self_named, EraseInnerSuccessor}
+use Rattle.ir_model.specs.SmallForests.{Small, n0, n1, n2, n3, n4, n5, small_ids, result}
+use Rattle.ir_model.specs.HostileRows.{nested_twice, HostileEdits, self_named, other_left, EraseInnerSuccessor}
+use Rattle.ir_model.proofs.Found.{held}
 use Rattle.ir_model.proofs.Removal.{one_size}
 use Rattle.ir_model.proofs.SmallChecks.{in_no_list, inside_among, not_inside, distinct_entities}
-
--- what is said of a thing that is there
-held : {A : Type 0} {P : A → Type 0} (a : A) → The (Some a) P → P a
-held {P = P} a c = let e : Some a ≡ Some c.value = c.found in let s : a ≡ c.value = cc in subst P (sym s) c.holds
 
 -- the user outside
 abbrev out : List Small
@@ -143,10 +141,49 @@ op_closed _ d h i = elim h [ ]
 named_outside : IsClosed (self_named (n0 ∷ [])) (a_block n0) → ⊥
 named_outside closed = not_inside (self_named (n0 ∷ [])) (a_block n0) (a_block n0 ∷ an_op n0 ∷ []) (an_op n1) (inl refl) refl refl (closed n1 (the_block n0) (inl refl) itself)
 
+-- the block has nothing inside but itself and the operation
+in_both : (x : Entity small_ids) → Inside (self_named []) (a_block n0) x → In x (a_block n0 ∷ an_op n0 ∷ [])
+in_both = inside_among (self_named []) (a_block n0) (a_block n0 ∷ an_op n0 ∷ []) (inl refl) refl
+
+removed : Removes (self_named []) (a_block n0) (other_left.forest)
+removed = record {
+  ops_inside = λ o h. gone o (in_both (an_op o) h);
+  ops_outside = outside;
+  blocks_inside = λ b h. refl;
+  blocks_outside = blocks_outside;
+  regions_inside = λ r h. refl;
+  regions_outside = λ r h. refl;
+}
+  where
+    gone : (o : Small) → In {A = Entity small_ids} (an_op o) (a_block n0 ∷ an_op n0 ∷ []) → other_left.forest.ops o ≡ None
+    gone n0 h = refl
+    gone n1 h = absurd (elim h [ inl e ↦ cc | inr k ↦ elim k [ inl e ↦ cc | inr z ↦ elim z [ ] ] ])
+    gone n2 h = refl
+    gone n3 h = refl
+    gone n4 h = refl
+    gone n5 h = refl
+
+    outside : (o : Small) → (Inside (self_named []) (a_block n0) (an_op o) → ⊥) → other_left.forest.ops o ≡ (unlist (a_block n0) (self_named [])).ops o
+    outside n0 h = absurd (h (below {c = a_block n0} (inl refl) itself))
+    outside n1 h = refl
+    outside n2 h = refl
+    outside n3 h = refl
+    outside n4 h = refl
+    outside n5 h = refl
+
+    blocks_outside : (b : Small) → (Inside (self_named []) (a_block n0) (a_block b) → ⊥) → other_left.forest.blocks b ≡ (unlist (a_block n0) (self_named [])).blocks b
+    blocks_outside n0 h = absurd (h itself)
+    blocks_outside n1 h = refl
+    blocks_outside n2 h = refl
+    blocks_outside n3 h = refl
+    blocks_outside n4 h = refl
+    blocks_outside n5 h = refl
+
 pub erase_inner_successor : EraseInnerSuccessor
 erase_inner_successor = record {
   closed = self_closed;
   allowed = record { value = n0; found = refl; holds = record { value = _; found = refl; holds = self_closed } };
+  erased = λ new. record { value = n0; found = refl; holds = (removed, refl) };
   two = (a_block n0 ∷ an_op n0 ∷ [], both_listed, refl);
   not_one = λ s. (let e : 2 ≡ length s.0 = one_size (self_named []) (a_block n0) (a_block n0 ∷ an_op n0 ∷ []) s.0 both_listed s.1 in let t : 2 ≡ 1 = e ∙ s.2 in omega (arith, t));
   block_gone = λ g r. r.blocks_inside n0 itself;

@@ -1,6 +1,6 @@
 -- The facts of the examples of identifiers.
-use mathlib.Core.Path.{◌≡◌, refl, sym, ap, ◌∙◌, subst}
-use Rattle.std.proofs.Common.{ℕ, ◌+◌, ◌<◌, ◌^◌, ◌-◌, inl, inr, Bool, true, false, Option, Some, None, List, [], ◌∷◌, ◌++◌, arith}
+use mathlib.Core.Path.{◌≡◌, refl, sym, ap, subst}
+use Rattle.std.proofs.Common.{ℕ, ◌^◌, ◌-◌, inl, inr, Some, List, [], ◌∷◌, ◌++◌, arith}
 use Rattle.std.specs.Prelude.{codes, decimal, MatchOption}
 use Rattle.std.specs.Str.{chars}
 use Rattle.std.proofs.lemmas.Fmt.{decimal-digits_value}
@@ -9,7 +9,7 @@ use Rattle.ir_model.specs.Forest.{Text}
 use Rattle.ir_model.specs.Legaliser.{Given, nothing_given, name_of, IsFree, base, numbered, GivesNew, Gives, Run, IsSpent}
 use Rattle.ir_model.specs.LetterRows.{GivesAlone, e_acute, LegaliseFirstLetters, last_calls, earlier_calls, LegaliseCounterSpent}
 use Rattle.ir_model.proofs.Legalisers.{calls_settle, names_lead_back, gives_one}
-use Rattle.ir_model.proofs.NamedRows.{zero_text, differ, given, look_up, found, free_by, taken_by, gives_base, gives_numbered, empty_base}
+use Rattle.ir_model.proofs.NamedRows.{zero_text, differ, given, found, taken_by, gives_base, gives_numbered, empty_base}
 
 alone : (counter : ℕ) (calls : List (Text × Text)) → (s : Given) × Run (nothing_given counter) calls s → GivesAlone counter calls
 alone counter calls run = record { given = run; alone = λ others s e r. (calls_settle counter others calls s run.0 e r run.1).0 }

@@ -1,38 +1,32 @@
 -- What was unlinked may be put back.
 use mathlib.Core.Path.{◌≡◌, refl, sym, ap, ◌∙◌, subst}
-use Rattle.std.proofs.Common.{ℕ, ◌≢◌, inl, Bool, true, false, not, Option, Some, None, List, [], ◌∷◌, ◌++◌, map, length, is_some, IsSome}
+use Rattle.std.proofs.Common.{◌≢◌, inl, Bool, true, false, not, Option, Some, None, List, ◌∷◌, map, length, IsSome}
 use Rattle.std.specs.Option.{option_map}
 use Rattle.ir_model.specs.declared.ids.ArenaIndex.{ArenaIndex}
 use Rattle.ir_model.specs.ContextIds.{context_ids, same_id}
-use Rattle.ir_model.specs.Ids.{Fresh, Distinct}
+use Rattle.ir_model.specs.Ids.{Distinct}
 use Rattle.ir_model.specs.Forest.{Dialect, Behaviour, Forest, Entity, an_op, a_block, a_region, BlockRecord}
 use Rattle.ir_model.specs.Nesting.{In, Nested, WellFormed, children, list_of, ops_of, blocks_of, regions_of}
 use Rattle.ir_model.specs.Parent.{Adjacent, ComesAfter, first_of}
 use Rattle.ir_model.specs.Changes.{without, in_blocks, in_regions, on_ops}
-use Rattle.ir_model.specs.Edits.{State, Condition, Change, The, over, MayGoBeside, MayGoInto, UnlinkOp, OpAfter, OpFront, UnlinkBlock, BlockAfter, BlockFront}
+use Rattle.ir_model.specs.Edits.{State, Condition, MayGoBeside, MayGoInto, OpAfter, OpFront, BlockAfter, BlockFront}
 use Rattle.ir_model.specs.EditLaws.{MayGoBack}
 use Rattle.ir_model.proofs.Renaming.{Tells}
 use Rattle.ir_model.proofs.TwoRuns.{id_tells}
 use Rattle.ir_model.proofs.Nests.{In-map, In-map_back, Within-fewer}
 use Rattle.ir_model.proofs.Filters.{In-filter, In-kept}
 use Rattle.ir_model.proofs.Redirected.{Distinct-back}
-use Rattle.ir_model.proofs.Relinks.{Adjacent-first, Adjacent-second}
+use Rattle.ir_model.proofs.Relinks.{first_in, Adjacent-first, Adjacent-second}
 use Rattle.ir_model.proofs.Keeps.{is_some-map}
-use Rattle.ir_model.proofs.EditLaws.{held}
+use Rattle.ir_model.proofs.Found.{holds_of, there}
 
 -- two neighbours in a list without repeats differ
 neighbours_differ : {A : Type 0} (x y : A) (xs : List A) → Distinct xs → Adjacent x y xs → x ≢ y
 neighbours_differ x y xs d at = (Distinct-back at.0 (x ∷ y ∷ at.1) (subst Distinct at.2 d)).0.0
 
--- a record of what is there
-there : {A : Type 0} (m : Option A) → IsSome m → (a : A) × (m ≡ Some a)
-there None h = cc
-there (Some a) h = (a, refl)
-
 -- the first of a list is in it
-first_in : {A : Type 0} (x : A) (xs : List A) → first_of xs ≡ Some x → In x xs
-first_in x [] e = absurd cc
-first_in x (y ∷ xs) e = let f : Some y ≡ Some x = e in let s : y ≡ x = cc in inl (sym s)
+is_in : {A : Type 0} (x : A) (xs : List A) → first_of xs ≡ Some x → In x xs
+is_in x xs e = subst (In x) (sym (first_in x xs e).1) (inl refl)
 
 some_list : {B X : Type 0} (of : B → List X) (m : Option B) (x : X) → In x (list_of of m) → IsSome m
 some_list of None x h = elim h [ ]
@@ -155,17 +149,17 @@ module _ {W : Dialect} (B : Behaviour W) (s : State context_ids W) (w : WellForm
         let o = at.value in let mark = at.holds.value in let comes = at.holds.holds in
         let r = there (s.forest.ops o) (w.nested.live (an_op o) comes.0 (Adjacent-second (an_op mark) (an_op o) (children s.forest comes.0) comes.1)) in
         let q = there (s.forest.ops mark) (w.nested.live (an_op mark) comes.0 (Adjacent-first (an_op mark) (an_op o) (children s.forest comes.0) comes.1)) in
-        subst (λ (x : State context_ids W). Condition x (OpAfter n m)) (sym (held o at.found c)) (record {
+        subst (λ (x : State context_ids W). Condition x (OpAfter n m)) (sym (holds_of _ o at.found c)) (record {
           value = o;
           found = at.found;
           holds = record { value = r.0; found = r.1; holds = record { value = mark; found = at.holds.found; holds = record { value = q.0; found = q.1; holds = beside s.forest w.nested (an_op o) _ (op_unlisted s.forest o) (an_op mark) comes } } };
         });
     op_front = λ n m new t at c.
         let o = at.value in let b = at.holds.value in
-        let i : In o (ops_of s.forest b) = first_in o (ops_of s.forest b) at.holds.holds in
+        let i : In o (ops_of s.forest b) = is_in o (ops_of s.forest b) at.holds.holds in
         let r = there (s.forest.ops o) (w.nested.live (an_op o) (a_block b) (In-map an_op o (ops_of s.forest b) i)) in
         let q = there ((in_blocks s.forest (without same_id o)).blocks b) (is_some-map (on_ops (without same_id o)) (s.forest.blocks b) ∙ some_list (λ (x : BlockRecord context_ids W). x.ops) (s.forest.blocks b) o i) in
-        subst (λ (x : State context_ids W). Condition x (OpFront n m)) (sym (held o at.found c)) (record {
+        subst (λ (x : State context_ids W). Condition x (OpFront n m)) (sym (holds_of _ o at.found c)) (record {
           value = o;
           found = at.found;
           holds = record { value = r.0; found = r.1; holds = record { value = b; found = at.holds.found; holds = record { value = q.0; found = q.1; holds = into s.forest w.nested (an_op o) _ (op_unlisted s.forest o) (a_block b) (In-map an_op o (ops_of s.forest b) i) } } };
@@ -174,17 +168,17 @@ module _ {W : Dialect} (B : Behaviour W) (s : State context_ids W) (w : WellForm
         let b = at.value in let mark = at.holds.value in let comes = at.holds.holds in
         let r = there (s.forest.blocks b) (w.nested.live (a_block b) comes.0 (Adjacent-second (a_block mark) (a_block b) (children s.forest comes.0) comes.1)) in
         let q = there (s.forest.blocks mark) (w.nested.live (a_block mark) comes.0 (Adjacent-first (a_block mark) (a_block b) (children s.forest comes.0) comes.1)) in
-        subst (λ (x : State context_ids W). Condition x (BlockAfter n m)) (sym (held b at.found c)) (record {
+        subst (λ (x : State context_ids W). Condition x (BlockAfter n m)) (sym (holds_of _ b at.found c)) (record {
           value = b;
           found = at.found;
           holds = record { value = r.0; found = r.1; holds = record { value = mark; found = at.holds.found; holds = record { value = q.0; found = q.1; holds = beside s.forest w.nested (a_block b) _ (block_unlisted s.forest b) (a_block mark) comes } } };
         });
     block_front = λ n m new t at c.
         let b = at.value in let g = at.holds.value in
-        let i : In b (blocks_of s.forest g) = first_in b (blocks_of s.forest g) at.holds.holds in
+        let i : In b (blocks_of s.forest g) = is_in b (blocks_of s.forest g) at.holds.holds in
         let r = there (s.forest.blocks b) (w.nested.live (a_block b) (a_region g) (In-map a_block b (blocks_of s.forest g) i)) in
         let q = is_some-map (without same_id b) (s.forest.regions g) ∙ some_list (λ (bs : List ArenaIndex). bs) (s.forest.regions g) b i in
-        subst (λ (x : State context_ids W). Condition x (BlockFront n m)) (sym (held b at.found c)) (record {
+        subst (λ (x : State context_ids W). Condition x (BlockFront n m)) (sym (holds_of _ b at.found c)) (record {
           value = b;
           found = at.found;
           holds = record { value = r.0; found = r.1; holds = record { value = g; found = at.holds.found; holds = (q, into s.forest w.nested (a_block b) _ (block_unlisted s.forest b) (a_region g) (In-map a_block b (blocks_of s.forest g) i)) } };

@@ -13,6 +13,7 @@ use Rattle.ir_model.specs.declared.ids.ArenaIndex.{ArenaIndex}
 use Rattle.ir_model.specs.Sessions.{Session, Step, condition, counter, slots, memory, made, Run}
 use Rattle.ir_model.specs.Soundness.{Sound}
 use Rattle.ir_model.specs.NamesDead.{mentions, NamesDead, a_dead_op, a_dead_block, a_dead_region, a_dead_value, DeadAreRefused}
+use Rattle.ir_model.proofs.Found.{holds_of}
 use Rattle.ir_model.proofs.Nests.{In-map, not_in-Absent}
 use Rattle.ir_model.proofs.GrowsNew.{append_none}
 use Rattle.ir_model.proofs.Back.{slice_get-in}
@@ -32,10 +33,6 @@ each_found : {A : Type 0} (P : A → Type 0) (table : List A) (ns : List ℕ) (n
 each_found P table [] n c h = elim h [ ]
 each_found P table (k ∷ ns) n c (inl e) = subst (λ j. The (slice_get table j) P) (sym e) c.0
 each_found P table (k ∷ ns) n c (inr h) = each_found P table ns n c.1 h
-
--- it is there, so what holds of it holds of what is there
-holds_of : {A : Type 0} {P : A → Type 0} (m : Option A) (x : A) → m ≡ Some x → The m P → P x
-holds_of {P = P} m x e t = (let f : Some t.value ≡ Some x = sym t.found ∙ e in let g : t.value ≡ x = cc in subst P g t.holds)
 
 weaker : {A : Type 0} {m : Option A} {P Q : A → Type 0} → ((x : A) → P x → Q x) → The m P → The m Q
 weaker f t = record { value = t.value; found = t.found; holds = f t.value t.holds }

@@ -1,24 +1,16 @@
 -- The facts of the examples of own checks.
 use mathlib.Core.Path.{◌≡◌, refl, sym, ap, ◌∙◌, subst}
-use Rattle.std.proofs.Common.{ℕ, ◌≢◌, ◌⊎◌, inl, inr, Bool, true, false, cond, Option, Some, None, List, [], ◌∷◌, map, length, slice_get, arith}
+use Rattle.std.proofs.Common.{ℕ, ◌≢◌, inl, inr, Bool, true, false, cond, Some, None, List, [], ◌∷◌, length, slice_get, arith}
 use Rattle.ir_model.specs.declared.ids.ArenaIndex.{ArenaIndex}
 use Rattle.ir_model.specs.ContextIds.{context_ids, same_id}
-use Rattle.ir_model.specs.Forest.{Text, Definer, of_op, of_block, Definition, Entity, an_op, a_block, a_region, Operand, OpRecord, a_value, definer_entity}
-use Rattle.ir_model.specs.Nesting.{In, Inside, itself, below, children, definitions_of, operands_of, list_of}
+use Rattle.ir_model.specs.Forest.{Definer, of_op, of_block, Definition, Entity, an_op, a_block, Operand, OpRecord, a_value, definer_entity}
+use Rattle.ir_model.specs.Nesting.{In, Inside, itself, below, children, definitions_of, list_of}
 use Rattle.ir_model.specs.Edits.{State, StoredType, The}
-use Rattle.ir_model.specs.Uses.{Use, IsUse, AreUses}
+use Rattle.ir_model.specs.Uses.{IsUse, AreUses}
 use Rattle.ir_model.specs.Faults.{Fault, Check, op_list, op_own, attr_list, attr_own, type_list, type_own, IsRun, the_entity, NoParent, MissingTerminator, TerminatorNotLast, EntryHasPred, OperandNotUseOfDef, Verifier, CountsType}
 use Rattle.ir_model.specs.IdForests.{first}
-use Rattle.ir_model.specs.OwnCheckRows.{WidthOrName, an_int, a_name, with_types, types_behaviour, own_checks, own_code, StandsAtFirst, types_alone, width, its_result, with_result, one_op, TypeFault, of_itself, OwnCheck}
-use Rattle.ir_model.proofs.TwoRuns.{id_tells}
-
--- nothing is there
-nothing : {A : Type 0} {P : A → Type 0} → The None P → ⊥
-nothing c = let e : None ≡ Some c.value = c.found in cc
-
--- it is there
-held : {A : Type 0} {P : A → Type 0} (a : A) → The (Some a) P → P a
-held {P = P} a c = let e : Some a ≡ Some c.value = c.found in let s : a ≡ c.value = cc in subst P (sym s) c.holds
+use Rattle.ir_model.specs.OwnCheckRows.{WidthOrName, an_int, a_name, with_types, types_behaviour, own_checks, own_code, StandsAtFirst, width, its_result, with_result, one_op, TypeFault, of_itself, OwnCheck}
+use Rattle.ir_model.proofs.Found.{held, nothing}
 
 module _ (n : ℕ) (types : List ℕ) (kind : ℕ) (operands : List (Operand context_ids)) where
   abbrev S : State context_ids with_types
@@ -109,6 +101,8 @@ type_fault = record {
 
 pub own_check : OwnCheck
 own_check = record {
+  type_made = λ new. refl;
+  type_answer = refl;
   op_made = record { value = first; found = refl; holds = refl };
   op_answer = refl;
   stands = op_stands [] (λ e. omega (arith, e));

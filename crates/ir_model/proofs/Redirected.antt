@@ -104,7 +104,7 @@ module _ {N : Ids} {E D : Type 0} (L : Entries E N.UseNumber D) (same : D → D 
       (λ u h. (r u).1 (to_new u (elim (In-append u us vs h) [ inl k ↦ inl ((p u).0 k) | inr k ↦ inr ((q u).0 k) ])))
       ∙ length-append us vs
 
-both_true : (p q : Bool) → (p && q) ≡ true → (p ≡ true) × (q ≡ true)
+pub both_true : (p q : Bool) → (p && q) ≡ true → (p ≡ true) × (q ≡ true)
 both_true true q e = (refl, e)
 both_true false q e = absurd cc
 

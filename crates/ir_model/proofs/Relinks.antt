@@ -68,7 +68,7 @@ unmap_adjacent {A} {B} f one x y xs at = by xs at.0 at.2
         let more = by zs before t in
         (z ∷ more.0, more.1, ap (λ l. z ∷ l) more.2)
 
-first_in : {A : Type 0} (x : A) (xs : List A) → first_of xs ≡ Some x → (rest : List A) × (xs ≡ x ∷ rest)
+pub first_in : {A : Type 0} (x : A) (xs : List A) → first_of xs ≡ Some x → (rest : List A) × (xs ≡ x ∷ rest)
 first_in x [] e = absurd cc
 first_in x (y ∷ ys) e = (ys, let s : y ≡ x = cc in cc)
 

@@ -11,7 +11,7 @@ use Rattle.ir_model.proofs.Nests.{Absent-not_in, In-left, In-right, In-map}
 use Rattle.ir_model.proofs.Renaming.{Tells}
 use Rattle.ir_model.proofs.Loops.{Lawful}
 use Rattle.ir_model.proofs.TwoRuns.{number_tells}
-use Rattle.ir_model.proofs.Redirected.{value_tells}
+use Rattle.ir_model.proofs.Redirected.{value_tells, both_true}
 use Rattle.ir_model.proofs.KeepsNew.{any_in}
 use Rattle.ir_model.proofs.KeepsErase.{same_self, same_tells}
 
@@ -33,10 +33,6 @@ small_tells a b = (λ e. sym (back a) ∙ ap named_at ((number_tells (place a) (
 
 pub lawful_small : Lawful small_ids
 lawful_small = record { same_use = same_small; ops = small_tells; blocks = small_tells; regions = small_tells; numbers = small_tells; uses = small_tells }
-
-both_true : (p q : Bool) → (p && q) ≡ true → (p ≡ true) × (q ≡ true)
-both_true true q e = (refl, e)
-both_true false q e = absurd cc
 
 both : (p q : Bool) → p ≡ true → q ≡ true → (p && q) ≡ true
 both p q e g = rw (e, g)

@@ -1,11 +1,12 @@
 -- Edits that would break the forest: their conditions do not hold, and hold in a neighbour.
-use Rattle.std.specs.Prelude.{◌≡◌, List, [], ◌∷◌, map, None}
+use Rattle.std.specs.Prelude.{◌≡◌, if◌then◌else◌, List, [], ◌∷◌, map, None}
+use Rattle.ir_model.specs.Ids.{Fresh}
 use Rattle.ir_model.specs.Forest.{Forest, a_block}
 use Rattle.ir_model.specs.Nesting.{IsClosed}
 use Rattle.ir_model.specs.Changes.{Removes}
-use Rattle.ir_model.specs.Edits.{State, Condition, RetargetAll, AppendOps, AppendBlocks, OpBefore, MoveRegion, EraseRegion, EraseBlock, EraseOp}
+use Rattle.ir_model.specs.Edits.{State, Condition, Change, RetargetAll, AppendOps, AppendBlocks, OpBefore, MoveRegion, EraseRegion, EraseBlock, EraseOp}
 use Rattle.ir_model.specs.Subtree.{IsSubtreeSize}
-use Rattle.ir_model.specs.SmallForests.{Small, n0, n1, n2, n3, small_ids, bare, result, operand, successor, operation, block, forest, over_tables}
+use Rattle.ir_model.specs.SmallForests.{Small, n0, n1, n2, n3, same_small, small_ids, bare, behaviour, result, operand, successor, operation, block, forest, over_tables}
 
 -- ## One user, outside or inside
 
@@ -65,10 +66,17 @@ self_named others = forest (operation 3 [] [] (successor n0 n0 ∷ []) [] ∷ op
 abbrev pub self_state : List Small → State small_ids bare
 self_state others = over_tables (self_named others) (n0 ∷ n1 ∷ []) (n0 ∷ []) [] []
 
+-- the same without the block and the operation inside it
+abbrev pub other_left : State small_ids bare
+other_left = record (self_state []) {
+  forest = record { ops = λ o. if same_small o n0 then None else (self_named []).ops o; blocks = λ _. None; regions = λ _. None };
+}
+
 -- a block that only an operation inside it names goes with it
 pub record EraseInnerSuccessor : Type 0 where
   pub closed : IsClosed (self_named []) (a_block n0)
   pub allowed : Condition (self_state []) (EraseBlock 0)
+  pub erased : (new : Fresh small_ids) → Change behaviour (self_state []) (EraseBlock 0) new other_left
   pub two : IsSubtreeSize (self_named []) (a_block n0) 2
   pub not_one : IsSubtreeSize (self_named []) (a_block n0) 1 → ⊥
   -- both are gone, and the other operation stays

@@ -1,12 +1,11 @@
 -- Worked examples of verification by own checks, of a type and of an operation, from the edits that make them.
 use Rattle.std.specs.Prelude.{◌≡◌, ◌≢◌, ℕ, Bool, false, List, [], ◌∷◌, length, Option, None, nat_eq, bytes_eq}
-use Rattle.ir_model.specs.declared.ids.ArenaIndex.{ArenaIndex}
-use Rattle.ir_model.specs.declared.answer.Answer.TheVariants.{Made, Done}
+use Rattle.ir_model.specs.declared.answer.Answer.TheVariants.{Made}
 use Rattle.ir_model.specs.ContextIds.{context_ids, same_id}
 use Rattle.ir_model.specs.Ids.{Fresh}
 use Rattle.ir_model.specs.Forest.{Text, Dialect, Behaviour, Forest, Value, of_op, Operand, OpRecord, an_op, a_value}
 use Rattle.ir_model.specs.Changes.{put}
-use Rattle.ir_model.specs.Edits.{State, StoredType, Change, LiveOp, The, answer as reply, NewType, NewOp, PushOperand}
+use Rattle.ir_model.specs.Edits.{State, StoredType, Change, LiveOp, The, answer as reply, NewType, NewOp}
 use Rattle.ir_model.specs.Uses.{AreUses}
 use Rattle.ir_model.specs.Faults.{Fault, Check, Checks, op_own, type_own, the_entity, FaultStands, Verifier}
 use Rattle.ir_model.specs.SmallForests.{behaviour}
@@ -109,6 +108,8 @@ of_itself = record { use_number = 0; value = its_result } ∷ record { use_numbe
 
 -- an operation whose kind asks for two operands and that has none is at fault by its own check
 pub record OwnCheck : Type 0 where
+  pub type_made : (new : Fresh context_ids) → Change types_behaviour (types_alone [] []) (NewType (an_int 32)) new (types_alone (width 32 ∷ []) (0 ∷ []))
+  pub type_answer : reply (types_alone [] []) (NewType (an_int 32)) ≡ Made 0
   pub op_made : Change types_behaviour (types_alone (width 32 ∷ []) (0 ∷ [])) (NewOp 1 (0 ∷ []) [] [] 0) first_made (one_op (width 32 ∷ []) (0 ∷ []) 1 [])
   pub op_answer : reply (types_alone (width 32 ∷ []) (0 ∷ [])) (NewOp 1 (0 ∷ []) [] [] 0) ≡ Made 0
   pub stands : StandsAtFirst (one_op (width 32 ∷ []) (0 ∷ []) 1 []) (Verifier 2)

@@ -60,6 +60,10 @@ pub use limit_rows::limits_tell;
 pub use progress_laws::{closed_can_be_erased, sessions_go_on};
 pub use step_laws::steps_tell;
 pub use small_sessions::{hostile_edits_are_refused, identifiers_are_given_by_letters, own_checks_tell, uses_move_as_told, views_show_all};
+pub use small_sessions::{
+    hostile_edits_are_refused, identifiers_are_given_by_letters, own_checks_tell,
+    uses_move_as_told, views_show_all,
+};
 
 /// The law on two runs: whatever ids and numbers each run chose, they give the same answers and the same view.
 ///
