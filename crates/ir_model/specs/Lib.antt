@@ -24,6 +24,7 @@ pub mod Faults
 pub mod Stores
 pub mod VerifierLists
 pub mod Dead
+pub mod SweepLaws
 pub mod Identifier
 pub mod Legaliser
 pub mod SmallForests

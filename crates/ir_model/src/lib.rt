@@ -17,6 +17,9 @@ mod ids_tests;
 mod laws;
 #[cfg(test)]
 mod laws_tests;
+mod sweep_laws;
+#[cfg(test)]
+mod sweep_laws_tests;
 
 pub use answer::{Answer, Refused};
 pub use definition_laws::{
@@ -31,6 +34,7 @@ pub use laws::{
     new_sessions_are_sound, refusals_change_nothing, runs_keep_sound, steps_keep_sound,
     versions_rise,
 };
+pub use sweep_laws::sweep_is_one;
 
 /// The law on two runs: whatever ids and numbers each run chose, they give the same answers and the same view.
 ///
