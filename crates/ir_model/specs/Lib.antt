@@ -21,6 +21,8 @@ pub mod BlockGraph
 pub mod Subtree
 pub mod Names
 pub mod Faults
+pub mod Verifiers
+pub mod VerifyAnswers
 pub mod Stores
 pub mod VerifierLists
 pub mod Dead
@@ -32,4 +34,7 @@ pub mod IdForests
 pub mod WorkedRows
 pub mod NamedRows
 pub mod FaultRows
+pub mod AnswerRows
+pub mod VerifierRows
+pub mod VerifierLaws
 pub mod DefinitionLaws

@@ -20,6 +20,9 @@ mod laws_tests;
 mod sweep_laws;
 #[cfg(test)]
 mod sweep_laws_tests;
+mod verification_laws;
+#[cfg(test)]
+mod verification_laws_tests;
 
 pub use answer::{Answer, Refused};
 pub use definition_laws::{
@@ -35,6 +38,7 @@ pub use laws::{
     versions_rise,
 };
 pub use sweep_laws::sweep_is_one;
+pub use verification_laws::{faults_are_told, kinds_settle, verification_rows};
 
 /// The law on two runs: whatever ids and numbers each run chose, they give the same answers and the same view.
 ///
