@@ -5,7 +5,8 @@ use Rattle.std.specs.Prelude.{codes, slice_get}
 use Rattle.std.specs.Option.{option_map_or}
 use Rattle.ir_model.specs.declared.ids.ArenaIndex.{ArenaIndex}
 use Rattle.ir_model.specs.ContextIds.{context_ids}
-use Rattle.ir_model.specs.Forest.{Text, Value, Named, Entity, an_op, a_block, a_region, Definer, of_op, of_block, Definition, OpRecord, a_value, the_block, definer_entity}
+use Rattle.ir_model.specs.Ids.{Ids}
+use Rattle.ir_model.specs.Forest.{Dialect, Forest, Text, Value, Named, Entity, an_op, a_block, a_region, Definer, of_op, of_block, Definition, OpRecord, a_value, the_block, definer_entity}
 use Rattle.ir_model.specs.Nesting.{In, Inside, itself, below, IsLinked, children, list_of, names_of, definitions_of}
 use Rattle.ir_model.specs.Edits.{The}
 use Rattle.ir_model.specs.BlockGraph.{is_terminator_interface, no_terminator_interface}
@@ -320,9 +321,9 @@ region_none (type_own key) h = by h.0 h.2
 -- ## Entities as roots
 
 -- what is inside stands in a list that has the root and all children of what it has
-inside_list : (root : Entity context_ids) (xs : List (Entity context_ids)) → In root xs → ((c x : Entity context_ids) → In c xs → In x (children checked c) → In x xs) → (x : Entity context_ids) → Inside checked root x → In x xs
-inside_list root xs at down x itself = at
-inside_list root xs at down x (below {c = c} h w) = down c x (inside_list root xs at down c w) h
+pub inside_list : {N : Ids} {W : Dialect} (f : Forest N W) (root : Entity N) (xs : List (Entity N)) → In root xs → ((c x : Entity N) → In c xs → In x (children f c) → In x xs) → (x : Entity N) → Inside f root x → In x xs
+inside_list f root xs at down x itself = at
+inside_list f root xs at down x (below {c = c} h w) = down c x (inside_list f root xs at down c w) h
 
 -- the record of an operation: what it names, and whether its kind implements an interface
 abbrev names_by : Option (OpRecord context_ids numbered) → List (Named context_ids)
@@ -383,7 +384,7 @@ block_root = entity_codes (a_block first) (outer ++ inner) there back
     down c x (inr (inr i)) h = elim i [ ]
 
     there : (e : Entity context_ids) → Inside checked (a_block first) e → (c : Check numbered) → Brings e c → In (code_of c) (outer ++ inner)
-    there e i c h = elim (inside_list (a_block first) (a_block first ∷ an_op second ∷ []) (inl refl) down e i) [
+    there e i c h = elim (inside_list checked (a_block first) (a_block first ∷ an_op second ∷ []) (inl refl) down e i) [
       | inl q ↦ In-left (code_of c) outer inner (of_this e (a_block first) outer block_codes q c h)
       | inr (inl q) ↦ In-right (code_of c) outer inner (of_this e (an_op second) inner inner_codes q c h)
       | inr (inr k) ↦ absurd k
@@ -413,7 +414,7 @@ module_root = entity_codes (an_op first) (of_module ++ (outer ++ inner)) there b
     down c x (inr (inr (inr (inr i)))) h = elim i [ ]
 
     there : (e : Entity context_ids) → Inside checked (an_op first) e → (c : Check numbered) → Brings e c → In (code_of c) (of_module ++ (outer ++ inner))
-    there e i c h = elim (inside_list (an_op first) all (inl refl) down e i) [
+    there e i c h = elim (inside_list checked (an_op first) all (inl refl) down e i) [
       | inl q ↦ In-left (code_of c) of_module (outer ++ inner) (of_this e (an_op first) of_module module_codes q c h)
       | inr (inl q) ↦ absurd (region_none c (subst (λ x. Brings x c) q h))
       | inr (inr (inl q)) ↦ In-right (code_of c) of_module (outer ++ inner) (In-left (code_of c) outer inner (of_this e (a_block first) outer block_codes q c h))
@@ -439,7 +440,7 @@ flat_root o these none exactly = entity_codes (an_op o) these there (λ code h. 
     down c x (inr i) h = elim i [ ]
 
     there : (e : Entity context_ids) → Inside checked (an_op o) e → (c : Check numbered) → Brings e c → In (code_of c) these
-    there e i c h = elim (inside_list (an_op o) (an_op o ∷ []) (inl refl) down e i) [ inl q ↦ of_this e (an_op o) these exactly q c h | inr k ↦ absurd k ]
+    there e i c h = elim (inside_list checked (an_op o) (an_op o ∷ []) (inl refl) down e i) [ inl q ↦ of_this e (an_op o) these exactly q c h | inr k ↦ absurd k ]
 
 -- ## Other roots
 

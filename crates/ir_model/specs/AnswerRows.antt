@@ -7,7 +7,7 @@ use Rattle.ir_model.specs.Nesting.{In}
 use Rattle.ir_model.specs.Edits.{UsersLinked}
 use Rattle.ir_model.specs.BlockGraph.{IsPredecessor}
 use Rattle.ir_model.specs.Faults.{the_entity}
-use Rattle.ir_model.specs.VerifyAnswers.{VerifyErr, block_fault, missing_terminator, terminator_not_last, no_parent, entry_has_pred, operand_not_use_of_def, out_of_memory, MayAnswer}
+use Rattle.ir_model.specs.VerifyAnswers.{VerifyErr, block_fault, missing_terminator, terminator_not_last, no_parent, entry_has_pred, operand_not_use_of_def, out_of_memory, MayAnswer, AllIsWell}
 use Rattle.ir_model.specs.SmallForests.{bare, behaviour}
 use Rattle.ir_model.specs.IdForests.{first, second}
 use Rattle.ir_model.specs.FaultRows.{no_checks, loop, naming_twice, lone_block, with_empty_block, return_first, unlinked_user}
@@ -21,6 +21,8 @@ pub record AnswerRows : Type 0 where
   pub no_parent : AnswersAre lone_block (a_block first) (block_fault no_parent (codes "block1v1") ∷ out_of_memory ∷ [])
   pub missing : AnswersAre (with_empty_block 6) (an_op first) (block_fault missing_terminator (codes "block1v1") ∷ out_of_memory ∷ [])
   pub nothing_missing : AnswersAre (with_empty_block 5) (an_op first) []
+  pub all_is_well : AllIsWell behaviour (with_empty_block 5) [] no_checks (the_entity (an_op first))
+  pub not_all_is_well : AllIsWell behaviour (with_empty_block 6) [] no_checks (the_entity (an_op first)) → ⊥
   pub not_last : AnswersAre (return_first 5) (an_op first) (block_fault terminator_not_last (codes "block1v1") ∷ out_of_memory ∷ [])
   -- where terminators are asked for, the constant behind the return is none
   pub not_last_and_missing : AnswersAre (return_first 6) (an_op first) (block_fault terminator_not_last (codes "block1v1") ∷ block_fault missing_terminator (codes "block1v1") ∷ out_of_memory ∷ [])

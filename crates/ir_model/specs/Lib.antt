@@ -32,6 +32,7 @@ pub mod Legaliser
 pub mod SmallForests
 pub mod IdForests
 pub mod WorkedRows
+pub mod EraseRows
 pub mod NamedRows
 pub mod FaultRows
 pub mod AnswerRows

@@ -10,6 +10,9 @@ mod answer;
 mod definition_laws;
 #[cfg(test)]
 mod definition_laws_tests;
+mod erase_examples;
+#[cfg(test)]
+mod erase_examples_tests;
 mod examples;
 mod ids;
 #[cfg(test)]
@@ -30,6 +33,7 @@ pub use definition_laws::{
     retargeted_takes_uses, searches_agree, sources_apart, subtree_size_is_one,
     successors_meet_predecessors, unique_names_tell, unlinked_goes_back,
 };
+pub use erase_examples::erase_rows;
 pub use examples::worked_rows;
 pub use ids::{ArenaIndex, Limits};
 pub use laws::{
