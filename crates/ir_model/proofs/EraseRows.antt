@@ -11,7 +11,7 @@ use Rattle.ir_model.specs.SmallForests.{Small, n0, n1, n2, n3, n4, n5, small_ids
 use Rattle.ir_model.specs.EraseRows.{used_no_more, erased_state, inside_left, ErasedInDepth}
 use Rattle.ir_model.proofs.Unique.{Change-unique}
 use Rattle.ir_model.proofs.WorkedRows.{outside_use}
-use Rattle.ir_model.proofs.VerifierRows.{inside_list}
+use Rattle.ir_model.proofs.Insides.{inside_list}
 
 -- the forest before the erase, and the one after it
 abbrev f : Forest small_ids bare

@@ -5,8 +5,7 @@ use Rattle.std.specs.Prelude.{codes, slice_get}
 use Rattle.std.specs.Option.{option_map_or}
 use Rattle.ir_model.specs.declared.ids.ArenaIndex.{ArenaIndex}
 use Rattle.ir_model.specs.ContextIds.{context_ids}
-use Rattle.ir_model.specs.Ids.{Ids}
-use Rattle.ir_model.specs.Forest.{Dialect, Forest, Text, Value, Named, Entity, an_op, a_block, a_region, Definer, of_op, of_block, Definition, OpRecord, a_value, the_block, definer_entity}
+use Rattle.ir_model.specs.Forest.{Text, Value, Named, Entity, an_op, a_block, a_region, Definer, of_op, of_block, Definition, OpRecord, a_value, the_block, definer_entity}
 use Rattle.ir_model.specs.Nesting.{In, Inside, itself, below, IsLinked, children, list_of, names_of, definitions_of}
 use Rattle.ir_model.specs.Edits.{The}
 use Rattle.ir_model.specs.BlockGraph.{is_terminator_interface, no_terminator_interface}
@@ -19,6 +18,7 @@ use Rattle.ir_model.specs.VerifierRows.{May, numbered, module_kinds, three_types
 use Rattle.ir_model.proofs.Nests.{In-append, In-left, In-right}
 use Rattle.ir_model.proofs.FaultRows.{at_three}
 use Rattle.ir_model.proofs.AnswerRows.{any_three}
+use Rattle.ir_model.proofs.Insides.{inside_list}
 
 -- the code of each check
 code_of : Check numbered → ℕ
@@ -319,11 +319,6 @@ region_none (type_own key) h = by h.0 h.2
     by (of_block b) e = cc
 
 -- ## Entities as roots
-
--- what is inside stands in a list that has the root and all children of what it has
-pub inside_list : {N : Ids} {W : Dialect} (f : Forest N W) (root : Entity N) (xs : List (Entity N)) → In root xs → ((c x : Entity N) → In c xs → In x (children f c) → In x xs) → (x : Entity N) → Inside f root x → In x xs
-inside_list f root xs at down x itself = at
-inside_list f root xs at down x (below {c = c} h w) = down c x (inside_list f root xs at down c w) h
 
 -- the record of an operation: what it names, and whether its kind implements an interface
 abbrev names_by : Option (OpRecord context_ids numbered) → List (Named context_ids)
