@@ -19,7 +19,7 @@ use Rattle.ir_model.proofs.TwoRuns.{id_tells}
 use Rattle.ir_model.proofs.NamedRows.{block_one, differ, one_block_name}
 
 -- nothing stands in a list where there are none
-lone : IsLinked lone_block (a_block first) → ⊥
+pub lone : IsLinked lone_block (a_block first) → ⊥
 lone h = by h.0 h.1
   where
     in_block : (t u v : Bool) → In {A = Entity context_ids} (a_block first) (map an_op (list_of (λ (r : BlockRecord context_ids bare). r.ops) (cond t (Some (block_with [])) (cond u None (cond v None None))))) → ⊥
@@ -45,8 +45,8 @@ asks_for_none o g = by (same_id o first) (same_id o second) (same_id o third)
     by false false false h e = elim h [ ]
 
 -- no list of operations has any
-no_ops : (b o : ArenaIndex) → In o (ops_of unlinked_user b) → ⊥
-no_ops b o = by (same_id b first) (same_id b second) (same_id b third)
+pub no_ops : (named b o : ArenaIndex) → In o (ops_of (unlinked_user named) b) → ⊥
+no_ops named b o = by (same_id b first) (same_id b second) (same_id b third)
   where
     by : (t u v : Bool) → In o (list_of (λ (r : BlockRecord context_ids bare). r.ops) (cond t (Some (block_with [])) (cond u (Some (block_with [])) (cond v None None)))) → ⊥
     by true u v k = k
@@ -54,25 +54,25 @@ no_ops b o = by (same_id b first) (same_id b second) (same_id b third)
     by false false true k = k
     by false false false k = k
 
-unlinked : IsLinked unlinked_user (an_op second) → ⊥
-unlinked h = by h.0 h.1
+pub unlinked : (named : ArenaIndex) → IsLinked (unlinked_user named) (an_op second) → ⊥
+unlinked named h = by h.0 h.1
   where
-    by : (y : Entity context_ids) → In (an_op second) (children unlinked_user y) → ⊥
-    by (an_op o) k = let at = In-map_back a_region (an_op second) (regions_of unlinked_user o) k in let e : ◌≡◌ {A = Entity context_ids} (an_op second) (a_region at.0) = at.2 in cc
-    by (a_region r) k = let at = In-map_back a_block (an_op second) (blocks_of unlinked_user r) k in let e : ◌≡◌ {A = Entity context_ids} (an_op second) (a_block at.0) = at.2 in cc
-    by (a_block b) k = let at = In-map_back an_op (an_op second) (ops_of unlinked_user b) k in no_ops b at.0 at.1
+    by : (y : Entity context_ids) → In (an_op second) (children (unlinked_user named) y) → ⊥
+    by (an_op o) k = let at = In-map_back a_region (an_op second) (regions_of (unlinked_user named) o) k in let e : ◌≡◌ {A = Entity context_ids} (an_op second) (a_region at.0) = at.2 in cc
+    by (a_region r) k = let at = In-map_back a_block (an_op second) (blocks_of (unlinked_user named) r) k in let e : ◌≡◌ {A = Entity context_ids} (an_op second) (a_block at.0) = at.2 in cc
+    by (a_block b) k = let at = In-map_back an_op (an_op second) (ops_of (unlinked_user named) b) k in no_ops named b at.0 at.1
 
 -- an empty block has nothing inside but itself
-only_it : (x : Entity context_ids) → Inside unlinked_user (a_block second) x → x ≡ a_block second
-only_it x itself = refl
-only_it x (below {c = c} h w) =
-    let k : In x (children unlinked_user (a_block second)) = subst (λ y. In x (children unlinked_user y)) (only_it c w) h in
-    let at = In-map_back an_op x (ops_of unlinked_user second) k in
-    absurd (no_ops second at.0 at.1)
+pub only_it : (named b : ArenaIndex) (x : Entity context_ids) → Inside (unlinked_user named) (a_block b) x → x ≡ a_block b
+only_it named b x itself = refl
+only_it named b x (below {c = c} h w) =
+    let k : In x (children (unlinked_user named) (a_block b)) = subst (λ y. In x (children (unlinked_user named) y)) (only_it named b c w) h in
+    let at = In-map_back an_op x (ops_of (unlinked_user named) b) k in
+    absurd (no_ops named b at.0 at.1)
 
 -- the first of a region's list is the first block
-first_block : (g b : ArenaIndex) → first_of (blocks_of unlinked_user g) ≡ Some b → b ≡ first
-first_block g b = by (same_id g first) (same_id g second) (same_id g third)
+pub first_block : (named g b : ArenaIndex) → first_of (blocks_of (unlinked_user named) g) ≡ Some b → b ≡ first
+first_block named g b = by (same_id g first) (same_id g second) (same_id g third)
   where
     by : (t u v : Bool) → first_of (list_of (λ (bs : List ArenaIndex). bs) (cond t (Some (first ∷ second ∷ [])) (cond u None (cond v None None)))) ≡ Some b → b ≡ first
     by true u v e = let s : first ≡ b = cc in sym s
@@ -83,12 +83,12 @@ first_block g b = by (same_id g first) (same_id g second) (same_id g third)
 -- ## Branches
 
 -- what stands inside something else is linked
-inside_linked : (f : Forest context_ids bare) (e x : Entity context_ids) → Inside f e x → (x ≡ e → ⊥) → IsLinked f x
+pub inside_linked : (f : Forest context_ids bare) (e x : Entity context_ids) → Inside f e x → (x ≡ e → ⊥) → IsLinked f x
 inside_linked f e x itself out = absurd (out refl)
 inside_linked f e x (below {c = c} h w) out = (c, h)
 
 -- the record of an id is one of the three, or there is none
-at_three : {R : Type 0} (a b c : Option R) (i : ArenaIndex)
+pub at_three : {R : Type 0} (a b c : Option R) (i : ArenaIndex)
     → ((i ≡ first) × (three a b c i ≡ a)) ⊎ ((i ≡ second) × (three a b c i ≡ b)) ⊎ ((i ≡ third) × (three a b c i ≡ c)) ⊎ (three a b c i ≡ None)
 at_three a b c i = by (same_id i first) (same_id i second) (same_id i third) refl refl refl
   where
@@ -100,7 +100,7 @@ at_three a b c i = by (same_id i first) (same_id i second) (same_id i third) ref
     by false false false e g h = inr (inr (inr refl))
 
 -- nothing comes after another in a list of one
-no_two : {A : Type 0} (x y : A) (xs : List A) → length xs ≡ 1 → Adjacent x y xs → ⊥
+pub no_two : {A : Type 0} (x y : A) (xs : List A) → length xs ≡ 1 → Adjacent x y xs → ⊥
 no_two x y xs one a =
     let e : length xs ≡ length (a.0 ++ x ∷ y ∷ a.1) = ap length a.2 in
     let f : length (a.0 ++ x ∷ y ∷ a.1) ≡ length a.0 + length (x ∷ y ∷ a.1) = length-append a.0 (x ∷ y ∷ a.1) in
@@ -108,7 +108,7 @@ no_two x y xs one a =
     omega (arith, one, e, f, g)
 
 -- both of two that are beside each other stand in the list
-adjacent_in : {A : Type 0} (x y : A) (xs : List A) → Adjacent x y xs → In x xs
+pub adjacent_in : {A : Type 0} (x y : A) (xs : List A) → Adjacent x y xs → In x xs
 adjacent_in x y xs a = subst (In x) (sym a.2) (In-right x a.0 (x ∷ y ∷ a.1) (inl refl))
 
 module _ (kind : ℕ) (successors : List (Successor context_ids)) (other : Option (BlockRecord context_ids bare)) (blocks : List ArenaIndex) where
@@ -211,7 +211,7 @@ named_second b (inr (inr k)) = elim k [ ]
 abbrev to_itself : List (Successor context_ids)
 to_itself = record { use_number = 0; block = first } ∷ []
 
-loop_alone : (fault : Fault) → Stands loop (an_op first) fault → fault ≡ EntryHasPred (codes "block1v1")
+pub loop_alone : (fault : Fault) → Stands loop (an_op first) fault → fault ≡ EntryHasPred (codes "block1v1")
 loop_alone (NoParent name) h = absurd (all_linked 3 to_itself None (first ∷ []) refl name h)
 loop_alone (MissingTerminator name) h = absurd (none_missing 3 to_itself None (first ∷ []) refl name h)
 loop_alone (TerminatorNotLast name) h = absurd (none_early 3 to_itself None (first ∷ []) refl name h)
@@ -248,7 +248,7 @@ abbrev empty_block : Option (BlockRecord context_ids bare)
 empty_block = Some (block_with [])
 
 -- whatever its kind, a fault but that of the uses does not stand
-twice_alone : (kind : ℕ) (fault : Fault) → Stands (naming_twice kind) (an_op first) fault → fault ≡ OperandNotUseOfDef
+pub twice_alone : (kind : ℕ) (fault : Fault) → Stands (naming_twice kind) (an_op first) fault → fault ≡ OperandNotUseOfDef
 twice_alone kind (NoParent name) h = absurd (all_linked kind both empty_block (first ∷ second ∷ []) refl name h)
 twice_alone kind (MissingTerminator name) h = absurd (none_missing kind both empty_block (first ∷ second ∷ []) refl name h)
 twice_alone kind (TerminatorNotLast name) h = absurd (none_early kind both empty_block (first ∷ second ∷ []) refl name h)
@@ -260,7 +260,7 @@ twice_alone kind (EntryHasPred name) h =
 twice_alone kind OperandNotUseOfDef h = refl
 twice_alone kind (Verifier code) h = absurd h.2
 
-by_terminator : (fault : Fault) → Stands (naming_twice 3) (an_op first) fault → ⊥
+pub by_terminator : (fault : Fault) → Stands (naming_twice 3) (an_op first) fault → ⊥
 by_terminator fault h = by fault h (twice_alone 3 fault h)
   where
     by : (fault : Fault) → Stands (naming_twice 3) (an_op first) fault → fault ≡ OperandNotUseOfDef → ⊥
@@ -281,11 +281,11 @@ faults_stand = record {
   named_twice = (second, below {c = a_region first} (inr (inl refl)) (below {c = an_op first} (inl refl) itself), (second, inl refl, inr (first, inl refl, λ k. k)));
   named_twice_alone = twice_alone 4;
   not_by_a_terminator = by_terminator;
-  named_aside = (second, itself, (second, inl refl, inl unlinked));
+  named_aside = (second, itself, (second, inl refl, inl (unlinked second)));
   no_entry = λ name h.
-      let e = only_it (a_block h.0) h.1 in
+      let e = only_it second second (a_block h.0) h.1 in
       let b : h.0 ≡ second = cc in
-      let f = first_block h.3.0 h.0 h.3.1 in
+      let f = first_block second h.3.0 h.0 h.3.1 in
       let n : 1 ≡ 2 = ap (λ (i : ArenaIndex). i.slot) (sym f ∙ b) in
       omega (arith, n);
 }

@@ -29,7 +29,7 @@ same_tells N L (a_region o) (an_op c) e = absurd cc
 same_tells N L (a_region o) (a_block c) e = absurd cc
 
 -- what is there is gone, or it is outside and as it was but for e
-gone_or_out : {B : Type 0} (Ins : Type 0) (now kept : Option B) → (Ins → now ≡ None) → ((Ins → ⊥) → now ≡ kept) → (now ≡ None) ⊎ ((Ins → ⊥) × (now ≡ kept))
+pub gone_or_out : {B : Type 0} (Ins : Type 0) (now kept : Option B) → (Ins → now ≡ None) → ((Ins → ⊥) → now ≡ kept) → (now ≡ None) ⊎ ((Ins → ⊥) × (now ≡ kept))
 gone_or_out Ins None kept gone out = inl refl
 gone_or_out Ins (Some r) kept gone out = let not_in : Ins → ⊥ = λ i. (let e : Some r ≡ None = gone i in cc) in inr (not_in, out not_in)
 

@@ -31,7 +31,7 @@ two_text = decimal_digit 2 (omega arith)
 pub block_one : block_id first ≡ codes "block1v1"
 block_one = ap (λ t. codes "block" ++ (t ++ codes "v" ++ t)) one_text
 
-block_two : block_id second ≡ codes "block2v1"
+pub block_two : block_id second ≡ codes "block2v1"
 block_two = ap (λ t. codes "block" ++ (t ++ codes "v" ++ decimal 1)) two_text ∙ ap (λ t. codes "block2v" ++ t) one_text
 
 value_zero : value_id 0 ≡ codes "v0"

@@ -38,7 +38,7 @@ pub length-same : {A : Type 0} (xs ys : List A) → Distinct xs → Distinct ys 
 length-same xs ys d e h k = let p = length-within xs ys d h in let q = length-within ys xs e k in omega (arith, p, q)
 
 -- what is outside is known of each, and what is inside is gone
-gone_or_kept : {A : Type 0} (Ins : Type 0) (g h kept : Option A) → (Ins → g ≡ None) → (Ins → h ≡ None) → ((Ins → ⊥) → g ≡ kept) → ((Ins → ⊥) → h ≡ kept) → g ≡ h
+pub gone_or_kept : {A : Type 0} (Ins : Type 0) (g h kept : Option A) → (Ins → g ≡ None) → (Ins → h ≡ None) → ((Ins → ⊥) → g ≡ kept) → ((Ins → ⊥) → h ≡ kept) → g ≡ h
 gone_or_kept Ins None None kept a b c d = refl
 gone_or_kept Ins (Some x) h kept a b c d = let out : Ins → ⊥ = λ i. (let e : Some x ≡ None = a i in cc) in c out ∙ sym (d out)
 gone_or_kept Ins None (Some y) kept a b c d = let out : Ins → ⊥ = λ i. (let e : Some y ≡ None = b i in cc) in c out ∙ sym (d out)

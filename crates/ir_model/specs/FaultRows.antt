@@ -60,17 +60,17 @@ with_empty_block kind = record {
 }
 
 -- an operation of a kind with a block of a return and a constant behind it
-abbrev pub return_first : Forest context_ids bare
-return_first = record {
-  ops = three (Some (op_of_kind 5 [] (first ∷ []))) (Some (op_of_kind 2 [] [])) (Some (op_of_kind 0 [] []));
+abbrev pub return_first : ℕ → Forest context_ids bare
+return_first kind = record {
+  ops = three (Some (op_of_kind kind [] (first ∷ []))) (Some (op_of_kind 2 [] [])) (Some (op_of_kind 0 [] []));
   blocks = three (Some (block_with (second ∷ third ∷ []))) None None;
   regions = three (Some (first ∷ [])) None None;
 }
 
--- a module with two empty blocks, and an unlinked operation that names the second
-abbrev pub unlinked_user : Forest context_ids bare
-unlinked_user = record {
-  ops = three (Some (op_of_kind 5 [] (first ∷ []))) (Some (op_of_kind 4 (record { use_number = 0; block = second } ∷ []) [])) None;
+-- a module with two empty blocks, and an unlinked operation that names this block
+abbrev pub unlinked_user : ArenaIndex → Forest context_ids bare
+unlinked_user named = record {
+  ops = three (Some (op_of_kind 5 [] (first ∷ []))) (Some (op_of_kind 4 (record { use_number = 0; block = named } ∷ []) [])) None;
   blocks = three (Some (block_with [])) (Some (block_with [])) None;
   regions = three (Some (first ∷ second ∷ [])) None None;
 }
@@ -83,12 +83,12 @@ pub record FaultsStand : Type 0 where
   pub missing : Stands (with_empty_block 6) (an_op first) (MissingTerminator (codes "block1v1"))
   -- a parent that asks for no terminators has none to miss
   pub not_missing : (name : Text) → Stands (with_empty_block 5) (an_op first) (MissingTerminator name) → ⊥
-  pub too_early : Stands return_first (an_op first) (TerminatorNotLast (codes "block1v1"))
+  pub too_early : Stands (return_first 5) (an_op first) (TerminatorNotLast (codes "block1v1"))
   -- an operation that names a block twice and ends no block is no terminator, and that alone is at fault
   pub named_twice : Stands (naming_twice 4) (an_op first) OperandNotUseOfDef
   pub named_twice_alone : (fault : Fault) → Stands (naming_twice 4) (an_op first) fault → fault ≡ OperandNotUseOfDef
   -- were it a terminator, nothing would be at fault
   pub not_by_a_terminator : (fault : Fault) → Stands (naming_twice 3) (an_op first) fault → ⊥
-  pub named_aside : Stands unlinked_user (a_block second) OperandNotUseOfDef
+  pub named_aside : Stands (unlinked_user second) (a_block second) OperandNotUseOfDef
   -- the block is not the first of its region
-  pub no_entry : (name : Text) → Stands unlinked_user (a_block second) (EntryHasPred name) → ⊥
+  pub no_entry : (name : Text) → Stands (unlinked_user second) (a_block second) (EntryHasPred name) → ⊥

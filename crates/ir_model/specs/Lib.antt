@@ -24,14 +24,18 @@ pub mod BlockGraph
 pub mod Subtree
 pub mod Names
 pub mod Faults
+pub mod Verifiers
+pub mod VerifyAnswers
 pub mod Stores
 pub mod VerifierLists
 pub mod Dead
+pub mod SweepLaws
 pub mod Identifier
 pub mod Legaliser
 pub mod SmallForests
 pub mod IdForests
 pub mod WorkedRows
+pub mod EraseRows
 pub mod NamedRows
 pub mod FaultRows
 pub mod EditStart
@@ -48,5 +52,8 @@ pub mod HostileRows
 pub mod LetterRows
 pub mod OwnCheckRows
 pub mod MemoryRows
+pub mod AnswerRows
+pub mod VerifierRows
+pub mod VerifierLaws
 pub mod DefinitionLaws
 pub mod EditLaws

@@ -14,6 +14,9 @@ mod error;
 mod edit_rows;
 #[cfg(test)]
 mod edit_rows_tests;
+mod erase_examples;
+#[cfg(test)]
+mod erase_examples_tests;
 mod examples;
 mod handle_laws;
 #[cfg(test)]
@@ -36,6 +39,12 @@ mod step_laws_tests;
 mod small_sessions;
 #[cfg(test)]
 mod small_sessions_tests;
+mod sweep_laws;
+#[cfg(test)]
+mod sweep_laws_tests;
+mod verification_laws;
+#[cfg(test)]
+mod verification_laws_tests;
 
 pub use answer::{Answer, Refused};
 pub use definition_laws::{
@@ -48,6 +57,7 @@ pub use edit_rows::{
     condition_rows, definition_rows, list_rows, memory_rows, new_entity_rows, operand_rows,
     removal_rows,
 };
+pub use erase_examples::erase_rows;
 pub use examples::worked_rows;
 pub use handle_laws::handles_stay_refused;
 pub use ids::{ArenaIndex, Limits};
@@ -64,6 +74,8 @@ pub use small_sessions::{
     hostile_edits_are_refused, identifiers_are_given_by_letters, own_checks_tell,
     uses_move_as_told, views_show_all,
 };
+pub use sweep_laws::sweep_is_one;
+pub use verification_laws::{faults_are_told, kinds_settle, verification_rows};
 
 /// The law on two runs: whatever ids and numbers each run chose, they give the same answers and the same view.
 ///
