@@ -7,6 +7,9 @@ ghost use Rattle.ir_model.specs.Forest.{Behaviour};
 ghost use Rattle.ir_model.specs.Sessions.{TwoRuns};
 
 mod answer;
+mod call_laws;
+#[cfg(test)]
+mod call_laws_tests;
 mod definition_laws;
 #[cfg(test)]
 mod definition_laws_tests;
@@ -19,6 +22,7 @@ mod laws;
 mod laws_tests;
 
 pub use answer::{Answer, Refused};
+pub use call_laws::{calls_change_one_part, calls_keep_well_formed, sets_of_uses_move};
 pub use definition_laws::{
     all_uses_are_redirected, closed_by_definitions, removal_is_one, replaced_takes_uses,
     retargeted_takes_uses, searches_agree, sources_apart, subtree_size_is_one,
