@@ -34,3 +34,10 @@ pub mod FaultRows
 pub mod DefinitionLaws
 pub mod Calls
 pub mod CallLaws
+pub mod Predecessors
+pub mod ValueParents
+pub mod Kinds
+pub mod Saved
+pub mod AuxData
+pub mod QueryLaws
+pub mod StoreLaws

@@ -20,6 +20,8 @@ mod ids_tests;
 mod laws;
 #[cfg(test)]
 mod laws_tests;
+mod query_laws;
+mod store_laws;
 
 pub use answer::{Answer, Refused};
 pub use call_laws::{calls_change_one_part, calls_keep_well_formed, sets_of_uses_move};
@@ -34,6 +36,12 @@ pub use laws::{
     changes_are_settled, edits_can_be_made, gone_for_good, handles_are_exact,
     new_sessions_are_sound, refusals_change_nothing, runs_keep_sound, steps_keep_sound,
     versions_rise,
+};
+pub use query_laws::{
+    dominance_is_told, handles_are_refused, parents_of_values, predecessors_follow_uses,
+};
+pub use store_laws::{
+    aux_is_kept, bodies_are_set, dictionaries_keep_order, owners_stay_apart, saved_are_exact,
 };
 
 /// The law on two runs: whatever ids and numbers each run chose, they give the same answers and the same view.
