@@ -41,3 +41,4 @@ pub mod Saved
 pub mod AuxData
 pub mod QueryLaws
 pub mod StoreLaws
+pub mod CallRows

@@ -1,7 +1,7 @@
 //! Each law of the calls, of queries and of stores is called once, at the types of a small dialect.
 
 use crate::{
-    aux_is_kept, bodies_are_set, calls_change_one_part, calls_keep_well_formed,
+    aux_is_kept, bodies_are_set, call_rows, calls_change_one_part, calls_keep_well_formed,
     dictionaries_keep_order, dominance_is_told, handles_are_refused, owners_stay_apart,
     parents_of_values, predecessors_follow_uses, saved_are_exact, sets_of_uses_move,
 };
@@ -20,4 +20,5 @@ fn laws_of_calls_are_called() {
     bodies_are_set::<u32, u8, u8, u8, u8, u8>();
     dictionaries_keep_order::<u8>();
     owners_stay_apart();
+    call_rows();
 }

@@ -7,6 +7,7 @@ ghost use Rattle.ir_model.specs.Forest.{Behaviour};
 ghost use Rattle.ir_model.specs.Sessions.{TwoRuns};
 
 mod answer;
+mod call_examples;
 mod call_laws;
 #[cfg(test)]
 mod call_laws_tests;
@@ -24,6 +25,7 @@ mod query_laws;
 mod store_laws;
 
 pub use answer::{Answer, Refused};
+pub use call_examples::call_rows;
 pub use call_laws::{calls_change_one_part, calls_keep_well_formed, sets_of_uses_move};
 pub use definition_laws::{
     all_uses_are_redirected, closed_by_definitions, removal_is_one, replaced_takes_uses,
