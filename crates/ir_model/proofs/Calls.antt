@@ -359,7 +359,7 @@ module _ {A R X : Type 0} (same : A → A → Bool) (tells : Tells same) (read :
 
 module _ {W : Dialect} (f : Forest context_ids W) where
   loc_is_set : (d : Definer context_ids) (loc : W.Loc) → LocIsSet f d loc
-  loc_is_set d loc = record { set = set d; others = others d; alone = alone_loc f d loc }
+  loc_is_set d loc = record { set = set d; values = λ v e live. ap (loc_of (set_loc f d loc)) e ∙ set d live; others = others d; alone = alone_loc f d loc }
     where
       set : (d : Definer context_ids) → IsLive f (definer_entity _ d) → loc_of (set_loc f d loc) d ≡ Some loc
       set (of_op o) live = part_set context_ids.same_op lawful.ops (λ (r : OpRecord context_ids W). r.loc) (λ r. record r { loc = loc }) loc (λ r. refl) o f.ops live

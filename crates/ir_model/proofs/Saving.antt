@@ -134,6 +134,9 @@ module _ {S : Type 0} (same : S → S → Bool) (itself : (x : S) → same x x �
 pub saved_are_exact : (W : Dialect) → SavedAreExact W
 saved_are_exact W K b value laws = record {
   saved = at_its_place K.same_saved laws.itself laws.turned laws.joined b.saved value;
+  its_kind =
+      let at = at_its_place K.same_saved laws.itself laws.turned laws.joined b.saved value in
+      record { value = at.value; found = at.found; holds = laws.kinds at.value value at.holds };
   found = λ place h. ap (λ (l : List W.Saved). record b { saved = l }) (found_before K.same_saved laws.itself laws.turned laws.joined b.saved value place h);
   last = goes_last K.same_saved laws.itself laws.turned laws.joined b.saved value;
   stay = stays_at K.same_saved laws.itself laws.turned laws.joined b.saved value;

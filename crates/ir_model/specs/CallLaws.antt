@@ -9,7 +9,7 @@ use Rattle.ir_model.specs.Nesting.{IsLive, IsLiveNamed, WellFormed, uses_of}
 use Rattle.ir_model.specs.Changes.{on_operands, on_successors}
 use Rattle.ir_model.specs.Uses.{Use, IsUse, AreUses, IsOperandAt, IsSuccessorAt}
 use Rattle.ir_model.specs.Redirect.{redirect_uses, retarget_uses}
-use Rattle.ir_model.specs.Calls.{the_types, the_names, the_labels, the_locations, the_attributes, ChangesAlone, HasType, HasName, label_of, loc_of, attributes_of, set_type, set_name, set_label, set_loc, set_attributes}
+use Rattle.ir_model.specs.Calls.{the_types, the_names, the_labels, the_locations, the_attributes, ChangesAlone, HasType, HasName, label_of, loc_of, value_loc, attributes_of, set_type, set_name, set_label, set_loc, set_attributes}
 
 module _ {W : Dialect} (f : Forest context_ids W) where
   -- the value has the type and no other one, every other value has the types that it had, and nothing but types changes
@@ -32,9 +32,10 @@ module _ {W : Dialect} (f : Forest context_ids W) where
     pub others : (c : ArenaIndex) → c ≢ b → label_of (set_label f b label) c ≡ label_of f c
     pub alone : ChangesAlone the_labels f (set_label f b label)
 
-  -- the operation or block has the location, every other one that which it had, and nothing but locations changes
+  -- the operation or block has the location, and so have the values that it defines, every other one that which it had, and nothing but locations changes
   pub record LocIsSet (d : Definer context_ids) (loc : W.Loc) : Type 0 where
     pub set : IsLive f (definer_entity _ d) → loc_of (set_loc f d loc) d ≡ Some loc
+    pub values : (v : Value context_ids) → v.definer ≡ d → IsLive f (definer_entity _ d) → value_loc (set_loc f d loc) v ≡ Some loc
     pub others : (e : Definer context_ids) → e ≢ d → loc_of (set_loc f d loc) e ≡ loc_of f e
     pub alone : ChangesAlone the_locations f (set_loc f d loc)
 

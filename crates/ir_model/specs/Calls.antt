@@ -63,6 +63,10 @@ module _ {N : Ids} {W : Dialect} where
   loc_of f (of_op o) = option_map (λ r. r.loc) (f.ops o)
   loc_of f (of_block b) = option_map (λ r. r.loc) (f.blocks b)
 
+  -- the location of the value, which is that of what defines it
+  abbrev pub value_loc : Forest N W → Value N → Option W.Loc
+  value_loc f v = loc_of f v.definer
+
   -- the attributes of the operation or the block, in order, where it is live
   abbrev pub attributes_of : Forest N W → Definer N → Option (List (Text × W.Attr))
   attributes_of f (of_op o) = option_map (λ r. r.attributes) (f.ops o)

@@ -18,6 +18,10 @@ module _ {W : Dialect} (K : Kinds W) where
   abbrev pub IsSavedAt : Beside W → ℕ → W.Saved → Type 0
   IsSavedAt b place value = The (slice_get b.saved place) λ kept. K.same_saved kept value ≡ true
 
+  -- a value of this kind is saved at the place
+  abbrev pub IsSavedKind : Beside W → ℕ → ℕ → Type 0
+  IsSavedKind b place kind = The (slice_get b.saved place) λ kept. K.saved_kind kept ≡ kind
+
 module _ {W : Dialect} where
   -- the type at the place has this body, its key and all other types are as before
   abbrev pub set_body : List (StoredType W) → ℕ → W.Body → List (StoredType W)

@@ -11,7 +11,7 @@ use Rattle.ir_model.specs.Edits.{StoredType, type_place}
 use Rattle.ir_model.specs.Sessions.{Beside}
 use Rattle.ir_model.specs.Stores.{without_aux, with_aux_name, attribute_at, set_attribute, without_attribute, HasDistinctKeys}
 use Rattle.ir_model.specs.Kinds.{Kinds}
-use Rattle.ir_model.specs.Saved.{saved_place, with_saved, IsSavedAt, set_body}
+use Rattle.ir_model.specs.Saved.{saved_place, with_saved, IsSavedAt, IsSavedKind, set_body}
 use Rattle.ir_model.specs.AuxData.{live_aux, InsertsAux, SkipsAux, write_aux, aux_by_name, AuxIsSound}
 use Rattle.ir_model.specs.VerifierLists.{deduplicated}
 
@@ -32,6 +32,7 @@ module _ {W : Dialect} (K : Kinds W) where
   -- a value that is saved is found at its place: an equal one is kept, and else it goes last; what was saved stays where it was
   pub record SavingIsExact (b : Beside W) (value : W.Saved) : Type 0 where
     pub saved : IsSavedAt K (with_saved K b value) (saved_place K b value) value
+    pub its_kind : IsSavedKind K (with_saved K b value) (saved_place K b value) (K.saved_kind value)
     pub found : (place : ℕ) → IsSavedAt K b place value → with_saved K b value ≡ b
     pub last : ((place : ℕ) → IsSavedAt K b place value → ⊥) → ((with_saved K b value).saved ≡ b.saved ++ value ∷ []) × (saved_place K b value ≡ length b.saved)
     pub stay : (place : ℕ) (x : W.Saved) → slice_get b.saved place ≡ Some x → slice_get (with_saved K b value).saved place ≡ Some x
