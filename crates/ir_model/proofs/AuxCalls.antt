@@ -1,6 +1,6 @@
 -- Calls on auxiliary data keep what is live among what was passed, and what is gone gone.
 use mathlib.Core.Path.{◌≡◌, refl, sym, ap, ◌∙◌, subst, fun_ext}
-use Rattle.std.proofs.Common.{◌≢◌, inl, Bool, true, false, cond, Option, Some, None, IsSome, is_some, arith}
+use Rattle.std.proofs.Common.{◌≢◌, ◌≤◌, ◌⊎◌, inl, inr, List, [], ◌∷◌, length, Bool, true, false, cond, Option, Some, None, IsSome, is_some, arith}
 use Rattle.std.specs.Prelude.{◌↔◌, IsTrue, bytes_eq}
 use Rattle.std.specs.Option.{option_map}
 use Rattle.std.proofs.lemmas.Slice.Eq.{bytes_eq-Decides}
@@ -8,6 +8,7 @@ use Rattle.ir_model.specs.declared.ids.ArenaIndex.{ArenaIndex}
 use Rattle.ir_model.specs.declared.ids.Limits.{Limits}
 use Rattle.ir_model.specs.ContextIds.{same_id}
 use Rattle.ir_model.specs.Forest.{Text, Dialect}
+use Rattle.ir_model.specs.Nesting.{In}
 use Rattle.ir_model.specs.Sessions.{Beside}
 use Rattle.ir_model.specs.Stores.{with_aux}
 use Rattle.ir_model.specs.AuxData.{live_aux, IsNewAux, AuxIsSound}
@@ -115,10 +116,27 @@ pub aux_is_kept : (W : Dialect) → AuxIsKept W
 aux_is_kept W = record {
   inserted = λ limits b c data_ i sound h. subst (AuxIsInserted b data_ i) (sym h.after) (inserted b sound limits data_ i h.is_new);
   skipped = λ limits b c sound h. record {
-    sound = record { passed = λ i live. (h.passed i).1 (inl (sound.passed i (subst (λ (m : ArenaIndex → Option W.Aux). IsSome (m i)) h.aux live))) };
-    gone = λ i g. ((h.passed i).1 (inl g.0), λ live. g.1 (subst (λ (m : ArenaIndex → Option W.Aux). IsSome (m i)) h.aux live));
+    one = λ i j m n p q. one_in h.skipped h.few i j (newly (b.aux_passed i) (h.passed i).0 m p) (newly (b.aux_passed j) (h.passed j).0 n q);
+    aux = h.aux;
+    names = h.names;
+    saved = h.saved;
+    stays = record {
+      sound = record { passed = λ i live. (h.passed i).1 (inl (sound.passed i (subst (λ (m : ArenaIndex → Option W.Aux). IsSome (m i)) h.aux live))) };
+      gone = λ i g. ((h.passed i).1 (inl g.0), λ live. g.1 (subst (λ (m : ArenaIndex → Option W.Aux). IsSome (m i)) h.aux live));
+    };
   };
   removed = λ b i sound. removed b sound i;
   named = λ b name i sound. named b sound name i;
   written = λ b i data_ sound. written b sound i data_;
 }
+  where
+    one_in : (xs : List ArenaIndex) → length xs ≤ 1 → (i j : ArenaIndex) → In i xs → In j xs → i ≡ j
+    one_in [] few i j h k = elim h [ ]
+    one_in (x ∷ []) few i j (inl e) (inl f) = e ∙ sym f
+    one_in (x ∷ []) few i j (inl e) (inr k) = elim k [ ]
+    one_in (x ∷ []) few i j (inr h) k = elim h [ ]
+    one_in (x ∷ y ∷ xs) few i j h k = absurd (omega (arith, few))
+
+    newly : {P Q : Type 0} (t : Bool) → (P → IsTrue t ⊎ Q) → t ≡ false → P → Q
+    newly true to e p = absurd cc
+    newly false to e p = elim (to p) [ inl k ↦ absurd (let f : false ≡ true = k in cc) | inr q ↦ q ]

@@ -16,7 +16,7 @@ use Rattle.ir_model.specs.AuxData.{live_aux}
 use Rattle.ir_model.specs.SmallForests.{Small, n0, n1, n2, n3, n4, n5, small_ids, bare, result, operation}
 use Rattle.ir_model.specs.IdForests.{first}
 use Rattle.ir_model.specs.WorkedRows.{use_}
-use Rattle.ir_model.specs.CallRows.{SavedRows, BodyRows, HandleRows, DominanceRows, ParentRows, PredecessorRows, PartRows, AuxRows, VerifierRows, asks, no_first, two_owners, nested_block, two_ways, spoken, named_value, taken_out, one_slot}
+use Rattle.ir_model.specs.CallRows.{SavedRows, BodyRows, HandleRows, DominanceRows, ParentRows, PredecessorRows, PartRows, AuxRows, VerifierRows, asks, no_first, two_owners, nested_block, two_ways, spoken, named_value, with_data, taken_out, one_slot}
 use Rattle.ir_model.proofs.TwoRuns.{lawful}
 use Rattle.ir_model.proofs.WorkedRows.{both_uses}
 
@@ -212,6 +212,8 @@ aux_rows = record {
   not_again = λ new. elim new.3 [ inl z ↦ z.1 first refl refl | inr z ↦ (let h : 1 ≡ z.0.version + 2 = z.2 in omega (arith, h)) ];
   spent = (1, (first ∷ [], (tt, tt), one_taken, refl), omega arith);
   not_spent = λ h. still_room h.0 h.1.0 h.1.2 h.1.3 h.2;
+  a_slot_left = (0, ([], tt, none_taken, refl), omega arith);
+  no_slot_left = λ h. no_room h.0 h.1.0 h.1.2 h.1.3 h.2;
 }
   where
     one_taken : (x : ArenaIndex) → In x (first ∷ []) ↔ TakesSlot (one_slot 1) taken_out.aux_passed (live_aux taken_out) x
@@ -219,6 +221,19 @@ aux_rows = record {
       λ h. elim h [ inl e ↦ subst (TakesSlot (one_slot 1) taken_out.aux_passed (live_aux taken_out)) (sym e) (inr (refl, taken_live first, omega arith)) | inr k ↦ elim k [ ] ],
       λ h. elim h [ inl live ↦ absurd (taken_live x live) | inr z ↦ inl (taken_passed x z.0) ],
     )
+
+    none_taken : (x : ArenaIndex) → In x [] ↔ TakesSlot (one_slot 3) taken_out.aux_passed (live_aux taken_out) x
+    none_taken x = (
+      λ h. elim h [ ],
+      λ h. elim h [
+        | inl live ↦ taken_live x live
+        | inr z ↦ (let v : x.version ≡ 1 = ap (λ (i : ArenaIndex). i.version) (taken_passed x z.0) in let k : 3 < x.version + 2 = z.2 in omega (arith, v, k))
+      ],
+    )
+
+    no_room : (gone : ℕ) (xs : List ArenaIndex) → ((x : ArenaIndex) → In x xs ↔ TakesSlot (one_slot 3) with_data.aux_passed (live_aux with_data) x) → length xs ≡ gone → gone + 1 ≤ 1 → ⊥
+    no_room gone [] exact e le = (exact first).1 (inl refl)
+    no_room gone (x ∷ xs) exact e le = (let s : suc (length xs) ≡ gone = e in omega (arith, s, le))
 
     still_room : (gone : ℕ) (xs : List ArenaIndex) → ((x : ArenaIndex) → In x xs ↔ TakesSlot (one_slot 3) taken_out.aux_passed (live_aux taken_out) x) → length xs ≡ gone → 1 < gone + 1 → ⊥
     still_room gone [] exact e lt = (let s : 0 ≡ gone = e in omega (arith, s, lt))

@@ -13,7 +13,7 @@ use Rattle.ir_model.specs.Predecessors.{ArePredecessorsBy, IsPredecessorAt}
 use Rattle.ir_model.specs.ValueParents.{IsParentBlock, IsParentRegion}
 use Rattle.ir_model.specs.Kinds.{Kinds, region_kind_interface, IsDominance, IsOtherKind, Implements, LacksInterface, HasKind}
 use Rattle.ir_model.specs.Saved.{saved_place, with_saved, set_body}
-use Rattle.ir_model.specs.AuxData.{IsNewAux, InsertsAux, LacksAuxSlot, aux_by_name}
+use Rattle.ir_model.specs.AuxData.{IsNewAux, InsertsAux, HasAuxSlot, LacksAuxSlot, aux_by_name}
 use Rattle.ir_model.specs.VerifierLists.{deduplicated}
 use Rattle.ir_model.specs.SmallForests.{Small, n0, n1, n2, same_small, small_ids, bare, behaviour, result, operand, successor, definition, operation, block, forest}
 use Rattle.ir_model.specs.IdForests.{first, second, first_again}
@@ -207,6 +207,8 @@ pub record AuxRows : Type 0 where
   pub not_again : IsNewAux (one_slot 3) taken_out first → ⊥
   pub spent : LacksAuxSlot (one_slot 1) taken_out
   pub not_spent : LacksAuxSlot (one_slot 3) taken_out → ⊥
+  pub a_slot_left : HasAuxSlot (one_slot 3) taken_out
+  pub no_slot_left : HasAuxSlot (one_slot 3) with_data → ⊥
 
 -- ## Verifiers
 

@@ -65,6 +65,14 @@ module _ {W : Dialect} where
     pub saved : c.saved ≡ b.saved
     pub stays : AuxStaysSound b c
 
+  -- at most one index is passed that was not, and all else is as before
+  pub record AuxIsSkipped (b c : Beside W) : Type 0 where
+    pub one : (i j : ArenaIndex) → b.aux_passed i ≡ false → b.aux_passed j ≡ false → IsTrue (c.aux_passed i) → IsTrue (c.aux_passed j) → i ≡ j
+    pub aux : c.aux ≡ b.aux
+    pub names : c.aux_names ≡ b.aux_names
+    pub saved : c.saved ≡ b.saved
+    pub stays : AuxStaysSound b c
+
   -- there is nothing under the index, each name leads where it led, and all else is as before
   pub record AuxIsRemoved (b : Beside W) (i : ArenaIndex) : Type 0 where
     pub empty : (without_aux b i).aux i ≡ None
@@ -142,7 +150,7 @@ module _ (W : Dialect) where
   -- every call on auxiliary data does what it says, and no more, where what is live was passed
   pub record AuxIsKept : Type 0 where
     pub inserted : (limits : Limits) (b c : Beside W) (data_ : W.Aux) (i : ArenaIndex) → AuxIsSound b → InsertsAux limits b data_ i c → AuxIsInserted b data_ i c
-    pub skipped : (limits : Limits) (b c : Beside W) → AuxIsSound b → SkipsAux limits b c → AuxStaysSound b c
+    pub skipped : (limits : Limits) (b c : Beside W) → AuxIsSound b → SkipsAux limits b c → AuxIsSkipped b c
     pub removed : (b : Beside W) (i : ArenaIndex) → AuxIsSound b → AuxIsRemoved b i
     pub named : (b : Beside W) (name : Text) (i : ArenaIndex) → AuxIsSound b → AuxIsNamed b name i
     pub written : (b : Beside W) (i : ArenaIndex) (data_ : W.Aux) → AuxIsSound b → AuxIsWritten b i data_
