@@ -1,27 +1,30 @@
 -- What is asked of blocks, values, regions and handles has one answer.
 use mathlib.Core.Path.{◌≡◌, refl, sym, ap, ◌∙◌, subst}
-use Rattle.std.proofs.Common.{ℕ, zero, suc, ◌<◌, inl, inr, Bool, true, false, cond, Option, Some, None, List, [], ◌∷◌, map, length, arith}
+use Rattle.std.proofs.Common.{ℕ, zero, suc, ◌<◌, inl, inr, Bool, true, false, cond, Option, Some, None, List, [], ◌∷◌, map, length, arith, ◌++◌}
 use Rattle.std.specs.Prelude.{◌↔◌, slice_get}
-use Rattle.std.specs.List.{AllZip}
+use Rattle.std.specs.List.{AllZip, list_any, position_or_len}
 use Rattle.std.specs.Option.{option_map}
 use Rattle.ir_model.specs.declared.ids.ArenaIndex.{ArenaIndex}
 use Rattle.ir_model.specs.Ids.{Ids}
 use Rattle.ir_model.specs.ContextIds.{context_ids}
-use Rattle.ir_model.specs.Forest.{Dialect, Behaviour, Definer, of_op, of_block, Entity, an_op, a_block, a_region, OpRecord, Operand, Successor, Forest, Named, a_value, the_block}
-use Rattle.ir_model.specs.Nesting.{In, list_of, children, WellFormed, ops_of, blocks_of, regions_of, names_of, operands_of, successors_of}
+use Rattle.ir_model.specs.Forest.{Dialect, Behaviour, Definer, Definition, of_op, of_block, Entity, an_op, a_block, a_region, OpRecord, Operand, Successor, Forest, Named, a_value, the_block, Value}
+use Rattle.ir_model.specs.Nesting.{In, list_of, children, WellFormed, ops_of, blocks_of, regions_of, names_of, operands_of, successors_of, definitions_of, types_of}
 use Rattle.ir_model.specs.Edits.{StoredType, The}
 use Rattle.ir_model.specs.Uses.{Use, IsUse}
 use Rattle.ir_model.specs.Parent.{FindsOne, IsParent}
 use Rattle.ir_model.specs.ValueParents.{IsBlockOf}
 use Rattle.ir_model.specs.Kinds.{Kinds, dominance, IsDominance, region_kind_interface, HasKind}
 use Rattle.ir_model.specs.Saved.{set_body}
-use Rattle.ir_model.specs.QueryLaws.{PredecessorsFollowUses, ParentsOfValues, DominanceIsTold, HandlesAreRefused}
+use Rattle.ir_model.specs.QueryLaws.{PredecessorsFollowUses, ParentsOfValues, DominanceIsTold, HandlesAreRefused, ValueIsTold, ValuesAreTold, MadeHaveTheirKind, KeysKeepTheirKind}
 use Rattle.ir_model.proofs.TwoRuns.{lawful}
 use Rattle.ir_model.proofs.Nests.{In-append, In-map, In-map_back, In-right}
 use Rattle.ir_model.proofs.Keeps.{Distinct-unmap}
 use Rattle.ir_model.proofs.Relinks.{one_block}
 use Rattle.ir_model.proofs.Edges.{got_in, zip_left, zip_right}
 use Rattle.ir_model.proofs.Searches.{place_one}
+use Rattle.ir_model.proofs.Redirected.{one_of}
+use Rattle.ir_model.proofs.Uniquing.{still_at}
+use Rattle.ir_model.proofs.Saving.{any_last, first_found, pushed}
 
 -- ## Lists that run beside one another
 
@@ -251,3 +254,50 @@ handles_are_refused W K store t lt = record {
     by : (interface : ℕ) (b : Bool) → K.type_impls (K.type_kind at.0.key) interface ≡ b → (((kind : ℕ) × HasKind K store t kind × (K.type_impls kind interface ≡ true)) → ⊥) → (provided : ℕ) × (HasKind K store t provided × (K.type_impls provided interface ≡ false))
     by interface true e lacks = absurd (lacks (K.type_kind at.0.key, has, e))
     by interface false e lacks = (K.type_kind at.0.key, (has, e))
+
+-- ## Types and names of values
+
+module _ {W : Dialect} (f : Forest context_ids W) (keys : ℕ) (w : WellFormed f keys) (v : Value context_ids) where
+  one_definition : (x y : Definition context_ids W) → In x (definitions_of f v.definer) → In y (definitions_of f v.definer) → x.number ≡ v.number → y.number ≡ v.number → x ≡ y
+  one_definition x y h k m n = one_of (λ (z : Definition context_ids W). z.number) (definitions_of f v.definer) (w.numbers_once v.definer) x y h k (m ∙ sym n)
+
+  value_told : ValueIsTold f keys v
+  value_told = record {
+    there = λ live.
+        let at = In-map_back (λ (x : Definition context_ids W). x.number) v.number (definitions_of f v.definer) live in
+        ((at.0.ty, (at.0, at.1, sym at.2, refl)), (at.0.name, (at.0, at.1, sym at.2, refl)));
+    one_type = λ ty other h k. sym h.3 ∙ ap (λ (x : Definition context_ids W). x.ty) (one_definition h.0 k.0 h.1 k.1 h.2 k.2) ∙ k.3;
+    known = λ ty h. w.known v.definer ty (subst (λ z. In z (types_of f v.definer)) h.3 (In-map (λ (x : Definition context_ids W). x.ty) h.0 (definitions_of f v.definer) h.1));
+    one_name = λ name other h k. sym h.3 ∙ ap (λ (x : Definition context_ids W). x.name) (one_definition h.0 k.0 h.1 k.1 h.2 k.2) ∙ k.3;
+    given = λ name. (λ h. h, λ h. h);
+  }
+
+pub values_are_told : (W : Dialect) → ValuesAreTold W
+values_are_told W f keys v w = value_told f keys w v
+
+-- ## Kinds of handles that are made
+
+module _ {W : Dialect} (B : Behaviour W) (K : Kinds W) (store : List (StoredType W)) (key : W.Key) (itself : B.same_key key key ≡ true)
+    (same_kinds : (a b : W.Key) → B.same_key a b ≡ true → K.type_kind a ≡ K.type_kind b) where
+  abbrev has : StoredType W → Bool
+  has t = B.same_key t.key key
+
+  abbrev one_more : List (StoredType W)
+  one_more = store ++ record { key = key; body = B.first_body } ∷ []
+
+  of_its_kind : (types : List (StoredType W)) → list_any has types ≡ true → HasKind K types (position_or_len has types) (K.type_kind key)
+  of_its_kind types there = let at = first_found has types there in record { value = at.value; found = at.found; holds = same_kinds at.value.key key at.holds }
+
+  made_kind : MadeHaveTheirKind B K store key
+  made_kind = record { made = by (list_any has store) refl; stay = λ t kind h. record { value = h.value; found = still t h.value h.found (list_any has store); holds = h.holds } }
+    where
+      by : (b : Bool) → list_any has store ≡ b → HasKind K (cond b store one_more) (position_or_len has store) (K.type_kind key)
+      by true e = of_its_kind store e
+      by false e = subst (λ n. HasKind K one_more n (K.type_kind key)) (pushed has store (record { key = key; body = B.first_body }) e itself) (of_its_kind one_more (any_last has store (record { key = key; body = B.first_body }) itself))
+
+      still : (t : ℕ) (x : StoredType W) → slice_get store t ≡ Some x → (b : Bool) → slice_get (cond b store one_more) t ≡ Some x
+      still t x e true = e
+      still t x e false = still_at store (record { key = key; body = B.first_body } ∷ []) t x e
+
+pub keys_keep_their_kind : (W : Dialect) → KeysKeepTheirKind W
+keys_keep_their_kind W B K store key itself same_kinds = made_kind B K store key itself same_kinds

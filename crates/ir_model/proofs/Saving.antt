@@ -20,7 +20,7 @@ module _ {A : Type 0} where
       by true k = refl
       by false k = k
 
-  any_last : (p : A → Bool) (xs : List A) (y : A) → p y ≡ true → list_any p (xs ++ y ∷ []) ≡ true
+  pub any_last : (p : A → Bool) (xs : List A) (y : A) → p y ≡ true → list_any p (xs ++ y ∷ []) ≡ true
   any_last p [] y h = ap (λ b. b || false) h
   any_last p (x ∷ xs) y h = by (p x) (any_last p xs y h)
     where
@@ -45,7 +45,7 @@ module _ {A : Type 0} where
       by false k more = more k
 
   -- the first that passes stands at its place
-  first_found : (p : A → Bool) (xs : List A) → list_any p xs ≡ true → The (slice_get xs (position_or_len p xs)) (λ x. p x ≡ true)
+  pub first_found : (p : A → Bool) (xs : List A) → list_any p xs ≡ true → The (slice_get xs (position_or_len p xs)) (λ x. p x ≡ true)
   first_found p xs h = let at = any_found p xs h in record { value = at.0; found = sym (find_at p xs) ∙ at.1; holds = found_passes p xs at.0 at.1 }
 
   nowhere : (p : A → Bool) (xs : List A) → list_any p xs ≡ false → position_or_len p xs ≡ length xs
@@ -57,7 +57,7 @@ module _ {A : Type 0} where
       by false k more = let same = more k in omega (arith, same)
 
   -- the place of one more that passes, where none passed
-  pushed : (p : A → Bool) (xs : List A) (y : A) → list_any p xs ≡ false → p y ≡ true → position_or_len p (xs ++ y ∷ []) ≡ position_or_len p xs
+  pub pushed : (p : A → Bool) (xs : List A) (y : A) → list_any p xs ≡ false → p y ≡ true → position_or_len p (xs ++ y ∷ []) ≡ position_or_len p xs
   pushed p xs y n h = position_or_len_push p xs y ∙ by (eqb (position_or_len p xs) (length xs))
     where
       by : (b : Bool) → cond b (length xs + cond (p y) 0 1) (position_or_len p xs) ≡ position_or_len p xs

@@ -3,12 +3,14 @@ use Rattle.std.specs.Prelude.{◌≡◌, ◌↔◌, ℕ, ◌<◌, Bool, true, fa
 use Rattle.std.specs.Option.{option_map}
 use Rattle.ir_model.specs.declared.ids.ArenaIndex.{ArenaIndex}
 use Rattle.ir_model.specs.ContextIds.{context_ids}
-use Rattle.ir_model.specs.Forest.{Dialect, Behaviour, Forest, Value, of_op, of_block, an_op, a_block, a_region, the_block}
-use Rattle.ir_model.specs.Nesting.{In, WellFormed, regions_of}
-use Rattle.ir_model.specs.Edits.{StoredType, UsersLinked}
+use Rattle.ir_model.specs.Forest.{Text, Dialect, Behaviour, Forest, Value, of_op, of_block, an_op, a_block, a_region, a_value, the_block}
+use Rattle.ir_model.specs.Nesting.{In, IsLiveNamed, WellFormed, regions_of}
+use Rattle.ir_model.specs.Edits.{StoredType, type_place, with_type, UsersLinked}
 use Rattle.ir_model.specs.Uses.{Use, AreUses}
 use Rattle.ir_model.specs.Parent.{IsParent}
 use Rattle.ir_model.specs.BlockGraph.{HasPredecessor, IsPredecessor, ArePredecessors}
+use Rattle.ir_model.specs.Calls.{HasType, HasName}
+use Rattle.ir_model.specs.Names.{IsGivenName}
 use Rattle.ir_model.specs.Predecessors.{ArePredecessorsBy, IsPredecessorAt}
 use Rattle.ir_model.specs.ValueParents.{IsParentBlock, IsParentRegion}
 use Rattle.ir_model.specs.Kinds.{Kinds, region_kind_interface, IsDominance, HasKind, IsOtherKind, Implements, LacksInterface}
@@ -41,6 +43,20 @@ module _ {W : Dialect} (f : Forest context_ids W) where
     pub one : (answer other : Bool) → IsDominance B K f g answer → IsDominance B K f g other → answer ≡ other
     pub plain : (o : ArenaIndex) (answer : Bool) → In g (regions_of f o) → option_map (λ r. B.op_impls r.kind region_kind_interface) (f.ops o) ≡ Some false → IsDominance B K f g answer → answer ≡ true
 
+  -- a live value has one type, which is known, and was given one name or none
+  pub record ValueIsTold (keys : ℕ) (v : Value context_ids) : Type 0 where
+    pub there : IsLiveNamed f (a_value v) → ((ty : ℕ) × HasType f v ty) × ((name : Option Text) × HasName f v name)
+    pub one_type : (ty other : ℕ) → HasType f v ty → HasType f v other → ty ≡ other
+    pub known : (ty : ℕ) → HasType f v ty → ty < keys
+    pub one_name : (name other : Option Text) → HasName f v name → HasName f v other → name ≡ other
+    -- it is what the unique name is made of
+    pub given : (name : Option Text) → HasName f v name ↔ IsGivenName f v name
+
+-- the handle that a key is given is of the key's kind, and what was known keeps its kind
+pub record MadeHaveTheirKind {W : Dialect} (B : Behaviour W) (K : Kinds W) (store : List (StoredType W)) (key : W.Key) : Type 0 where
+  pub made : HasKind K (with_type B store key) (type_place B store key) (K.type_kind key)
+  pub stay : (t kind : ℕ) → HasKind K store t kind → HasKind K (with_type B store key) t kind
+
 module _ {W : Dialect} (K : Kinds W) (store : List (StoredType W)) (t : ℕ) where
   -- a known type has one kind, and a handle for a kind or an interface is refused exactly where it could not be given; bodies play no part
   pub record HandlesAreTold : Type 0 where
@@ -58,6 +74,16 @@ module _ (W : Dialect) where
   -- in every forest a value stands where its definer does
   abbrev pub ParentsOfValues : Type 0
   ParentsOfValues = (f : Forest context_ids W) (keys : ℕ) (v : Value context_ids) → WellFormed f keys → ValuesHaveParents f v
+
+  -- in every well-formed forest a value has one type and one name
+  abbrev pub ValuesAreTold : Type 0
+  ValuesAreTold = (f : Forest context_ids W) (keys : ℕ) (v : Value context_ids) → WellFormed f keys → ValueIsTold f keys v
+
+  -- every key that equals itself is given a handle of its kind, where equal keys have one kind
+  abbrev pub KeysKeepTheirKind : Type 0
+  KeysKeepTheirKind =
+      (B : Behaviour W) (K : Kinds W) (store : List (StoredType W)) (key : W.Key) → B.same_key key key ≡ true
+      → ((a b : W.Key) → B.same_key a b ≡ true → K.type_kind a ≡ K.type_kind b) → MadeHaveTheirKind B K store key
 
   -- in every well-formed forest dominance is told one way
   abbrev pub DominanceIsTold : Type 0

@@ -4,6 +4,7 @@ use crate::{
     aux_is_kept, bodies_are_set, call_rows, calls_change_one_part, calls_keep_well_formed,
     dictionaries_keep_order, dominance_is_told, handles_are_refused, owners_stay_apart,
     parents_of_values, predecessors_follow_uses, saved_are_exact, sets_of_uses_move,
+    values_are_told,
 };
 
 #[test]
@@ -13,6 +14,7 @@ fn laws_of_calls_are_called() {
     sets_of_uses_move::<u32, u8, u8, u8, u8, u8>();
     predecessors_follow_uses::<u32, u8, u8, u8, u8, u8>();
     parents_of_values::<u32, u8, u8, u8, u8, u8>();
+    values_are_told::<u32, u8, u8, u8, u8, u8>();
     dominance_is_told::<u32, u8, u8, u8, u8, u8>();
     handles_are_refused::<u32, u8, u8, u8, u8, u8>();
     saved_are_exact::<u32, u8, u8, u8, u8, u8>();

@@ -41,6 +41,7 @@ pub use laws::{
 };
 pub use query_laws::{
     dominance_is_told, handles_are_refused, parents_of_values, predecessors_follow_uses,
+    values_are_told,
 };
 pub use store_laws::{
     aux_is_kept, bodies_are_set, dictionaries_keep_order, owners_stay_apart, saved_are_exact,
