@@ -20,13 +20,13 @@ got_in [] n x e = absurd cc
 got_in (y ∷ ys) zero x e = inl (let s : y ≡ x = cc in sym s)
 got_in (y ∷ ys) (suc n) x e = inr (got_in ys n x e)
 
-zip_left : {A B : Type 0} (R : A → B → Type 0) (xs : List A) (ys : List B) → AllZip R xs ys → (x : A) → In x xs → (y : B) × In y ys × R x y
+pub zip_left : {A B : Type 0} (R : A → B → Type 0) (xs : List A) (ys : List B) → AllZip R xs ys → (x : A) → In x xs → (y : B) × In y ys × R x y
 zip_left R [] ys z x h = elim h [ ]
 zip_left R (a ∷ xs) [] z x h = elim z [ ]
 zip_left R (a ∷ xs) (b ∷ ys) z x (inl e) = (b, inl refl, subst (λ c. R c b) (sym e) z.0)
 zip_left R (a ∷ xs) (b ∷ ys) z x (inr h) = let more = zip_left R xs ys z.1 x h in (more.0, inr more.1, more.2)
 
-zip_right : {A B : Type 0} (R : A → B → Type 0) (xs : List A) (ys : List B) → AllZip R xs ys → (y : B) → In y ys → (x : A) × In x xs × R x y
+pub zip_right : {A B : Type 0} (R : A → B → Type 0) (xs : List A) (ys : List B) → AllZip R xs ys → (y : B) → In y ys → (x : A) × In x xs × R x y
 zip_right R [] [] z y h = elim h [ ]
 zip_right R (a ∷ xs) [] z y h = elim h [ ]
 zip_right R [] (b ∷ ys) z y h = elim z [ ]

@@ -109,7 +109,7 @@ both_true true q e = (refl, e)
 both_true false q e = absurd cc
 
 module _ {N : Ids} (L : Lawful N) where
-  definer_tells : Tells (same_definer N)
+  pub definer_tells : Tells (same_definer N)
   definer_tells (of_op o) (of_op p) = (λ e. ap of_op ((L.ops o p).0 e), λ e. (L.ops o p).1 cc)
   definer_tells (of_block b) (of_block c) = (λ e. ap of_block ((L.blocks b c).0 e), λ e. (L.blocks b c).1 cc)
   definer_tells (of_op o) (of_block c) = (λ e. absurd cc, λ e. absurd cc)

@@ -56,7 +56,7 @@ before_one x y z xs d h k =
     let parts = split_once x (h.0 ++ y ∷ []) h.1 (k.0 ++ z ∷ []) k.1 (subst Distinct p d) (sym p ∙ q) in
     last_same y z h.0 k.0 parts.0
 
-place_one : {A : Type 0} (x : A) (xs : List A) (m n : ℕ) → Distinct xs → slice_get xs m ≡ Some x → slice_get xs n ≡ Some x → m ≡ n
+pub place_one : {A : Type 0} (x : A) (xs : List A) (m n : ℕ) → Distinct xs → slice_get xs m ≡ Some x → slice_get xs n ≡ Some x → m ≡ n
 place_one x [] m n d h k = absurd cc
 place_one x (y ∷ ys) zero zero d h k = refl
 place_one x (y ∷ ys) zero (suc n) d h k = absurd (let s : y ≡ x = cc in not_in-Absent y ys d.0 (subst (λ z. In z ys) (sym s) (got_in ys n x k)))

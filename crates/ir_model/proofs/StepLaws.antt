@@ -18,7 +18,7 @@ use Rattle.ir_model.proofs.KeepsNew.{any_in}
 use Rattle.ir_model.proofs.TwoRuns.{id_tells}
 use Rattle.ir_model.proofs.Unique.{Change-unique}
 
-rises : (limits : Limits) (passed : ArenaIndex → Bool) (live : ArenaIndex → Type 0) (i old : ArenaIndex) → old.slot ≡ i.slot → IsNewId limits passed live i → IsTrue (passed old) → old.version < i.version
+pub rises : (limits : Limits) (passed : ArenaIndex → Bool) (live : ArenaIndex → Type 0) (i old : ArenaIndex) → old.slot ≡ i.slot → IsNewId limits passed live i → IsTrue (passed old) → old.version < i.version
 rises limits passed live i old same new h = elim new.3 [
   | inl first ↦ absurd (first.1 old h same)
   | inr later ↦ (let below = later.5 old h same in omega arith)

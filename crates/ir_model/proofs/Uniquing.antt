@@ -25,21 +25,21 @@ module _ {A : Type 0} where
   still_at (y ∷ xs) ys (suc k) x e = still_at xs ys k x e
 
   -- an element of a list with one more is the last, or was there
-  last_or_was : (xs : List A) (y : A) (k : ℕ) (x : A) → slice_get (xs ++ y ∷ []) k ≡ Some x → (x ≡ y) ⊎ (slice_get xs k ≡ Some x)
+  pub last_or_was : (xs : List A) (y : A) (k : ℕ) (x : A) → slice_get (xs ++ y ∷ []) k ≡ Some x → (x ≡ y) ⊎ (slice_get xs k ≡ Some x)
   last_or_was [] y zero x e = inl (let f : Some y ≡ Some x = e in let g : y ≡ x = cc in sym g)
   last_or_was [] y (suc k) x e = inr e
   last_or_was (z ∷ xs) y zero x e = inr e
   last_or_was (z ∷ xs) y (suc k) x e = last_or_was xs y k x e
 
   -- what stands before a place of a list with one more was there
-  earlier : (xs : List A) (y : A) (i j : ℕ) (x z : A) → i < j → slice_get (xs ++ y ∷ []) i ≡ Some x → slice_get (xs ++ y ∷ []) j ≡ Some z → slice_get xs i ≡ Some x
+  pub earlier : (xs : List A) (y : A) (i j : ℕ) (x z : A) → i < j → slice_get (xs ++ y ∷ []) i ≡ Some x → slice_get (xs ++ y ∷ []) j ≡ Some z → slice_get xs i ≡ Some x
   earlier [] y i zero x z h e f = absurd (omega arith)
   earlier [] y i (suc j) x z h e f = absurd (none_some z f)
   earlier (w ∷ xs) y zero j x z h e f = e
   earlier (w ∷ xs) y (suc i) zero x z h e f = absurd (omega arith)
   earlier (w ∷ xs) y (suc i) (suc j) x z h e f = earlier xs y i j x z (omega arith) e f
 
-  none_passes : (p : A → Bool) (xs : List A) → list_any p xs ≡ false → (k : ℕ) (x : A) → slice_get xs k ≡ Some x → p x ≡ false
+  pub none_passes : (p : A → Bool) (xs : List A) → list_any p xs ≡ false → (k : ℕ) (x : A) → slice_get xs k ≡ Some x → p x ≡ false
   none_passes p [] n k x e = absurd cc
   none_passes p (y ∷ xs) n k x e = by (λ m j. none_passes p xs m j x) (p y) refl n k e
     where

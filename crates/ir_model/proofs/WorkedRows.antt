@@ -236,7 +236,7 @@ twice_use u h = by u.user h
     by n1 (inr (inr k)) = elim k [ ]
     by _ k = elim k [ ]
 
-both_uses : AreUses (twice_named 4) (the_block n1) (use_ n1 n0 ∷ use_ n1 n1 ∷ [])
+pub both_uses : AreUses (twice_named 4) (the_block n1) (use_ n1 n0 ∷ use_ n1 n1 ∷ [])
 both_uses = record {
   once = ((λ e. (let s : n0 ≡ n1 = ap (λ (u : Use small_ids). u.number) e in cc), tt), (tt, tt));
   exact = λ u. (to u, λ h. elim (twice_use u h) [ inl e ↦ inl e | inr e ↦ inr (inl e) ]);

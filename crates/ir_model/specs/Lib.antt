@@ -57,3 +57,13 @@ pub mod VerifierRows
 pub mod VerifierLaws
 pub mod DefinitionLaws
 pub mod EditLaws
+pub mod Calls
+pub mod CallLaws
+pub mod Predecessors
+pub mod ValueParents
+pub mod Kinds
+pub mod Saved
+pub mod AuxData
+pub mod QueryLaws
+pub mod StoreLaws
+pub mod CallRows

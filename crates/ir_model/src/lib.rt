@@ -7,6 +7,10 @@ ghost use Rattle.ir_model.specs.Forest.{Behaviour};
 ghost use Rattle.ir_model.specs.Sessions.{TwoRuns};
 
 mod answer;
+mod call_examples;
+mod call_laws;
+#[cfg(test)]
+mod call_laws_tests;
 mod definition_laws;
 #[cfg(test)]
 mod definition_laws_tests;
@@ -45,8 +49,12 @@ mod sweep_laws_tests;
 mod verification_laws;
 #[cfg(test)]
 mod verification_laws_tests;
+mod query_laws;
+mod store_laws;
 
 pub use answer::{Answer, Refused};
+pub use call_examples::call_rows;
+pub use call_laws::{calls_change_one_part, calls_keep_well_formed, sets_of_uses_move};
 pub use definition_laws::{
     all_uses_are_redirected, closed_by_definitions, removal_is_one, replaced_takes_uses,
     retargeted_takes_uses, searches_agree, sources_apart, subtree_size_is_one,
@@ -76,6 +84,13 @@ pub use small_sessions::{
 };
 pub use sweep_laws::sweep_is_one;
 pub use verification_laws::{faults_are_told, kinds_settle, verification_rows};
+pub use query_laws::{
+    dominance_is_told, handles_are_refused, parents_of_values, predecessors_follow_uses,
+    values_are_told,
+};
+pub use store_laws::{
+    aux_is_kept, bodies_are_set, dictionaries_keep_order, owners_stay_apart, saved_are_exact,
+};
 
 /// The law on two runs: whatever ids and numbers each run chose, they give the same answers and the same view.
 ///
