@@ -14,13 +14,13 @@ mod call_laws_tests;
 mod definition_laws;
 #[cfg(test)]
 mod definition_laws_tests;
-mod error;
 mod edit_rows;
 #[cfg(test)]
 mod edit_rows_tests;
 mod erase_examples;
 #[cfg(test)]
 mod erase_examples_tests;
+mod error;
 mod examples;
 mod handle_laws;
 #[cfg(test)]
@@ -37,20 +37,20 @@ mod limit_rows_tests;
 mod progress_laws;
 #[cfg(test)]
 mod progress_laws_tests;
-mod step_laws;
-#[cfg(test)]
-mod step_laws_tests;
+mod query_laws;
 mod small_sessions;
 #[cfg(test)]
 mod small_sessions_tests;
+mod step_laws;
+#[cfg(test)]
+mod step_laws_tests;
+mod store_laws;
 mod sweep_laws;
 #[cfg(test)]
 mod sweep_laws_tests;
 mod verification_laws;
 #[cfg(test)]
 mod verification_laws_tests;
-mod query_laws;
-mod store_laws;
 
 pub use answer::{Answer, Refused};
 pub use call_examples::call_rows;
@@ -60,12 +60,12 @@ pub use definition_laws::{
     retargeted_takes_uses, searches_agree, sources_apart, subtree_size_is_one,
     successors_meet_predecessors, unique_names_tell, unlinked_goes_back,
 };
-pub use error::CoreError;
 pub use edit_rows::{
     condition_rows, definition_rows, list_rows, memory_rows, new_entity_rows, operand_rows,
     removal_rows,
 };
 pub use erase_examples::erase_rows;
+pub use error::CoreError;
 pub use examples::worked_rows;
 pub use handle_laws::handles_stay_refused;
 pub use ids::{ArenaIndex, Limits};
@@ -76,21 +76,20 @@ pub use laws::{
 };
 pub use limit_rows::limits_tell;
 pub use progress_laws::{closed_can_be_erased, sessions_go_on};
-pub use step_laws::steps_tell;
-pub use small_sessions::{hostile_edits_are_refused, identifiers_are_given_by_letters, own_checks_tell, uses_move_as_told, views_show_all};
-pub use small_sessions::{
-    hostile_edits_are_refused, identifiers_are_given_by_letters, own_checks_tell,
-    uses_move_as_told, views_show_all,
-};
-pub use sweep_laws::sweep_is_one;
-pub use verification_laws::{faults_are_told, kinds_settle, verification_rows};
 pub use query_laws::{
     dominance_is_told, handles_are_refused, parents_of_values, predecessors_follow_uses,
     values_are_told,
 };
+pub use small_sessions::{
+    hostile_edits_are_refused, identifiers_are_given_by_letters, own_checks_tell,
+    uses_move_as_told, views_show_all,
+};
+pub use step_laws::steps_tell;
 pub use store_laws::{
     aux_is_kept, bodies_are_set, dictionaries_keep_order, owners_stay_apart, saved_are_exact,
 };
+pub use sweep_laws::sweep_is_one;
+pub use verification_laws::{faults_are_told, kinds_settle, verification_rows};
 
 /// The law on two runs: whatever ids and numbers each run chose, they give the same answers and the same view.
 ///
