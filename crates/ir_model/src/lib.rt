@@ -9,48 +9,22 @@ ghost use Rattle.ir_model.specs.Sessions.{TwoRuns};
 mod answer;
 mod call_examples;
 mod call_laws;
-#[cfg(test)]
-mod call_laws_tests;
 mod definition_laws;
-#[cfg(test)]
-mod definition_laws_tests;
 mod edit_rows;
-#[cfg(test)]
-mod edit_rows_tests;
 mod erase_examples;
-#[cfg(test)]
-mod erase_examples_tests;
 mod error;
 mod examples;
 mod handle_laws;
-#[cfg(test)]
-mod handle_laws_tests;
 mod ids;
-#[cfg(test)]
-mod ids_tests;
 mod laws;
-#[cfg(test)]
-mod laws_tests;
 mod limit_rows;
-#[cfg(test)]
-mod limit_rows_tests;
 mod progress_laws;
-#[cfg(test)]
-mod progress_laws_tests;
 mod query_laws;
 mod small_sessions;
-#[cfg(test)]
-mod small_sessions_tests;
 mod step_laws;
-#[cfg(test)]
-mod step_laws_tests;
 mod store_laws;
 mod sweep_laws;
-#[cfg(test)]
-mod sweep_laws_tests;
 mod verification_laws;
-#[cfg(test)]
-mod verification_laws_tests;
 
 pub use answer::{Answer, Refused};
 pub use call_examples::call_rows;

@@ -1,6 +1,6 @@
 //! Texts of ids and of refusals, and the limits that fit all types.
 
-use crate::{Answer, ArenaIndex, Limits, Refused};
+use ir_model::{Answer, ArenaIndex, Limits, Refused};
 use std::test::Fail;
 
 #[test]
