@@ -136,7 +136,7 @@ pub record PassesAtMost (old new : Passed) (n : Counts) : Type 0 where
   pub uses : AtMostMore old.uses new.uses n.uses
 
 module _ {W : Dialect} where
-  -- what stands newly in the tables, or at a use, is what has newly passed
+  -- what stands newly in the tables is what has newly passed, and a use number that stands newly has newly passed
   pub record ListsWhatPassed (s t : Session W) : Type 0 where
     pub ops : (i : ArenaIndex) → (In i t.state.tables.ops × (In i s.state.tables.ops → ⊥)) ↔ (IsTrue (t.passed.ops i) × (s.passed.ops i ≡ false))
     pub blocks : (i : ArenaIndex) → (In i t.state.tables.blocks × (In i s.state.tables.blocks → ⊥)) ↔ (IsTrue (t.passed.blocks i) × (s.passed.blocks i ≡ false))
@@ -171,7 +171,7 @@ module _ (W : Dialect) (B : Behaviour W) where
   abbrev pub MadePassExactly : Type 0
   MadePassExactly = (edit : Edit W) (s t : Session W) → Step B s edit (line s.state edit).answer t → PassesExactly s.passed t.passed (line s.state edit).takes
 
-  -- from a sound session an edit that is made passes what it makes, and nothing else
+  -- from a sound session an edit that is made passes the ids and value numbers that it makes, and no others, and the use numbers that it makes
   abbrev pub MadePassWhatTheyMake : Type 0
   MadePassWhatTheyMake = (edit : Edit W) (s t : Session W) → Sound s → Step B s edit (line s.state edit).answer t → ListsWhatPassed s t
 
