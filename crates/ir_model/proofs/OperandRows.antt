@@ -41,4 +41,6 @@ pub replace_all_rows : ReplaceAllRows
 replace_all_rows = record {
   values = leads (here _ (here _ (same_state (same_ops _ _ refl refl refl refl refl refl refl refl) refl refl refl refl))) refl refl (λ e. let f = ap operand_uses e in cc);
   blocks = leads (here _ (here _ (same_state (same_ops _ _ refl refl refl refl refl refl refl refl) refl refl refl refl))) refl refl (λ e. let f = ap inner_blocks e in cc);
+  one_value = leads (here _ (here _ (same_state (same_ops _ _ refl refl refl refl refl refl refl refl) refl refl refl refl))) refl refl (λ e. let f = ap operand_uses e in cc);
+  one_block = leads (here _ (here _ (same_state (same_ops _ _ refl refl refl refl refl refl refl refl) refl refl refl refl))) refl refl (λ e. let f = ap inner_blocks e in cc);
 }

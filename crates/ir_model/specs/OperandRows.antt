@@ -113,3 +113,12 @@ pub record ReplaceAllRows : Type 0 where
       Leads (RetargetAll 1 2) nothing Done
       (branches_are (successor u4 b2 ∷ successor u5 b2 ∷ successor u6 b2 ∷ []) (successor u9 b2))
       (branches_are (successor u4 b2 ∷ successor u5 b2 ∷ successor u6 b2 ∷ []) (successor u9 b1))
+  -- where both are one, nothing changes
+  pub one_value :
+      Leads (ReplaceAllUses 0 0) nothing Done
+      (users_are (operand u0 (result o1 v0) ∷ operand u1 (result o1 v2) ∷ operand u2 (result o1 v0) ∷ []) (operand u3 (result o1 v0)) (operand u8 (result o1 v0)))
+      (users_are (operand u11 (result o1 v0) ∷ operand u1 (result o1 v2) ∷ operand u2 (result o1 v0) ∷ []) (operand u3 (result o1 v0)) (operand u8 (result o1 v0)))
+  pub one_block :
+      Leads (RetargetAll 1 1) nothing Done
+      (branches_are (successor u4 b1 ∷ successor u5 b2 ∷ successor u6 b1 ∷ []) (successor u9 b1))
+      (branches_are (successor u4 b2 ∷ successor u5 b1 ∷ successor u6 b2 ∷ []) (successor u9 b2))

@@ -43,7 +43,7 @@ pub fn removal_rows()
     ensures erased { EraseRows }
 {}
 
-/// Each edit of these rows may be made in that state, and a neighbour of each may not.
+/// Which edits may be made in that state, each beside a neighbour that may not.
 pub fn condition_rows()
     ensures made { MayMake }
     ensures definitions { MayDefine }
@@ -53,7 +53,7 @@ pub fn condition_rows()
     ensures removals { MayRemove }
 {}
 
-/// Each edit of these rows may run out of memory in that state, or never does.
+/// Which edits may run out of memory in that state, and which never do.
 pub fn memory_rows()
     ensures memory { MemoryRows }
 {}
