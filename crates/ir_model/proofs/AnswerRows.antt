@@ -1,13 +1,13 @@
 -- What verification may answer in the worked examples.
 use mathlib.Core.Path.{◌≡◌, refl, sym, ap, ◌∙◌, subst}
-use Rattle.std.proofs.Common.{ℕ, ◌⊎◌, inl, inr, Bool, true, false, Option, Some, None, List, [], ◌∷◌, ◌++◌, map, cond, arith}
+use Rattle.std.proofs.Common.{ℕ, ◌⊎◌, inl, inr, Bool, true, false, Option, Some, None, List, [], ◌∷◌, ◌++◌, map, cond, length, length-append, ◌+◌, arith}
 use Rattle.std.specs.Prelude.{codes}
 use Rattle.std.specs.Option.{option_map_or}
 use Rattle.ir_model.specs.declared.ids.ArenaIndex.{ArenaIndex}
 use Rattle.ir_model.specs.ContextIds.{context_ids, same_id}
 use Rattle.ir_model.specs.Forest.{BlockRecord, Text, Forest, Named, Entity, an_op, a_block, a_region, OpRecord, a_value, the_block}
 use Rattle.ir_model.specs.Nesting.{In, Inside, itself, below, IsLinked, list_of, names_of, children, ops_of, blocks_of, regions_of}
-use Rattle.ir_model.specs.BlockGraph.{terminator, is_terminator_interface, no_terminator_interface}
+use Rattle.ir_model.specs.BlockGraph.{implements, terminator, is_terminator_interface, no_terminator_interface}
 use Rattle.ir_model.specs.Parent.{Adjacent}
 use Rattle.ir_model.specs.Names.{IsBlockName}
 use Rattle.ir_model.specs.Faults.{Fault, NamesBlock, the_entity, NoParent, MissingTerminator, TerminatorNotLast, EntryHasPred, OperandNotUseOfDef, Verifier}
@@ -20,7 +20,7 @@ use Rattle.ir_model.proofs.NamedRows.{block_one, block_two, one_block_name}
 use Rattle.ir_model.proofs.VerifierLaws.{told}
 use Rattle.ir_model.proofs.Insides.{inside_list}
 use Rattle.ir_model.proofs.Nests.{In-map_back}
-use Rattle.ir_model.proofs.FaultRows.{no_two, adjacent_in, inside_linked, at_three, no_ops, unlinked, only_it, loop_alone, twice_alone, by_terminator, faults_stand, entry_block}
+use Rattle.ir_model.proofs.FaultRows.{adjacent_in, inside_linked, at_three, no_ops, unlinked, only_it, loop_alone, twice_alone, by_terminator, faults_stand, entry_block}
 
 -- it holds of each of a list
 abbrev Each : (VerifyErr → Type 0) → List VerifyErr → Type 0
@@ -256,26 +256,46 @@ none_beside fault h = elim (apart first second (a_region first, inr (inl refl)) 
 
 -- ## A block that ends in a return
 
+-- nothing comes after the last of two
+no_third : (p : Entity context_ids) → Adjacent {A = Entity context_ids} (an_op third) p (an_op second ∷ an_op third ∷ []) → ⊥
+no_third p a = by a.0 a.1 a.2
+  where
+    by : (before after : List (Entity context_ids)) → ◌≡◌ {A = List (Entity context_ids)} (an_op second ∷ an_op third ∷ []) (before ++ an_op third ∷ p ∷ after) → ⊥
+    by [] after e = let h : ◌≡◌ {A = Entity context_ids} (an_op second) (an_op third) = cc in let s : second ≡ third = cc in let n : 2 ≡ 3 = ap (λ (i : ArenaIndex). i.slot) s in omega (arith, n)
+    by (x ∷ before) after e =
+        let l : 2 ≡ length (x ∷ before ++ an_op third ∷ p ∷ after) = ap length e in
+        let m : length (before ++ an_op third ∷ p ∷ after) ≡ length before + length (an_op third ∷ p ∷ after) = length-append before (an_op third ∷ p ∷ after) in
+        omega (arith, l, m)
+
 none_returning : (fault : Fault) → Stands returning (an_op first) fault → ⊥
-none_returning fault h = elim (held returning.ops (second ∷ []) returning.regions names fault h) [
+none_returning fault h = elim (held returning.ops (second ∷ third ∷ []) returning.regions names fault h) [
   | inl e ↦ early (subst (Stands returning (an_op first)) e h)
   | inr e ↦ missing (subst (Stands returning (an_op first)) e h)
 ]
   where
     names : (o : ArenaIndex) → names_of returning o ≡ []
-    names = any_three (λ m. names_by m ≡ []) (Some (op_of_kind 6 [] (first ∷ []))) (Some (op_of_kind 2 [] [])) None refl refl refl refl
+    names = any_three (λ m. names_by m ≡ []) (Some (op_of_kind 6 [] (first ∷ []))) (Some (op_of_kind 0 [] [])) (Some (op_of_kind 2 [] [])) refl refl refl refl
 
     missing : Stands returning (an_op first) (MissingTerminator (codes "block1v1")) → ⊥
-    missing k = let e : terminator behaviour returning first ≡ None = subst (λ b. terminator behaviour returning b ≡ None) (only_block returning.ops (second ∷ []) returning.regions k.0 (codes "block1v1") k.2) k.3.3 in cc
+    missing k = let e : terminator behaviour returning first ≡ None = subst (λ b. terminator behaviour returning b ≡ None) (only_block returning.ops (second ∷ third ∷ []) returning.regions k.0 (codes "block1v1") k.2) k.3.3 in cc
+
+    -- what ends blocks is the return
+    the_return : (o : ArenaIndex) → implements behaviour returning is_terminator_interface o ≡ true → o ≡ third
+    the_return o e = elim (at_three (Some (op_of_kind 6 [] (first ∷ []))) (Some (op_of_kind 0 [] [])) (Some (op_of_kind 2 [] [])) o) [
+      | inl p ↦ absurd (let k : implements_by is_terminator_interface (Some (op_of_kind 6 [] (first ∷ []))) ≡ true = subst (λ m. implements_by is_terminator_interface m ≡ true) p.1 e in cc)
+      | inr (inl p) ↦ absurd (let k : implements_by is_terminator_interface (Some (op_of_kind 0 [] [])) ≡ true = subst (λ m. implements_by is_terminator_interface m ≡ true) p.1 e in cc)
+      | inr (inr (inl p)) ↦ p.0
+      | inr (inr (inr p)) ↦ absurd (let k : implements_by is_terminator_interface None ≡ true = subst (λ m. implements_by is_terminator_interface m ≡ true) p e in cc)
+    ]
 
     early : Stands returning (an_op first) (TerminatorNotLast (codes "block1v1")) → ⊥
-    early k = after k.0 k.3.1.0 k.3.1.1.0 k.3.1.1.1
+    early k = after k.3.1.0 k.3.1.1.0 (subst (λ o. Adjacent (an_op o) k.3.1.0 (children returning k.3.1.1.0)) (the_return k.0 k.3.0) k.3.1.1.1)
       where
-        after : (o : ArenaIndex) (p y : Entity context_ids) → Adjacent (an_op o) p (children returning y) → ⊥
-        after o p (an_op q) a = let at = In-map_back a_region (an_op o) (regions_of returning q) (adjacent_in (an_op o) p (children returning (an_op q)) a) in let e : ◌≡◌ {A = Entity context_ids} (an_op o) (a_region at.0) = at.2 in cc
-        after o p (a_region g) a = let at = In-map_back a_block (an_op o) (blocks_of returning g) (adjacent_in (an_op o) p (children returning (a_region g)) a) in let e : ◌≡◌ {A = Entity context_ids} (an_op o) (a_block at.0) = at.2 in cc
-        after o p (a_block b) a = any_three (λ m. Adjacent (an_op o) p (map an_op (list_of (λ (r : BlockRecord context_ids bare). r.ops) m)) → ⊥) (Some (block_with (second ∷ []))) None None
-            (λ k. no_two (an_op o) p (an_op second ∷ []) refl k) (λ k. elim (adjacent_in (an_op o) p [] k) [ ]) (λ k. elim (adjacent_in (an_op o) p [] k) [ ]) (λ k. elim (adjacent_in (an_op o) p [] k) [ ]) b a
+        after : (p y : Entity context_ids) → Adjacent (an_op third) p (children returning y) → ⊥
+        after p (an_op q) a = let at = In-map_back a_region (an_op third) (regions_of returning q) (adjacent_in (an_op third) p (children returning (an_op q)) a) in let e : ◌≡◌ {A = Entity context_ids} (an_op third) (a_region at.0) = at.2 in cc
+        after p (a_region g) a = let at = In-map_back a_block (an_op third) (blocks_of returning g) (adjacent_in (an_op third) p (children returning (a_region g)) a) in let e : ◌≡◌ {A = Entity context_ids} (an_op third) (a_block at.0) = at.2 in cc
+        after p (a_block b) a = any_three (λ m. Adjacent (an_op third) p (map an_op (list_of (λ (r : BlockRecord context_ids bare). r.ops) m)) → ⊥) (Some (block_with (second ∷ third ∷ []))) None None
+            (no_third p) (λ k. elim (adjacent_in (an_op third) p [] k) [ ]) (λ k. elim (adjacent_in (an_op third) p [] k) [ ]) (λ k. elim (adjacent_in (an_op third) p [] k) [ ]) b a
 
 -- ## What is beside the root
 

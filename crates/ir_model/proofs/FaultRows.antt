@@ -100,7 +100,7 @@ at_three a b c i = by (same_id i first) (same_id i second) (same_id i third) ref
     by false false false e g h = inr (inr (inr refl))
 
 -- nothing comes after another in a list of one
-pub no_two : {A : Type 0} (x y : A) (xs : List A) → length xs ≡ 1 → Adjacent x y xs → ⊥
+no_two : {A : Type 0} (x y : A) (xs : List A) → length xs ≡ 1 → Adjacent x y xs → ⊥
 no_two x y xs one a =
     let e : length xs ≡ length (a.0 ++ x ∷ y ∷ a.1) = ap length a.2 in
     let f : length (a.0 ++ x ∷ y ∷ a.1) ≡ length a.0 + length (x ∷ y ∷ a.1) = length-append a.0 (x ∷ y ∷ a.1) in

@@ -12,11 +12,11 @@ use Rattle.ir_model.specs.SmallForests.{bare, behaviour}
 use Rattle.ir_model.specs.IdForests.{first, second, third, three, op_of_kind, block_with}
 use Rattle.ir_model.specs.FaultRows.{no_checks, loop, naming_twice, lone_block, with_empty_block, return_first, unlinked_user}
 
--- a function whose block ends in a return
+-- a function with a block of a constant and a return
 abbrev pub returning : Forest context_ids bare
 returning = record {
-  ops = three (Some (op_of_kind 6 [] (first ∷ []))) (Some (op_of_kind 2 [] [])) None;
-  blocks = three (Some (block_with (second ∷ []))) None None;
+  ops = three (Some (op_of_kind 6 [] (first ∷ []))) (Some (op_of_kind 0 [] [])) (Some (op_of_kind 2 [] []));
+  blocks = three (Some (block_with (second ∷ third ∷ []))) None None;
   regions = three (Some (first ∷ [])) None None;
 }
 
