@@ -6,7 +6,8 @@ use Rattle.ir_model.specs.Forest.{Dialect, Behaviour, Forest}
 use Rattle.ir_model.specs.Nesting.{In}
 use Rattle.ir_model.specs.Edits.{StoredType}
 use Rattle.ir_model.specs.Faults.{Fault, NamesBlock, NoParent, MissingTerminator, TerminatorNotLast, EntryHasPred, OperandNotUseOfDef, Verifier, Root, the_type, the_typed, the_attribute, Check, op_list, op_own, attr_list, attr_own, type_list, type_own, FaultStands, IsRun}
-use Rattle.ir_model.specs.Verifiers.{Verifiers, Kinds, CodeStands, MemoryStands, checks_of}
+use Rattle.ir_model.specs.Kinds.{Kinds}
+use Rattle.ir_model.specs.Verifiers.{Verifiers, CodeStands, MemoryStands, checks_of}
 use Rattle.ir_model.specs.VerifyAnswers.{VerifyErr, block_fault, missing_terminator, terminator_not_last, no_parent, entry_has_pred, operand_not_use_of_def, verifier_fault, out_of_memory, fault_of}
 use Rattle.ir_model.specs.VerifierLaws.{FaultsAreTold, OwnOrListed, RunsOwnAndListed, KindsSettle}
 

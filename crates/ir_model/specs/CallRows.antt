@@ -48,7 +48,7 @@ speaks = record { same_key = nat_eq; first_body = None; unknown = tt; op_impls =
 
 -- types of kind 0 implement the interface 16; of each operation the region 0 has no dominance, and every other region has it
 abbrev pub kinds : Kinds spoken
-kinds = record { type_kind = λ key. key; type_impls = λ kind interface. kind == 0; saved_kind = said_kind; same_saved = same_said; dominates = λ kind index. not (index == 0) }
+kinds = record { attr_kind = λ _. 0; type_kind = λ key. key; type_impls = λ kind interface. kind == 0; saved_kind = said_kind; same_saved = same_said; dominates = λ kind index. not (index == 0) }
 
 -- nothing is saved, and there is no auxiliary data
 abbrev pub nothing_beside : Beside spoken
@@ -107,7 +107,7 @@ asks = record behaviour { op_impls = λ kind interface. if interface == region_k
 
 -- the dialect would say no of each region 0, and yes of every other
 abbrev pub no_first : Kinds bare
-no_first = record { type_kind = λ _. 0; type_impls = λ _ _. false; saved_kind = λ _. 0; same_saved = λ _ _. true; dominates = λ kind index. not (index == 0) }
+no_first = record { attr_kind = λ _. 0; type_kind = λ _. 0; type_impls = λ _ _. false; saved_kind = λ _. 0; same_saved = λ _ _. true; dominates = λ kind index. not (index == 0) }
 
 -- an operation of kind 7 with two regions, and one of kind 5 with one
 abbrev pub two_owners : Forest small_ids bare

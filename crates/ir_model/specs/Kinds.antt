@@ -1,12 +1,13 @@
--- What the calls beside the edits ask of a dialect, and what is refused by the kind of a type.
+-- What the calls beside the edits and verification ask of a dialect, and what is refused by the kind of a type.
 use Rattle.std.specs.Prelude.{◌≡◌, ◌≢◌, ℕ, Bool, true, false, List, Some, slice_get, if◌then◌else◌}
 use Rattle.ir_model.specs.Ids.{Ids}
 use Rattle.ir_model.specs.Forest.{Dialect, Behaviour, Forest}
 use Rattle.ir_model.specs.Nesting.{regions_of}
 use Rattle.ir_model.specs.Edits.{StoredType, The}
 
--- the kinds of type keys and saved data, and what is asked of kinds
+-- the kinds of attributes, type keys and saved data, and what is asked of kinds
 pub record Kinds (W : Dialect) : Type 0 where
+  pub attr_kind : W.Attr → ℕ
   pub type_kind : W.Key → ℕ
   -- the kind of type implements the interface
   pub type_impls : ℕ → ℕ → Bool

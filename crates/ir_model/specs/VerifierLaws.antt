@@ -5,7 +5,8 @@ use Rattle.ir_model.specs.Forest.{Dialect, Behaviour, Forest}
 use Rattle.ir_model.specs.Nesting.{In}
 use Rattle.ir_model.specs.Edits.{StoredType}
 use Rattle.ir_model.specs.Faults.{Fault, Root, the_type, the_typed, the_attribute, Check, op_list, op_own, attr_list, attr_own, type_list, type_own}
-use Rattle.ir_model.specs.Verifiers.{Answers, Verifiers, Kinds, CodeStands, MemoryStands, checks_of}
+use Rattle.ir_model.specs.Kinds.{Kinds}
+use Rattle.ir_model.specs.Verifiers.{Answers, Verifiers, CodeStands, MemoryStands, checks_of}
 use Rattle.ir_model.specs.VerifyAnswers.{VerifyErr, verifier_fault, out_of_memory, fault_of, MayAnswer}
 
 -- each fault is told by one answer, and want of memory alone tells none

@@ -1,5 +1,5 @@
 -- A worked example of verifiers: which codes may be answered at each root, and which checks may run out of memory.
-use Rattle.std.specs.Prelude.{◌↔◌, ◌≡◌, ℕ, ◌+◌, ◌*◌, List, [], ◌∷◌, Some, None, slice_index_or, ◌==◌, codes}
+use Rattle.std.specs.Prelude.{◌↔◌, ◌≡◌, ℕ, true, false, ◌+◌, ◌*◌, List, [], ◌∷◌, Some, None, slice_index_or, ◌==◌, codes}
 use Rattle.ir_model.specs.declared.ids.ArenaIndex.{ArenaIndex}
 use Rattle.ir_model.specs.ContextIds.{context_ids}
 use Rattle.ir_model.specs.Forest.{Text, Dialect, Behaviour, Forest, an_op, a_block, Value, of_op, of_block, Definition, OpRecord, BlockRecord}
@@ -8,7 +8,8 @@ use Rattle.ir_model.specs.Edits.{StoredType}
 use Rattle.ir_model.specs.BlockGraph.{no_terminator_interface}
 use Rattle.ir_model.specs.Faults.{Root, the_entity, the_value, the_type, the_typed, the_attribute}
 use Rattle.ir_model.specs.VerifierLists.{joined}
-use Rattle.ir_model.specs.Verifiers.{Answers, Verifiers, Kinds, checks_of}
+use Rattle.ir_model.specs.Kinds.{Kinds}
+use Rattle.ir_model.specs.Verifiers.{Answers, Verifiers, checks_of}
 use Rattle.ir_model.specs.VerifyAnswers.{BlockFault, VerifyErr, block_fault, operand_not_use_of_def, verifier_fault, out_of_memory, MayAnswer}
 use Rattle.ir_model.specs.IdForests.{first, second, third, three}
 
@@ -69,7 +70,7 @@ own_codes spent = record {
 
 -- attributes and types 1, 2 and 3 have the kinds 7, 8 and 9
 abbrev pub by_number : Kinds numbered
-by_number = record { attr_kind = λ a. a + 6; type_kind = λ key. key + 6 }
+by_number = record { attr_kind = λ a. a + 6; type_kind = λ key. key + 6; type_impls = λ _ _. false; saved_kind = λ _. 0; same_saved = λ _ _. true; dominates = λ _ _. true }
 
 -- verification of the root of this forest may answer so, where the check with the code `spent` may run out of memory
 abbrev pub May : ℕ → Root numbered → VerifyErr → Type 0

@@ -2,6 +2,7 @@
 use Rattle.std.specs.Prelude.{ℕ, List}
 use Rattle.ir_model.specs.declared.ids.ArenaIndex.{ArenaIndex}
 use Rattle.ir_model.specs.Forest.{Dialect}
+use Rattle.ir_model.specs.Kinds.{Kinds}
 use Rattle.ir_model.specs.Faults.{Check, op_list, op_own, attr_list, attr_own, type_list, type_own, Checks}
 
 -- what one check may answer of what it is given, in a state
@@ -25,11 +26,6 @@ pub record Verifiers (W : Dialect) (S : Type 0) : Type 1 where
   pub op_itself : Answers ArenaIndex S
   pub attr_itself : Answers W.Attr S
   pub type_itself : Answers W.Key S
-
--- the kinds of attributes and types
-pub record Kinds (W : Dialect) : Type 0 where
-  pub attr_kind : W.Attr → ℕ
-  pub type_kind : W.Key → ℕ
 
 module _ {W : Dialect} {S : Type 0} (kinds : Kinds W) (verifiers : Verifiers W S) (state : S) where
   -- the code stands by the check

@@ -4,7 +4,7 @@ ghost use Rattle.std.specs.Prelude.{List};
 ghost use Rattle.ir_model.specs.ContextIds.{context_ids};
 ghost use Rattle.ir_model.specs.Forest.{Behaviour, Forest};
 ghost use Rattle.ir_model.specs.Edits.{StoredType};
-ghost use Rattle.ir_model.specs.Verifiers.{Kinds};
+ghost use Rattle.ir_model.specs.Kinds.{Kinds};
 ghost use Rattle.ir_model.specs.VerifierLaws.{FaultsAreTold, Tests, tested, KindsSettle};
 ghost use Rattle.ir_model.specs.AnswerRows.{AnswerRows};
 ghost use Rattle.ir_model.specs.VerifierRows.{VerifierRows};
