@@ -32,3 +32,5 @@ pub mod WorkedRows
 pub mod NamedRows
 pub mod FaultRows
 pub mod DefinitionLaws
+pub mod Slots
+pub mod Arenas
