@@ -5,13 +5,15 @@ use Rattle.std.proofs.lemmas.Bool.{cases_eq, eq-eqb, ne_eqb, le-ltb, lt-ltb}
 use Rattle.std.proofs.lemmas.List.{get_or-set_same, get_or-set_other, length_push}
 use Rattle.std.proofs.Math.ListN.{get_or-append}
 use Rattle.std.proofs.Math.Seq.{get_or-append_seam}
-use Rattle.std.proofs.lemmas.List.Sums.{sum_by-set, sum_by_push}
+use Rattle.std.proofs.lemmas.List.Sums.{sum_by-set, sum_by_push, sum_by-cons}
 use Rattle.ir_model.specs.declared.ids.ArenaIndex.{ArenaIndex}
-use Rattle.ir_arena.specs.declared.arena.Slot.{Slot}
-use Rattle.ir_arena.specs.ArenaSlots.{is_taken, is_reusable, is_retired, never, slot_in, find, put}
-use Rattle.ir_arena.specs.ArenaSound.{IsInRange, IsSound}
-use Rattle.ir_arena.proofs.ArenaSlots.{IsTaken, slot_at-next, at_past, find-put_same}
-use Rattle.ir_arena.specs.Arena.{IsNextVersion, IsNew, IsWhole, Inserts, room}
+use Rattle.ir_model.specs.Slots.{Slot}
+use Rattle.ir_model.specs.Slots.{is_taken, is_reusable, is_retired, never, slot_in, find, put}
+use Rattle.ir_model.specs.Arenas.{IsInRange, IsNextVersion, IsNew, IsWhole, Inserts, room, unused}
+use Rattle.ir_arena.specs.ArenaSound.{shown, next_in, with_item, held_in, IsFreeChain, IsSound, IsLaid}
+use Rattle.ir_arena.specs.declared.arena.Slot.{Slot as Held}
+use Rattle.ir_arena.specs.declared.arena.Slot.TheVariants.{Full, Free}
+use Rattle.ir_model.proofs.Slots.{IsTaken, slot_at-next, at_past, find-put_same}
 
 -- the state of the free list after slot k has become s
 pub record Relisted (free freed : List ℕ) (k n : ℕ) : Type 0 where
@@ -22,11 +24,11 @@ pub same_list : (free : List ℕ) (k n : ℕ) → count_by (nat_eq k) free ≡ n
 same_list free k n is = record { same = is; others = λ j differs. refl }
 
 -- the free list with slot k put on it
-pub relisted_push : (free freed : List ℕ) (k : ℕ) → freed ≡ free ++ k ∷ [] → count_by (nat_eq k) free ≡ 0 → Relisted free freed k 1
-relisted_push free freed k split none =
+pub relisted_push : (free : List ℕ) (k : ℕ) → count_by (nat_eq k) free ≡ 0 → Relisted free (k ∷ free) k 1
+relisted_push free k none =
     record {
-      same = ap (count_by (nat_eq k)) split ∙ sum_by_push (λ i. cond (nat_eq k i) 1 0) free k ∙ ap (λ b. count_by (nat_eq k) free + cond b 1 0) (eq-eqb k k refl) ∙ omega arith;
-      others = λ j differs. ap (count_by (nat_eq j)) split ∙ sum_by_push (λ i. cond (nat_eq j i) 1 0) free k ∙ ap (λ b. count_by (nat_eq j) free + cond b 1 0) (ne_eqb j k differs) ∙ omega arith;
+      same = sum_by-cons (λ i. cond (nat_eq k i) 1 0) k free ∙ ap (λ b. cond b 1 0 + count_by (nat_eq k) free) (eq-eqb k k refl) ∙ omega arith;
+      others = λ j differs. sum_by-cons (λ i. cond (nat_eq j i) 1 0) k free ∙ ap (λ b. cond b 1 0 + count_by (nat_eq j) free) (ne_eqb j k differs) ∙ omega arith;
     }
 
 module _ {T : Type 0} where
@@ -51,8 +53,8 @@ module _ {T : Type 0} where
             | inr ne ↦ rw ne.0 (rw (lt-ltb last (v + 2) ne.1) refl)
           ]
 
-  pub IsSound-set : (slots : List (Slot T)) (free freed : List ℕ) (place len later limit last k : ℕ) (s : Slot T) → IsSound slots free place len limit last → k < length slots → later + t (slot_in slots k) ≡ len + t s → length freed + u last (slot_in slots k) ≡ length free + u last s → Relisted free freed k (u last s) → IsInRange last s.version → IsSound (set slots k s) freed place later limit last
-  IsSound-set slots free freed place len later limit last k s sound within counts frees relisted range =
+  pub IsSound-set : (slots : List (Slot T)) (free freed : List ℕ) (len later limit last k : ℕ) (s : Slot T) → IsSound slots free len limit last → k < length slots → later + t (slot_in slots k) ≡ len + t s → length freed + u last (slot_in slots k) ≡ length free + u last s → Relisted free freed k (u last s) → IsInRange last s.version → IsSound (set slots k s) freed later limit last
+  IsSound-set slots free freed len later limit last k s sound within counts frees relisted range =
       let taken = sum_by-set t slots k s never within in
       let retired = sum_by-set (r last) slots k s never within in
       let before = one_of last (slot_in slots k) in
@@ -65,7 +67,6 @@ module _ {T : Type 0} where
         bounded = λ j past. relisted.others j (λ same. omega arith) ∙ sound.bounded j (omega arith);
         versions = λ j below. by_version j (omega arith);
         within = omega (arith, sound.within);
-        placed = omega (arith, sound.placed);
         numbered = sound.numbered;
         starts = sound.starts;
       }
@@ -97,19 +98,19 @@ module _ {T : Type 0} where
   reusable_t : (last : ℕ) (s : Slot T) → u last s ≡ 1 → t s ≡ 0
   reusable_t last s one = omega (arith, one_of last s)
 
-  pub IsSound-rewrite : (slots : List (Slot T)) (free : List ℕ) (place len limit last k : ℕ) (w : T) → IsSound slots free place len limit last → k < length slots → IsSome (slot_in slots k).item → IsSound (set slots k (record { version = (slot_in slots k).version; item = Some w })) free place len limit last
-  IsSound-rewrite slots free place len limit last k w sound within some =
+  pub IsSound-rewrite : (slots : List (Slot T)) (free : List ℕ) (len limit last k : ℕ) (w : T) → IsSound slots free len limit last → k < length slots → IsSome (slot_in slots k).item → IsSound (set slots k (record { version = (slot_in slots k).version; item = Some w })) free len limit last
+  IsSound-rewrite slots free len limit last k w sound within some =
       let old = slot_in slots k in
       let unlisted = sound.listed k within ∙ taken_u last old some in
-      IsSound-set slots free free place len len limit last k (record { version = old.version; item = Some w }) sound within
+      IsSound-set slots free free len len limit last k (record { version = old.version; item = Some w }) sound within
       (omega (arith, taken_t old some)) (omega (arith, taken_u last old some)) (same_list free k 0 unlisted) (sound.versions k within)
 
   -- a value leaves slot k, and the free list has become freed
-  pub IsSound-vacate : (slots : List (Slot T)) (free freed : List ℕ) (place len limit last k v : ℕ) → IsSound slots free place len limit last → k < length slots → IsSome (slot_in slots k).item → length freed ≡ length free + u last (record { version = v; item = None }) → Relisted free freed k (u last (record { version = v; item = None })) → IsInRange last v → IsSound (set slots k (record { version = v; item = None })) freed place (len - 1) limit last
-  IsSound-vacate slots free freed place len limit last k v sound within some longer relisted range =
+  pub IsSound-vacate : (slots : List (Slot T)) (free freed : List ℕ) (len limit last k v : ℕ) → IsSound slots free len limit last → k < length slots → IsSome (slot_in slots k).item → length freed ≡ length free + u last (record { version = v; item = None }) → Relisted free freed k (u last (record { version = v; item = None })) → IsInRange last v → IsSound (set slots k (record { version = v; item = None })) freed (len - 1) limit last
+  IsSound-vacate slots free freed len limit last k v sound within some longer relisted range =
       let old = slot_in slots k in
       let counted = sum_by-set t slots k never never within in
-      IsSound-set slots free freed place len (len - 1) limit last k (record { version = v; item = None }) sound within
+      IsSound-set slots free freed len (len - 1) limit last k (record { version = v; item = None }) sound within
       (omega (arith, taken_t old some, sound.counted)) (omega (arith, taken_u last old some)) relisted range
 
   -- a slot that can be handed out again is empty, and its next version is in range
@@ -120,16 +121,16 @@ module _ {T : Type 0} where
       by_item (Some x) v e = absurd (omega arith)
       by_item None v e = (refl, grind (arith, nat_tests))
 
-  -- the last slot of the free list is empty, and the list has it once
+  -- the first slot of the free list is empty, and the list has it once
   pub record IsOffered (slots : List (Slot T)) (rest : List ℕ) (last k : ℕ) : Type 0 where
     pub within : k < length slots
     pub reusable : u last (slot_in slots k) ≡ 1
     pub once : count_by (nat_eq k) rest ≡ 0
 
-  pub offered : (slots : List (Slot T)) (free rest : List ℕ) (place len limit last k : ℕ) → free ≡ rest ++ k ∷ [] → IsSound slots free place len limit last → IsOffered slots rest last k
-  offered slots free rest place len limit last k split sound =
-      let here : count_by (nat_eq k) free ≡ count_by (nat_eq k) rest + 1 =
-      ap (count_by (nat_eq k)) split ∙ sum_by_push (λ j. cond (nat_eq k j) 1 0) rest k ∙ ap (λ b. count_by (nat_eq k) rest + cond b 1 0) (eq-eqb k k refl) in
+  pub offered : (slots : List (Slot T)) (rest : List ℕ) (len limit last k : ℕ) → IsSound slots (k ∷ rest) len limit last → IsOffered slots rest last k
+  offered slots rest len limit last k sound =
+      let here : count_by (nat_eq k) (k ∷ rest) ≡ count_by (nat_eq k) rest + 1 =
+      sum_by-cons (λ j. cond (nat_eq k j) 1 0) k rest ∙ ap (λ b. cond b 1 0 + count_by (nat_eq k) rest) (eq-eqb k k refl) ∙ omega arith in
       elim (cases_lt k (length slots)) [
         | inl within ↦
             let is = sound.listed k within in
@@ -141,22 +142,21 @@ module _ {T : Type 0} where
       cases_lt : (a b : ℕ) → (a < b) ⊎ (b ≤ a)
       cases_lt a b = elim (leb_tells b a) [ inl eq ↦ inr eq.1 | inr ne ↦ inl ne.1 ]
 
-  pub IsSound-reuse : (slots : List (Slot T)) (free rest : List ℕ) (place len limit last k v : ℕ) (w : T) → free ≡ rest ++ k ∷ [] → v ≡ (slot_in slots k).version + 2 → IsSound slots free place len limit last → IsSound (set slots k (record { version = v; item = Some w })) rest place (len + 1) limit last
-  IsSound-reuse slots free rest place len limit last k v w split next sound =
-      let one = offered slots free rest place len limit last k split sound in
+  pub IsSound-reuse : (slots : List (Slot T)) (rest : List ℕ) (len limit last k v : ℕ) (w : T) → v ≡ (slot_in slots k).version + 2 → IsSound slots (k ∷ rest) len limit last → IsSound (set slots k (record { version = v; item = Some w })) rest (len + 1) limit last
+  IsSound-reuse slots rest len limit last k v w next sound =
+      let one = offered slots rest len limit last k sound in
       let old = slot_in slots k in
-      let shorter = ap length split ∙ length_push rest k in
-      IsSound-set slots free rest place len (len + 1) limit last k (record { version = v; item = Some w }) sound one.within
+      IsSound-set slots (k ∷ rest) rest len (len + 1) limit last k (record { version = v; item = Some w }) sound one.within
       (omega (arith, reusable_t last old one.reusable)) (omega (arith, one.reusable))
       (record { same = one.once; others = others })
       (record { first = omega (arith, (sound.versions k one.within).first, next); within = omega (arith, (reusable_is last old one.reusable).1, next) })
     where
-      others : (j : ℕ) → j ≢ k → count_by (nat_eq j) rest ≡ count_by (nat_eq j) free
+      others : (j : ℕ) → j ≢ k → count_by (nat_eq j) rest ≡ count_by (nat_eq j) (k ∷ rest)
       others j differs =
-          sym (ap (count_by (nat_eq j)) split ∙ sum_by_push (λ i. cond (nat_eq j i) 1 0) rest k ∙ ap (λ b. count_by (nat_eq j) rest + cond b 1 0) (ne_eqb j k differs) ∙ omega arith)
+          sym (sum_by-cons (λ i. cond (nat_eq j i) 1 0) k rest ∙ ap (λ b. cond b 1 0 + count_by (nat_eq j) rest) (ne_eqb j k differs) ∙ omega arith)
 
-  pub IsSound-extend : (slots : List (Slot T)) (free freed : List ℕ) (place more len limit last : ℕ) (w : T) → free ≡ [] → freed ≡ [] → length slots < limit → length slots + 1 ≤ more → IsSound slots free place len limit last → IsSound (slots ++ record { version = 1; item = Some w } ∷ []) freed more (len + 1) limit last
-  IsSound-extend slots free freed place more len limit last w none emptied below room sound =
+  pub IsSound-extend : (slots : List (Slot T)) (free freed : List ℕ) (len limit last : ℕ) (w : T) → free ≡ [] → freed ≡ [] → length slots < limit → IsSound slots free len limit last → IsSound (slots ++ record { version = 1; item = Some w } ∷ []) freed (len + 1) limit last
+  IsSound-extend slots free freed len limit last w none emptied below sound =
       let s : Slot T = record { version = 1; item = Some w } in
       let taken = sum_by_push t slots s in
       let retired = sum_by_push (r last) slots s in
@@ -168,7 +168,6 @@ module _ {T : Type 0} where
         bounded = λ j past. unlisted j;
         versions = λ j below. by_version j (omega arith);
         within = omega arith;
-        placed = omega arith;
         numbered = sound.numbered;
         starts = sound.starts;
       }
@@ -191,8 +190,9 @@ module _ {T : Type 0} where
           ]
 
   -- the ids that are handed out are new
-  pub offered_is_new : (slots : List (Slot T)) (free rest : List ℕ) (size len limit last k n : ℕ) → IsSound slots free size len limit last → IsOffered slots rest last k → IsNew (record { slots = slots; limit = limit; last_version = last; removals = n }) (record { slot = k + 1; version = (slot_in slots k).version + 2 })
-  offered_is_new slots free rest size len limit last k n sound one =
+  pub offered_is_new : (slots : List (Slot T)) (rest : List ℕ) (len limit last k n : ℕ) → IsSound slots (k ∷ rest) len limit last → IsNew (record { slots = slots; limit = limit; last_version = last; removals = n }) (record { slot = k + 1; version = (slot_in slots k).version + 2 })
+  offered_is_new slots rest len limit last k n sound =
+      let one = offered slots rest len limit last k sound in
       let is = reusable_is last (slot_in slots k) one.reusable in
       let at = slot_at-next slots k in
       record {
@@ -203,8 +203,8 @@ module _ {T : Type 0} where
         version = inr (omega (arith, one.within), rw at ((sound.versions k one.within).first), rw at refl);
       }
 
-  pub end_is_new : (slots : List (Slot T)) (free : List ℕ) (size len limit last n : ℕ) → IsSound slots free size len limit last → length slots < limit → IsNew (record { slots = slots; limit = limit; last_version = last; removals = n }) (record { slot = length slots + 1; version = 1 })
-  end_is_new slots free size len limit last n sound below =
+  pub end_is_new : (slots : List (Slot T)) (free : List ℕ) (len limit last n : ℕ) → IsSound slots free len limit last → length slots < limit → IsNew (record { slots = slots; limit = limit; last_version = last; removals = n }) (record { slot = length slots + 1; version = 1 })
+  end_is_new slots free len limit last n sound below =
       record {
         numbered = omega arith;
         within = omega arith;
@@ -231,48 +231,42 @@ module _ {T : Type 0} where
       next (inl end) = omega (arith, end.0)
       next (inr reused) = omega (arith, reused.0)
 
-  pub whole_is : (slots : List (Slot T)) (free : List ℕ) (size len limit last n : ℕ) → IsSound slots free size len limit last → IsWhole (record { slots = slots; limit = limit; last_version = last; removals = n })
-  whole_is slots free size len limit last n sound = record { within = sound.within; versions = sound.versions }
+  pub whole_is : (slots : List (Slot T)) (free : List ℕ) (len limit last n : ℕ) → IsSound slots free len limit last → IsWhole (record { slots = slots; limit = limit; last_version = last; removals = n })
+  whole_is slots free len limit last n sound = record { within = sound.within; versions = sound.versions }
 
   -- the room is what was never handed out and what the free list has
-  pub room_is : (slots : List (Slot T)) (free : List ℕ) (place len limit last n : ℕ) → IsSound slots free place len limit last → room (record { slots = slots; limit = limit; last_version = last; removals = n }) ≡ (limit - length slots) + length free
-  room_is slots free place len limit last n sound =
+  pub room_is : (slots : List (Slot T)) (free : List ℕ) (len limit last n : ℕ) → IsSound slots free len limit last → room (record { slots = slots; limit = limit; last_version = last; removals = n }) ≡ (limit - length slots) + length free
+  room_is slots free len limit last n sound =
       let counted = sound.counted in
       let total = sound.total in
       let within = sound.within in
       omega arith
 
   -- a slot with a value counts, and the free list does not have it
-  pub taken_counts : (slots : List (Slot T)) (free : List ℕ) (place len limit last k : ℕ) → IsSound slots free place len limit last → k < length slots → IsSome (slot_in slots k).item → 1 ≤ len
-  taken_counts slots free place len limit last k sound within some =
+  pub taken_counts : (slots : List (Slot T)) (free : List ℕ) (len limit last k : ℕ) → IsSound slots free len limit last → k < length slots → IsSome (slot_in slots k).item → 1 ≤ len
+  taken_counts slots free len limit last k sound within some =
       let counted = sum_by-set t slots k never never within in
       omega (arith, sound.counted, taken_t (slot_in slots k) some)
 
-  pub unlisted_at : (slots : List (Slot T)) (free : List ℕ) (place len limit last k : ℕ) → IsSound slots free place len limit last → k < length slots → IsSome (slot_in slots k).item → count_by (nat_eq k) free ≡ 0
-  unlisted_at slots free place len limit last k sound within some =
+  pub unlisted_at : (slots : List (Slot T)) (free : List ℕ) (len limit last k : ℕ) → IsSound slots free len limit last → k < length slots → IsSome (slot_in slots k).item → count_by (nat_eq k) free ≡ 0
+  unlisted_at slots free len limit last k sound within some =
       sound.listed k within ∙ taken_u last (slot_in slots k) some
 
-  vacant_u : (slots : List (Slot T)) (last : ℕ) (id : ArenaIndex) (s : Slot T) (b : Bool) → IsTaken slots id → s ≡ slot_in slots (id.slot - 1) → nat_le (id.version + 2) last ≡ b → u last (record { version = s.version; item = None }) ≡ cond b 1 0
-  vacant_u slots last id s b live read fits =
-      let same : s.version ≡ id.version = ap (λ x. x.version) read ∙ live.version in
-      rw (same, fits) refl
-
   -- the record under an id leaves, and its slot goes on the free list
-  pub vacate_listed : (slots : List (Slot T)) (free freed : List ℕ) (size len limit last : ℕ) (id : ArenaIndex) (s : Slot T) → IsSound slots free size len limit last → IsTaken slots id → s ≡ slot_in slots (id.slot - 1) → nat_le (id.version + 2) last ≡ true → freed ≡ free ++ (id.slot - 1) ∷ [] → IsSound (set slots (id.slot - 1) (record { version = s.version; item = None })) freed size (len - 1) limit last
-  vacate_listed slots free freed size len limit last id s sound live read fits split =
-      let one = vacant_u slots last id s true live read fits in
-      let longer = ap length split ∙ length_push free (id.slot - 1) in
-      IsSound-vacate slots free freed size len limit last (id.slot - 1) s.version sound live.within live.some (omega arith)
-      (rw one (relisted_push free freed (id.slot - 1) split (unlisted_at slots free size len limit last (id.slot - 1) sound live.within live.some)))
-      (rw read (sound.versions (id.slot - 1) live.within))
+  pub vacate_listed : (slots : List (Slot T)) (free : List ℕ) (len limit last : ℕ) (id : ArenaIndex) → IsSound slots free len limit last → IsTaken slots id → nat_le (id.version + 2) last ≡ true → IsSound (set slots (id.slot - 1) (record { version = id.version; item = None })) ((id.slot - 1) ∷ free) (len - 1) limit last
+  vacate_listed slots free len limit last id sound live fits =
+      let one : u last (record { version = id.version; item = None }) ≡ 1 = rw fits refl in
+      IsSound-vacate slots free ((id.slot - 1) ∷ free) len limit last (id.slot - 1) id.version sound live.within live.some (omega arith)
+      (rw one (relisted_push free (id.slot - 1) (unlisted_at slots free len limit last (id.slot - 1) sound live.within live.some)))
+      (rw (sym live.version) (sound.versions (id.slot - 1) live.within))
 
   -- the record under an id leaves, and its slot is empty for good
-  pub vacate_retired : (slots : List (Slot T)) (free : List ℕ) (size len limit last : ℕ) (id : ArenaIndex) (s : Slot T) → IsSound slots free size len limit last → IsTaken slots id → s ≡ slot_in slots (id.slot - 1) → nat_le (id.version + 2) last ≡ false → IsSound (set slots (id.slot - 1) (record { version = s.version; item = None })) free size (len - 1) limit last
-  vacate_retired slots free size len limit last id s sound live read fits =
-      let none = vacant_u slots last id s false live read fits in
-      IsSound-vacate slots free free size len limit last (id.slot - 1) s.version sound live.within live.some (omega arith)
-      (rw none (same_list free (id.slot - 1) 0 (unlisted_at slots free size len limit last (id.slot - 1) sound live.within live.some)))
-      (rw read (sound.versions (id.slot - 1) live.within))
+  pub vacate_retired : (slots : List (Slot T)) (free : List ℕ) (len limit last : ℕ) (id : ArenaIndex) → IsSound slots free len limit last → IsTaken slots id → nat_le (id.version + 2) last ≡ false → IsSound (set slots (id.slot - 1) (record { version = id.version; item = None })) free (len - 1) limit last
+  vacate_retired slots free len limit last id sound live fits =
+      let none : u last (record { version = id.version; item = None }) ≡ 0 = rw fits refl in
+      IsSound-vacate slots free free len limit last (id.slot - 1) id.version sound live.within live.some (omega arith)
+      (rw none (same_list free (id.slot - 1) 0 (unlisted_at slots free len limit last (id.slot - 1) sound live.within live.some)))
+      (rw (sym live.version) (sound.versions (id.slot - 1) live.within))
 
 pub OnSome-from : {X : Type 0} (o : Option X) (P : Type 0) → P → OnSome o P
 OnSome-from None P p = tt

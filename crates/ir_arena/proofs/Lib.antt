@@ -1,7 +1,5 @@
-pub mod ArenaSlots
 pub mod ArenaSound
-pub mod ArenaLaws
-pub mod ArenaRoom
+pub mod ArenaChain
 pub mod ListArena
 pub mod ListChains
 pub mod ListEdits

@@ -6,14 +6,14 @@ use Rattle.std.proofs.lemmas.Bool.{cases_eq, ne_eqb}
 use Rattle.std.proofs.lemmas.List.{length-map}
 use Rattle.std.specs.Option.{option_map}
 use Rattle.ir_model.specs.declared.ids.ArenaIndex.{ArenaIndex}
-use Rattle.ir_arena.specs.declared.arena.Slot.{Slot}
-use Rattle.ir_arena.specs.ArenaSlots.{slot_in, slot_at, find, put_in, put}
+use Rattle.ir_model.specs.Slots.{Slot}
+use Rattle.ir_model.specs.Slots.{slot_in, slot_at, find, put_in, put}
 use Rattle.ir_arena.specs.Arena.{Arena, get, fill, IsLive}
 use Rattle.ir_model.specs.Ids.{Absent, Distinct}
 use Rattle.ir_model.specs.Nesting.{In}
 use Rattle.ir_arena.specs.Lists.{map_slot, map_records}
-use Rattle.ir_arena.proofs.ArenaSlots.{taken_at, put-place}
-use Rattle.ir_arena.proofs.ArenaLaws.{live-unique}
+use Rattle.ir_model.proofs.Slots.{taken_at, put-place}
+use Rattle.ir_model.proofs.Arenas.{live-unique}
 
 pub live-at : {T : Type 0} (a : Arena T) (i : ArenaIndex) (x : T) → get a i ≡ Some x → IsLive a i
 live-at a i x e = ap is_some e

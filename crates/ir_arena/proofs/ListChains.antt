@@ -6,25 +6,8 @@ use Rattle.ir_model.specs.ContextIds.{same_id}
 use Rattle.ir_model.specs.Ids.{Distinct}
 use Rattle.ir_model.specs.Nesting.{In}
 use Rattle.ir_model.proofs.Nests.{In-right, Absent-not_in, not_in-Absent}
-use Rattle.ir_model.proofs.Relinks.{same_refl, differs}
-use Rattle.ir_model.proofs.TwoRuns.{id_tells}
+use Rattle.ir_model.proofs.IdCases.{id_same, id_cases, id_differs}
 use Rattle.ir_arena.specs.Lists.{Links, linked, Heap, change, with_next, with_prev, head_or, last_of, last_or, IsChain}
-
--- two ids are the same, or they differ
-pub id_same : (i : ArenaIndex) → same_id i i ≡ true
-id_same i = same_refl same_id id_tells i
-
-pub id_cases : (i j : ArenaIndex) → (i ≡ j) ⊎ (i ≡ j → ⊥)
-id_cases i j = elim (cases_eq i.slot j.slot) [
-  | inl s ↦ elim (cases_eq i.version j.version) [
-    | inl v ↦ inl (λ k. record { slot = s k; version = v k })
-    | inr ne ↦ inr (λ e. ne (ap (λ (x : ArenaIndex). x.version) e))
-  ]
-  | inr ne ↦ inr (λ e. ne (ap (λ (x : ArenaIndex). x.slot) e))
-]
-
-pub id_differs : (i j : ArenaIndex) → (i ≡ j → ⊥) → same_id i j ≡ false
-id_differs i j ne = differs same_id id_tells i j ne
 
 -- change
 pub change-other : {A : Type 0} (f : A → A) (i : ArenaIndex) (h : Heap A) (j : ArenaIndex) → (i ≡ j → ⊥) → change f (Some i) h j ≡ h j

@@ -6,11 +6,11 @@ use Rattle.ir_model.specs.ContextIds.{same_id}
 use Rattle.ir_model.specs.Ids.{Distinct}
 use Rattle.ir_model.specs.Nesting.{In}
 use Rattle.ir_model.proofs.Nests.{In-append, In-left, In-right, not_in-Absent}
-use Rattle.ir_model.proofs.KeepsNew.{any_in}
+use Rattle.ir_model.proofs.IdCases.{id_same, id_cases, id_differs, In-either}
 use Rattle.ir_model.proofs.Redirected.{Distinct-front, Distinct-back}
 use Rattle.ir_model.proofs.TwoRuns.{id_tells}
 use Rattle.ir_arena.specs.Lists.{Links, Ends, unlinked, linked, Heap, change, with_next, with_prev, with_head, with_tail, unless, head_or, last_or, ends_of, IsChain, AreLists, with_list}
-use Rattle.ir_arena.proofs.ListChains.{id_same, id_cases, id_differs, change-other, change-here, head_or-append, last_or-append, last_of-In, chain-split, chain-join, chain-at, chain-apart, apart-both, chain-same, chain-set_prev, chain-set_next}
+use Rattle.ir_arena.proofs.ListChains.{change-other, change-here, head_or-append, last_or-append, last_of-In, chain-split, chain-join, chain-at, chain-apart, apart-both, chain-same, chain-set_prev, chain-set_next}
 
 -- the neighbours' links, changed: the last of a to v, the first of b to w
 abbrev pub relink : Heap Links → List ArenaIndex → List ArenaIndex → Option ArenaIndex → Option ArenaIndex → Heap Links
@@ -129,9 +129,6 @@ unlink_at h a b x = change (λ _. unlinked) (Some x) (relink h a b (head_or None
 
 pub relink-live : (h : Heap Links) (a b : List ArenaIndex) (v w : Option ArenaIndex) (x : ArenaIndex) (l : Links) → (In x a → ⊥) → (In x b → ⊥) → h x ≡ Some l → relink h a b v w x ≡ Some l
 relink-live h a b v w x l na nb e = relink-other h a b v w x na nb ∙ e
-
-pub In-either : (y : ArenaIndex) (xs : List ArenaIndex) → In y xs ⊎ (In y xs → ⊥)
-In-either y xs = elim (any_in same_id id_tells y xs) [ inl h ↦ inl h.1 | inr h ↦ inr h.1 ]
 
 pub AreLists-link : (h : Heap Links) (r : Heap Ends) (lists : ArenaIndex → List ArenaIndex) (c : ArenaIndex) (a b : List ArenaIndex) (x : ArenaIndex) (e : Ends)
     → AreLists h r lists → lists c ≡ a ++ b → r c ≡ Some e → h x ≡ Some unlinked

@@ -4,15 +4,16 @@ use Rattle.std.specs.Option.{option_map}
 use Rattle.std.proofs.lemmas.List.Sums.{sum_by-cons}
 use Rattle.std.proofs.lemmas.Option.{same_Some}
 use Rattle.ir_model.specs.declared.ids.ArenaIndex.{ArenaIndex}
-use Rattle.ir_arena.specs.declared.arena.Slot.{Slot}
-use Rattle.ir_arena.specs.ArenaSlots.{is_taken, is_retired, had_version}
+use Rattle.ir_model.specs.Slots.{Slot}
+use Rattle.ir_model.specs.Slots.{is_taken, is_retired, had_version}
 use Rattle.ir_arena.specs.Arena.{Arena, get, fill, cut, empty, IsLive, IsNew, is_passed, arena_len, room}
 use Rattle.ir_model.specs.Ids.{Distinct}
 use Rattle.ir_model.specs.Nesting.{In}
 use Rattle.ir_arena.specs.Lists.{seen, Links, Ends, Heap, unlinked, no_ends, ends_of, AreLists, container_in, container_of, IsLinked, map_slot, map_records, SameBut, SameIds}
-use Rattle.ir_arena.proofs.ArenaLaws.{get-empty, get-new, get-fill_new, get-fill_new_other, get-cut, get-cut_other}
+use Rattle.ir_model.proofs.Arenas.{get-empty, get-new, get-fill_new, get-fill_new_other, get-cut, get-cut_other}
+use Rattle.ir_model.proofs.IdCases.{id_cases}
 use Rattle.ir_arena.proofs.ListArena.{slot_at-map}
-use Rattle.ir_arena.proofs.ListChains.{id_cases, head-None, chain-at, chain-same, chain-apart}
+use Rattle.ir_arena.proofs.ListChains.{head-None, chain-at, chain-same, chain-apart}
 use Rattle.ir_arena.proofs.ListRecords.{seen-same, SameBut-get}
 use Rattle.ir_arena.proofs.ListPlaces.{in-linked, in-is_linked, In-middle, place}
 

@@ -4,9 +4,10 @@ use Rattle.std.specs.Option.{option_map}
 use Rattle.ir_model.specs.declared.ids.ArenaIndex.{ArenaIndex}
 use Rattle.ir_arena.specs.Arena.{Arena, get, fill, IsLive}
 use Rattle.ir_arena.specs.Lists.{Links, Ends, Heap, seen, change, SameBut}
+use Rattle.ir_model.proofs.IdCases.{id_cases}
 use Rattle.ir_arena.proofs.ListArena.{live-at, map_records-fill, get-map_records}
-use Rattle.ir_arena.proofs.ArenaLaws.{get-fill_live, get-fill_live_other}
-use Rattle.ir_arena.proofs.ListChains.{id_cases, change-here, change-other}
+use Rattle.ir_model.proofs.Arenas.{get-fill_live, get-fill_live_other}
+use Rattle.ir_arena.proofs.ListChains.{change-here, change-other}
 
 heap_ext : {A : Type 0} (f g : Heap A) → ((j : ArenaIndex) → f j ≡ g j) → f ≡ g
 heap_ext f g h = λ i j. h j i

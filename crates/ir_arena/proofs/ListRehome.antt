@@ -9,8 +9,9 @@ use Rattle.ir_model.specs.Nesting.{In}
 use Rattle.ir_model.proofs.Nests.{In-left, In-right, not_in-Absent}
 use Rattle.ir_arena.specs.Lists.{seen, Links, Ends, linked, no_ends, is_at, unless, with_next, with_prev, with_head, with_tail, Heap, change, head_or, last_or, ends_of, IsChain, AreLists, with_list, with_container, rehome}
 use Rattle.ir_arena.specs.Walks.{IsListFrom, Walked, piece}
-use Rattle.ir_arena.proofs.ListChains.{id_cases, change-other, change-here, head-None, apart-both, chain-split, chain-join, chain-same, chain-apart, chain-unique, last_or-append}
-use Rattle.ir_arena.proofs.ListEdits.{change-apart, relink, relink-sides, relink-other, lists-apart, with_list-here, with_list-other, In-either}
+use Rattle.ir_model.proofs.IdCases.{id_cases, In-either}
+use Rattle.ir_arena.proofs.ListChains.{change-other, change-here, head-None, apart-both, chain-split, chain-join, chain-same, chain-apart, chain-unique, last_or-append}
+use Rattle.ir_arena.proofs.ListEdits.{change-apart, relink, relink-sides, relink-other, lists-apart, with_list-here, with_list-other}
 use Rattle.ir_arena.proofs.ListWalks.{piece-all}
 
 pub rehome-other : (c : ArenaIndex) (xs : List ArenaIndex) (h : Heap Links) (y : ArenaIndex) → (In y xs → ⊥) → rehome c xs h y ≡ h y

@@ -12,8 +12,9 @@ use Rattle.ir_model.proofs.Redirected.{Distinct-front}
 use Rattle.ir_model.proofs.TwoRuns.{id_tells}
 use Rattle.ir_arena.specs.Lists.{seen, Links, Ends, Heap, IsChain, linked, head_or, last_or, last_of, AreLists}
 use Rattle.ir_arena.specs.Walks.{next_in, head_in, walk_to, piece, list_of, IsPiece}
+use Rattle.ir_model.proofs.IdCases.{id_same, id_differs}
 use Rattle.ir_arena.proofs.ListArena.{live-fit}
-use Rattle.ir_arena.proofs.ListChains.{id_same, id_differs, head-None, last_of-In, chain-apart, chain-at, chain-split, apart-both}
+use Rattle.ir_arena.proofs.ListChains.{head-None, last_of-In, chain-apart, chain-at, chain-split, apart-both}
 use Rattle.ir_arena.proofs.ListPlaces.{live-from_seen}
 
 pub walk-all : (fuel : ℕ) (h : Heap Links) (c : ArenaIndex) (p : Option ArenaIndex) (xs : List ArenaIndex) → IsChain h c p xs None → length xs ≤ fuel → walk_to fuel h (head_or None xs) None ≡ xs

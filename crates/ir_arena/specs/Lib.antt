@@ -1,4 +1,3 @@
-pub mod ArenaSlots
 pub mod ArenaSound
 pub mod Arena
 pub mod ArenaLends

@@ -4,7 +4,7 @@ use Rattle.std.specs.Option.{option_map}
 use Rattle.ir_model.specs.declared.ids.ArenaIndex.{ArenaIndex}
 use Rattle.ir_model.specs.ContextIds.{same_id}
 use Rattle.ir_model.specs.Nesting.{In}
-use Rattle.ir_arena.specs.declared.arena.Slot.{Slot}
+use Rattle.ir_model.specs.Slots.{Slot}
 use Rattle.ir_arena.specs.Arena.{Arena, get, IsLive, is_passed, arena_len, room}
 
 -- the neighbours of a node, and the container whose list it is in

@@ -2,6 +2,7 @@
 #![tactic(auto)]
 
 mod arena;
+pub mod arena_laws;
 pub mod linked_list;
 mod list_iter;
 pub mod list_laws;

@@ -76,29 +76,6 @@ pub trait ContainsLinkedList<T> {
     ghost put_get: { (x : Self) → with_ends x (ends x) ≡ x };
 }
 
-// The record under a live index.
-pub(crate) fn record_at<T>(arena: &Arena<T>, index: ArenaIndex) -> &T
-    requires { IsLive arena.now index }
-    ensures { get arena.now index ≡ Some result.now }
-{
-    match arena.get(Ptr::from_index(index)) {
-        Some(record) => record,
-        None => unreachable!(),
-    }
-}
-
-// The record under a live index, for writing.
-fn record_mut<T>(arena: &mut Arena<T>, index: ArenaIndex) -> &mut T
-    requires { IsLive arena.old index }
-    ensures* writes_back { sem 𝓛 (lends_value T.row arena.entry index result) }
-    ensures value { get arena.old index ≡ Some result.now }
-{
-    match arena.get_mut(Ptr::from_index(index)) {
-        Some(record) => record,
-        None => unreachable!(),
-    }
-}
-
 // Sets the next of the node on the left, or the head of the container where there is none.
 fn set_next_of<T: LinkedList, C: ContainsLinkedList<T>>(
     nodes: &mut Arena<T>,
@@ -116,8 +93,8 @@ fn set_next_of<T: LinkedList, C: ContainsLinkedList<T>>(
     ensures containers_rest { SameBut (λ x. C.with_ends x no_ends) containers.old containers.new }
 {
     match left {
-        Some(left) => record_mut(nodes, left).set_next(next),
-        None => record_mut(containers, container).set_head(next),
+        Some(left) => nodes.at_mut(Ptr::from_index(left)).set_next(next),
+        None => containers.at_mut(Ptr::from_index(container)).set_head(next),
     }
 }
 
@@ -139,8 +116,8 @@ fn set_prev_of<T: LinkedList, C: ContainsLinkedList<T>>(
     ensures containers_rest { SameBut (λ x. C.with_ends x no_ends) containers.old containers.new }
 {
     match right {
-        Some(right) => record_mut(nodes, right).set_prev(prev),
-        None => record_mut(containers, container).set_tail(prev),
+        Some(right) => nodes.at_mut(Ptr::from_index(right)).set_prev(prev),
+        None => containers.at_mut(Ptr::from_index(container)).set_tail(prev),
     }
 }
 
@@ -157,7 +134,7 @@ fn set_links<T: LinkedList>(
         ≡ change (λ _. record { next = next; prev = prev; container = container }) (Some node) (seen T.links nodes.old) }
     ensures rest { SameBut (λ x. T.with_links x unlinked) nodes.old nodes.new }
 {
-    let record = record_mut(nodes, node);
+    let record = nodes.at_mut(Ptr::from_index(node));
     record.set_next(next);
     record.set_prev(prev);
     record.set_container(container);
@@ -212,7 +189,7 @@ pub fn insert_at_front<T: LinkedList, C: ContainsLinkedList<T>>(
     ensures nodes_rest { SameBut (λ x. T.with_links x unlinked) nodes.old nodes.new }
     ensures containers_rest { SameBut (λ x. C.with_ends x no_ends) containers.old containers.new }
 {
-    let head = record_at(containers, container.index).get_head();
+    let head = containers.at(container).get_head();
     link_between(nodes, containers, node.index, container.index, None, head);
 }
 
@@ -237,7 +214,7 @@ pub fn insert_at_back<T: LinkedList, C: ContainsLinkedList<T>>(
     ensures nodes_rest { SameBut (λ x. T.with_links x unlinked) nodes.old nodes.new }
     ensures containers_rest { SameBut (λ x. C.with_ends x no_ends) containers.old containers.new }
 {
-    let tail = record_at(containers, container.index).get_tail();
+    let tail = containers.at(container).get_tail();
     link_between(nodes, containers, node.index, container.index, tail, None);
 }
 
@@ -263,7 +240,7 @@ pub fn insert_after<T: LinkedList, C: ContainsLinkedList<T>>(
     ensures nodes_rest { SameBut (λ x. T.with_links x unlinked) nodes.old nodes.new }
     ensures containers_rest { SameBut (λ x. C.with_ends x no_ends) containers.old containers.new }
 {
-    let place = record_at(nodes, mark.index);
+    let place = nodes.at(mark);
     let after = place.get_next();
     let container = place.get_container().unwrap();
     link_between(
@@ -298,7 +275,7 @@ pub fn insert_before<T: LinkedList, C: ContainsLinkedList<T>>(
     ensures nodes_rest { SameBut (λ x. T.with_links x unlinked) nodes.old nodes.new }
     ensures containers_rest { SameBut (λ x. C.with_ends x no_ends) containers.old containers.new }
 {
-    let place = record_at(nodes, mark.index);
+    let place = nodes.at(mark);
     let before = place.get_prev();
     let container = place.get_container().unwrap();
     link_between(
@@ -330,7 +307,7 @@ pub fn unlink<T: LinkedList, C: ContainsLinkedList<T>>(
     ensures nodes_rest { SameBut (λ x. T.with_links x unlinked) nodes.old nodes.new }
     ensures containers_rest { SameBut (λ x. C.with_ends x no_ends) containers.old containers.new }
 {
-    let place = record_at(nodes, node.index);
+    let place = nodes.at(node);
     let next = place.get_next();
     let prev = place.get_prev();
     let container = place.get_container().unwrap();
@@ -353,7 +330,7 @@ fn set_containers<T: LinkedList>(
 {
     let mut current = first;
     while let Some(node) = current {
-        let record = record_mut(nodes, node);
+        let record = nodes.at_mut(Ptr::from_index(node));
         record.set_container(Some(container));
         current = record.get_next();
     }
@@ -371,7 +348,7 @@ fn set_ends<T, C: ContainsLinkedList<T>>(
         ≡ change (λ _. record { head = head; tail = tail }) (Some container) (seen C.ends containers.old) }
     ensures rest { SameBut (λ x. C.with_ends x no_ends) containers.old containers.new }
 {
-    let record = record_mut(containers, container);
+    let record = containers.at_mut(Ptr::from_index(container));
     record.set_head(head);
     record.set_tail(tail);
 }
@@ -397,10 +374,10 @@ pub fn append_linked_list<T: LinkedList, C: ContainsLinkedList<T>>(
     ensures nodes_rest { SameBut (λ x. T.with_links x unlinked) nodes.old nodes.new }
     ensures containers_rest { SameBut (λ x. C.with_ends x no_ends) containers.old containers.new }
 {
-    let from = record_at(containers, donor.index);
+    let from = containers.at(donor);
     let first = from.get_head();
     let last = from.get_tail();
-    let to = record_at(containers, donee.index);
+    let to = containers.at(donee);
     let head = to.get_head();
     let tail = to.get_tail();
     set_prev_of(nodes, containers, donee.index, first, tail);
@@ -434,6 +411,6 @@ pub fn iter<'a, T: LinkedList, C: ContainsLinkedList<T>>(
         → AreLists (seen T.links nodes.now) (seen C.ends containers.now) lists
         → result ≡ lists container.index }
 {
-    let record = record_at(containers, container.index);
+    let record = containers.at(container);
     Iter::between(nodes, record.get_head(), record.get_tail())
 }

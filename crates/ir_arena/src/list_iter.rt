@@ -6,7 +6,7 @@ ghost use Rattle.ir_model.specs.declared.ids.ArenaIndex.{ArenaIndex};
 ghost use Rattle.ir_arena.specs.Lists.{seen};
 ghost use Rattle.ir_arena.specs.Walks.{IsPiece, piece};
 
-use crate::linked_list::{LinkedList, record_at};
+use crate::linked_list::LinkedList;
 use crate::{Arena, ArenaIndex, Ptr};
 use std::alloc::AllocError;
 use std::marker::Model;
@@ -72,7 +72,7 @@ impl<'a, T: LinkedList> Iterator for Iter<'a, T> {
             self.next = None;
             self.next_back = None;
         } else {
-            self.next = record_at(self.nodes, current).get_next();
+            self.next = self.nodes.at(node).get_next();
         }
         Some(node)
     }
@@ -90,7 +90,7 @@ impl<'a, T: LinkedList> DoubleEndedIterator for Iter<'a, T> {
             self.next = None;
             self.next_back = None;
         } else {
-            self.next_back = record_at(self.nodes, current).get_prev();
+            self.next_back = self.nodes.at(node).get_prev();
         }
         Some(node)
     }

@@ -1,9 +1,13 @@
 //! Arenas as their callers use them: first callers that are proved from the contracts alone, then tests that run.
 
-ghost use Rattle.std.specs.Prelude.{◌≡◌, ◌≢◌, ◌+◌, ◌↔◌, IfOk, IfSome, IfNone, OnErr, OnOk, Some, None, Err};
-ghost use Rattle.ir_arena.specs.Arena.{get, fill, room, IsNew};
+ghost use Rattle.std.specs.Prelude.{◌≡◌, ◌≢◌, ◌+◌, ◌<◌, ◌↔◌, IsTrue, IfOk, IfSome, IfNone, OnErr, OnOk, Some, None, Err};
+ghost use Rattle.ir_arena.specs.Arena.{get, fill, room, unused, is_passed, IsNew};
 ghost use Rattle.ir_model.specs.declared.ids.ArenaIndex.{ArenaIndex as Index};
 
+use ir_arena::arena_laws::{
+    arenas_stay_whole, changes_are_read, gone_ids_stay_gone, lengths_follow, live_ids_have_slots,
+    new_ids_are_new, other_ids_stay, passed_ids_stay, rooms_are_exact, rooms_follow,
+};
 use ir_arena::{Arena, ArenaIndex, CoreError, Ptr, Room, Seq};
 use std::alloc::Global;
 use std::hash::{BuildHasher, BuildHasherDefault, FoldHasher};
@@ -66,10 +70,10 @@ fn set_count(pair: &mut Pair, root: Ptr<Root>, count: u32)
 }
 
 /// Two writes in turn: each other record stays.
-#[tactic(auto, using(crate::proofs::ArenaLaws::arena_laws))]
 fn set_two(pair: &mut Pair, a: Ptr<Root>, b: Ptr<Root>, count: u32)
     ensures others { (q : Index) → q ≢ a.index → q ≢ b.index → get pair.new.roots q ≡ get pair.old.roots q }
 {
+    other_ids_stay::<Root>();
     if let Some(r) = pair.roots.get_mut(a) {
         r.count = count;
     }
@@ -98,6 +102,31 @@ fn remove_twice(roots: &mut Arena<Root>, root: Ptr<Root>) -> bool
 {
     roots.remove(root);
     roots.remove(root).is_none()
+}
+
+/// An insertion where a freed slot is left always succeeds.
+fn make_again(roots: &mut Arena<Root>) -> Ptr<Root>
+    requires { unused roots.old < room roots.old }
+    ensures { room roots.new + 1 ≡ room roots.old }
+{
+    match roots.insert_with(|_| Root {
+        first: None,
+        count: 0,
+    }) {
+        Ok(root) => root,
+        Err(_) => unreachable!(),
+    }
+}
+
+/// A removal, after which what was handed out is still handed out, and what is gone is gone for good.
+fn remove_for_good(roots: &mut Arena<Root>, root: Ptr<Root>)
+    ensures passed { (q : Index) → is_passed roots.new q ≡ is_passed roots.old q }
+    ensures gone { get roots.new root.index ≡ None }
+    ensures others { (q : Index) → q ≢ root.index → get roots.new q ≡ get roots.old q }
+{
+    passed_ids_stay::<Root>();
+    other_ids_stay::<Root>();
+    roots.remove(root);
 }
 
 // Stores a root that names nothing.
@@ -196,6 +225,58 @@ fn the_slot_freed_last_is_used_first(rt: HostRuntime) -> Result<(), Fail> {
     }
     assert!(rt; roots.is_live(b));
     Ok(())
+}
+
+#[test]
+fn freed_slots_need_no_memory(rt: HostRuntime) -> Result<(), Fail> {
+    let mut roots = Arena::new(rt.alloc(), 1000, 9);
+    let mut passed = Vec::new(rt.alloc());
+    for _ in 0..1000u32 {
+        passed.push(make(&mut roots)?)?;
+    }
+    for root in &passed {
+        assert!(rt; free(&mut roots, *root));
+    }
+    for k in 0..1000u32 {
+        let place = ArenaIndex {
+            slot: 1000 - k,
+            version: 3,
+        };
+        assert_eq!(rt; make_at(&mut roots), Ok(place));
+    }
+    assert_eq!(rt; room_and_len(&roots), (0, 1000));
+    Ok(())
+}
+
+#[test]
+fn a_refused_record_is_not_made(rt: HostRuntime) -> Result<(), Fail> {
+    let mut roots = Arena::new(rt.alloc(), 0, 9);
+    let mut made = 0u32;
+    let answer = roots.insert_with(|_| {
+        made = made.saturating_add(1);
+        Root {
+            first: None,
+            count: 0,
+        }
+    });
+    assert!(rt; answer == Err(CoreError::SlotsSpent));
+    assert_eq!(rt; made, 0);
+    Ok(())
+}
+
+// Each law can be called at a concrete type.
+#[test]
+fn arena_laws(_rt: HostRuntime) {
+    new_ids_are_new::<Root>();
+    passed_ids_stay::<Root>();
+    gone_ids_stay_gone::<Root>();
+    changes_are_read::<Root>();
+    other_ids_stay::<Root>();
+    live_ids_have_slots::<Root>();
+    lengths_follow::<Root>();
+    rooms_follow::<Root>();
+    rooms_are_exact::<Root>();
+    arenas_stay_whole::<Root>();
 }
 
 #[test]

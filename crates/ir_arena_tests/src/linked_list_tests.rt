@@ -212,6 +212,7 @@ impl<T: LinkedList, C: ContainsLinkedList<T>> Model for Lists<T, C> {
 
 impl<T: LinkedList, C: ContainsLinkedList<T>> Lists<T, C> {
     fn new(alloc: Global) -> Self {
+        empty_arenas::<T, C>();
         Lists {
             nodes: Arena::new(alloc, 100, 100),
             containers: Arena::new(alloc, 100, 100),
@@ -223,6 +224,7 @@ impl<T: LinkedList, C: ContainsLinkedList<T>> Lists<T, C> {
         T: Drop,
         requires { T.links node ≡ unlinked }
     {
+        node_changes_keep_lists::<T, C>();
         store(&mut self.nodes, node)
     }
 
@@ -231,6 +233,7 @@ impl<T: LinkedList, C: ContainsLinkedList<T>> Lists<T, C> {
         C: Drop,
         requires { C.ends container ≡ no_ends }
     {
+        container_changes_keep_lists::<T, C>();
         store(&mut self.containers, container)
     }
 

@@ -9,14 +9,7 @@ use Rattle.std.proofs.lemmas.List.Sums.{fails_before_first}
 use Rattle.std.proofs.lemmas.List.Quantifiers.{position-Some}
 use Rattle.std.proofs.lemmas.Option.{slice_get-map, slice_get_within, slice_get_cases}
 use Rattle.ir_model.specs.VerifierLists.{DifferBelow, IsFirstRepeat}
-
--- the items before a place are those of the list
-pub slice_get-take : {X : Type 0} (xs : List X) (n k : ℕ) → k < n → slice_get (take n xs) k ≡ slice_get xs k
-slice_get-take [] zero k lt = refl
-slice_get-take [] (suc n) k lt = refl
-slice_get-take (x ∷ xs) zero k lt = absurd (omega arith)
-slice_get-take (x ∷ xs) (suc n) zero lt = refl
-slice_get-take (x ∷ xs) (suc n) (suc k) lt = slice_get-take xs n k (omega arith)
+use Rattle.ir_model.proofs.Prefixes.{slice_get-take}
 
 -- a search that finds nothing stops at the end
 none_at_end : (n l : ℕ) → cond (nat_lt n l) (Some n) None ≡ None → l ≤ n

@@ -3,12 +3,12 @@ use Rattle.std.proofs.Common.{◌≡◌, ℕ, ◌-◌, ◌<◌, Bool, List, leng
 use Rattle.std.proofs.lemmas.List.{set-set, set-get_or}
 use Rattle.std.proofs.lemmas.List.Sums.{sum_by-set}
 use Rattle.ir_model.specs.declared.ids.ArenaIndex.{ArenaIndex}
-use Rattle.ir_arena.specs.declared.arena.Slot.{Slot}
-use Rattle.ir_arena.specs.ArenaSlots.{never, slot_in, is_taken, is_retired}
+use Rattle.ir_model.specs.Slots.{Slot}
+use Rattle.ir_model.specs.Slots.{never, slot_in, is_taken, is_retired}
 use Rattle.ir_arena.specs.Arena.{Arena, get, IsLive, fill, room, arena_len}
-use Rattle.ir_arena.proofs.ArenaSlots.{taken_at, put-set}
-use Rattle.ir_arena.proofs.ArenaLaws.{get-fill_live, get-fill_live_other, passed-fill_live}
-use Rattle.ir_arena.proofs.ListChains.{id_cases}
+use Rattle.ir_model.proofs.Slots.{taken_at, put-set}
+use Rattle.ir_model.proofs.Arenas.{get-fill_live, get-fill_live_other, passed-fill_live}
+use Rattle.ir_model.proofs.IdCases.{id_cases}
 use Rattle.std.specs.Option.{option_map}
 use Rattle.ir_core.specs.declared.operation.Operation.{Operation}
 use Rattle.ir_core.specs.Meaning.{SameIds}

@@ -11,7 +11,7 @@ use Rattle.ir_model.specs.ContextIds.{context_ids, same_id}
 use Rattle.ir_model.specs.Forest.{Operand}
 use Rattle.ir_model.specs.Changes.{rewrite, on_operands}
 use Rattle.ir_arena.specs.Arena.{Arena, IsLive}
-use Rattle.ir_arena.proofs.ListChains.{id_cases}
+use Rattle.ir_model.proofs.IdCases.{id_cases}
 use Rattle.ir_core.specs.declared.operation.Operation.{Operation}
 use Rattle.ir_core.specs.declared.value.Value.{Value}
 use Rattle.ir_core.specs.declared.record.ValueIndex.{ValueIndex}

@@ -7,7 +7,7 @@ use Rattle.ir_model.specs.Forest.{Dialect, Forest, Entity, an_op, a_block, a_reg
 use Rattle.ir_model.specs.Nesting.{In, WellFormed, children, numbers_of, uses_of, names_of, types_of}
 use Rattle.ir_model.specs.Sessions.{IsNewSession}
 use Rattle.ir_arena.specs.Arena.{get, empty}
-use Rattle.ir_arena.proofs.ArenaLaws.{get-empty, passed-empty}
+use Rattle.ir_model.proofs.Arenas.{get-empty, passed-empty}
 use Rattle.ir_core.specs.Sound.{AreLimits, IsSound}
 use Rattle.ir_core.specs.declared.operation.Operation.{Operation}
 use Rattle.ir_core.specs.declared.region.Region.{Region}

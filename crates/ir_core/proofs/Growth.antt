@@ -8,8 +8,8 @@ use Rattle.ir_model.specs.Nesting.{In}
 use Rattle.ir_model.specs.Sessions.{IsNewId}
 use Rattle.ir_model.proofs.Nests.{In-append, In-left, In-right, Distinct-append}
 use Rattle.ir_arena.specs.Arena.{Arena, get, IsLive, is_passed, fill, cut, miss, Inserts}
-use Rattle.ir_arena.proofs.ArenaLaws.{get-new, get-fill_new, get-fill_new_other, get-cut, get-cut_other, passed-fill_new, passed-cut, new-is_new}
-use Rattle.ir_arena.proofs.ListEdits.{In-either}
+use Rattle.ir_model.proofs.Arenas.{get-new, get-fill_new, get-fill_new_other, get-cut, get-cut_other, passed-fill_new, passed-cut, new-is_new}
+use Rattle.ir_model.proofs.IdCases.{In-either}
 use Rattle.ir_core.specs.Creation.{Grows, Fills, SkipsIds, Clears, SameRecords}
 use Rattle.ir_core.specs.declared.operation.Operation.{Operation}
 use Rattle.ir_core.specs.Meaning.{SameIds}

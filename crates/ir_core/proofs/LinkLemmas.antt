@@ -4,7 +4,7 @@ use Rattle.std.specs.List.{swap_remove, remove}
 use Rattle.std.proofs.lemmas.Bool.{cases_eq, cases_lt, cases_order}
 use Rattle.std.proofs.lemmas.Option.{slice_get_within, same_Some}
 use Rattle.ir_model.specs.declared.ids.ArenaIndex.{ArenaIndex}
-use Rattle.ir_arena.proofs.ListChains.{id_cases}
+use Rattle.ir_model.proofs.IdCases.{id_cases}
 use Rattle.ir_core.specs.declared.record.Definer.{Definer}
 use Rattle.ir_core.specs.declared.record.Definer.TheVariants.{Op, Block}
 use Rattle.ir_core.specs.declared.record.ValueIndex.{ValueIndex}

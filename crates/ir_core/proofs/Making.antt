@@ -14,8 +14,8 @@ use Rattle.ir_model.proofs.KeepsNew.{put_at}
 use Rattle.ir_model.proofs.TwoRuns.{id_tells}
 use Rattle.ir_base.specs.declared.type_handle.TypeHandle.{TypeHandle}
 use Rattle.ir_arena.specs.Arena.{Arena, get, IsLive, fill}
-use Rattle.ir_arena.proofs.ArenaLaws.{get-fill_live, get-fill_live_other}
-use Rattle.ir_arena.proofs.ListChains.{id_cases}
+use Rattle.ir_model.proofs.Arenas.{get-fill_live, get-fill_live_other}
+use Rattle.ir_model.proofs.IdCases.{id_cases}
 use Rattle.ir_core.specs.declared.operation.Operation.{Operation}
 use Rattle.ir_core.specs.declared.record.Definer.{Definer}
 use Rattle.ir_core.specs.declared.record.Definer.TheVariants.{Op, Block}

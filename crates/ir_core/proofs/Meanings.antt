@@ -10,7 +10,7 @@ use Rattle.ir_model.specs.Forest.{OpRecord, Operand, Definition}
 use Rattle.ir_model.specs.Changes.{rewrite, on_operands}
 use Rattle.ir_model.proofs.TwoRuns.{id_tells}
 use Rattle.ir_arena.specs.Arena.{Arena, get, IsLive}
-use Rattle.ir_arena.proofs.ListChains.{id_cases, id_differs}
+use Rattle.ir_model.proofs.IdCases.{id_cases, id_differs}
 use Rattle.ir_core.specs.declared.operation.Operation.{Operation}
 use Rattle.ir_core.specs.declared.record.Definer.{Definer}
 use Rattle.ir_core.specs.declared.record.Definer.TheVariants.{Op, Block}

@@ -8,7 +8,7 @@ use Rattle.ir_model.specs.Ids.{Absent, Distinct}
 use Rattle.ir_model.specs.Nesting.{In}
 use Rattle.ir_model.specs.Sessions.{Number, TakesSlot}
 use Rattle.ir_arena.specs.Arena.{Arena, get, IsWhole, is_passed, room}
-use Rattle.ir_arena.proofs.ArenaRoom.{takes-number, room-splits}
+use Rattle.ir_model.proofs.ArenaRoom.{takes-number, room-splits}
 use Rattle.ir_core.specs.Calls.{Left}
 use Rattle.ir_core.specs.Sound.{Keeps}
 

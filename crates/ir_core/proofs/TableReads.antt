@@ -12,8 +12,8 @@ use Rattle.ir_model.specs.Forest.{OpRecord, Definition, Operand}
 use Rattle.ir_model.specs.Changes.{rewrite, on_operands}
 use Rattle.ir_model.proofs.TwoRuns.{id_tells}
 use Rattle.ir_arena.specs.Arena.{Arena, get, IsLive, fill}
-use Rattle.ir_arena.proofs.ArenaLaws.{get-fill_live, get-fill_live_other}
-use Rattle.ir_arena.proofs.ListChains.{id_cases, id_differs}
+use Rattle.ir_model.proofs.Arenas.{get-fill_live, get-fill_live_other}
+use Rattle.ir_model.proofs.IdCases.{id_cases, id_differs}
 use Rattle.ir_core.specs.declared.operation.Operation.{Operation}
 use Rattle.ir_core.specs.declared.record.Definer.{Definer}
 use Rattle.ir_core.specs.declared.record.Definer.TheVariants.{Op, Block}

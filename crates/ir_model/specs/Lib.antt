@@ -67,3 +67,5 @@ pub mod AuxData
 pub mod QueryLaws
 pub mod StoreLaws
 pub mod CallRows
+pub mod Slots
+pub mod Arenas

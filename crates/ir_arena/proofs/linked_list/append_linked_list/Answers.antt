@@ -12,7 +12,7 @@ pub set_prev_of-requires : goal.set_prev_of-requires
 set_prev_of-requires g c =
     let l = c.requires.well_formed.1 in
     let ends = g.C.ContainsLinkedList.ends in
-    let first = head-read l c.args.donor.index (ends c.record_at-from.result.now) c.get_head-first.result (ap (option_map ends) c.record_at-from.ensures) c.get_head-first.ensures in
+    let first = head-read l c.args.donor.index (ends c.at-from.result.now) c.get_head-first.result (ap (option_map ends) c.at-from.ensures) c.get_head-first.ensures in
     record {
       right_live = IfSome-live g.T.LinkedList.links c.args.nodes.now c.get_head-first.result (λ y is. first-live l c.args.donor.index [] (c.requires.well_formed.0 c.args.donor.index) y refl (sym first ∙ is));
       container_live = c.requires.donee_live;
@@ -22,7 +22,7 @@ pub set_next_of-requires : goal.set_next_of-requires
 set_next_of-requires g c =
     let l = c.requires.well_formed.1 in
     let ends = g.C.ContainsLinkedList.ends in
-    let tail = tail-read l c.args.donee.index (ends c.record_at-to.result.now) c.get_tail-tail.result (ap (option_map ends) c.record_at-to.ensures) c.get_tail-tail.ensures in
+    let tail = tail-read l c.args.donee.index (ends c.at-to.result.now) c.get_tail-tail.result (ap (option_map ends) c.at-to.ensures) c.get_tail-tail.ensures in
     record {
       left_live = IfSome-same c.args.nodes.now c.set_prev_of.new.nodes c.get_tail-tail.result
           (λ i. SameBut-live (λ x. g.T.LinkedList.with_links x unlinked) c.args.nodes.now c.set_prev_of.new.nodes i c.set_prev_of.ensures.nodes_rest)
@@ -42,8 +42,8 @@ pub set_containers-requires : goal.set_containers-requires
 set_containers-requires g c =
     let l = c.requires.well_formed.1 in
     let ends = g.C.ContainsLinkedList.ends in
-    let first = head-read l c.args.donor.index (ends c.record_at-from.result.now) c.get_head-first.result (ap (option_map ends) c.record_at-from.ensures) c.get_head-first.ensures in
-    let tail = tail-read l c.args.donee.index (ends c.record_at-to.result.now) c.get_tail-tail.result (ap (option_map ends) c.record_at-to.ensures) c.get_tail-tail.ensures in
+    let first = head-read l c.args.donor.index (ends c.at-from.result.now) c.get_head-first.result (ap (option_map ends) c.at-from.ensures) c.get_head-first.ensures in
+    let tail = tail-read l c.args.donee.index (ends c.at-to.result.now) c.get_tail-tail.result (ap (option_map ends) c.at-to.ensures) c.get_tail-tail.ensures in
     joined-list (seen g.T.LinkedList.links c.args.nodes.now) (seen g.T.LinkedList.links c.set_next_of.new.nodes) (seen ends c.args.containers.now) c.requires.well_formed.0 c.args.donee.index c.args.donor.index c.get_tail-tail.result c.get_head-first.result
     l c.requires.two first tail (rw (c.set_next_of.ensures.links, c.set_prev_of.ensures.links))
 
@@ -52,8 +52,8 @@ returns-clause-lists g c lists l =
     let links = g.T.LinkedList.links in
     let ends = g.C.ContainsLinkedList.ends in
     AreLists-joined (seen links c.args.nodes.now) (seen links c.set_next_of.new.nodes) (seen links c.set_containers.new.nodes) (seen ends c.args.containers.now) (seen ends c.set_ends-2.new.containers)
-    lists c.args.donee.index c.args.donor.index (ends c.record_at-to.result.now) (ends c.record_at-from.result.now) c.get_head-head.result c.get_tail-tail.result c.get_head-first.result c.get_tail-last.result
-    l c.requires.two (ap (option_map ends) c.record_at-to.ensures) (ap (option_map ends) c.record_at-from.ensures)
+    lists c.args.donee.index c.args.donor.index (ends c.at-to.result.now) (ends c.at-from.result.now) c.get_head-head.result c.get_tail-tail.result c.get_head-first.result c.get_tail-last.result
+    l c.requires.two (ap (option_map ends) c.at-to.ensures) (ap (option_map ends) c.at-from.ensures)
     c.get_head-head.ensures c.get_tail-tail.ensures c.get_head-first.ensures c.get_tail-last.ensures
     (rw (c.set_next_of.ensures.links, c.set_prev_of.ensures.links)) c.set_containers.ensures.moved
     (rw (c.set_ends-2.ensures.ends, c.set_ends.ensures.ends, c.or.ensures, c.or-2.ensures, c.set_next_of.ensures.ends, c.set_prev_of.ensures.ends))

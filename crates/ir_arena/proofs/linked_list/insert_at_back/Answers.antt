@@ -10,15 +10,15 @@ pub link_between-requires-clause-left_live : goal.link_between-requires-clause-l
 link_between-requires-clause-left_live g c =
     let lists = c.requires.well_formed.0 in
     let l = c.requires.well_formed.1 in
-    let known = l.ends c.args.container.index (g.C.ContainsLinkedList.ends c.record_at.result.now) (ap (option_map g.C.ContainsLinkedList.ends) c.record_at.ensures) in
+    let known = l.ends c.args.container.index (g.C.ContainsLinkedList.ends c.at.result.now) (ap (option_map g.C.ContainsLinkedList.ends) c.at.ensures) in
     let tail : c.get_tail-tail.result ≡ last_or None (lists c.args.container.index) = c.get_tail-tail.ensures ∙ ap (λ (e : Ends). e.tail) known in
     IfSome-live g.T.LinkedList.links c.args.nodes.now c.get_tail-tail.result
     (λ y is. last-live l c.args.container.index (lists c.args.container.index) [] y (sym (append-nil _)) (sym tail ∙ is))
 
 pub returns-clause-lists : goal.returns-clause-lists
 returns-clause-lists g c lists l =
-    let e : Ends = g.C.ContainsLinkedList.ends c.record_at.result.now in
-    let live : seen g.C.ContainsLinkedList.ends c.args.containers.now c.args.container.index ≡ Some e = ap (option_map g.C.ContainsLinkedList.ends) c.record_at.ensures in
+    let e : Ends = g.C.ContainsLinkedList.ends c.at.result.now in
+    let live : seen g.C.ContainsLinkedList.ends c.args.containers.now c.args.container.index ≡ Some e = ap (option_map g.C.ContainsLinkedList.ends) c.at.ensures in
     let tail : c.get_tail-tail.result ≡ last_or None (lists c.args.container.index) = c.get_tail-tail.ensures ∙ ap (λ (e : Ends). e.tail) (l.ends c.args.container.index e live) in
     rw (c.link_between.ensures.links, c.link_between.ensures.ends, tail)
     (AreLists-link (seen g.T.LinkedList.links c.args.nodes.now) (seen g.C.ContainsLinkedList.ends c.args.containers.now) lists c.args.container.index (lists c.args.container.index) [] c.args.node.index e l (sym (append-nil _)) live (unlinked-node g.T.LinkedList.links c.args.nodes.now (seen g.C.ContainsLinkedList.ends c.args.containers.now) c.args.node.index c.requires.well_formed c.requires.node_live c.requires.node_unlinked))

@@ -7,11 +7,11 @@ pub returns : goal.returns
 returns g c =
     let L = g.T.LinkedList in
     let laws = g.met.T.LinkedList in
-    let x = c.record_mut-record.result.now in
+    let x = c.at_mut-record.result.now in
     let w = c.set_container.new.self in
     let l : Links = record { next = c.args.next; prev = c.args.prev; container = c.args.container } in
     let is : w ≡ L.with_links x l = set-three L.links L.with_links laws.get_put laws.put_put x c.set_next.new.self c.set_prev.new.self w c.args.next c.args.prev c.args.container c.set_next.ensures c.set_prev.ensures c.set_container.ensures in
     record {
-      links = put-seen L.links L.with_links laws.get_put laws.put_put c.args.nodes.now c.args.node x w (λ _. l) c.record_mut-record.ensures.value is;
-      rest = put-rest L.links L.with_links laws.get_put laws.put_put c.args.nodes.now c.args.node x w l unlinked c.record_mut-record.ensures.value is;
+      links = rw (← c.from_index.ensures) (put-seen L.links L.with_links laws.get_put laws.put_put c.args.nodes.now c.from_index.result.index x w (λ _. l) c.at_mut-record.ensures.value is);
+      rest = put-rest L.links L.with_links laws.get_put laws.put_put c.args.nodes.now c.from_index.result.index x w l unlinked c.at_mut-record.ensures.value is;
     }

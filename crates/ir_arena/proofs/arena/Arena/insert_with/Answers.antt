@@ -1,113 +1,161 @@
-use Rattle.std.proofs.Common.{◌≡◌, ◌+◌, ◌<◌, ◌≤◌, [], length, length-set, Some, sym, ap, ◌∙◌, arith}
-use Rattle.std.proofs.lemmas.List.{get_or_read, length_push}
-use Rattle.std.specs.Vec.{vec_capacity}
-use Rattle.std.proofs.lemmas.Grind.{common_steps}
-use Rattle.ir_arena.specs.ArenaSlots.{slot_in, never}
-use Rattle.ir_arena.proofs.ArenaSlots.{put_in-set, put_in-push, put-next}
-use Rattle.ir_arena.proofs.ArenaSound.{offered, reusable_is, offered_is_new, end_is_new, inserts_is, IsSound-reuse, IsSound-extend, whole_is, room_is}
+use Rattle.std.proofs.Common.{◌≡◌, ◌+◌, ◌-◌, ◌<◌, ◌≤◌, [], ◌∷◌, ◌++◌, length, length-set, Some, None, refl, sym, ap, subst, ◌∙◌, inl, inr, arith}
+use Rattle.std.proofs.lemmas.List.{get_or_read, length-map, length_push}
+use Rattle.ir_model.specs.declared.ids.ArenaIndex.{ArenaIndex}
+use Rattle.ir_model.specs.Slots.{item_under}
+use Rattle.ir_arena.specs.declared.arena.Slot.TheVariants.{Full, Free}
+use Rattle.ir_arena.specs.ArenaSound.{shown, held_in, next_in}
+use Rattle.ir_model.specs.Arenas.{IsNew}
+use Rattle.ir_arena.proofs.ArenaSound.{inserts_is}
+use Rattle.ir_arena.proofs.ArenaChain.{laid-next, laid-more, laid-room, laid-whole, last_is_new, free-none, write-shown, push-shown}
 use Rattle.ir_arena.proofs.arena.Arena.insert_with.Goals as goal
 
-pub index-requires : goal.index-requires
-index-requires g c =
-    let one = offered _ _ _ _ _ _ _ c.in-Some.place c.in-Some.ensures.items c.self.invariant in
-    omega (arith, one.within, c.self.inside.slots.ok.0)
+pub index-slot-requires : goal.index-slot-requires
+index-slot-requires g c =
+    let k = c.self.inside.first_free - 1 in
+    let next = laid-next k c.self.inside.removals.count c.self.invariant (omega (arith, c.if-self-gt0.true)) in
+    omega (arith, next.within, c.self.inside.slots.ok.0)
 
 pub overflow_add-version : goal.overflow_add-version
 overflow_add-version g c =
-    let one = offered _ _ _ _ _ _ _ c.in-Some.place c.in-Some.ensures.items c.self.invariant in
-    let read = get_or_read c.self.inside.slots.items _ _ one.within c.index.ensures never in
-    let is = (reusable_is c.self.inside.last_version (slot_in c.self.inside.slots.items c.in-Some.place) one.reusable).1 in
-    let fits : c.index.result.now.version + 2 ≤ c.self.inside.last_version = rw read is in
+    let k = c.self.inside.first_free - 1 in
+    let next = laid-next k c.self.inside.removals.count c.self.invariant (omega (arith, c.if-self-gt0.true)) in
+    let read = get_or_read c.self.inside.slots.items _ _ next.within c.index-slot.ensures (Free 0 0) in
+    let at : c.version-version.result ≡ (shown (held_in c.self.inside.slots.items k)).version = c.version-version.ensures ∙ ap (λ s. (shown s).version) read in
+    let fits : c.version-version.result + 2 ≤ c.self.inside.last_version = rw at next.fits in
     omega arith
 
-pub overflow_add-place : goal.overflow_add-place
-overflow_add-place g c =
-    let one = offered _ _ _ _ _ _ _ c.in-Some.place c.in-Some.ensures.items c.self.invariant in
-    omega (arith, one.within, c.self.invariant.within, c.self.invariant.numbered)
+pub make-item-requires : goal.make-item-requires
+make-item-requires g c =
+    let k = c.self.inside.first_free - 1 in
+    let next = laid-next k c.self.inside.removals.count c.self.invariant (omega (arith, c.if-self-gt0.true)) in
+    let read = get_or_read c.self.inside.slots.items _ _ next.within c.index-slot.ensures (Free 0 0) in
+    let at : c.version-version.result ≡ (shown (held_in c.self.inside.slots.items k)).version = c.version-version.ensures ∙ ap (λ s. (shown s).version) read in
+    let numbered : c.self.inside.first_free ≡ k + 1 = omega (arith, c.if-self-gt0.true) in
+    let id : ArenaIndex = record { slot = k + 1; version = (shown (held_in c.self.inside.slots.items k)).version + 2 } in
+    let same : c.from_index-ptr.result.index ≡ id = c.from_index-ptr.ensures ∙ (λ i. record { slot = numbered i; version = at i + 2 }) in
+    c.requires c.from_index-ptr.result (rw (← c.self.view_is, same) next.fresh)
 
 pub index_mut-requires : goal.index_mut-requires
 index_mut-requires g c =
-    let one = offered _ _ _ _ _ _ _ c.in-Some.place c.in-Some.ensures.items c.self.invariant in
-    omega (arith, one.within, c.self.inside.slots.ok.0)
+    let k = c.self.inside.first_free - 1 in
+    let next = laid-next k c.self.inside.removals.count c.self.invariant (omega (arith, c.if-self-gt0.true)) in
+    omega (arith, next.within, c.self.inside.slots.ok.0)
 
 pub invariant_of-self : goal.invariant_of-self
 invariant_of-self g c =
-    let one = offered _ _ _ _ _ _ _ c.in-Some.place c.in-Some.ensures.items c.self.invariant in
-    let read = get_or_read c.self.inside.slots.items _ _ one.within c.index.ensures never in
-    rw c.pop.ensures.capacity (IsSound-reuse _ _ _ _ _ _ _ _ _ _ c.in-Some.ensures.items (ap (λ s. s.version + 2) read) c.self.invariant)
+    let k = c.self.inside.first_free - 1 in
+    let next = laid-next k c.self.inside.removals.count c.self.invariant (omega (arith, c.if-self-gt0.true)) in
+    let read = get_or_read c.self.inside.slots.items _ _ next.within c.index-slot.ensures (Free 0 0) in
+    let at : c.version-version.result ≡ (shown (held_in c.self.inside.slots.items k)).version = c.version-version.ensures ∙ ap (λ s. (shown s).version) read in
+    rw (at, c.next-next.ensures, read) (next.more c.make-item.result)
 
-pub returns-in-Some-clause-inserted : goal.returns-in-Some-clause-inserted
-returns-in-Some-clause-inserted g c =
-    let one = offered _ _ _ _ _ _ _ c.in-Some.place c.in-Some.ensures.items c.self.invariant in
-    let read = get_or_read c.self.inside.slots.items _ _ one.within c.index.ensures never in
-    let written = sym (put-next c.self.inside.slots.items c.in-Some.place (record { version = c.index.result.now.version + 2; item = Some c.make.result }) ∙ put_in-set _ _ _ one.within) in
-    rw (← c.self.view_is) (inserts_is _ _ _ _ _ _ _ (record { slot = c.in-Some.place + 1; version = c.index.result.now.version + 2 }) c.make.result (rw read (offered_is_new _ _ _ _ _ _ _ _ _ c.self.invariant one)) c.from_index-ptr.ensures c.make.ensures written)
+pub returns-then-self-gt0-clause-inserted : goal.returns-then-self-gt0-clause-inserted
+returns-then-self-gt0-clause-inserted g c =
+    let k = c.self.inside.first_free - 1 in
+    let next = laid-next k c.self.inside.removals.count c.self.invariant (omega (arith, c.if-self-gt0.true)) in
+    let read = get_or_read c.self.inside.slots.items _ _ next.within c.index-slot.ensures (Free 0 0) in
+    let at : c.version-version.result ≡ (shown (held_in c.self.inside.slots.items k)).version = c.version-version.ensures ∙ ap (λ s. (shown s).version) read in
+    let numbered : c.self.inside.first_free ≡ k + 1 = omega (arith, c.if-self-gt0.true) in
+    let id : ArenaIndex = record { slot = k + 1; version = (shown (held_in c.self.inside.slots.items k)).version + 2 } in
+    let same : c.from_index-ptr.result.index ≡ id = c.from_index-ptr.ensures ∙ (λ i. record { slot = numbered i; version = at i + 2 }) in
+    let written = write-shown c.self.inside.slots.items k (Full id.version c.make-item.result) next.within in
+    rw (← c.self.view_is, at) (inserts_is _ _ _ _ _ _ c.from_index-ptr.result.index id c.make-item.result next.fresh same c.make-item.ensures written)
 
-pub returns-in-Some-clause-spent : goal.returns-in-Some-clause-spent
-returns-in-Some-clause-spent g c =
-    let left = room_is _ _ _ _ _ _ c.args.self.now.removals c.self.invariant in
-    let used = c.in-Some.ensures.cases in
-    let held = c.self.inside.free.ok.0 in
-    (λ e. cc, rw (← c.self.view_is) (λ e. absurd (omega arith)))
+pub returns-then-self-gt0-clause-room : goal.returns-then-self-gt0-clause-room
+returns-then-self-gt0-clause-room g c =
+    let k = c.self.inside.first_free - 1 in
+    let next = laid-next k c.self.inside.removals.count c.self.invariant (omega (arith, c.if-self-gt0.true)) in
+    let before = laid-room c.self.inside.removals.count c.self.invariant in
+    let after = laid-room c.self.inside.removals.count (invariant_of-self g c) in
+    rw (← c.self.view_is) (omega (arith, next.some, length-set c.self.inside.slots.items k (Full (c.version-version.result + 2) c.make-item.result)))
 
-pub returns-in-Some-clause-whole : goal.returns-in-Some-clause-whole
-returns-in-Some-clause-whole g c = rw (← c.self.view_is) (whole_is _ _ _ _ _ _ _ c.self.invariant)
+pub returns-then-self-gt0-clause-spent : goal.returns-then-self-gt0-clause-spent
+returns-then-self-gt0-clause-spent g c =
+    let k = c.self.inside.first_free - 1 in
+    let next = laid-next k c.self.inside.removals.count c.self.invariant (omega (arith, c.if-self-gt0.true)) in
+    let before = laid-room c.self.inside.removals.count c.self.invariant in
+    (λ e. cc, rw (← c.self.view_is) (λ e. absurd (omega (arith, before, next.some, e))))
+
+pub returns-then-at-self-clause-spent : goal.returns-then-at-self-clause-spent
+returns-then-at-self-clause-spent g c =
+    let none : c.self.inside.first_free ≡ 0 = omega (arith, c.if-self-gt0.false) in
+    let held = c.self.inside.slots.ok.0 in
+    let count = c.len-at.ensures in
+    let left = laid-room c.self.inside.removals.count c.self.invariant in
+    let within = (laid-whole c.self.inside.removals.count c.self.invariant).within in
+    let measured = length-map c.self.inside.slots.items shown in
+    let spare = free-none c.self.invariant none in
+    (λ e. rw (← c.self.view_is) (omega (arith, c.if-at-self.true)), λ e. refl)
 
 pub returns-then-is_err-clause-spent : goal.returns-then-is_err-clause-spent
 returns-then-is_err-clause-spent g c =
-    let left = room_is _ _ _ _ _ _ c.args.self.now.removals c.self.invariant in
-    let fits = c.self.invariant.within in
+    let none : c.self.inside.first_free ≡ 0 = omega (arith, c.if-self-gt0.false) in
     let held = c.self.inside.slots.ok.0 in
-    let at = c.len-at.ensures in
+    let count = c.len-at.ensures in
+    let left = laid-room c.self.inside.removals.count c.self.invariant in
+    let within = (laid-whole c.self.inside.removals.count c.self.invariant).within in
+    let measured = length-map c.self.inside.slots.items shown in
+    let spare = free-none c.self.invariant none in
     (λ e. cc, rw (← c.self.view_is) (λ e. absurd (omega (arith, c.if-at-self.false))))
+
+pub returns-then-is_err-clause-grown : goal.returns-then-is_err-clause-grown
+returns-then-is_err-clause-grown g c =
+    let none : c.self.inside.first_free ≡ 0 = omega (arith, c.if-self-gt0.false) in
+    let held = c.self.inside.slots.ok.0 in
+    let count = c.len-at.ensures in
+    let left = laid-room c.self.inside.removals.count c.self.invariant in
+    let within = (laid-whole c.self.inside.removals.count c.self.invariant).within in
+    let measured = length-map c.self.inside.slots.items shown in
+    let spare = free-none c.self.invariant none in
+    λ e. rw (← c.self.view_is) (omega arith)
+
+pub make-item-requires-2 : goal.make-item-requires-2
+make-item-requires-2 g c =
+    let none : c.self.inside.first_free ≡ 0 = omega (arith, c.if-self-gt0.false) in
+    let held = c.self.inside.slots.ok.0 in
+    let count = c.len-at.ensures in
+    let below : length c.self.inside.slots.items < c.self.inside.limit = omega (arith, c.if-at-self.false, (laid-whole c.self.inside.removals.count c.self.invariant).within, length-map c.self.inside.slots.items shown) in
+    let last : c.len-at.result ≡ length c.self.inside.slots.items = omega arith in
+    c.requires c.from_index-ptr-2.result (rw (← c.self.view_is, c.from_index-ptr-2.ensures, last) (last_is_new c.self.inside.removals.count c.self.invariant below))
 
 pub invariant_of-self-2 : goal.invariant_of-self-2
 invariant_of-self-2 g c =
-    let fits = c.self.invariant.within in
+    let none : c.self.inside.first_free ≡ 0 = omega (arith, c.if-self-gt0.false) in
     let held = c.self.inside.slots.ok.0 in
-    let at = c.len-at.ensures in
-    let none : c.self.inside.free.items ≡ [] = grind (arith, common_steps) in
-    let emptied : c.reserve.new.self.items ≡ [] = grind (arith, common_steps) in
-    let placed : length c.self.inside.slots.items + 1 ≤ vec_capacity c.reserve.new.self = grind (arith, common_steps) in
-    rw (c.push_reserved.ensures.items, c.reserve-else-is_err.ensures.items)
-    (IsSound-extend _ _ _ _ _ _ _ _ _ none emptied (omega (arith, c.if-at-self.false)) placed c.self.invariant)
+    let count = c.len-at.ensures in
+    let below : length c.self.inside.slots.items < c.self.inside.limit = omega (arith, c.if-at-self.false, (laid-whole c.self.inside.removals.count c.self.invariant).within, length-map c.self.inside.slots.items shown) in
+    rw (c.push_reserved.ensures.items, c.reserve.ensures.items) (laid-more c.make-item-2.result c.self.invariant none below)
 
 pub returns-clause-spent : goal.returns-clause-spent
 returns-clause-spent g c =
-    let left = room_is _ _ _ _ _ _ c.args.self.now.removals c.self.invariant in
-    let fits = c.self.invariant.within in
+    let none : c.self.inside.first_free ≡ 0 = omega (arith, c.if-self-gt0.false) in
     let held = c.self.inside.slots.ok.0 in
-    let at = c.len-at.ensures in
+    let count = c.len-at.ensures in
+    let left = laid-room c.self.inside.removals.count c.self.invariant in
+    let within = (laid-whole c.self.inside.removals.count c.self.invariant).within in
+    let measured = length-map c.self.inside.slots.items shown in
+    let spare = free-none c.self.invariant none in
     (λ e. cc, rw (← c.self.view_is) (λ e. absurd (omega (arith, c.if-at-self.false))))
 
 pub returns-clause-inserted : goal.returns-clause-inserted
 returns-clause-inserted g c =
-    let fits = c.self.invariant.within in
+    let none : c.self.inside.first_free ≡ 0 = omega (arith, c.if-self-gt0.false) in
     let held = c.self.inside.slots.ok.0 in
-    let at = c.len-at.ensures in
+    let count = c.len-at.ensures in
+    let below : length c.self.inside.slots.items < c.self.inside.limit = omega (arith, c.if-at-self.false, (laid-whole c.self.inside.removals.count c.self.invariant).within, length-map c.self.inside.slots.items shown) in
     let last : c.len-at.result ≡ length c.self.inside.slots.items = omega arith in
-    let below : length c.self.inside.slots.items < c.self.inside.limit = omega (arith, c.if-at-self.false) in
-    let written = sym (put-next c.self.inside.slots.items (length c.self.inside.slots.items) (record { version = 1; item = Some c.make-2.result }) ∙ put_in-push _ _) in
-    rw (← c.self.view_is, c.push_reserved.ensures.items, c.reserve-else-is_err.ensures.items) (inserts_is _ _ _ _ _ _ _ (record { slot = length c.self.inside.slots.items + 1; version = 1 }) c.make-2.result (end_is_new _ _ _ _ _ _ _ c.self.invariant below) (rw last at c.from_index-ptr-2.ensures) c.make-2.ensures written)
-
-pub returns-in-Some-clause-room : goal.returns-in-Some-clause-room
-returns-in-Some-clause-room g c =
-    let before = room_is _ _ _ _ _ _ c.args.self.now.removals c.self.invariant in
-    let after = room_is _ _ _ _ _ _ c.args.self.now.removals (invariant_of-self g c) in
-    let used = ap length c.in-Some.ensures.items ∙ length_push c.pop.new.self.items c.in-Some.place in
-    rw (← c.self.view_is) (omega (arith, length-set c.self.inside.slots.items c.in-Some.place record { version = c.index.result.now.version + 2; item = Some c.make.result }))
+    let written = push-shown c.self.inside.slots.items (Full 1 c.make-item-2.result) in
+    rw (← c.self.view_is, c.push_reserved.ensures.items, c.reserve.ensures.items)
+    (inserts_is _ _ _ _ _ _ _ (record { slot = length c.self.inside.slots.items + 1; version = 1 }) c.make-item-2.result (last_is_new c.self.inside.removals.count c.self.invariant below) (rw last at c.from_index-ptr-2.ensures) c.make-item-2.ensures written)
 
 pub returns-clause-room : goal.returns-clause-room
 returns-clause-room g c =
-    let before = room_is _ _ _ _ _ _ c.args.self.now.removals c.self.invariant in
-    let after = room_is _ _ _ _ _ _ c.args.self.now.removals (invariant_of-self-2 g c) in
-    let longer = c.push_reserved.ensures.len in
-    let same = c.reserve-else-is_err.ensures.len in
+    let none : c.self.inside.first_free ≡ 0 = omega (arith, c.if-self-gt0.false) in
     let held = c.self.inside.slots.ok.0 in
-    let held_after = c.push_reserved.new.self.ok.0 in
-    let fits = (invariant_of-self-2 g c).within in
-    let none : c.self.inside.free.items ≡ [] = grind (arith, common_steps) in
-    let emptied : c.reserve.new.self.items ≡ [] = grind (arith, common_steps) in
-    let no_free = ap length none in
-    let no_freed = ap length emptied in
+    let count = c.len-at.ensures in
+    let below : length c.self.inside.slots.items < c.self.inside.limit = omega (arith, c.if-at-self.false, (laid-whole c.self.inside.removals.count c.self.invariant).within, length-map c.self.inside.slots.items shown) in
+    let before = laid-room c.self.inside.removals.count c.self.invariant in
+    let after = laid-room c.self.inside.removals.count (invariant_of-self-2 g c) in
+    let longer = length_push c.self.inside.slots.items (Full 1 c.make-item-2.result) in
+    let items = ap length (c.push_reserved.ensures.items ∙ ap (λ xs. xs ++ Full 1 c.make-item-2.result ∷ []) c.reserve.ensures.items) in
     rw (← c.self.view_is) (omega arith)

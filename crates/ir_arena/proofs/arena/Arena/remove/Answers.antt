@@ -1,99 +1,108 @@
-use Rattle.std.proofs.Common.{None, refl, sym, ◌∙◌, arith}
-use Rattle.std.proofs.lemmas.List.{get_or_read}
-use Rattle.ir_arena.specs.ArenaSlots.{never}
-use Rattle.ir_arena.proofs.ArenaSlots.{taken_at, put-set, find-put_same}
-use Rattle.ir_arena.proofs.ArenaSound.{taken_counts, vacate_listed, vacate_retired, OnSome-from}
+use Rattle.std.proofs.Common.{◌≡◌, ◌+◌, ◌-◌, ◌<◌, ◌≤◌, map, set, length, length-set, Some, None, is_some, refl, sym, ap, subst, ◌∙◌, inl, inr, arith}
+use Rattle.std.proofs.lemmas.List.{get_or_read, set-get_or}
+use Rattle.ir_model.specs.declared.ids.ArenaIndex.{ArenaIndex}
+use Rattle.ir_model.specs.Slots.{item_under}
+use Rattle.ir_arena.specs.declared.arena.Slot.TheVariants.{Full, Free}
+use Rattle.ir_arena.specs.ArenaSound.{shown, held_in, next_in, IsLaid}
+use Rattle.ir_model.proofs.Slots.{find_zero, find-put_same}
+use Rattle.ir_arena.proofs.ArenaSound.{OnSome-from}
+use Rattle.ir_arena.proofs.ArenaChain.{find-shown, find-past, taken-shown, cut-shown, laid-listed, laid-retired, laid-some, not_below}
+use Rattle.ir_model.specs.Arenas.{get}
+use Rattle.ir_model.proofs.Arenas.{get-cut}
 use Rattle.ir_arena.proofs.arena.Arena.remove.Goals as goal
+use Rattle.ir_arena.proofs.arena.Arena.remove.Goals.{then-has_next, else-has_next}
 
-pub overflow_sub-place : goal.overflow_sub-place
-overflow_sub-place g c =
-    let is = c.is_live-live.ensures.0 c.if-not-live.false in
-    let live = taken_at c.self.inside.slots.items c.args.ptr.index (rw (← c.self.view_is) at is) in
-    omega (arith, live.numbered)
+pub returns-in_err-place-clause-value : goal.returns-in_err-place-clause-value
+returns-in_err-place-clause-value g c =
+    let none : c.args.ptr.index.slot ≡ 0 = omega (arith, c.in_err-place.ensures) in
+    rw c.from_residual.ensures (sym (find_zero c.args.self.now.slots c.args.ptr.index none))
 
-pub index_mut-requires : goal.index_mut-requires
-index_mut-requires g c =
-    let is = c.is_live-live.ensures.0 c.if-not-live.false in
-    let live = taken_at c.self.inside.slots.items c.args.ptr.index (rw (← c.self.view_is) at is) in
-    omega (arith, live.within, c.self.inside.slots.ok.0)
+pub returns-in_err-place-clause-gone : goal.returns-in_err-place-clause-gone
+returns-in_err-place-clause-gone g c =
+    let none : c.args.ptr.index.slot ≡ 0 = omega (arith, c.in_err-place.ensures) in
+    find_zero (map shown c.self.inside.slots.items) c.args.ptr.index none
+
+pub returns-in_err-get_mut-clause-value : goal.returns-in_err-get_mut-clause-value
+returns-in_err-get_mut-clause-value g c =
+    let past = not_below _ _ c.in_err-get_mut.ensures.variant.1 in
+    rw (c.from_residual-in_err-get_mut.ensures, ← c.self.view_is) (sym (find-past c.self.inside.slots.items c.args.ptr.index (omega (arith, c.in_ok-place.ensures, past, c.self.inside.slots.ok.0))))
+
+pub returns-in_err-get_mut-clause-gone : goal.returns-in_err-get_mut-clause-gone
+returns-in_err-get_mut-clause-gone g c =
+    let past = not_below _ _ c.in_err-get_mut.ensures.variant.1 in
+    find-past c.self.inside.slots.items c.args.ptr.index (omega (arith, c.in_ok-place.ensures, past, c.self.inside.slots.ok.0))
+
+pub returns-in_err-item-clause-value : goal.returns-in_err-item-clause-value
+returns-in_err-item-clause-value g c =
+    let numbered : c.args.ptr.index.slot ≡ c.in_ok-place.place + 1 = omega (arith, c.in_ok-place.ensures) in
+    let within : c.in_ok-place.place < length c.self.inside.slots.items = omega (arith, c.in_ok-get_mut.ensures.variant.0 refl, c.self.inside.slots.ok.0) in
+    let read = get_or_read c.self.inside.slots.items _ _ within c.in_ok-get_mut.ensures.value (Free 0 0) in
+    let found = find-shown c.self.inside.slots.items c.args.ptr.index c.in_ok-place.place numbered in
+    rw (c.from_residual-in_err-item.ensures, ← c.self.view_is, found, ← read) c.in_err-item.ensures.value
+
+pub returns-in_err-item-clause-gone : goal.returns-in_err-item-clause-gone
+returns-in_err-item-clause-gone g c =
+    let numbered : c.args.ptr.index.slot ≡ c.in_ok-place.place + 1 = omega (arith, c.in_ok-place.ensures) in
+    let within : c.in_ok-place.place < length c.self.inside.slots.items = omega (arith, c.in_ok-get_mut.ensures.variant.0 refl, c.self.inside.slots.ok.0) in
+    let read = get_or_read c.self.inside.slots.items _ _ within c.in_ok-get_mut.ensures.value (Free 0 0) in
+    let found = find-shown c.self.inside.slots.items c.args.ptr.index c.in_ok-place.place numbered in
+    rw (c.in_err-item.ensures.left, read, set-get_or c.self.inside.slots.items c.in_ok-place.place (Free 0 0)) (rw (found, ← read) (sym c.in_err-item.ensures.value))
 
 pub overflow_sub-self : goal.overflow_sub-self
 overflow_sub-self g c =
-    let is = c.is_live-live.ensures.0 c.if-not-live.false in
-    let live = taken_at c.self.inside.slots.items c.args.ptr.index (rw (← c.self.view_is) at is) in
-    omega (arith, taken_counts _ _ _ _ _ _ _ c.self.invariant live.within live.some)
-
-pub push_reserved-requires : goal.push_reserved-requires
-push_reserved-requires g c =
-    let is = c.is_live-live.ensures.0 c.if-not-live.false in
-    let live = taken_at c.self.inside.slots.items c.args.ptr.index (rw (← c.self.view_is) at is) in
-    let some = taken_counts _ _ _ _ _ _ _ c.self.invariant live.within live.some in
-    let total = c.self.invariant.total in
-    let placed = c.self.invariant.placed in
-    let held = c.self.inside.free.ok.0 in
-    omega arith
-
-pub invariant_of-self : goal.invariant_of-self
-invariant_of-self g c = c.self.invariant
+    let numbered : c.args.ptr.index.slot ≡ c.in_ok-place.place + 1 = omega (arith, c.in_ok-place.ensures) in
+    let within : c.in_ok-place.place < length c.self.inside.slots.items = omega (arith, c.in_ok-get_mut.ensures.variant.0 refl, c.self.inside.slots.ok.0) in
+    let read = get_or_read c.self.inside.slots.items _ _ within c.in_ok-get_mut.ensures.value (Free 0 0) in
+    let item = ap (λ s. item_under (shown s) c.args.ptr.index.version) (sym read) ∙ sym c.in_ok-item.ensures.value in
+    let live = taken-shown c.self.inside.slots.items c.args.ptr.index c.in_ok-place.place c.in_ok-item.item numbered within item in
+    laid-some c.args.ptr.index c.self.invariant live
 
 pub invariant_of-self-then-has_next : goal.invariant_of-self-then-has_next
 invariant_of-self-then-has_next g c =
-    let is = c.is_live-live.ensures.0 c.if-not-live.false in
-    let live = taken_at c.self.inside.slots.items c.args.ptr.index (rw (← c.self.view_is) at is) in
-    let read = get_or_read c.self.inside.slots.items _ _ live.within c.index_mut.ensures.value never in
-    rw (c.take-item.ensures.after, c.push_reserved.ensures.capacity)
-    (vacate_listed _ _ _ _ _ _ _ _ _ c.self.invariant live read (sym c.has_next.ensures ∙ c.if-has_next.true) c.push_reserved.ensures.items)
+    let numbered : c.args.ptr.index.slot ≡ c.in_ok-place.place + 1 = omega (arith, c.in_ok-place.ensures) in
+    let within : c.in_ok-place.place < length c.self.inside.slots.items = omega (arith, c.in_ok-get_mut.ensures.variant.0 refl, c.self.inside.slots.ok.0) in
+    let read = get_or_read c.self.inside.slots.items _ _ within c.in_ok-get_mut.ensures.value (Free 0 0) in
+    let item = ap (λ s. item_under (shown s) c.args.ptr.index.version) (sym read) ∙ sym c.in_ok-item.ensures.value in
+    let live = taken-shown c.self.inside.slots.items c.args.ptr.index c.in_ok-place.place c.in_ok-item.item numbered within item in
+    let same : c.args.ptr.index.slot - 1 ≡ c.in_ok-place.place = omega (arith, numbered) in
+    rw c.in_ok-item.ensures.left
+    (subst (λ k. IsLaid (set c.self.inside.slots.items k (Free c.args.ptr.index.version c.self.inside.first_free)) c.args.ptr.index.slot (c.self.inside.free + 1) (c.self.inside.len - 1) c.self.inside.limit c.self.inside.last_version) same
+    (laid-listed c.args.ptr.index c.self.invariant live (sym c.has_next.ensures ∙ c.if-has_next.true)))
 
 pub invariant_of-self-else-has_next : goal.invariant_of-self-else-has_next
 invariant_of-self-else-has_next g c =
-    let is = c.is_live-live.ensures.0 c.if-not-live.false in
-    let live = taken_at c.self.inside.slots.items c.args.ptr.index (rw (← c.self.view_is) at is) in
-    let read = get_or_read c.self.inside.slots.items _ _ live.within c.index_mut.ensures.value never in
-    rw c.take-item.ensures.after
-    (vacate_retired _ _ _ _ _ _ _ _ c.self.invariant live read (sym c.has_next.ensures ∙ c.if-has_next.false))
+    let numbered : c.args.ptr.index.slot ≡ c.in_ok-place.place + 1 = omega (arith, c.in_ok-place.ensures) in
+    let within : c.in_ok-place.place < length c.self.inside.slots.items = omega (arith, c.in_ok-get_mut.ensures.variant.0 refl, c.self.inside.slots.ok.0) in
+    let read = get_or_read c.self.inside.slots.items _ _ within c.in_ok-get_mut.ensures.value (Free 0 0) in
+    let item = ap (λ s. item_under (shown s) c.args.ptr.index.version) (sym read) ∙ sym c.in_ok-item.ensures.value in
+    let live = taken-shown c.self.inside.slots.items c.args.ptr.index c.in_ok-place.place c.in_ok-item.item numbered within item in
+    let same : c.args.ptr.index.slot - 1 ≡ c.in_ok-place.place = omega (arith, numbered) in
+    rw c.in_ok-item.ensures.left
+    (subst (λ k. IsLaid (set c.self.inside.slots.items k (Free c.args.ptr.index.version c.self.inside.first_free)) c.self.inside.first_free c.self.inside.free (c.self.inside.len - 1) c.self.inside.limit c.self.inside.last_version) same
+    (laid-retired c.args.ptr.index c.self.invariant live (sym c.has_next.ensures ∙ c.if-has_next.false)))
 
-pub returns-then-has_next-clause-value : goal.returns-then-has_next-clause-value
-returns-then-has_next-clause-value g c =
-    let is = c.is_live-live.ensures.0 c.if-not-live.false in
-    let live = taken_at c.self.inside.slots.items c.args.ptr.index (rw (← c.self.view_is) at is) in
-    let read = get_or_read c.self.inside.slots.items _ _ live.within c.index_mut.ensures.value never in
-    rw (← c.self.view_is, live.found, ← read) c.take-item.ensures.value
+pub returns-clause-value : goal.returns-clause-value
+returns-clause-value g c =
+    let numbered : c.args.ptr.index.slot ≡ c.in_ok-place.place + 1 = omega (arith, c.in_ok-place.ensures) in
+    let within : c.in_ok-place.place < length c.self.inside.slots.items = omega (arith, c.in_ok-get_mut.ensures.variant.0 refl, c.self.inside.slots.ok.0) in
+    let read = get_or_read c.self.inside.slots.items _ _ within c.in_ok-get_mut.ensures.value (Free 0 0) in
+    let found = find-shown c.self.inside.slots.items c.args.ptr.index c.in_ok-place.place numbered in
+    rw (← c.self.view_is, found, ← read) c.in_ok-item.ensures.value
 
-pub returns-then-has_next-clause-cut : goal.returns-then-has_next-clause-cut
-returns-then-has_next-clause-cut g c =
-    let is = c.is_live-live.ensures.0 c.if-not-live.false in
-    let live = taken_at c.self.inside.slots.items c.args.ptr.index (rw (← c.self.view_is) at is) in
-    let read = get_or_read c.self.inside.slots.items _ _ live.within c.index_mut.ensures.value never in
-    OnSome-from c.take-item.result _ (rw (← c.self.view_is, put-set _ _ _ live.numbered live.within, ← live.version, read, c.take-item.ensures.after, c.next-self-inside.ensures) refl)
+pub returns-clause-cut : goal.returns-clause-cut
+returns-clause-cut g c =
+    let numbered : c.args.ptr.index.slot ≡ c.in_ok-place.place + 1 = omega (arith, c.in_ok-place.ensures) in
+    let within : c.in_ok-place.place < length c.self.inside.slots.items = omega (arith, c.in_ok-get_mut.ensures.variant.0 refl, c.self.inside.slots.ok.0) in
+    let read = get_or_read c.self.inside.slots.items _ _ within c.in_ok-get_mut.ensures.value (Free 0 0) in
+    let slots = ap (λ s. map shown (set c.self.inside.slots.items c.in_ok-place.place s)) c.in_ok-item.ensures.left ∙ cut-shown c.self.inside.slots.items c.args.ptr.index c.in_ok-place.place c.self.inside.first_free numbered within in
+    let counted = c.next-self-inside.ensures in
+    rw (← c.self.view_is) (
+      elim c.if-has_next.branch [
+        | then-has_next w ↦ w.self-is ∙ (λ i. record { slots = slots i; limit = c.self.inside.limit; last_version = c.self.inside.last_version; removals = counted i })
+        | else-has_next w ↦ w.self-is ∙ (λ i. record { slots = slots i; limit = c.self.inside.limit; last_version = c.self.inside.last_version; removals = counted i })
+      ]
+    )
 
-pub returns-else-has_next-clause-value : goal.returns-else-has_next-clause-value
-returns-else-has_next-clause-value g c =
-    let is = c.is_live-live.ensures.0 c.if-not-live.false in
-    let live = taken_at c.self.inside.slots.items c.args.ptr.index (rw (← c.self.view_is) at is) in
-    let read = get_or_read c.self.inside.slots.items _ _ live.within c.index_mut.ensures.value never in
-    rw (← c.self.view_is, live.found, ← read) c.take-item.ensures.value
-
-pub returns-else-has_next-clause-cut : goal.returns-else-has_next-clause-cut
-returns-else-has_next-clause-cut g c =
-    let is = c.is_live-live.ensures.0 c.if-not-live.false in
-    let live = taken_at c.self.inside.slots.items c.args.ptr.index (rw (← c.self.view_is) at is) in
-    let read = get_or_read c.self.inside.slots.items _ _ live.within c.index_mut.ensures.value never in
-    OnSome-from c.take-item.result _ (rw (← c.self.view_is, put-set _ _ _ live.numbered live.within, ← live.version, read, c.take-item.ensures.after, c.next-self-inside.ensures) refl)
-
-pub returns-then-has_next-clause-gone : goal.returns-then-has_next-clause-gone
-returns-then-has_next-clause-gone g c =
-    let is = c.is_live-live.ensures.0 c.if-not-live.false in
-    let live = taken_at c.self.inside.slots.items c.args.ptr.index (rw (← c.self.view_is) at is) in
-    let read = get_or_read c.self.inside.slots.items _ _ live.within c.index_mut.ensures.value never in
-    let none = find-put_same c.self.inside.slots.items c.args.ptr.index (record { version = c.args.ptr.index.version; item = None }) refl live.numbered (omega (arith, live.within)) in
-    let written = put-set c.self.inside.slots.items c.args.ptr.index.slot (record { version = c.args.ptr.index.version; item = None }) live.numbered live.within in
-    rw (c.take-item.ensures.after, read, live.version, ← written) none
-
-pub returns-else-has_next-clause-gone : goal.returns-else-has_next-clause-gone
-returns-else-has_next-clause-gone g c =
-    let is = c.is_live-live.ensures.0 c.if-not-live.false in
-    let live = taken_at c.self.inside.slots.items c.args.ptr.index (rw (← c.self.view_is) at is) in
-    let read = get_or_read c.self.inside.slots.items _ _ live.within c.index_mut.ensures.value never in
-    let none = find-put_same c.self.inside.slots.items c.args.ptr.index (record { version = c.args.ptr.index.version; item = None }) refl live.numbered (omega (arith, live.within)) in
-    let written = put-set c.self.inside.slots.items c.args.ptr.index.slot (record { version = c.args.ptr.index.version; item = None }) live.numbered live.within in
-    rw (c.take-item.ensures.after, read, live.version, ← written) none
+pub returns-clause-gone : goal.returns-clause-gone
+returns-clause-gone g c =
+    ap (λ a. get a c.args.ptr.index) (returns-clause-cut g c) ∙ get-cut c.args.self.now c.args.ptr.index (ap is_some (sym (returns-clause-value g c)))

@@ -1,11 +1,10 @@
 use Rattle.std.proofs.Common.{arith}
+use Rattle.ir_arena.proofs.ArenaChain.{laid-room, laid-whole}
 use Rattle.ir_arena.proofs.arena.Arena.room.Goals as goal
 
 pub returns-clause-value : goal.returns-clause-value
 returns-clause-value g c =
-    let counted = c.self.invariant.counted in
-    let total = c.self.invariant.total in
-    let within = c.self.invariant.within in
+    let left = laid-room c.self.inside.removals.count c.self.invariant in
+    let within = (laid-whole c.self.inside.removals.count c.self.invariant).within in
     let held = c.self.inside.slots.ok.0 in
-    let held_free = c.self.inside.free.ok.0 in
     rw (← c.self.view_is) (omega arith)

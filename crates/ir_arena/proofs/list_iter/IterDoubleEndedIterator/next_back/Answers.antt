@@ -8,10 +8,10 @@ use Rattle.ir_arena.proofs.ListPlaces.{live-from_seen}
 use Rattle.ir_arena.proofs.ListWalks.{take-back, other-option}
 use Rattle.ir_arena.proofs.list_iter.IterDoubleEndedIterator.next_back.Goals as goal
 
-pub record_at-requires : goal.record_at-requires
-record_at-requires g c =
+pub at-requires : goal.at-requires
+at-requires g c =
     let t = take-back c.self.invariant c.in_ok-current.was in
-    live-from_seen g.T.LinkedList.links c.self.inside.nodes.now c.in_ok-current.current t.links t.here
+    rw c.from_index-node.ensures (live-from_seen g.T.LinkedList.links c.self.inside.nodes.now c.in_ok-current.current t.links t.here)
 
 pub invariant_of-self-else-eq : goal.invariant_of-self-else-eq
 invariant_of-self-else-eq g c =
@@ -19,7 +19,7 @@ invariant_of-self-else-eq g c =
     let h : Heap Links = seen g.T.LinkedList.links it.nodes.now in
     let t = take-back c.self.invariant c.in_ok-current.was in
     let more = t.further (other-option it.next c.in_ok-current.current c.eq.result c.eq.ensures c.if-eq.false) in
-    let here : t.links ≡ g.T.LinkedList.links c.record_at.result.now = same_Some _ _ (sym t.here ∙ ap (option_map g.T.LinkedList.links) c.record_at.ensures) in
+    let here : t.links ≡ g.T.LinkedList.links c.at.result.now = same_Some _ _ (sym t.here ∙ ap (option_map g.T.LinkedList.links) (rw c.from_index-node.ensures at c.at.ensures)) in
     let prev : c.get_prev-self-inside.result ≡ t.links.prev = c.get_prev-self-inside.ensures ∙ sym (ap (λ (l : Links). l.prev) here) in
     rw prev more.0
 
@@ -31,7 +31,7 @@ returns-else-eq g c =
     let x = c.in_ok-current.current in
     let t = take-back c.self.invariant c.in_ok-current.was in
     let more = t.further (other-option it.next x c.eq.result c.eq.ensures c.if-eq.false) in
-    let here : t.links ≡ g.T.LinkedList.links c.record_at.result.now = same_Some _ _ (sym t.here ∙ ap (option_map g.T.LinkedList.links) c.record_at.ensures) in
+    let here : t.links ≡ g.T.LinkedList.links c.at.result.now = same_Some _ _ (sym t.here ∙ ap (option_map g.T.LinkedList.links) (rw c.from_index-node.ensures at c.at.ensures)) in
     let prev : c.get_prev-self-inside.result ≡ t.links.prev = c.get_prev-self-inside.ensures ∙ sym (ap (λ (l : Links). l.prev) here) in
     let rest : walk_to room h it.next c.get_prev-self-inside.result ≡ t.rest = rw prev more.1 in
     let items : c.args.self.now ≡ walk_to room h it.next c.get_prev-self-inside.result ++ c.from_index-node.result.index ∷ [] =

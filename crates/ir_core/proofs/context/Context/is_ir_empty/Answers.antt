@@ -1,6 +1,6 @@
 use Rattle.std.proofs.Common.{◌≡◌, refl, sym, ◌∙◌, ap, true, false, Option, Some, None, eqb-true, eq-eqb}
 use Rattle.std.specs.Option.{option_map}
-use Rattle.ir_arena.proofs.ArenaRoom.{len-none}
+use Rattle.ir_model.proofs.ArenaRoom.{len-none}
 use Rattle.ir_core.specs.Meaning.{op_record}
 use Rattle.ir_core.proofs.context.Context.is_ir_empty.Goals as goal
 

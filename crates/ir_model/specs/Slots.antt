@@ -2,7 +2,11 @@
 use Rattle.std.specs.Prelude.{ℕ, zero, suc, ◌+◌, ◌==◌, ◌&&◌, ◌||◌, Bool, false, cond, nat_le, nat_lt, List, [], ◌∷◌, slice_index_or, Option, None, is_some, is_none, refl}
 use Rattle.std.specs.Coded.{Coded, code_by, coded×, coded_ℕ, coded_option}
 use Rattle.ir_model.specs.declared.ids.ArenaIndex.{ArenaIndex}
-use Rattle.ir_arena.specs.declared.arena.Slot.{Slot}
+
+-- a slot: the version that was handed out last, and its record unless that was removed
+pub record Slot (T : Type 0) : Type 0 where
+  pub version : ℕ
+  pub item : Option T
 
 abbrev pub slot_code : {T : Type 0} → Coded T → Coded (Slot T)
 slot_code {T} code =

@@ -5,12 +5,9 @@ use Rattle.std.proofs.lemmas.Bool.{cases_eq, eq-eqb}
 use Rattle.ir_model.specs.declared.ids.ArenaIndex.{ArenaIndex}
 use Rattle.ir_model.specs.declared.ids.Limits.{Limits}
 use Rattle.ir_model.specs.Sessions.{IsNewId}
-use Rattle.ir_arena.specs.declared.arena.Slot.{Slot}
-use Rattle.ir_arena.specs.declared.ptr.Ptr.{Ptr}
-use Rattle.ir_arena.specs.ArenaSlots.{had_version, never, slot_in, slot_at, put}
-use Rattle.ir_arena.specs.ArenaSound.{IsInRange}
-use Rattle.ir_arena.specs.Arena.{Arena, empty, get, IsLive, IsNextVersion, IsNew, IsWhole, is_passed, fill, cut, miss}
-use Rattle.ir_arena.proofs.ArenaSlots.{taken_at, slot_at-place, slot_at-next, length-put, at-put_same, at-put_other, at_zero, at_past, find_vacant, find-put_same, find-put_other}
+use Rattle.ir_model.specs.Slots.{Slot, had_version, never, slot_in, slot_at, put}
+use Rattle.ir_model.specs.Arenas.{Arena, IsInRange, empty, get, IsLive, IsNextVersion, IsNew, IsWhole, is_passed, fill, cut, miss}
+use Rattle.ir_model.proofs.Slots.{taken_at, slot_at-place, slot_at-next, length-put, at-put_same, at-put_other, at_zero, at_past, find_vacant, find-put_same, find-put_other}
 
 -- the versions that a slot had
 pub had-within : (n v : ℕ) → had_version n v ≡ true → (1 ≤ v) × (v ≤ n)
@@ -97,10 +94,6 @@ had-exact n v = (λ had. ((had-within n v had).0, had-even n v had), λ even. ap
 pub same_id : (p q : ArenaIndex) → p.slot ≡ q.slot → p.version ≡ q.version → p ≡ q
 same_id p q slot version = λ i. record { slot = slot i; version = version i }
 
--- two handles with one index are equal
-pub same_handle : {T : Type 0} (p q : Ptr T) → p.index ≡ q.index → p ≡ q
-same_handle p q same = λ i. record { index = same i; of = p.of }
-
 empty_at : (T : Type 0) (n : ℕ) → slot_at {T = T} [] n ≡ never
 empty_at T zero = at_zero []
 empty_at T (suc k) = at_past [] (suc k) (omega arith)
@@ -137,6 +130,10 @@ module _ {T : Type 0} where
       within_of : IsNextVersion a id → id.slot ≤ length a.slots + 1
       within_of (inl end) = omega (arith, end.0)
       within_of (inr reused) = omega (arith, reused.0)
+
+  -- a live id has a slot, which counts from 1
+  pub live-numbered : (a : Arena T) (id : ArenaIndex) → IsLive a id → 1 ≤ id.slot
+  live-numbered a id live = (open_live a id live).numbered
 
   -- nothing stands under a new id
   pub get-new : (a : Arena T) (id : ArenaIndex) → IsNew a id → get a id ≡ None
@@ -351,6 +348,19 @@ module _ {T : Type 0} where
             | inl had ↦ inr (l, slot, version, had, λ live. dead (rw (get-fill_new_other a id l v new (λ same. true≢false (sym live ∙ ap (λ j. is_some (get a j)) same ∙ ap is_some (get-new a id new)))) live), λ j was here. greatest j (earlier j was) here)
             | inr same ↦ absurd (dead (ap (λ j. is_some (get (fill a id v) j)) same ∙ ap is_some (get-fill_new a id v new)))
           ]
+
+  -- what was handed out and is gone stays gone
+  pub gone-fill_new : (a : Arena T) (id q : ArenaIndex) (v : T) → IsNew a id → IsTrue (is_passed a q) → get a q ≡ None → get (fill a id v) q ≡ None
+  gone-fill_new a id q v new passed gone =
+      get-fill_new_other a id q v new (λ same. true≢false (sym passed ∙ ap (is_passed a) same ∙ passed-new a id new)) ∙ gone
+
+  pub gone-fill_live : (a : Arena T) (id q : ArenaIndex) (v : T) → IsLive a id → get a q ≡ None → get (fill a id v) q ≡ None
+  gone-fill_live a id q v live gone =
+      get-fill_live_other a id q v live (λ same. true≢false (sym live ∙ ap (λ i. is_some (get a i)) (sym same) ∙ ap is_some gone)) ∙ gone
+
+  pub gone-cut : (a : Arena T) (id q : ArenaIndex) → IsLive a id → get a q ≡ None → get (cut a id) q ≡ None
+  gone-cut a id q live gone =
+      get-cut_other a id q live (λ same. true≢false (sym live ∙ ap (λ i. is_some (get a i)) (sym same) ∙ ap is_some gone)) ∙ gone
 
 -- what a caller's clauses on ids follow from: name it in `using(..)`
 pub ruleset arena_laws = (get-new, get-fill_live, get-fill_new, get-fill_live_other, get-fill_new_other, get-cut, get-cut_other)

@@ -4,8 +4,7 @@ use Rattle.std.proofs.lemmas.Bool.Decides.{eqb_tells}
 use Rattle.std.proofs.lemmas.Bool.{cases_eq, eq-eqb, ne_eqb}
 use Rattle.std.proofs.lemmas.List.{get_or_past}
 use Rattle.ir_model.specs.declared.ids.ArenaIndex.{ArenaIndex}
-use Rattle.ir_arena.specs.declared.arena.Slot.{Slot}
-use Rattle.ir_arena.specs.ArenaSlots.{never, slot_in, slot_at, item_under, find, put_in, put}
+use Rattle.ir_model.specs.Slots.{Slot, never, slot_in, slot_at, item_under, find, put_in, put}
 
 -- the place of an id's slot, from 0
 abbrev pub place : ArenaIndex → ℕ

@@ -9,11 +9,10 @@ use Rattle.ir_model.specs.Ids.{Distinct}
 use Rattle.ir_model.specs.Nesting.{In}
 use Rattle.ir_model.specs.Sessions.{Number, HasRoom, LacksRoom, TakesSlot}
 use Rattle.ir_model.proofs.Nests.{Absent-not_in}
-use Rattle.ir_arena.specs.declared.arena.Slot.{Slot}
-use Rattle.ir_arena.specs.ArenaSlots.{slot_in, slot_at, find, put_in, put, is_taken, is_retired}
-use Rattle.ir_arena.specs.Arena.{Arena, get, fill, cut, IsLive, IsNew, IsWhole, is_passed, arena_len, room}
-use Rattle.ir_arena.proofs.ArenaSlots.{taken_at, slot_at-place, slot_at-next, put-place, at_zero, at_past, find_at}
-use Rattle.ir_arena.proofs.ArenaLaws.{had-within, had-itself, had-below, same_id, open_live, open_new}
+use Rattle.ir_model.specs.Slots.{Slot, slot_in, slot_at, find, put_in, put, is_taken, is_retired}
+use Rattle.ir_model.specs.Arenas.{Arena, get, fill, cut, IsLive, IsNextVersion, IsNew, IsWhole, is_passed, arena_len, room}
+use Rattle.ir_model.proofs.Slots.{taken_at, slot_at-place, slot_at-next, put-place, at_zero, at_past, find_at}
+use Rattle.ir_model.proofs.Arenas.{had-within, had-itself, had-below, same_id, open_live, open_new, whole-cut}
 
 module _ {T : Type 0} where
   -- whether a slot has a record, or is empty for good
@@ -146,6 +145,31 @@ module _ {T : Type 0} where
       by_test true below = omega arith
       by_test false below = omega arith
 
+  gone-less : (last n : ℕ) (slots : List (Slot T)) (k : ℕ) → k < length slots → is_gone last (slot_in slots k) ≡ false → length (gone last n slots) < length slots
+  gone-less last n [] k within kept = absurd (omega (arith, within))
+  gone-less last n (s ∷ rest) zero within kept = rw kept (omega (arith, gone-within last (n + 1) rest))
+  gone-less last n (s ∷ rest) (suc k) within kept = by_test (is_gone last s) (gone-less last (n + 1) rest k (omega arith) kept)
+    where
+      by_test : (b : Bool) → length (gone last (n + 1) rest) < length rest → length (cond b (record { slot = n; version = s.version } ∷ gone last (n + 1) rest) (gone last (n + 1) rest)) < suc (length rest)
+      by_test true below = omega arith
+      by_test false below = omega arith
+
+  -- where an id is new, there is room
+  pub new-room : (a : Arena T) (id : ArenaIndex) → IsWhole a → IsNew a id → 1 ≤ room a
+  new-room a id whole new = by_version new.version
+    where
+      kept : (s : Slot T) → s.item ≡ None → s.version + 2 ≤ a.last_version → is_gone a.last_version s ≡ false
+      kept s none fits = grind (arith, nat_tests)
+
+      by_version : IsNextVersion a id → 1 ≤ room a
+      by_version (inl end) = omega (arith, length-gone a.last_version 1 a.slots, gone-within a.last_version 1 a.slots, end.0, new.within)
+      by_version (inr reused) =
+          let here = slot_at-place a.slots id.slot new.numbered in
+          let vacant : (slot_in a.slots (id.slot - 1)).item ≡ None = rw here at new.vacant in
+          let next : id.version ≡ (slot_in a.slots (id.slot - 1)).version + 2 = rw here at reused.2 in
+          let less = gone-less a.last_version 1 a.slots (id.slot - 1) (omega (arith, reused.0, new.numbered)) (kept (slot_in a.slots (id.slot - 1)) vacant (omega (arith, next, new.fits))) in
+          omega (arith, length-gone a.last_version 1 a.slots, less, whole.within)
+
   -- what is taken and the room are the limit
   pub room-splits : (a : Arena T) → IsWhole a → arena_len a + count_by (is_retired a.last_version) a.slots + room a ≡ a.limit
   room-splits a whole = omega (arith, length-gone a.last_version 1 a.slots, gone-within a.last_version 1 a.slots, whole.within)
@@ -207,6 +231,47 @@ module _ {T : Type 0} where
   len-cut a id live =
       let at = open_live a id live in
       omega (arith, len-put a.slots id.slot (record { version = id.version; item = None }) at.numbered at.within, taken-one a id live)
+
+  -- how many slots are empty for good after a write of one that was there
+  retired-put_in : (last : ℕ) (slots : List (Slot T)) (k : ℕ) (s : Slot T) → k < length slots → count_by (is_retired last) (put_in slots k s) + cond (is_retired last (slot_in slots k)) 1 0 ≡ count_by (is_retired last) slots + cond (is_retired last s) 1 0
+  retired-put_in last [] k s within = absurd (omega (arith, within))
+  retired-put_in last (x ∷ xs) zero s within =
+      omega (arith, sum_by-cons (λ y. cond (is_retired last y) 1 0) s xs, sum_by-cons (λ y. cond (is_retired last y) 1 0) x xs)
+  retired-put_in last (x ∷ xs) (suc k) s within =
+      omega (arith, sum_by-cons (λ y. cond (is_retired last y) 1 0) x (put_in xs k s), sum_by-cons (λ y. cond (is_retired last y) 1 0) x xs, retired-put_in last xs k s (omega arith))
+
+  -- what a slot adds to the count of those that are empty for good
+  abbrev lost_by : ℕ → Slot T → ℕ
+  lost_by last s = cond (is_retired last s) 1 0
+
+  -- a write of the slot of a live id, which was not empty for good
+  retired-put : (a : Arena T) (id : ArenaIndex) (s : Slot T) → IsLive a id → count_by (is_retired a.last_version) (put a.slots id.slot s) ≡ count_by (is_retired a.last_version) a.slots + lost_by a.last_version s
+  retired-put a id s live =
+      let taken = taken_at a.slots id live in
+      let before : lost_by a.last_version (slot_in a.slots (id.slot - 1)) ≡ 0 = has_record (slot_in a.slots (id.slot - 1)) taken.some in
+      rw (put-place a.slots id.slot s taken.numbered) (omega (arith, retired-put_in a.last_version a.slots (id.slot - 1) s taken.within, before))
+    where
+      has_record : (x : Slot T) → IsSome x.item → lost_by a.last_version x ≡ 0
+      has_record x some = rw some refl
+
+  -- the room after each change
+  pub room-fill_live : (a : Arena T) (id : ArenaIndex) (v : T) → IsLive a id → room (fill a id v) ≡ room a
+  room-fill_live a id v live =
+      omega (arith, len-fill_live a id v live, retired-put a id (record { version = id.version; item = Some v }) live)
+
+  stays : (last : ℕ) (s : Slot T) → s.item ≡ None → s.version + 2 ≤ last → lost_by last s ≡ 0
+  stays last s none fits = grind (arith, nat_tests)
+
+  ends : (last : ℕ) (s : Slot T) → s.item ≡ None → last < s.version + 2 → lost_by last s ≡ 1
+  ends last s none past = grind (arith, nat_tests)
+
+  pub room-cut : (a : Arena T) (id : ArenaIndex) → IsWhole a → IsLive a id → id.version + 2 ≤ a.last_version → room (cut a id) ≡ room a + 1
+  room-cut a id whole live fits =
+      omega (arith, len-cut a id live, retired-put a id (record { version = id.version; item = None }) live, stays a.last_version (record { version = id.version; item = None }) refl fits, room-splits a whole, room-splits (cut a id) (whole-cut a id whole live))
+
+  pub room-cut_last : (a : Arena T) (id : ArenaIndex) → IsWhole a → IsLive a id → a.last_version < id.version + 2 → room (cut a id) ≡ room a
+  room-cut_last a id whole live past =
+      omega (arith, len-cut a id live, retired-put a id (record { version = id.version; item = None }) live, ends a.last_version (record { version = id.version; item = None }) refl past, room-splits a whole, room-splits (cut a id) (whole-cut a id whole live))
 
   none-counts : (slots : List (Slot T)) → ((k : ℕ) → k < length slots → (slot_in slots k).item ≡ None) → count_by is_taken slots ≡ 0
   none-counts [] none = refl
