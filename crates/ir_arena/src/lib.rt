@@ -9,6 +9,7 @@ pub mod list_laws;
 mod ptr;
 mod room;
 mod seq;
+mod short_seq;
 mod tally;
 
 pub use arena::Arena;
@@ -17,3 +18,4 @@ pub use list_iter::Iter;
 pub use ptr::Ptr;
 pub use room::Room;
 pub use seq::Seq;
+pub use short_seq::ShortSeq;

@@ -79,14 +79,14 @@ impl<T> Seq<T> {
         self.items.as_slice()
     }
 
-    /// Makes place for `additional` more items.
+    /// Makes place for exactly `additional` more items, where there is less. Items that come one by one need none: `push` makes place by itself.
     ///
     /// # Errors
     /// Where the list had to grow and couldn't. The items are the same in either case.
     pub fn reserve(&mut self, additional: usize) -> Result<(), AllocError>
         ensures { self.new ≡ self.old }
     {
-        self.items.reserve(additional)
+        self.items.reserve_exact(additional)
     }
 
     /// Puts `item` at the end.

@@ -7,3 +7,5 @@ mod arena_tests;
 mod linked_list_tests;
 #[cfg(test)]
 mod seq_tests;
+#[cfg(test)]
+mod short_seq_tests;

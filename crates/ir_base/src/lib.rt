@@ -14,7 +14,7 @@ mod type_store;
 mod verifier_lists;
 
 pub use dialects::{Dialects, unknown_loc};
-pub use ir_arena::{Arena, Iter, Ptr, Room, Seq, linked_list, list_laws};
+pub use ir_arena::{Arena, Iter, Ptr, Room, Seq, ShortSeq, linked_list, list_laws};
 pub use ir_model::{Answer, ArenaIndex, CoreError, Limits, Refused};
 pub use ir_text::{
     AttrId, AttrName, DialectName, Id, IdentErr, Identifier, Legaliser, MalformedIdentifierErr,

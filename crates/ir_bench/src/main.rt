@@ -1,0 +1,83 @@
+//! The program `ir_bench`: it times calls of the library, to be measured beside other libraries.
+//!
+//!     ir_bench WORKLOAD N REPS    prints a line for the workload, or for each one where it is `all`
+//!
+//! A line has the program's name, the workload, N, the median, the least and the greatest nanoseconds of thread time by unit, a checksum, the peak of the memory in kB, and the number of units. With REPS 0 the workload runs once, and `-` stands for what differs from run to run.
+#![tactic(auto)]
+
+mod report;
+mod workloads;
+
+use crate::report::{Timing, peak_memory};
+use crate::workloads::{Outcome, Workload};
+use anyhow::{Context, bail};
+use std::alloc::Global;
+use std::env;
+use std::rt::Files;
+use std::time::CpuClock;
+
+// Runs a workload so often, each time on a new context, and gives the times and what came out.
+fn repeat<C: CpuClock>(
+    rt: &C,
+    alloc: Global,
+    workload: Workload,
+    count: usize,
+    times: usize,
+) -> anyhow::Result<(Timing, Outcome)> {
+    let mut timing = Timing::new(alloc);
+    let (nanos, outcome) = workload.run(rt, alloc, count)?;
+    timing.add(nanos)?;
+    for _ in 1..times {
+        let (nanos, again) = workload.run(rt, alloc, count)?;
+        if again != outcome {
+            bail!("the checksum differs between repetitions");
+        }
+        timing.add(nanos)?;
+    }
+    timing.sort()?;
+    Ok((timing, outcome))
+}
+
+// The line of a workload.
+fn print_line<R: CpuClock + Files + Print + Alloc<A = Global>>(
+    rt: &R,
+    workload: Workload,
+    count: usize,
+    times: usize,
+) -> anyhow::Result<()> {
+    let name = workload.name();
+    let (timing, outcome) = repeat(rt, rt.alloc(), workload, count, times)?;
+    let Outcome { units, checksum } = outcome;
+    if times == 0 {
+        println!(rt; "ir_bench {name} {count} - - - {checksum:016x} - {units}")?;
+        return Ok(());
+    }
+    let median = timing.median(units);
+    let least = timing.least(units);
+    let greatest = timing.greatest(units);
+    let memory = peak_memory(rt)?;
+    println!(rt;
+        "ir_bench {name} {count} {median} {least} {greatest} {checksum:016x} {memory} {units}"
+    )?;
+    Ok(())
+}
+
+fn main(rt: HostRuntime) -> anyhow::Result<()> {
+    let mut words = env::args(&rt)?;
+    words.next();
+    let usage = "usage: ir_bench WORKLOAD N REPS";
+    let wanted = words.next().context(usage)?;
+    let count: usize = words.next().context(usage)?.as_str().parse()?;
+    let times: usize = words.next().context(usage)?.as_str().parse()?;
+    let mut printed = 0u32;
+    for workload in [Workload::Unlinked, Workload::Interning] {
+        if wanted.as_str() == "all" || wanted.as_str() == workload.name() {
+            print_line(&rt, workload, count, times)?;
+            printed = 1;
+        }
+    }
+    if printed == 0 {
+        bail!("there is no such workload");
+    }
+    Ok(())
+}
