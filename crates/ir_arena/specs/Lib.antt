@@ -4,3 +4,4 @@ pub mod ArenaLends
 pub mod Lists
 pub mod Walks
 pub mod SeqLends
+pub mod Link
