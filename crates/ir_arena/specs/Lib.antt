@@ -5,3 +5,4 @@ pub mod Lists
 pub mod Walks
 pub mod SeqLends
 pub mod ShortSeqLends
+pub mod Link

@@ -3,6 +3,7 @@
 
 mod arena;
 pub mod arena_laws;
+mod link;
 pub mod linked_list;
 mod list_iter;
 pub mod list_laws;
@@ -14,6 +15,7 @@ mod tally;
 
 pub use arena::Arena;
 pub use ir_model::{ArenaIndex, CoreError};
+pub use link::Link;
 pub use list_iter::Iter;
 pub use ptr::Ptr;
 pub use room::Room;
