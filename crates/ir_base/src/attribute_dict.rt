@@ -1,19 +1,21 @@
 //! Dictionaries of attributes.
-ghost use Rattle.std.specs.Prelude.{◌≡◌, ◌↔◌, ◌&&◌, ◌<◌, [], length, true, not, filter, None, IsTrue, IfOk, IfErr, OnOk, OnErr, option_and_then, option_map};
+ghost use Rattle.std.specs.Prelude.{◌≡◌, ◌↔◌, ◌&&◌, [], length, true, not, filter, None, IsTrue, IfOk, IfErr, OnOk, OnErr, option_and_then, option_map};
 ghost use Rattle.std.specs.Option.{option_copied, option_copied_mut};
 ghost use Rattle.std.specs.Borrow.{sem};
+ghost use Rattle.std.specs.List.{IsDistinct};
+ghost use Rattle.std.specs.Map.{keys_of};
 ghost use Rattle.std.specs.Map.Iter.{ShowsInOrder, deref_pair};
 ghost use Rattle.ir_model.specs.declared.error.CoreError.TheVariants.{OutOfMemory};
 ghost use Rattle.ir_base.specs.declared.interfaces.TheConstants.{OUTLINED_ATTRIBUTE};
 ghost use Rattle.ir_model.specs.Stores.{attribute_at, set_attribute, without_attribute, HasDistinctKeys};
-ghost use Rattle.ir_base.specs.Attributes.{passing, is_outlined, kept_pairs, same_pairs, AreCopies, dict_input, IsNext, is_above, is_below};
+ghost use Rattle.ir_base.specs.Attributes.{same_key, passing, is_outlined, kept_pairs, same_pairs, AreCopies, dict_input, IsNext, is_above, is_below};
 ghost use Rattle.ir_base.specs.AttributeLaws.{same_pairs-laws, same_pairs-equivalence, by_key-equal};
 
 use crate::attribute::{Attribute, attr_impls, attr_should_outline};
 use crate::dialects::Dialects;
 use crate::interfaces::AttrInterfaceMarker;
 use indexmap::IndexMap;
-use indexmap::map::Iter;
+use indexmap::map::{Iter, Slice};
 use ir_model::CoreError;
 use ir_text::Identifier;
 use std::alloc::Global;
@@ -22,10 +24,11 @@ use std::marker::Model;
 
 /// A list of pairs of a key and an attribute, with distinct keys.
 ///
-/// A new key goes last, and a key that is there keeps its place. It stands for pliron's `AttributeDict`.
+/// A new key goes last, and a key that is there keeps its place. The table is made with the first pair, so a dictionary that never had one takes 16 bytes. It stands for pliron's `AttributeDict`.
 #[derive(Drop)]
 pub struct AttributeDict<D: Dialects> {
-    pairs: IndexMap<Identifier, D::Attr>,
+    table: Option<Box<IndexMap<Identifier, D::Attr>>>,
+    alloc: Global,
 }
 
 impl<D: Dialects> Model for AttributeDict<D> {
@@ -33,7 +36,9 @@ impl<D: Dialects> Model for AttributeDict<D> {
 
     ghost Value = { List (List ℕ × D.Attr) };
 
-    ghost view = { λ d. d.pairs.entries };
+    ghost use Rattle.ir_base.specs.LazyTable.{pairs_in};
+
+    ghost view = { λ d. pairs_in d.table };
 }
 
 // Whether the key is above the bound, where there is one.
@@ -56,6 +61,20 @@ fn is_before<V>(key: &Identifier, pair: Option<(&Identifier, &V)>) -> bool
     }
 }
 
+// The table of a dictionary, or one that stands for it where there is none.
+fn table_of<'a, D: Dialects>(
+    dict: &'a AttributeDict<D>,
+    none: &'a IndexMap<Identifier, D::Attr>,
+) -> &'a IndexMap<Identifier, D::Attr>
+    requires { none.now.entries ≡ [] }
+    ensures { result.now.entries ≡ dict.now }
+{
+    match &dict.table {
+        Some(table) => table,
+        None => none,
+    }
+}
+
 impl<D: Dialects> AttributeDict<D> {
     ghost use Rattle.ir_base.specs.AttributeLends.{lends_value};
 
@@ -63,8 +82,48 @@ impl<D: Dialects> AttributeDict<D> {
     pub fn new(alloc: Global) -> Self
         ensures { result ≡ [] }
     {
-        AttributeDict {
-            pairs: IndexMap::new(alloc),
+        AttributeDict { table: None, alloc }
+    }
+
+    // The pairs in their order.
+    fn pairs(&self) -> Slice<'_, Identifier, D::Attr>
+        ensures pairs { result ≡ self.now }
+        ensures distinct { IsDistinct same_key (keys_of result) }
+    {
+        if let Some(table) = &self.table {
+            return table.as_slice();
+        }
+        Slice::new()
+    }
+
+    // The attribute at the key, where there is one.
+    fn attr(&self, key: &Identifier) -> Option<&D::Attr>
+        ensures { option_copied result ≡ attribute_at self.now key.now }
+    {
+        match &self.table {
+            Some(table) => table.get(key),
+            None => None,
+        }
+    }
+
+    // Puts the attribute at the key. The one before is dropped.
+    fn put(&mut self, key: Identifier, attr: D::Attr) -> Result<(), CoreError>
+        ensures set { OnOk result (self.new ≡ set_attribute self.old key attr) }
+        ensures error { IfErr result (λ error. error ≡ OutOfMemory) }
+        ensures unchanged { OnErr result (self.new ≡ self.old) }
+        ensures only_new { OnErr result (attribute_at self.old key ≡ None) }
+    {
+        match &mut self.table {
+            Some(table) => {
+                table.insert(key, attr)?;
+                Ok(())
+            }
+            None => {
+                let mut table = IndexMap::new(self.alloc);
+                table.insert(key, attr)?;
+                self.table = Some(Box::new(self.alloc, table)?);
+                Ok(())
+            }
         }
     }
 
@@ -73,21 +132,21 @@ impl<D: Dialects> AttributeDict<D> {
         ensures count { result ≡ length self.now }
         ensures distinct { HasDistinctKeys self.now }
     {
-        self.pairs.len()
+        self.pairs().len()
     }
 
     /// Whether there is no pair.
     pub fn is_empty(&self) -> bool
         ensures { IsTrue result ↔ (self.now ≡ []) }
     {
-        self.pairs.is_empty()
+        self.pairs().is_empty()
     }
 
     /// The value of the attribute at the key, where there is one of the kind of `T`.
     pub fn get<T: Attribute<D>>(&self, key: &Identifier) -> Option<&T>
         ensures { option_copied result ≡ option_and_then T.value_of (attribute_at self.now key.now) }
     {
-        let attr = self.pairs.get(key)?;
+        let attr = self.attr(key)?;
         T::of_attr(attr)
     }
 
@@ -98,15 +157,20 @@ impl<D: Dialects> AttributeDict<D> {
         ensures* writes_back { sem 𝓛 (lends_value D.row D.Attr.row D.TypeKey.row D.TypeBody.row D.Saved.row D.Aux.row D.Loc.row D.Dialects D.Attr.Hash D.TypeKey.Hash D.TypeBody.Default D.Saved.Hash D.Loc.Default T.row T.with_value self.entry key.now result) }
         ensures value { option_copied_mut result ≡ option_and_then T.value_of (attribute_at self.old key.now) }
     {
-        let attr = self.pairs.get_mut(key)?;
-        T::of_attr_mut(attr)
+        match &mut self.table {
+            Some(table) => {
+                let attr = table.get_mut(key)?;
+                T::of_attr_mut(attr)
+            }
+            None => None,
+        }
     }
 
     /// The attribute at the key, where there is one whose kind implements the interface.
     pub fn get_as<I: AttrInterfaceMarker>(&self, key: &Identifier) -> Option<&D::Attr>
         ensures { option_copied result ≡ passing (λ attr. D.attr_impls_of (D.attr_kind_of attr) I.NUMBER) (attribute_at self.now key.now) }
     {
-        let attr = self.pairs.get(key)?;
+        let attr = self.attr(key)?;
         if attr_impls::<I, D>(attr) {
             Some(attr)
         } else {
@@ -123,8 +187,7 @@ impl<D: Dialects> AttributeDict<D> {
         ensures unchanged { OnErr result (self.new ≡ self.old) }
         ensures only_new { OnErr result (attribute_at self.old key ≡ None) }
     {
-        self.pairs.insert(key, value.into_attr())?;
-        Ok(())
+        self.put(key, value.into_attr())
     }
 
     /// Takes the pair at the key away, and hands its attribute back. The rest keep their order.
@@ -132,7 +195,10 @@ impl<D: Dialects> AttributeDict<D> {
         ensures value { result ≡ attribute_at self.old key.now }
         ensures rest { self.new ≡ without_attribute self.old key.now }
     {
-        self.pairs.shift_remove(key)
+        match &mut self.table {
+            Some(table) => table.shift_remove(key),
+            None => None,
+        }
     }
 
     /// The pairs in their order.
@@ -140,7 +206,7 @@ impl<D: Dialects> AttributeDict<D> {
         ensures rest { result ≡ self.now }
         ensures runs { ShowsInOrder (deref_pair {K = Identifier} {X = D.Attr}) }
     {
-        self.pairs.iter()
+        self.pairs().iter()
     }
 
     // Copies the pairs in their order: all of them, or those whose attribute isn't to be outlined.
@@ -148,25 +214,26 @@ impl<D: Dialects> AttributeDict<D> {
         ensures copies { IfOk result (AreCopies D.Attr.eq (kept_pairs (is_outlined D.attr_kind_of D.attr_impls_of D.attr_outline_of) all self.now)) }
         ensures error { IfErr result (λ error. error ≡ OutOfMemory) }
     {
-        let alloc = *self.pairs.allocator();
-        let mut pairs = IndexMap::new(alloc);
-        for place in 0..self.pairs.len() {
-            if let Some((key, attr)) = self.pairs.get_index(place) {
+        let pairs = self.pairs();
+        let mut copy = AttributeDict::new(self.alloc);
+        for place in 0..pairs.len() {
+            if let Some((key, attr)) = pairs.get_index(place) {
                 if all || !attr_should_outline::<D>(attr) {
-                    pairs.insert(key.clone()?, D::copy_attr(alloc, attr)?)?;
+                    copy.put(key.clone()?, D::copy_attr(self.alloc, attr)?)?;
                 }
             }
         }
-        Ok(AttributeDict { pairs })
+        Ok(copy)
     }
 
     // The pair with the least key above this one, or of all where there is none.
     fn next_pair(&self, after: Option<&Identifier>) -> Option<(&Identifier, &D::Attr)>
         ensures next { IsNext (option_copied after.entry) self.now (option_map deref_pair result) }
     {
+        let pairs = self.pairs();
         let mut next = None;
-        for place in 0..self.pairs.len() {
-            if let Some((key, attr)) = self.pairs.get_index(place) {
+        for place in 0..pairs.len() {
+            if let Some((key, attr)) = pairs.get_index(place) {
                 if is_after(after, key) && is_before(key, next) {
                     next = Some((key, attr));
                 }
@@ -199,7 +266,8 @@ impl<D: Dialects> PartialEq for AttributeDict<D> {
     ghost laws = { same_pairs-laws D.Attr.eq D.Attr.Eq.laws };
 
     fn eq(&self, other: &AttributeDict<D>) -> bool {
-        self.pairs == other.pairs
+        let none = IndexMap::new(self.alloc);
+        *table_of(self, &none) == *table_of(other, &none)
     }
 }
 

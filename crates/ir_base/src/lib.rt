@@ -35,6 +35,7 @@ pub mod laws {
     };
     pub use ir_model::sources_apart;
     pub use ir_text::laws::{
-        identifiers_compare_as_texts, identifiers_follow_the_rule, joins_are_identifiers,
+        identifiers_compare_as_texts, identifiers_follow_the_rule, ids_compare_as_pairs,
+        joins_are_identifiers, names_compare_as_texts,
     };
 }

@@ -3,10 +3,12 @@ ghost use Rattle.std.specs.Prelude.{◌≡◌, ◌↔◌, ℕ, Bool, true, List,
 ghost use Rattle.std.specs.List.{list_any};
 ghost use Rattle.ir_model.specs.Edits.{place_of};
 ghost use Rattle.ir_model.specs.Stores.{SameAttributes};
-ghost use Rattle.ir_base.specs.Attributes.{same_pairs, dict_input};
 ghost use Rattle.ir_model.specs.VerifierLists.{first_places, joined, SupersFirst};
 
+use crate::attribute_dict::AttributeDict;
 use crate::dialects::Dialects;
+use std::cmp::PartialEq;
+use std::hash::Hash;
 
 /// Where in each list that is handed in all supers of an item stand before it, they do in the deduplicated list of each owner.
 pub fn supers_stay_first()
@@ -20,10 +22,10 @@ pub fn equal_places_for_equal_values<T: Eq>()
 
 /// Dictionaries of attributes are equal exactly where each key leads to equal attributes in both, or to none in both.
 pub fn dictionaries_compare_by_keys<D: Dialects>()
-    ensures { (d e : List (List ℕ × D.Attr)) → IsTrue (same_pairs D.Attr.eq d e) ↔ SameAttributes D.Attr.eq d e }
+    ensures { (d e : List (List ℕ × D.Attr)) → IsTrue (⟦<AttributeDict<D> as PartialEq>⟧.eq d e) ↔ SameAttributes D.Attr.eq d e }
 {}
 
 /// Equal dictionaries of attributes hash equally, in whatever order they were filled.
 pub fn equal_dictionaries_hash_equally<D: Dialects>()
-    ensures { (d e : List (List ℕ × D.Attr)) → IsTrue (same_pairs D.Attr.eq d e) → dict_input D.Attr.hash_input d ≡ dict_input D.Attr.hash_input e }
+    ensures { (d e : List (List ℕ × D.Attr)) → IsTrue (⟦<AttributeDict<D> as PartialEq>⟧.eq d e) → ⟦<AttributeDict<D> as Hash>⟧.hash_input d ≡ ⟦<AttributeDict<D> as Hash>⟧.hash_input e }
 {}

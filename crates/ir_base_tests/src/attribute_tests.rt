@@ -459,6 +459,20 @@ fn copies_of_dictionaries(rt: HostRuntime) -> Result<(), Fail> {
     Ok(())
 }
 
+// Refuses copies of an empty dictionary that answer want of memory.
+#[test]
+fn copies_of_empty_dictionaries(rt: HostRuntime) -> Result<(), Fail> {
+    let mut dict = AttributeDict::new(rt.alloc());
+    assert!(rt; copies(&dict)?);
+    assert!(rt; has_keys(&copy_kept(&dict)?, &[]));
+    put(&mut dict, 0, number_of(1))?;
+    assert_eq!(rt; take(&mut dict, 0).is_some(), true);
+    assert!(rt; copies(&dict)?);
+    assert!(rt; are_equal(&dict, &AttributeDict::new(rt.alloc())));
+    assert_eq!(rt; hash_of(&dict), hash_of(&AttributeDict::new(rt.alloc())));
+    Ok(())
+}
+
 #[test]
 fn removals(rt: HostRuntime) -> Result<(), Fail> {
     assert!(rt; has_keys(&AttributeDict::new(rt.alloc()), &[]));

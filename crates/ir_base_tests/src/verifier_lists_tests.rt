@@ -70,6 +70,14 @@ fn owners_in_the_order_of_their_first_entry(rt: HostRuntime) -> Result<(), Fail>
     Ok(())
 }
 
+// Refuses a call that answers want of memory where there is nothing to collect.
+#[test]
+fn no_entries(rt: HostRuntime) -> Result<(), Fail> {
+    assert!(rt; collects(rt.alloc(), &[], &[])?);
+    assert!(rt; collects(rt.alloc(), &[(1, &[])], &[(1, &[])])?);
+    Ok(())
+}
+
 #[test]
 fn different_keys(rt: HostRuntime) -> Result<(), Fail> {
     let one = key("a", 1);

@@ -292,6 +292,3 @@ impl fmt::Debug for Identifier {
         f.write_str(Identifier::as_str(self))
     }
 }
-
-#[cfg(test)]
-mod tests;

@@ -212,6 +212,3 @@ fn stand_in(is_first: bool, character: char) -> char
     };
     if may_stand { character } else { '_' }
 }
-
-#[cfg(test)]
-mod tests;

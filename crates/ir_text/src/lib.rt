@@ -13,9 +13,10 @@ pub use names::{
     TypeName,
 };
 
-/// Laws of identifiers.
+/// Laws of identifiers, names and ids.
 pub mod laws {
     pub use crate::name_laws::{
-        identifiers_compare_as_texts, identifiers_follow_the_rule, joins_are_identifiers,
+        identifiers_compare_as_texts, identifiers_follow_the_rule, ids_compare_as_pairs,
+        joins_are_identifiers, names_compare_as_texts,
     };
 }

@@ -11,9 +11,6 @@ use std::convert::{AsRef, AsStr};
 use std::fmt;
 use std::marker::{Model, PhantomData};
 
-#[cfg(test)]
-mod tests;
-
 /// Marks the names of dialects.
 #[derive(Drop)]
 pub struct OfDialect;

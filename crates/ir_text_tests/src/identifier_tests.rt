@@ -1,6 +1,6 @@
 // Worked identifiers, and each call with ample memory.
 use ir_model::CoreError;
-use ir_text::{IdentErr, Identifier, MalformedIdentifierErr, ident};
+use ir_text::{DialectName, IdentErr, Identifier, MalformedIdentifierErr, ident};
 use std::alloc::{AllocError, Global};
 use std::collections::HashMap;
 use std::test::Fail;
@@ -78,6 +78,25 @@ fn is_copied_back(alloc: Global, text: &str) -> Result<bool, IdentErr> {
 #[test]
 fn malformed_copies(rt: HostRuntime) -> Result<(), Fail> {
     assert!(rt; is_copied_back(rt.alloc(), "1b")?);
+    Ok(())
+}
+
+// A malformed text that has to be copied for a name is handed back, or wants memory.
+fn is_no_name(alloc: Global, text: &str) -> Result<bool, IdentErr> {
+    match DialectName::try_new(alloc, text) {
+        Ok(_) => Ok(false),
+        Err(IdentErr::MalformedIdentifierErr(malformed)) => Ok(malformed.0.as_str() == text),
+        Err(IdentErr::OutOfMemory) => Err(IdentErr::OutOfMemory),
+    }
+}
+
+// Refuses a call that answers want of memory for each malformed text.
+#[test]
+fn malformed_names(rt: HostRuntime) -> Result<(), Fail> {
+    for text in ["", "1b", "a.b", "é"] {
+        assert!(rt; is_no_name(rt.alloc(), text)?, "{text}");
+        assert!(rt; is_copied_back(rt.alloc(), text)?, "{text}");
+    }
     Ok(())
 }
 

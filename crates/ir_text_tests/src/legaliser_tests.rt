@@ -1,7 +1,7 @@
 // Worked names, and each call with ample memory.
 use ir_model::CoreError;
-use ir_text::{Identifier, Legaliser};
-use std::alloc::Global;
+use ir_text::{Identifier, Legaliser, ident};
+use std::alloc::{AllocError, Global};
 use std::test::Fail;
 
 fn source_is(legaliser: &Legaliser, name: &Identifier, source: &str) -> Result<bool, CoreError> {
@@ -63,6 +63,66 @@ fn marked_always_memory(rt: HostRuntime) -> Result<(), Fail> {
     let joined = name.join(rt.alloc(), &name.clone()?)?;
     assert!(rt; joined == Identifier::from_text(rt.alloc(), "a_a_")?);
     assert!(rt; joined.into_text(rt.alloc())?.as_str() == "a_a_");
+    Ok(())
+}
+
+// Refuses a search for a source that answers want of memory for an unknown name.
+#[test]
+fn unknown_names(rt: HostRuntime) -> Result<(), Fail> {
+    let mut legaliser = Legaliser::new(rt.alloc());
+    assert!(rt; legaliser.source_name(&ident!("a"))?.is_none());
+    let name = legaliser.legalise("b.")?;
+    assert!(rt; legaliser.source_name(&ident!("a"))?.is_none());
+    assert!(rt; source_is(&legaliser, &name, "b.")?);
+    Ok(())
+}
+
+// A text of so many times `a`, and then this letter.
+fn long_text(alloc: Global, count: usize, last: char) -> Result<String, AllocError> {
+    let mut text = String::new(alloc);
+    for _ in 0..count {
+        text.push('a')?;
+    }
+    text.push(last)?;
+    Ok(text)
+}
+
+// Refuses calls that answer want of memory for a long source.
+#[test]
+fn long_sources(rt: HostRuntime) -> Result<(), Fail> {
+    let mut legaliser = Legaliser::new(rt.alloc());
+    for count in [64, 300, 5000] {
+        let source = long_text(rt.alloc(), count, '.')?;
+        let name = long_text(rt.alloc(), count, '_')?;
+        assert!(rt; is_named(&mut legaliser, source.as_str(), name.as_str())?);
+        let name = Identifier::from_text(rt.alloc(), name.as_str())?;
+        let joined = name.join(rt.alloc(), &name.clone()?)?;
+        assert!(rt; joined.into_text(rt.alloc())?.as_str().starts_with(name.as_str()));
+    }
+    Ok(())
+}
+
+// Whether so many pairs of sources that clash are named, the second of each with the number of the pairs before it.
+fn are_numbered(alloc: Global, legaliser: &mut Legaliser, count: usize) -> Result<bool, Fail> {
+    for number in 0..count {
+        let source = format!(in alloc; "a{number}.")?;
+        let clash = format!(in alloc; "a{number}!")?;
+        let name = format!(in alloc; "a{number}_")?;
+        let numbered = format!(in alloc; "a{number}__{number}")?;
+        if !is_named(legaliser, source.as_str(), name.as_str())?
+            || !is_named(legaliser, clash.as_str(), numbered.as_str())?
+        {
+            return Ok(false);
+        }
+    }
+    Ok(true)
+}
+
+// Refuses calls that answer want of memory once there were many clashes.
+#[test]
+fn many_clashes(rt: HostRuntime) -> Result<(), Fail> {
+    let mut legaliser = Legaliser::new(rt.alloc());
+    assert!(rt; are_numbered(rt.alloc(), &mut legaliser, 300)?);
     Ok(())
 }
 

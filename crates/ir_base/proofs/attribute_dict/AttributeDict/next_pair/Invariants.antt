@@ -5,4 +5,4 @@ use Rattle.ir_base.specs.Attributes.{IsNext}
 use Rattle.ir_base.proofs.attribute_dict.AttributeDict.next_pair.Given as goal
 
 abbrev pub invariant-loop-place : goal.invariant-loop-place
-invariant-loop-place g l = IsNext (option_copied l.after) (take l.place l.self-inside.pairs.entries) (option_map deref_pair l.next)
+invariant-loop-place g l = IsNext (option_copied l.after) (take l.place l.pairs) (option_map deref_pair l.next)
