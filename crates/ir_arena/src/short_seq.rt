@@ -2,7 +2,7 @@
 //!
 //! A list that is mostly empty takes less as a `Seq`.
 
-ghost use Rattle.std.specs.Prelude.{◌≡◌, ◌<◌, ◌≤◌, ◌==◌, ◌++◌, ◌∷◌, [], length, slice_get, is_ok, if◌then◌else◌, insert, remove, take, IfSome, IfNone, Some, option_copied};
+ghost use Rattle.std.specs.Prelude.{◌≡◌, ◌+◌, ◌<◌, ◌≤◌, ◌==◌, ◌++◌, ◌∷◌, [], length, slice_get, is_ok, IsOk, if◌then◌else◌, insert, remove, take, IfSome, IfNone, Some, option_copied};
 ghost use Rattle.std.specs.List.{swap_remove};
 ghost use Rattle.std.specs.Borrow.{sem};
 ghost use Rattle.ir_arena.specs.ShortSeqLends.{lends_short_item};
@@ -88,20 +88,26 @@ impl<T: MadeWith<Global> + Drop, const N: usize> ShortSeq<T, N> {
     /// Makes place for exactly `additional` more items, where there is less. Items that come one by one need none: `push` makes place by itself.
     ///
     /// # Errors
-    /// Where the list had to grow and couldn't. The items are the same in either case.
+    /// Where the list had to grow past `N` items and couldn't. The items are the same in either case.
     pub fn reserve(&mut self, additional: usize) -> Result<(), AllocError>
-        ensures { self.new ≡ self.old }
+        ensures items { self.new ≡ self.old }
+        ensures inline { length self.old + additional ≤ N → IsOk result }
     {
+        // Its contract tells that `N` items have place.
+        let _is_outside = self.items.spilled();
         self.items.reserve_exact(additional)
     }
 
     /// Puts `item` at the end.
     ///
     /// # Errors
-    /// Where the list had to grow and couldn't. Then `item` is dropped, and the items are as before.
+    /// Where the list had to grow past `N` items and couldn't. Then `item` is dropped, and the items are as before.
     pub fn push(&mut self, item: T) -> Result<(), AllocError>
-        ensures { self.new ≡ (if is_ok result then self.old ++ item ∷ [] else self.old) }
+        ensures items { self.new ≡ (if is_ok result then self.old ++ item ∷ [] else self.old) }
+        ensures inline { length self.old < N → IsOk result }
     {
+        // Its contract tells that `N` items have place.
+        let _is_outside = self.items.spilled();
         self.items.push(item)?;
         Ok(())
     }
@@ -109,11 +115,14 @@ impl<T: MadeWith<Global> + Drop, const N: usize> ShortSeq<T, N> {
     /// Puts `item` at `index`, before the item that stands there.
     ///
     /// # Errors
-    /// Where the list had to grow and couldn't. Then `item` is dropped, and the items are as before.
+    /// Where the list had to grow past `N` items and couldn't. Then `item` is dropped, and the items are as before.
     pub fn insert(&mut self, index: usize, item: T) -> Result<(), AllocError>
         requires { index ≤ length self.old }
-        ensures { self.new ≡ (if is_ok result then insert self.old index item else self.old) }
+        ensures items { self.new ≡ (if is_ok result then insert self.old index item else self.old) }
+        ensures inline { length self.old < N → IsOk result }
     {
+        // Its contract tells that `N` items have place.
+        let _is_outside = self.items.spilled();
         self.items.insert(index, item)?;
         Ok(())
     }
@@ -147,12 +156,15 @@ impl<T: MadeWith<Global> + Drop, const N: usize> ShortSeq<T, N> {
     /// Puts copies of `items` at the end, in order.
     ///
     /// # Errors
-    /// Where the list had to grow and couldn't. Then the items are as before.
+    /// Where the list had to grow past `N` items and couldn't. Then the items are as before.
     pub fn extend(&mut self, items: &[T]) -> Result<(), AllocError>
     where
         T: Copy,
-        ensures { self.new ≡ (if is_ok result then self.old ++ items.now else self.old) }
+        ensures items { self.new ≡ (if is_ok result then self.old ++ items.now else self.old) }
+        ensures inline { length self.old + length items.now ≤ N → IsOk result }
     {
+        // Its contract tells that `N` items have place.
+        let _is_outside = self.items.spilled();
         self.items.extend_from_slice(items)
     }
 
