@@ -1,5 +1,5 @@
 -- How each change of the slots as they lie in memory keeps an arena laid out.
-use Rattle.std.proofs.Common.{◌≡◌, ℕ, ◌+◌, ◌-◌, ◌<◌, ◌≤◌, nat_eq, nat_le, true, false, List, [], ◌∷◌, ◌++◌, length, map, set, Option, Some, None, IsSome, cond, count_by, refl, sym, ap, subst, ◌∙◌, inl, inr, arith, is_some, true≢false}
+use Rattle.std.proofs.Common.{◌≡◌, ℕ, ◌+◌, ◌-◌, ◌<◌, ◌≤◌, nat_eq, nat_le, true, false, List, [], ◌∷◌, ◌++◌, length, map, set, Some, None, IsSome, cond, count_by, refl, sym, ap, subst, ◌∙◌, inl, inr, arith, is_some, true≢false}
 use Rattle.std.proofs.Math.ListN.{get_or-map}
 use Rattle.std.proofs.lemmas.Bool.Decides.{eqb_tells, leb_tells}
 use Rattle.std.proofs.lemmas.List.{length-map, map-set, map-append, get_or-set_same, get_or-set_other, set-get_or}
@@ -120,7 +120,7 @@ module _ {T : Type 0} where
         chained = (
           omega (arith, live.numbered),
           rw (get_or-set_same slots k (Free id.version first) (Free 0 0) (omega (arith, live.within, length_is)))
-          (chained-set slots first k (Free id.version first) laid.places laid.chained (unlisted_at (map shown slots) laid.places len limit last k laid.sound live.within live.some)),
+              (chained-set slots first k (Free id.version first) laid.places laid.chained (unlisted_at (map shown slots) laid.places len limit last k laid.sound live.within live.some)),
         );
         measured = omega (arith, laid.measured);
         sound = rw (map-set shown slots k (Free id.version first)) (vacate_listed (map shown slots) laid.places len limit last id laid.sound live fits);

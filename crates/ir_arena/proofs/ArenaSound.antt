@@ -1,5 +1,5 @@
 -- How each change of the slots keeps an arena sound.
-use Rattle.std.proofs.Common.{◌≡◌, ◌≢◌, ◌⊎◌, ℕ, ◌+◌, ◌-◌, ◌<◌, ◌≤◌, nat_eq, nat_le, Bool, true, false, List, [], ◌∷◌, ◌++◌, length, set, Option, Some, None, IsSome, OnSome, cond, count_by, refl, sym, ap, subst, ◌∙◌, inl, inr, arith, length-set}
+use Rattle.std.proofs.Common.{◌≡◌, ◌≢◌, ◌⊎◌, ℕ, ◌+◌, ◌-◌, ◌<◌, ◌≤◌, nat_eq, nat_le, true, false, List, [], ◌∷◌, ◌++◌, length, set, Option, Some, None, IsSome, cond, count_by, refl, sym, ap, subst, ◌∙◌, inl, inr, arith, length-set}
 use Rattle.std.proofs.lemmas.Bool.Decides.{leb_tells, nat_tests}
 use Rattle.std.proofs.lemmas.Bool.{cases_eq, eq-eqb, ne_eqb, le-ltb, lt-ltb}
 use Rattle.std.proofs.lemmas.List.{get_or-set_same, get_or-set_other, length_push}
@@ -9,10 +9,8 @@ use Rattle.std.proofs.lemmas.List.Sums.{sum_by-set, sum_by_push, sum_by-cons}
 use Rattle.ir_model.specs.declared.ids.ArenaIndex.{ArenaIndex}
 use Rattle.ir_model.specs.Slots.{Slot}
 use Rattle.ir_model.specs.Slots.{is_taken, is_reusable, is_retired, never, slot_in, find, put}
-use Rattle.ir_model.specs.Arenas.{IsInRange, IsNextVersion, IsNew, IsWhole, Inserts, room, unused}
-use Rattle.ir_arena.specs.ArenaSound.{shown, next_in, with_item, held_in, IsFreeChain, IsSound, IsLaid}
-use Rattle.ir_arena.specs.declared.arena.Slot.{Slot as Held}
-use Rattle.ir_arena.specs.declared.arena.Slot.TheVariants.{Full, Free}
+use Rattle.ir_model.specs.Arenas.{IsInRange, IsNextVersion, IsNew, IsWhole, Inserts, room}
+use Rattle.ir_arena.specs.ArenaSound.{IsSound}
 use Rattle.ir_model.proofs.Slots.{IsTaken, slot_at-next, at_past, find-put_same}
 
 -- the state of the free list after slot k has become s
@@ -267,7 +265,3 @@ module _ {T : Type 0} where
       IsSound-vacate slots free free len limit last (id.slot - 1) id.version sound live.within live.some (omega arith)
       (rw none (same_list free (id.slot - 1) 0 (unlisted_at slots free len limit last (id.slot - 1) sound live.within live.some)))
       (rw (sym live.version) (sound.versions (id.slot - 1) live.within))
-
-pub OnSome-from : {X : Type 0} (o : Option X) (P : Type 0) → P → OnSome o P
-OnSome-from None P p = tt
-OnSome-from (Some x) P p = p

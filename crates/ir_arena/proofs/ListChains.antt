@@ -1,12 +1,10 @@
-use Rattle.std.proofs.Common.{◌≡◌, ◌⊎◌, true, false, List, [], ◌∷◌, ◌++◌, length, Option, Some, None, refl, sym, ap, ◌∙◌, subst, inl, inr, arith, length-append, append-nil}
-use Rattle.std.proofs.lemmas.Bool.{cases_eq}
+use Rattle.std.proofs.Common.{◌≡◌, List, [], ◌∷◌, ◌++◌, length, Option, Some, None, refl, sym, ap, ◌∙◌, subst, inl, inr, arith, length-append, append-nil}
 use Rattle.std.proofs.lemmas.Option.{same_Some}
 use Rattle.ir_model.specs.declared.ids.ArenaIndex.{ArenaIndex}
-use Rattle.ir_model.specs.ContextIds.{same_id}
 use Rattle.ir_model.specs.Ids.{Distinct}
 use Rattle.ir_model.specs.Nesting.{In}
 use Rattle.ir_model.proofs.Nests.{In-right, Absent-not_in, not_in-Absent}
-use Rattle.ir_model.proofs.IdCases.{id_same, id_cases, id_differs}
+use Rattle.ir_model.proofs.IdCases.{id_same, id_differs}
 use Rattle.ir_arena.specs.Lists.{Links, linked, Heap, change, with_next, with_prev, head_or, last_of, last_or, IsChain}
 
 -- change

@@ -2,13 +2,11 @@
 use Rattle.std.proofs.Common.{◌≡◌, ◌⊎◌, List, [], ◌∷◌, ◌++◌, Option, Some, None, refl, sym, ap, ◌∙◌, subst, inl, inr}
 use Rattle.std.proofs.lemmas.Option.{same_Some}
 use Rattle.ir_model.specs.declared.ids.ArenaIndex.{ArenaIndex}
-use Rattle.ir_model.specs.ContextIds.{same_id}
 use Rattle.ir_model.specs.Ids.{Distinct}
 use Rattle.ir_model.specs.Nesting.{In}
 use Rattle.ir_model.proofs.Nests.{In-append, In-left, In-right, not_in-Absent}
 use Rattle.ir_model.proofs.IdCases.{id_same, id_cases, id_differs, In-either}
 use Rattle.ir_model.proofs.Redirected.{Distinct-front, Distinct-back}
-use Rattle.ir_model.proofs.TwoRuns.{id_tells}
 use Rattle.ir_arena.specs.Lists.{Links, Ends, unlinked, linked, Heap, change, with_next, with_prev, with_head, with_tail, unless, head_or, last_or, ends_of, IsChain, AreLists, with_list}
 use Rattle.ir_arena.proofs.ListChains.{change-other, change-here, head_or-append, last_or-append, last_of-In, chain-split, chain-join, chain-at, chain-apart, apart-both, chain-same, chain-set_prev, chain-set_next}
 

@@ -1,5 +1,5 @@
 -- How an `Arena` lays out its slots. No public clause cites this module.
-use Rattle.std.specs.Prelude.{◌≡◌, ℕ, ◌+◌, ◌<◌, ◌≤◌, nat_eq, cond, List, [], ◌∷◌, map, length, count_by, slice_index_or, Option, Some, None}
+use Rattle.std.specs.Prelude.{◌≡◌, ℕ, ◌+◌, ◌<◌, ◌≤◌, nat_eq, cond, List, [], ◌∷◌, map, length, count_by, slice_index_or, Some, None}
 use Rattle.ir_model.specs.Slots.{Slot, is_taken, is_reusable, is_retired, slot_in}
 use Rattle.ir_model.specs.Arenas.{IsInRange}
 use Rattle.ir_arena.specs.declared.arena.Slot.{Slot as Held}

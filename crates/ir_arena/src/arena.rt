@@ -4,10 +4,10 @@
 
 ghost use Rattle.std.specs.Prelude.{◌≡◌, ◌⊎◌, ◌+◌, ◌<◌, ◌≤◌, ◌==◌, ◌↔◌, IsTrue, IfOk, IfErr, IfNone, OnErr, OnSome, OnOk, if◌then◌else◌, is_some, None, Err, option_copied, nat_le};
 ghost use Rattle.std.specs.Option.{option_copied_mut};
-ghost use Rattle.std.specs.Borrow.{Lends, LendsIf, sem};
+ghost use Rattle.std.specs.Borrow.{LendsIf, sem};
 ghost use Rattle.ir_model.specs.Slots.{item_under};
 ghost use Rattle.ir_arena.specs.declared.ptr.Ptr.{Ptr as Handle};
-ghost use Rattle.ir_arena.specs.Arena.{empty, get, IsLive, IsWhole, IsNew, fill, cut, miss, room, unused, arena_len, Inserts};
+ghost use Rattle.ir_arena.specs.Arena.{empty, get, IsLive, IsWhole, IsNew, cut, miss, room, unused, arena_len, Inserts};
 
 use crate::tally::Tally;
 use crate::{ArenaIndex, CoreError, Ptr};
@@ -26,6 +26,7 @@ pub enum Slot<T> {
 
 // A slot takes 8 bytes more than its record.
 const _: () = prove!(size_of::<Slot<[u64; 4]>>() == size_of::<[u64; 4]>() + 8);
+
 const _: () = prove!(size_of::<Slot<[u32; 3]>>() == size_of::<[u32; 3]>() + 8);
 
 impl<T> Slot<T> {
@@ -57,13 +58,7 @@ impl<T> Slot<T> {
         ensures { option_copied result ≡ item_under (shown self.now) under }
     {
         match self {
-            Slot::Full { version, item } => {
-                if *version == under {
-                    Some(item)
-                } else {
-                    None
-                }
-            }
+            Slot::Full { version, item } => { if *version == under { Some(item) } else { None } }
             Slot::Free { .. } => None,
         }
     }

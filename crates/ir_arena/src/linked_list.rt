@@ -2,11 +2,9 @@
 //!
 //! Nodes lie in one arena and containers in another, and they name one another by index. A record may be both, as a block is a node of its region's list and the container of its operations. Well formed means that the links and ends are those of lists, one for each container, in which no node stands twice, and that every other node's links are empty. Each call here asks for well-formed lists and is one edit of them. It keeps them well formed, changes no other list and no other field of any record, and takes no memory. What else may be relied on, `list_laws` says.
 
-ghost use Rattle.std.specs.Prelude.{◌≡◌, ◌≢◌, ◌++◌, ◌∷◌, ◌↔◌, [], List, Option, Some, None, IfSome, IsSome, IsTrue};
-ghost use Rattle.std.specs.Borrow.{sem};
+ghost use Rattle.std.specs.Prelude.{◌≡◌, ◌≢◌, ◌++◌, ◌∷◌, ◌↔◌, [], List, Option, Some, None, IfSome, IsTrue};
 ghost use Rattle.ir_model.specs.declared.ids.ArenaIndex.{ArenaIndex};
 ghost use Rattle.ir_arena.specs.Arena.{get, IsLive};
-ghost use Rattle.ir_arena.specs.ArenaLends.{lends_value};
 ghost use Rattle.ir_arena.specs.Lists.{Links, Ends, unlinked, no_ends, linked, seen, change, with_next, with_prev, with_head, with_tail, unless, rehome, head_or, IsChain, AreLists, AreWellFormed, with_list, IsLinked, SameBut};
 ghost use Rattle.ir_arena.specs.Walks.{IsListFrom};
 

@@ -1,6 +1,6 @@
 //! An iterator over the nodes of a list, from both ends.
 
-ghost use Rattle.std.specs.Prelude.{◌≡◌, ◌∷◌, ⊤, length, List, Option, Some, None};
+ghost use Rattle.std.specs.Prelude.{◌≡◌, ⊤, length, List, Option, Some, None};
 ghost use Rattle.std.specs.Iterator.{YieldsFirstBy, YieldsLastBy, item_count};
 ghost use Rattle.ir_model.specs.declared.ids.ArenaIndex.{ArenaIndex};
 ghost use Rattle.ir_arena.specs.Lists.{seen};

@@ -4,6 +4,8 @@
 #[cfg(test)]
 mod arena_tests;
 #[cfg(test)]
+mod link_tests;
+#[cfg(test)]
 mod linked_list_tests;
 #[cfg(test)]
 mod seq_tests;

@@ -1,9 +1,8 @@
-use Rattle.std.proofs.Common.{◌≡◌, ◌+◌, ◌<◌, ◌≤◌, length, length-set, Some, None, refl, sym, ap, subst, ◌∙◌, inl, inr, arith}
+use Rattle.std.proofs.Common.{◌≡◌, ◌+◌, ◌<◌, length, refl, sym, ap, ◌∙◌, inl, arith}
 use Rattle.std.proofs.lemmas.List.{get_or_read, set-get_or}
-use Rattle.ir_model.specs.declared.ids.ArenaIndex.{ArenaIndex}
 use Rattle.ir_model.specs.Slots.{item_under}
-use Rattle.ir_arena.specs.declared.arena.Slot.TheVariants.{Full, Free}
-use Rattle.ir_arena.specs.ArenaSound.{shown, held_in, next_in}
+use Rattle.ir_arena.specs.declared.arena.Slot.TheVariants.{Free}
+use Rattle.ir_arena.specs.ArenaSound.{shown}
 use Rattle.ir_model.proofs.Slots.{find_zero}
 use Rattle.ir_arena.proofs.ArenaChain.{find-shown, find-past, laid-rewrite, fill-shown, not_below}
 use Rattle.ir_arena.proofs.arena.Arena.get_mut.Goals as goal

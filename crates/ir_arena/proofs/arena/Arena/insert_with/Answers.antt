@@ -1,10 +1,8 @@
-use Rattle.std.proofs.Common.{◌≡◌, ◌+◌, ◌-◌, ◌<◌, ◌≤◌, [], ◌∷◌, ◌++◌, length, length-set, Some, None, refl, sym, ap, subst, ◌∙◌, inl, inr, arith}
+use Rattle.std.proofs.Common.{◌≡◌, ◌+◌, ◌-◌, ◌<◌, ◌≤◌, [], ◌∷◌, ◌++◌, length, length-set, refl, ap, ◌∙◌, arith}
 use Rattle.std.proofs.lemmas.List.{get_or_read, length-map, length_push}
 use Rattle.ir_model.specs.declared.ids.ArenaIndex.{ArenaIndex}
-use Rattle.ir_model.specs.Slots.{item_under}
 use Rattle.ir_arena.specs.declared.arena.Slot.TheVariants.{Full, Free}
-use Rattle.ir_arena.specs.ArenaSound.{shown, held_in, next_in}
-use Rattle.ir_model.specs.Arenas.{IsNew}
+use Rattle.ir_arena.specs.ArenaSound.{shown, held_in}
 use Rattle.ir_arena.proofs.ArenaSound.{inserts_is}
 use Rattle.ir_arena.proofs.ArenaChain.{laid-next, laid-more, laid-room, laid-whole, last_is_new, free-none, write-shown, push-shown}
 use Rattle.ir_arena.proofs.arena.Arena.insert_with.Goals as goal

@@ -1,11 +1,9 @@
-use Rattle.std.proofs.Common.{◌≡◌, ◌+◌, ◌-◌, ◌<◌, ◌≤◌, map, set, length, length-set, Some, None, is_some, refl, sym, ap, subst, ◌∙◌, inl, inr, arith}
+use Rattle.std.proofs.Common.{◌≡◌, ◌+◌, ◌-◌, ◌<◌, map, set, length, is_some, refl, sym, ap, subst, ◌∙◌, arith}
 use Rattle.std.proofs.lemmas.List.{get_or_read, set-get_or}
-use Rattle.ir_model.specs.declared.ids.ArenaIndex.{ArenaIndex}
 use Rattle.ir_model.specs.Slots.{item_under}
-use Rattle.ir_arena.specs.declared.arena.Slot.TheVariants.{Full, Free}
-use Rattle.ir_arena.specs.ArenaSound.{shown, held_in, next_in, IsLaid}
-use Rattle.ir_model.proofs.Slots.{find_zero, find-put_same}
-use Rattle.ir_arena.proofs.ArenaSound.{OnSome-from}
+use Rattle.ir_arena.specs.declared.arena.Slot.TheVariants.{Free}
+use Rattle.ir_arena.specs.ArenaSound.{shown, IsLaid}
+use Rattle.ir_model.proofs.Slots.{find_zero}
 use Rattle.ir_arena.proofs.ArenaChain.{find-shown, find-past, taken-shown, cut-shown, laid-listed, laid-retired, laid-some, not_below}
 use Rattle.ir_model.specs.Arenas.{get}
 use Rattle.ir_model.proofs.Arenas.{get-cut}
@@ -97,10 +95,10 @@ returns-clause-cut g c =
     let slots = ap (λ s. map shown (set c.self.inside.slots.items c.in_ok-place.place s)) c.in_ok-item.ensures.left ∙ cut-shown c.self.inside.slots.items c.args.ptr.index c.in_ok-place.place c.self.inside.first_free numbered within in
     let counted = c.next-self-inside.ensures in
     rw (← c.self.view_is) (
-      elim c.if-has_next.branch [
-        | then-has_next w ↦ w.self-is ∙ (λ i. record { slots = slots i; limit = c.self.inside.limit; last_version = c.self.inside.last_version; removals = counted i })
-        | else-has_next w ↦ w.self-is ∙ (λ i. record { slots = slots i; limit = c.self.inside.limit; last_version = c.self.inside.last_version; removals = counted i })
-      ]
+    elim c.if-has_next.branch [
+      | then-has_next w ↦ w.self-is ∙ (λ i. record { slots = slots i; limit = c.self.inside.limit; last_version = c.self.inside.last_version; removals = counted i })
+      | else-has_next w ↦ w.self-is ∙ (λ i. record { slots = slots i; limit = c.self.inside.limit; last_version = c.self.inside.last_version; removals = counted i })
+    ]
     )
 
 pub returns-clause-gone : goal.returns-clause-gone
