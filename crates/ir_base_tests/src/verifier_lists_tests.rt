@@ -1,10 +1,9 @@
 //! Verifiers of one owner are joined and kept once, and double dictionary keys are told by their places.
 ghost use Rattle.ir_model.specs.Identifier.{IsIdentifier};
 
-use ir_base::CoreError;
-use ir_base::Identifier;
 use ir_base::{
-    DictKeyId, DuplicateKey, collect_deduped_interface_verifiers, verify_dict_keys,
+    CoreError, DictKeyId, DuplicateKey, Identifier, collect_deduped_interface_verifiers,
+    verify_dict_keys,
 };
 use std::alloc::Global;
 use std::test::Fail;
