@@ -7,11 +7,15 @@ ghost use Rattle.std.proofs.Common.{rules, true≢false, sym};
 use ir_base::attribute::{
     Attribute, AttributeDict, attr_impls, attr_impls_static, attr_should_outline, attr_type,
 };
-use ir_base::{AttrId, AttrName, CoreError, DialectName, Dialects, Identifier, OpId, OpName, TypeHandle, TypeId, TypeName, unknown_loc};
 use ir_base::interfaces::{OutlinedAttr, TypedAttrInterface};
 use ir_base::laws::{dictionaries_compare_by_keys, equal_dictionaries_hash_equally};
+use ir_base::{
+    AttrId, AttrName, CoreError, DialectName, Dialects, Identifier, OpId, OpName, TypeHandle,
+    TypeId, TypeName, unknown_loc,
+};
 use std::alloc::Global;
 use std::hash::{DefaultHasher, Hash, Hasher};
+use std::mem::size_of;
 use std::test::Fail;
 
 /// An attribute of the small dialect.
@@ -466,7 +470,7 @@ fn copies_of_empty_dictionaries(rt: HostRuntime) -> Result<(), Fail> {
     assert!(rt; copies(&dict)?);
     assert!(rt; has_keys(&copy_kept(&dict)?, &[]));
     put(&mut dict, 0, number_of(1))?;
-    assert_eq!(rt; take(&mut dict, 0).is_some(), true);
+    assert!(rt; take(&mut dict, 0).is_some());
     assert!(rt; copies(&dict)?);
     assert!(rt; are_equal(&dict, &AttributeDict::new(rt.alloc())));
     assert_eq!(rt; hash_of(&dict), hash_of(&AttributeDict::new(rt.alloc())));
@@ -546,6 +550,9 @@ fn questions_of_attributes(rt: HostRuntime) -> Result<(), Fail> {
     assert!(rt; !attr_impls_static::<Int, OutlinedAttr, Small>());
     Ok(())
 }
+
+// A record with an empty dictionary gives it 16 bytes.
+const _: () = prove!(size_of::<AttributeDict<Small>>() == 16);
 
 #[test]
 fn handles_and_locations(rt: HostRuntime) -> Result<(), Fail> {

@@ -1,6 +1,6 @@
 //! Stores: values and keys are kept once, and keep their places.
-use ir_base::{CoreError, TypeStore, UniqueStore};
 use ir_base::laws::{equal_places_for_equal_values, supers_stay_first};
+use ir_base::{CoreError, TypeStore, UniqueStore};
 use std::test::Fail;
 
 // Whether the store has these values at their places, by each way to read it.

@@ -1,7 +1,10 @@
 //! Verifiers of one owner are joined and kept once, and double dictionary keys are told by their places.
 ghost use Rattle.ir_model.specs.Identifier.{IsIdentifier};
 
-use ir_base::{CoreError, DictKeyId, DuplicateKey, Identifier, collect_deduped_interface_verifiers, verify_dict_keys};
+use ir_base::{
+    CoreError, DictKeyId, DuplicateKey, Identifier, collect_deduped_interface_verifiers,
+    verify_dict_keys,
+};
 use std::alloc::Global;
 use std::test::Fail;
 

@@ -97,7 +97,12 @@ fn long_sources(rt: HostRuntime) -> Result<(), Fail> {
         assert!(rt; is_named(&mut legaliser, source.as_str(), name.as_str())?);
         let name = Identifier::from_text(rt.alloc(), name.as_str())?;
         let joined = name.join(rt.alloc(), &name.clone()?)?;
-        assert!(rt; joined.into_text(rt.alloc())?.as_str().starts_with(name.as_str()));
+        assert!(rt;
+            joined
+                .into_text(rt.alloc())?
+                .as_str()
+                .starts_with(name.as_str())
+        );
     }
     Ok(())
 }
