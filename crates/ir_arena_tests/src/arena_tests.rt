@@ -264,6 +264,26 @@ fn a_refused_record_is_not_made(rt: HostRuntime) -> Result<(), Fail> {
     Ok(())
 }
 
+// Where memory is refused, too, nothing is made.
+#[test]
+fn a_record_is_made_where_it_is_stored(rt: HostRuntime) -> Result<(), Fail> {
+    let mut roots = Arena::new(rt.alloc(), 40, 9);
+    for _ in 0..40u32 {
+        let mut made = 0u32;
+        let answer = roots.insert_with(|_| {
+            made = made.saturating_add(1);
+            Root {
+                first: None,
+                count: 0,
+            }
+        });
+        assert_eq!(rt; made == 1, answer.is_ok());
+        assert_eq!(rt; made == 0, answer.is_err());
+        answer?;
+    }
+    Ok(())
+}
+
 // Each law can be called at a concrete type.
 #[test]
 fn arena_laws(_rt: HostRuntime) {
