@@ -31,6 +31,23 @@ module _ {S : Type 0} (m : IndexMap ℕ (List ℕ) S) (owner : ℕ) where
       ∙ ap (λ l. m.entries ++ (owner, l) ∷ []) empty
       ∙ sym (ap (λ b. cond b m.entries (m.entries ++ (owner, []) ∷ [])) (has_key-get nat_eq nat_eq_equiv m m.entries owner refl ∙ sym e))
 
+-- one step of `owner_within`
+within_step : (b has : Bool) (g : ℕ × List ℕ) (gs added : List (ℕ × List ℕ)) (n : ℕ)
+    → n < length (cond has gs (gs ++ added)) → cond (not b) (1 + n) 0 < length (cond (b || has) (g ∷ gs) (g ∷ gs ++ added))
+within_step true has g gs added n lt = omega arith
+within_step false true g gs added n lt = omega (arith, lt)
+within_step false false g gs added n lt = omega (arith, lt)
+
+-- the owner's place is within the groups with it
+owner_within : (gs : List (ℕ × List ℕ)) (owner : ℕ) → place_of nat_eq (keys_of gs) owner < length (with_owner gs owner)
+owner_within [] owner = omega arith
+owner_within (g ∷ gs) owner =
+    within_step (nat_eq g.0 owner) (has_key nat_eq gs owner) g gs ((owner, []) ∷ []) (place_of nat_eq (keys_of gs) owner) (owner_within gs owner)
+
+-- the same, of groups and a place that are known by equations
+pub owner_within_at : (gs : List (ℕ × List ℕ)) (owner : ℕ) {now : List (ℕ × List ℕ)} {place : ℕ} → now ≡ with_owner gs owner → place ≡ place_of nat_eq (keys_of gs) owner → place < length now
+owner_within_at gs owner is_now is_place = coe 1 0 (j. is_place j < length (is_now j)) (owner_within gs owner)
+
 -- one step of `written`
 written_step : (b has : Bool) (g : ℕ × List ℕ) (gs : List (ℕ × List ℕ)) (owner n : ℕ) (added rest : List (ℕ × List ℕ)) (f : List ℕ → List ℕ)
     → ((l : List ℕ) → slice_get (values_of (cond has gs (gs ++ added))) n ≡ Some l → set_value_at (cond has gs (gs ++ added)) n (f l) ≡ rest)

@@ -1,5 +1,5 @@
 -- What follows for lists of verifiers and of dictionary keys.
-use Rattle.std.proofs.Common.{◌≡◌, ◌≢◌, ℕ, zero, suc, ◌+◌, ◌<◌, ◌≤◌, Bool, true, false, cond, nat_lt, nat_eq, List, [], ◌∷◌, map, take, length, slice_get, position, Some, None, is_some, refl, sym, ap, ◌∙◌, arith, true≢false, ltb-true, ltb-false, inl, inr, below_more, unwrap_or, length-take}
+use Rattle.std.proofs.Common.{◌≡◌, ◌≢◌, ℕ, ◌+◌, ◌<◌, ◌≤◌, Bool, true, false, cond, nat_lt, nat_eq, List, map, take, length, slice_get, position, Some, None, is_some, refl, sym, ap, ◌∙◌, arith, true≢false, ltb-true, ltb-false, inl, inr, below_more, unwrap_or, length-take}
 use Rattle.std.specs.Cmp.Lexicographic.{pointwise, same_text}
 use Rattle.std.specs.Option.{option_map}
 use Rattle.std.specs.List.{position_or_len}

@@ -11,6 +11,7 @@ ghost use Rattle.ir_base.specs.Stores.{has_key, Stores};
 ghost use Rattle.ir_model.specs.Edits.{place_of, with_key};
 
 use indexmap::IndexMap;
+use indexmap::map::Entry;
 use ir_model::CoreError;
 use std::alloc::Global;
 use std::hash::Hash;
@@ -99,10 +100,11 @@ impl<K: Eq + Hash, B> TypeStore<K, B> {
         ensures unchanged { OnErr result (self.new ≡ self.old) }
         ensures only_new { OnErr result (has_key K.eq self.old key ≡ false) }
     {
-        match self.pairs.get_index_of(&key) {
-            Some(place) => Ok(place),
-            None => {
-                let (place, _) = self.pairs.insert_full(key, B::default())?;
+        match self.pairs.entry(key)? {
+            Entry::Occupied(entry) => Ok(entry.index()),
+            Entry::Vacant(entry) => {
+                let place = entry.index();
+                entry.insert(B::default());
                 Ok(place)
             }
         }

@@ -9,6 +9,7 @@ ghost use Rattle.ir_model.specs.Edits.{place_of};
 
 use crate::storage_uniquer::UniqueStore;
 use indexmap::IndexMap;
+use indexmap::map::Entry;
 use ir_model::CoreError;
 use ir_text::Identifier;
 use std::alloc::Global;
@@ -82,10 +83,11 @@ fn place_of_owner(
     ensures groups { OnOk result (groups.new.entries ≡ with_owner groups.old.entries owner) }
     ensures error { IfErr result (λ error. error ≡ OutOfMemory) }
 {
-    match groups.get_index_of(&owner) {
-        Some(place) => Ok(place),
-        None => {
-            let (place, _) = groups.insert_full(owner, UniqueStore::new(alloc))?;
+    match groups.entry(owner)? {
+        Entry::Occupied(entry) => Ok(entry.index()),
+        Entry::Vacant(entry) => {
+            let place = entry.index();
+            entry.insert(UniqueStore::new(alloc));
             Ok(place)
         }
     }
