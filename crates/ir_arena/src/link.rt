@@ -1,6 +1,7 @@
 //! Links that may be absent.
 
 ghost use Rattle.std.specs.Prelude.{◌≡◌, ◌≤◌, Some, None};
+ghost use Rattle.std.specs.Option.{option_or};
 
 use crate::ArenaIndex;
 use std::marker::Model;
@@ -68,6 +69,16 @@ impl Link {
                 slot: self.slot,
                 version: self.version,
             })
+        }
+    }
+
+    // This link, or the other where this one is none.
+    pub(crate) fn or(self, other: Link) -> Link
+        ensures { result ≡ option_or self other }
+    {
+        match self.get() {
+            Some(_) => self,
+            None => other,
         }
     }
 }

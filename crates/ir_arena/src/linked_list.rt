@@ -2,40 +2,41 @@
 //!
 //! Nodes lie in one arena and containers in another, and they name one another by index. A record may be both, as a block is a node of its region's list and the container of its operations. Well formed means that the links and ends are those of lists, one for each container, in which no node stands twice, and that every other node's links are empty. Each call here asks for well-formed lists and is one edit of them. It keeps them well formed, changes no other list and no other field of any record, and takes no memory. What else may be relied on, `list_laws` says.
 
-ghost use Rattle.std.specs.Prelude.{◌≡◌, ◌≢◌, ◌++◌, ◌∷◌, ◌↔◌, [], List, Option, Some, None, IfSome, IsTrue};
+ghost use Rattle.std.specs.Prelude.{◌≡◌, ◌≢◌, ◌≤◌, ◌++◌, ◌∷◌, ◌↔◌, [], List, Option, Some, None, IfSome, IsTrue};
 ghost use Rattle.ir_model.specs.declared.ids.ArenaIndex.{ArenaIndex};
 ghost use Rattle.ir_arena.specs.Arena.{get, IsLive};
 ghost use Rattle.ir_arena.specs.Lists.{Links, Ends, unlinked, no_ends, linked, seen, change, with_next, with_prev, with_head, with_tail, unless, rehome, head_or, IsChain, AreLists, AreWellFormed, with_list, IsLinked, SameBut};
 ghost use Rattle.ir_arena.specs.Walks.{IsListFrom};
 
+use crate::arena_laws::live_ids_have_slots;
 use crate::list_iter::Iter;
-use crate::{Arena, ArenaIndex, Ptr};
+use crate::{Arena, ArenaIndex, Link, Ptr};
 
 /// A record that can stand in a list. It stands for pliron's `LinkedList`.
 ///
-/// Its links are three indices, and each setter changes the one that it names and nothing else.
+/// Its links are three `Link`s, and each setter changes the one that it names and nothing else.
 pub trait LinkedList {
     ghost links: { Self → Links };
 
     ghost with_links: { Self → Links → Self };
 
     /// The node after this one.
-    fn get_next(&self) -> Option<ArenaIndex>
+    fn get_next(&self) -> Link
         ensures { result ≡ (links self.now).next };
     /// The node before this one.
-    fn get_prev(&self) -> Option<ArenaIndex>
+    fn get_prev(&self) -> Link
         ensures { result ≡ (links self.now).prev };
     /// The container in whose list this node is.
-    fn get_container(&self) -> Option<ArenaIndex>
+    fn get_container(&self) -> Link
         ensures { result ≡ (links self.now).container };
     /// Sets the node after this one.
-    fn set_next(&mut self, next: Option<ArenaIndex>)
+    fn set_next(&mut self, next: Link)
         ensures { self.new ≡ with_links self.old (record (links self.old) { next = next }) };
     /// Sets the node before this one.
-    fn set_prev(&mut self, prev: Option<ArenaIndex>)
+    fn set_prev(&mut self, prev: Link)
         ensures { self.new ≡ with_links self.old (record (links self.old) { prev = prev }) };
     /// Sets the container in whose list this node is.
-    fn set_container(&mut self, container: Option<ArenaIndex>)
+    fn set_container(&mut self, container: Link)
         ensures { self.new
             ≡ with_links self.old (record (links self.old) { container = container }) };
 
@@ -48,23 +49,23 @@ pub trait LinkedList {
 
 /// A record that contains a list of nodes `T`. It stands for pliron's `ContainsLinkedList`.
 ///
-/// The ends of its list are two indices, and each setter changes the one that it names and nothing else.
+/// The ends of its list are two `Link`s, and each setter changes the one that it names and nothing else.
 pub trait ContainsLinkedList<T> {
     ghost ends: { Self → Ends };
 
     ghost with_ends: { Self → Ends → Self };
 
     /// The first node of the list.
-    fn get_head(&self) -> Option<ArenaIndex>
+    fn get_head(&self) -> Link
         ensures { result ≡ (ends self.now).head };
     /// The last node of the list.
-    fn get_tail(&self) -> Option<ArenaIndex>
+    fn get_tail(&self) -> Link
         ensures { result ≡ (ends self.now).tail };
     /// Sets the first node of the list.
-    fn set_head(&mut self, head: Option<ArenaIndex>)
+    fn set_head(&mut self, head: Link)
         ensures { self.new ≡ with_ends self.old (record (ends self.old) { head = head }) };
     /// Sets the last node of the list.
-    fn set_tail(&mut self, tail: Option<ArenaIndex>)
+    fn set_tail(&mut self, tail: Link)
         ensures { self.new ≡ with_ends self.old (record (ends self.old) { tail = tail }) };
 
     ghost get_put: { (x : Self) (e : Ends) → ends (with_ends x e) ≡ e };
@@ -74,13 +75,22 @@ pub trait ContainsLinkedList<T> {
     ghost put_get: { (x : Self) → with_ends x (ends x) ≡ x };
 }
 
+// A link to a live record: its index has a slot.
+fn link_to<T>(records: &Arena<T>, index: ArenaIndex) -> Link
+    requires { IsLive records.now index }
+    ensures { result ≡ Some index }
+{
+    live_ids_have_slots::<T>();
+    Link::some(index)
+}
+
 // Sets the next of the node on the left, or the head of the container where there is none.
 fn set_next_of<T: LinkedList, C: ContainsLinkedList<T>>(
     nodes: &mut Arena<T>,
     containers: &mut Arena<C>,
     container: ArenaIndex,
-    left: Option<ArenaIndex>,
-    next: Option<ArenaIndex>,
+    left: Link,
+    next: Link,
 )
     requires left_live { IfSome left (λ i. IsLive nodes.old i) }
     requires container_live { IsLive containers.old container }
@@ -90,7 +100,7 @@ fn set_next_of<T: LinkedList, C: ContainsLinkedList<T>>(
     ensures nodes_rest { SameBut (λ x. T.with_links x unlinked) nodes.old nodes.new }
     ensures containers_rest { SameBut (λ x. C.with_ends x no_ends) containers.old containers.new }
 {
-    match left {
+    match left.get() {
         Some(left) => nodes.at_mut(Ptr::from_index(left)).set_next(next),
         None => containers.at_mut(Ptr::from_index(container)).set_head(next),
     }
@@ -101,8 +111,8 @@ fn set_prev_of<T: LinkedList, C: ContainsLinkedList<T>>(
     nodes: &mut Arena<T>,
     containers: &mut Arena<C>,
     container: ArenaIndex,
-    right: Option<ArenaIndex>,
-    prev: Option<ArenaIndex>,
+    right: Link,
+    prev: Link,
 )
     requires right_live { IfSome right (λ i. IsLive nodes.old i) }
     requires container_live { IsLive containers.old container }
@@ -113,7 +123,7 @@ fn set_prev_of<T: LinkedList, C: ContainsLinkedList<T>>(
     ensures nodes_rest { SameBut (λ x. T.with_links x unlinked) nodes.old nodes.new }
     ensures containers_rest { SameBut (λ x. C.with_ends x no_ends) containers.old containers.new }
 {
-    match right {
+    match right.get() {
         Some(right) => nodes.at_mut(Ptr::from_index(right)).set_prev(prev),
         None => containers.at_mut(Ptr::from_index(container)).set_tail(prev),
     }
@@ -123,9 +133,9 @@ fn set_prev_of<T: LinkedList, C: ContainsLinkedList<T>>(
 fn set_links<T: LinkedList>(
     nodes: &mut Arena<T>,
     node: ArenaIndex,
-    next: Option<ArenaIndex>,
-    prev: Option<ArenaIndex>,
-    container: Option<ArenaIndex>,
+    next: Link,
+    prev: Link,
+    container: Link,
 )
     requires { IsLive nodes.old node }
     ensures links { seen T.links nodes.new
@@ -144,8 +154,8 @@ fn link_between<T: LinkedList, C: ContainsLinkedList<T>>(
     containers: &mut Arena<C>,
     node: ArenaIndex,
     container: ArenaIndex,
-    left: Option<ArenaIndex>,
-    right: Option<ArenaIndex>,
+    left: Link,
+    right: Link,
 )
     requires node_live { IsLive nodes.old node }
     requires left_live { IfSome left (λ i. IsLive nodes.old i) }
@@ -161,9 +171,11 @@ fn link_between<T: LinkedList, C: ContainsLinkedList<T>>(
     ensures nodes_rest { SameBut (λ x. T.with_links x unlinked) nodes.old nodes.new }
     ensures containers_rest { SameBut (λ x. C.with_ends x no_ends) containers.old containers.new }
 {
-    set_prev_of(nodes, containers, container, right, Some(node));
-    set_next_of(nodes, containers, container, left, Some(node));
-    set_links(nodes, node, right, left, Some(container));
+    let here = link_to(nodes, node);
+    let home = link_to(containers, container);
+    set_prev_of(nodes, containers, container, right, here);
+    set_next_of(nodes, containers, container, left, here);
+    set_links(nodes, node, right, left, home);
 }
 
 /// Puts an unlinked node at the front of a container's list. It stands for pliron's `insert_at_front`.
@@ -188,7 +200,8 @@ pub fn insert_at_front<T: LinkedList, C: ContainsLinkedList<T>>(
     ensures containers_rest { SameBut (λ x. C.with_ends x no_ends) containers.old containers.new }
 {
     let head = containers.at(container).get_head();
-    link_between(nodes, containers, node.index, container.index, None, head);
+    let none = Link::none();
+    link_between(nodes, containers, node.index, container.index, none, head);
 }
 
 /// Puts an unlinked node at the back of a container's list. It stands for pliron's `insert_at_back`.
@@ -213,7 +226,8 @@ pub fn insert_at_back<T: LinkedList, C: ContainsLinkedList<T>>(
     ensures containers_rest { SameBut (λ x. C.with_ends x no_ends) containers.old containers.new }
 {
     let tail = containers.at(container).get_tail();
-    link_between(nodes, containers, node.index, container.index, tail, None);
+    let none = Link::none();
+    link_between(nodes, containers, node.index, container.index, tail, none);
 }
 
 /// Puts an unlinked node right after a linked one. It stands for pliron's `insert_after`.
@@ -240,15 +254,9 @@ pub fn insert_after<T: LinkedList, C: ContainsLinkedList<T>>(
 {
     let place = nodes.at(mark);
     let after = place.get_next();
-    let container = place.get_container().unwrap();
-    link_between(
-        nodes,
-        containers,
-        node.index,
-        container,
-        Some(mark.index),
-        after,
-    );
+    let container = place.get_container().get().unwrap();
+    let here = link_to(nodes, mark.index);
+    link_between(nodes, containers, node.index, container, here, after);
 }
 
 /// Puts an unlinked node right before a linked one. It stands for pliron's `insert_before`.
@@ -275,15 +283,9 @@ pub fn insert_before<T: LinkedList, C: ContainsLinkedList<T>>(
 {
     let place = nodes.at(mark);
     let before = place.get_prev();
-    let container = place.get_container().unwrap();
-    link_between(
-        nodes,
-        containers,
-        node.index,
-        container,
-        before,
-        Some(mark.index),
-    );
+    let container = place.get_container().get().unwrap();
+    let here = link_to(nodes, mark.index);
+    link_between(nodes, containers, node.index, container, before, here);
 }
 
 /// Takes a linked node out of its list, and clears its links. It stands for pliron's `unlink`.
@@ -308,28 +310,27 @@ pub fn unlink<T: LinkedList, C: ContainsLinkedList<T>>(
     let place = nodes.at(node);
     let next = place.get_next();
     let prev = place.get_prev();
-    let container = place.get_container().unwrap();
+    let container = place.get_container().get().unwrap();
     set_prev_of(nodes, containers, container, next, prev);
     set_next_of(nodes, containers, container, prev, next);
-    set_links(nodes, node.index, None, None, None);
+    let none = Link::none();
+    set_links(nodes, node.index, none, none, none);
 }
 
 // Gives the nodes from `first` on another container.
-fn set_containers<T: LinkedList>(
-    nodes: &mut Arena<T>,
-    first: Option<ArenaIndex>,
-    container: ArenaIndex,
-)
-    requires { IsListFrom (seen T.links nodes.old) first container }
+fn set_containers<T: LinkedList>(nodes: &mut Arena<T>, first: Link, container: ArenaIndex)
+    requires list { IsListFrom (seen T.links nodes.old) first container }
+    requires slot { 1 ≤ container.slot }
     ensures moved { (owner : ArenaIndex) (before : Option ArenaIndex) (list : List ArenaIndex)
         → IsChain (seen T.links nodes.old) owner before list None → first ≡ head_or None list
         → seen T.links nodes.new ≡ rehome container list (seen T.links nodes.old) }
     ensures rest { SameBut (λ x. T.with_links x unlinked) nodes.old nodes.new }
 {
+    let home = Link::some(container);
     let mut current = first;
-    while let Some(node) = current {
+    while let Some(node) = current.get() {
         let record = nodes.at_mut(Ptr::from_index(node));
-        record.set_container(Some(container));
+        record.set_container(home);
         current = record.get_next();
     }
 }
@@ -338,8 +339,8 @@ fn set_containers<T: LinkedList>(
 fn set_ends<T, C: ContainsLinkedList<T>>(
     containers: &mut Arena<C>,
     container: ArenaIndex,
-    head: Option<ArenaIndex>,
-    tail: Option<ArenaIndex>,
+    head: Link,
+    tail: Link,
 )
     requires { IsLive containers.old container }
     ensures ends { seen C.ends containers.new
@@ -381,7 +382,8 @@ pub fn append_linked_list<T: LinkedList, C: ContainsLinkedList<T>>(
     set_prev_of(nodes, containers, donee.index, first, tail);
     set_next_of(nodes, containers, donee.index, tail, first);
     set_ends(containers, donee.index, head.or(first), last.or(tail));
-    set_ends(containers, donor.index, None, None);
+    let none = Link::none();
+    set_ends(containers, donor.index, none, none);
     set_containers(nodes, first, donee.index);
 }
 
@@ -390,7 +392,7 @@ pub fn is_linked<T: LinkedList>(nodes: &Arena<T>, node: Ptr<T>) -> bool
     ensures { IsTrue result ↔ IsLinked (seen T.links nodes.now) node.index }
 {
     match nodes.get(node) {
-        Some(record) => record.get_container().is_some(),
+        Some(record) => record.get_container().get().is_some(),
         None => false,
     }
 }

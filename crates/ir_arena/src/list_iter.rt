@@ -7,7 +7,7 @@ ghost use Rattle.ir_arena.specs.Lists.{seen};
 ghost use Rattle.ir_arena.specs.Walks.{IsPiece, piece};
 
 use crate::linked_list::LinkedList;
-use crate::{Arena, ArenaIndex, Ptr};
+use crate::{Arena, Link, Ptr};
 use std::alloc::AllocError;
 use std::marker::Model;
 
@@ -16,8 +16,8 @@ use std::marker::Model;
 /// A contract sees it as the list of the nodes that are left.
 pub struct Iter<'a, T: LinkedList> {
     nodes: &'a Arena<T>,
-    next: Option<ArenaIndex>,
-    next_back: Option<ArenaIndex>,
+    next: Link,
+    next_back: Link,
 }
 
 impl<'a, T: LinkedList> Model for Iter<'a, T> {
@@ -40,11 +40,7 @@ impl<'a, T: LinkedList> Drop for Iter<'a, T> {
 
 impl<'a, T: LinkedList> Iter<'a, T> {
     // The nodes from `first` on to `last`.
-    pub(crate) fn between(
-        nodes: &'a Arena<T>,
-        first: Option<ArenaIndex>,
-        last: Option<ArenaIndex>,
-    ) -> Self
+    pub(crate) fn between(nodes: &'a Arena<T>, first: Link, last: Link) -> Self
         requires { IsPiece (seen T.links nodes.now) (length nodes.now.slots) first last }
         ensures { result ≡ piece T.links nodes.now first last }
     {
@@ -66,11 +62,11 @@ impl<'a, T: LinkedList> Iterator for Iter<'a, T> {
     ghost remaining = { item_count (λ xs. xs) };
 
     fn next(&mut self) -> Option<Ptr<T>> {
-        let current = self.next?;
+        let current = self.next.get()?;
         let node = Ptr::from_index(current);
-        if self.next_back == Some(current) {
-            self.next = None;
-            self.next_back = None;
+        if self.next_back.get() == Some(current) {
+            self.next = Link::none();
+            self.next_back = Link::none();
         } else {
             self.next = self.nodes.at(node).get_next();
         }
@@ -84,11 +80,11 @@ impl<'a, T: LinkedList> DoubleEndedIterator for Iter<'a, T> {
     ghost next_back_gives = { YieldsLastBy (λ p. p.index) (λ xs. xs) };
 
     fn next_back(&mut self) -> Option<Ptr<T>> {
-        let current = self.next_back?;
+        let current = self.next_back.get()?;
         let node = Ptr::from_index(current);
-        if self.next == Some(current) {
-            self.next = None;
-            self.next_back = None;
+        if self.next.get() == Some(current) {
+            self.next = Link::none();
+            self.next_back = Link::none();
         } else {
             self.next_back = self.nodes.at(node).get_prev();
         }

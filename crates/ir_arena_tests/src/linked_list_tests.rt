@@ -12,19 +12,23 @@ use ir_arena::list_laws::{
     container_changes_keep_lists, edits_keep_fields, edits_keep_ids, empty_arenas,
     links_are_neighbours, lists_are_one, lists_hold_nodes, node_changes_keep_lists,
 };
-use ir_arena::{Arena, ArenaIndex, CoreError, Ptr};
+use ir_arena::{Arena, CoreError, Link, Ptr};
 use std::alloc::Global;
 use std::marker::Model;
+use std::mem::size_of;
 use std::test::Fail;
 
 /// A node, with a payload.
 #[derive(Drop)]
 struct Node {
     payload: u64,
-    next: Option<ArenaIndex>,
-    prev: Option<ArenaIndex>,
-    container: Option<ArenaIndex>,
+    next: Link,
+    prev: Link,
+    container: Link,
 }
+
+// Beside the payload, the three links take 24 bytes.
+const _: () = prove!(size_of::<Node>() == size_of::<u64>() + 24);
 
 impl LinkedList for Node {
     ghost use Rattle.std.specs.Prelude.{refl};
@@ -39,27 +43,27 @@ impl LinkedList for Node {
 
     ghost put_get = { λ x. refl };
 
-    fn get_next(&self) -> Option<ArenaIndex> {
+    fn get_next(&self) -> Link {
         self.next
     }
 
-    fn get_prev(&self) -> Option<ArenaIndex> {
+    fn get_prev(&self) -> Link {
         self.prev
     }
 
-    fn get_container(&self) -> Option<ArenaIndex> {
+    fn get_container(&self) -> Link {
         self.container
     }
 
-    fn set_next(&mut self, next: Option<ArenaIndex>) {
+    fn set_next(&mut self, next: Link) {
         self.next = next;
     }
 
-    fn set_prev(&mut self, prev: Option<ArenaIndex>) {
+    fn set_prev(&mut self, prev: Link) {
         self.prev = prev;
     }
 
-    fn set_container(&mut self, container: Option<ArenaIndex>) {
+    fn set_container(&mut self, container: Link) {
         self.container = container;
     }
 }
@@ -68,11 +72,11 @@ impl LinkedList for Node {
 #[derive(Drop)]
 struct Part {
     name: u64,
-    head: Option<ArenaIndex>,
-    tail: Option<ArenaIndex>,
-    next: Option<ArenaIndex>,
-    prev: Option<ArenaIndex>,
-    container: Option<ArenaIndex>,
+    head: Link,
+    tail: Link,
+    next: Link,
+    prev: Link,
+    container: Link,
 }
 
 impl LinkedList for Part {
@@ -88,27 +92,27 @@ impl LinkedList for Part {
 
     ghost put_get = { λ x. refl };
 
-    fn get_next(&self) -> Option<ArenaIndex> {
+    fn get_next(&self) -> Link {
         self.next
     }
 
-    fn get_prev(&self) -> Option<ArenaIndex> {
+    fn get_prev(&self) -> Link {
         self.prev
     }
 
-    fn get_container(&self) -> Option<ArenaIndex> {
+    fn get_container(&self) -> Link {
         self.container
     }
 
-    fn set_next(&mut self, next: Option<ArenaIndex>) {
+    fn set_next(&mut self, next: Link) {
         self.next = next;
     }
 
-    fn set_prev(&mut self, prev: Option<ArenaIndex>) {
+    fn set_prev(&mut self, prev: Link) {
         self.prev = prev;
     }
 
-    fn set_container(&mut self, container: Option<ArenaIndex>) {
+    fn set_container(&mut self, container: Link) {
         self.container = container;
     }
 }
@@ -126,19 +130,19 @@ impl ContainsLinkedList<Node> for Part {
 
     ghost put_get = { λ x. refl };
 
-    fn get_head(&self) -> Option<ArenaIndex> {
+    fn get_head(&self) -> Link {
         self.head
     }
 
-    fn get_tail(&self) -> Option<ArenaIndex> {
+    fn get_tail(&self) -> Link {
         self.tail
     }
 
-    fn set_head(&mut self, head: Option<ArenaIndex>) {
+    fn set_head(&mut self, head: Link) {
         self.head = head;
     }
 
-    fn set_tail(&mut self, tail: Option<ArenaIndex>) {
+    fn set_tail(&mut self, tail: Link) {
         self.tail = tail;
     }
 }
@@ -146,8 +150,8 @@ impl ContainsLinkedList<Node> for Part {
 /// A container of parts.
 #[derive(Drop)]
 struct Root {
-    head: Option<ArenaIndex>,
-    tail: Option<ArenaIndex>,
+    head: Link,
+    tail: Link,
     name: u64,
 }
 
@@ -164,19 +168,19 @@ impl ContainsLinkedList<Part> for Root {
 
     ghost put_get = { λ x. refl };
 
-    fn get_head(&self) -> Option<ArenaIndex> {
+    fn get_head(&self) -> Link {
         self.head
     }
 
-    fn get_tail(&self) -> Option<ArenaIndex> {
+    fn get_tail(&self) -> Link {
         self.tail
     }
 
-    fn set_head(&mut self, head: Option<ArenaIndex>) {
+    fn set_head(&mut self, head: Link) {
         self.head = head;
     }
 
-    fn set_tail(&mut self, tail: Option<ArenaIndex>) {
+    fn set_tail(&mut self, tail: Link) {
         self.tail = tail;
     }
 }
@@ -323,7 +327,7 @@ impl<T: LinkedList, C: ContainsLinkedList<T>> Lists<T, C> {
     // Whether a live node names the container.
     fn is_within(&self, node: Ptr<T>, container: Ptr<C>) -> bool {
         match self.nodes.get(node) {
-            Some(record) => record.get_container() == Some(container.index),
+            Some(record) => record.get_container().get() == Some(container.index),
             None => false,
         }
     }
@@ -334,9 +338,9 @@ fn a_node(payload: u64) -> Node
 {
     Node {
         payload,
-        next: None,
-        prev: None,
-        container: None,
+        next: Link::none(),
+        prev: Link::none(),
+        container: Link::none(),
     }
 }
 
@@ -345,11 +349,11 @@ fn a_part(name: u64) -> Part
 {
     Part {
         name,
-        head: None,
-        tail: None,
-        next: None,
-        prev: None,
-        container: None,
+        head: Link::none(),
+        tail: Link::none(),
+        next: Link::none(),
+        prev: Link::none(),
+        container: Link::none(),
     }
 }
 
@@ -357,8 +361,8 @@ fn a_root(name: u64) -> Root
     ensures { result ≡ record { head = None; tail = None; name = name } }
 {
     Root {
-        head: None,
-        tail: None,
+        head: Link::none(),
+        tail: Link::none(),
         name,
     }
 }
@@ -372,7 +376,9 @@ type Parts = Lists<Part, Root>;
 /// Whether the links of a live node are empty.
 fn has_no_links(nodes: &Arena<Node>, node: Ptr<Node>) -> bool {
     match nodes.get(node) {
-        Some(found) => found.next.is_none() && found.prev.is_none() && found.container.is_none(),
+        Some(found) => found.next.get().is_none()
+            && found.prev.get().is_none()
+            && found.container.get().is_none(),
         None => false,
     }
 }

@@ -2,6 +2,7 @@ use Rattle.std.proofs.Common.{[], sym, ap, ◌∙◌, refl}
 use Rattle.std.specs.Option.{option_map}
 use Rattle.ir_arena.specs.Lists.{seen}
 use Rattle.ir_arena.specs.Lists.{unlinked, no_ends}
+use Rattle.ir_model.proofs.Arenas.{live-numbered}
 use Rattle.ir_arena.proofs.ListRecords.{SameBut-live}
 use Rattle.ir_arena.proofs.ListPlaces.{IfSome-live, IfSome-same, first-live, last-live}
 use Rattle.std.proofs.lemmas.List.{append-nil}
@@ -38,14 +39,17 @@ pub set_ends-requires-2 : goal.set_ends-requires-2
 set_ends-requires-2 g c =
     SameBut-live (λ x. g.C.ContainsLinkedList.with_ends x no_ends) c.args.containers.now c.set_ends.new.containers c.args.donor.index (c.set_ends.ensures.rest ∙ c.set_next_of.ensures.containers_rest ∙ c.set_prev_of.ensures.containers_rest) c.requires.donor_live
 
-pub set_containers-requires : goal.set_containers-requires
-set_containers-requires g c =
+pub set_containers-requires-clause-list : goal.set_containers-requires-clause-list
+set_containers-requires-clause-list g c =
     let l = c.requires.well_formed.1 in
     let ends = g.C.ContainsLinkedList.ends in
     let first = head-read l c.args.donor.index (ends c.at-from.result.now) c.get_head-first.result (ap (option_map ends) c.at-from.ensures) c.get_head-first.ensures in
     let tail = tail-read l c.args.donee.index (ends c.at-to.result.now) c.get_tail-tail.result (ap (option_map ends) c.at-to.ensures) c.get_tail-tail.ensures in
     joined-list (seen g.T.LinkedList.links c.args.nodes.now) (seen g.T.LinkedList.links c.set_next_of.new.nodes) (seen ends c.args.containers.now) c.requires.well_formed.0 c.args.donee.index c.args.donor.index c.get_tail-tail.result c.get_head-first.result
     l c.requires.two first tail (rw (c.set_next_of.ensures.links, c.set_prev_of.ensures.links))
+
+pub set_containers-requires-clause-slot : goal.set_containers-requires-clause-slot
+set_containers-requires-clause-slot g c = live-numbered c.args.containers.now c.args.donee.index c.requires.donee_live
 
 pub returns-clause-lists : goal.returns-clause-lists
 returns-clause-lists g c lists l =
@@ -56,7 +60,7 @@ returns-clause-lists g c lists l =
     l c.requires.two (ap (option_map ends) c.at-to.ensures) (ap (option_map ends) c.at-from.ensures)
     c.get_head-head.ensures c.get_tail-tail.ensures c.get_head-first.ensures c.get_tail-last.ensures
     (rw (c.set_next_of.ensures.links, c.set_prev_of.ensures.links)) c.set_containers.ensures.moved
-    (rw (c.set_ends-2.ensures.ends, c.set_ends.ensures.ends, c.or.ensures, c.or-2.ensures, c.set_next_of.ensures.ends, c.set_prev_of.ensures.ends))
+    (rw (c.set_ends-2.ensures.ends, c.set_ends.ensures.ends, c.or.ensures, c.or-2.ensures, c.set_next_of.ensures.ends, c.set_prev_of.ensures.ends, c.none-none.ensures))
 
 pub returns-clause-well_formed : goal.returns-clause-well_formed
 returns-clause-well_formed g c = (_, returns-clause-lists g c c.requires.well_formed.0 c.requires.well_formed.1)

@@ -20,7 +20,7 @@ returns-clause-lists g c lists l =
     let e : Ends = g.C.ContainsLinkedList.ends c.at.result.now in
     let live : seen g.C.ContainsLinkedList.ends c.args.containers.now c.args.container.index ≡ Some e = ap (option_map g.C.ContainsLinkedList.ends) c.at.ensures in
     let tail : c.get_tail-tail.result ≡ last_or None (lists c.args.container.index) = c.get_tail-tail.ensures ∙ ap (λ (e : Ends). e.tail) (l.ends c.args.container.index e live) in
-    rw (c.link_between.ensures.links, c.link_between.ensures.ends, tail)
+    rw (c.link_between.ensures.links, c.link_between.ensures.ends, c.none-none.ensures, tail)
     (AreLists-link (seen g.T.LinkedList.links c.args.nodes.now) (seen g.C.ContainsLinkedList.ends c.args.containers.now) lists c.args.container.index (lists c.args.container.index) [] c.args.node.index e l (sym (append-nil _)) live (unlinked-node g.T.LinkedList.links c.args.nodes.now (seen g.C.ContainsLinkedList.ends c.args.containers.now) c.args.node.index c.requires.well_formed c.requires.node_live c.requires.node_unlinked))
 
 pub returns-clause-well_formed : goal.returns-clause-well_formed

@@ -19,8 +19,8 @@ set_links-requires g c =
 
 pub returns : goal.returns
 returns g c = record {
-  links = rw (c.set_links.ensures.links, c.set_next_of.ensures.links, c.set_prev_of.ensures.links);
-  ends = rw (c.set_next_of.ensures.ends, c.set_prev_of.ensures.ends);
+  links = rw (c.set_links.ensures.links, c.set_next_of.ensures.links, c.set_prev_of.ensures.links, c.link_to-here.ensures, c.link_to-home.ensures);
+  ends = rw (c.set_next_of.ensures.ends, c.set_prev_of.ensures.ends, c.link_to-here.ensures);
   nodes_rest = c.set_links.ensures.rest ∙ c.set_next_of.ensures.nodes_rest ∙ c.set_prev_of.ensures.nodes_rest;
   containers_rest = c.set_next_of.ensures.containers_rest ∙ c.set_prev_of.ensures.containers_rest;
 }
