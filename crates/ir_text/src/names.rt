@@ -130,7 +130,7 @@ impl<Of> fmt::Display for Name<Of> {
 }
 
 /// The dialect and the name of what `Of` marks. It prints as the two with a dot between.
-#[derive_where(Clone, Debug, PartialEq, Eq, Hash)]
+#[derive_where(Clone, Debug, Hash, PartialEq, Eq)]
 #[derive(Drop)]
 pub struct Id<Of> {
     /// The name of the dialect.
