@@ -361,6 +361,3 @@ module _ {T : Type 0} where
   pub gone-cut : (a : Arena T) (id q : ArenaIndex) → IsLive a id → get a q ≡ None → get (cut a id) q ≡ None
   gone-cut a id q live gone =
       get-cut_other a id q live (λ same. true≢false (sym live ∙ ap (λ i. is_some (get a i)) (sym same) ∙ ap is_some gone)) ∙ gone
-
--- what a caller's clauses on ids follow from: name it in `using(..)`
-pub ruleset arena_laws = (get-new, get-fill_live, get-fill_new, get-fill_live_other, get-fill_new_other, get-cut, get-cut_other)

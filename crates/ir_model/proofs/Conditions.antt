@@ -15,7 +15,7 @@ use Rattle.ir_model.proofs.KeepsErase.{same_self, same_tells}
 use Rattle.ir_model.proofs.Entries.{AddsOne-in}
 use Rattle.ir_model.proofs.Removal.{splits, AddsOne-length}
 use Rattle.ir_model.proofs.Redirected.{value_tells}
-use Rattle.ir_model.proofs.Decided.{Decided, not_so, both, either, instead, at_most, one, in_list, all, some}
+use Rattle.ir_model.proofs.Decided.{Decided, some_so, not_so, both, either, instead, at_most, one, in_list, all, some}
 
 entity_tells : Tells (same_entity context_ids)
 entity_tells x y = (same_tells context_ids lawful x y, λ e. subst (λ z. same_entity context_ids x z ≡ true) e (same_self context_ids lawful x))
@@ -39,10 +39,6 @@ the_so {P = P} (Some x) d = instead (λ p. record { value = x; found = refl; hol
 each_so : {P : ℕ → Type 0} → ((n : ℕ) → Decided (P n)) → (ns : List ℕ) → Decided (Each P ns)
 each_so d [] = inl tt
 each_so d (n ∷ ns) = both (d n) (each_so d ns)
-
-pub some_so : {A : Type 0} (m : Option A) → Decided (IsSome m)
-some_so None = inr (λ h. absurd cc)
-some_so (Some x) = inl refl
 
 yes_so : Decided (Unit {0})
 yes_so = inl tt

@@ -1,6 +1,6 @@
 -- Facts that are decided: each is so, or is not so.
 use mathlib.Core.Path.{◌≡◌, refl, sym, subst}
-use Rattle.std.proofs.Common.{ℕ, ◌≤◌, ◌⊎◌, inl, inr, Bool, true, false, leb, List, [], ◌∷◌, arith}
+use Rattle.std.proofs.Common.{ℕ, ◌≤◌, ◌⊎◌, inl, inr, Bool, true, false, leb, Option, Some, None, List, [], ◌∷◌, IsSome, IsTrue, arith}
 use Rattle.std.proofs.lemmas.Bool.{leb-true, leb-false}
 use Rattle.ir_model.specs.Ids.{Absent, Distinct}
 use Rattle.ir_model.specs.Nesting.{In}
@@ -25,6 +25,14 @@ fails (inr h) e = h
 pub says_true : {P : Type 0} (d : Decided P) → P → says d ≡ true
 says_true (inl h) p = refl
 says_true (inr h) p = absurd (h p)
+
+pub bit_so : (b : Bool) → Decided (IsTrue b)
+bit_so true = inl refl
+bit_so false = inr (λ h. absurd cc)
+
+pub some_so : {A : Type 0} (m : Option A) → Decided (IsSome m)
+some_so None = inr (λ h. absurd cc)
+some_so (Some x) = inl refl
 
 abbrev pub not_so : {P : Type 0} → Decided P → Decided (P → ⊥)
 not_so (inl h) = inr (λ n. n h)

@@ -10,8 +10,9 @@ use Rattle.ir_model.specs.Sessions.{Session, condition, counter, slots, memory, 
 use Rattle.ir_model.specs.Soundness.{Sound, KeepsSound}
 use Rattle.ir_model.proofs.Nests.{In-append, In-left, In-right, In-map, Distinct-append}
 use Rattle.ir_model.proofs.TwoRuns.{lawful, new_unpassed, empty, new_is_empty}
-use Rattle.ir_model.proofs.Back.{Change-back}
+use Rattle.ir_model.proofs.Back.{Back, Change-back}
 use Rattle.ir_model.proofs.Fresh.{NotIn}
+use Rattle.ir_model.proofs.Counting.{new_counted, still_counted}
 
 module _ {N : Ids} {W : Dialect} where
   -- the forest is well formed, the tables have what was made and nothing else more, and so do the records
@@ -92,6 +93,7 @@ module _ {W : Dialect} where
           regions = once_more _ s.state.tables.regions m.new.regions g.regions k.once.regions m.distinct.regions (λ o h i. (let e = new_unpassed s.limits s.passed.regions (live_region s.state) o (m.are_new.regions o i) in let p : s.passed.regions o ≡ true = k.passed.regions o h in cc));
           numbers = once_more _ _ m.new.numbers g.numbers k.once.numbers m.distinct.numbers (λ n h i. (let e : s.passed.numbers n ≡ false = (m.are_new.numbers n i).1 in let p : s.passed.numbers n ≡ true = k.passed.numbers n h in cc));
         };
+        counted = still_counted s t m.new m.limits m.passed back k.counted;
       }
 
   skips_sound : (s t : Session W) (edit : Edit W) → Sound s → Skips s edit t → Sound t
@@ -107,6 +109,7 @@ module _ {W : Dialect} where
       uses = λ o u h. (p.passed.uses u).1 (inl (k.passed.uses o u (rw p.state at h)));
     };
     once = record { ops = rw p.state k.once.ops; blocks = rw p.state k.once.blocks; regions = rw p.state k.once.regions; numbers = rw p.state k.once.numbers };
+    counted = still_counted s t p.skipped p.limits p.passed (subst (λ (u : State context_ids W). Back s.state.forest u.forest p.skipped) (sym p.state) (record { ops = λ o h. inl h; blocks = λ b h. inl h; regions = λ r h. inl h })) k.counted;
   }
 
   pub step_sound : (B : Behaviour W) (edit : Edit W) → GrowsBy context_ids B edit → KeepsSound B edit
@@ -139,6 +142,7 @@ module _ {W : Dialect} where
         listed = record { ops = rw e (λ o h. absurd (not_some h)); blocks = rw e (λ o h. absurd (not_some h)); regions = rw e (λ o h. absurd (not_some h)); values = rw e (λ v h. elim (no_numbers v.definer v.number h) [ ]) };
         passed = record { ops = rw e (λ o h. elim h [ ]); blocks = rw e (λ o h. elim h [ ]); regions = rw e (λ o h. elim h [ ]); numbers = rw e (λ o h. elim h [ ]); uses = rw e (λ o u h. elim h [ ]) };
         once = record { ops = rw e tt; blocks = rw e tt; regions = rw e tt; numbers = rw e tt };
+        counted = new_counted s n;
       }
     where
       not_some : false ≡ true → ⊥

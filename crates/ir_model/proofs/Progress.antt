@@ -1,35 +1,32 @@
 -- Sessions go on.
-use mathlib.Core.Path.{◌≡◌, refl, sym, ap, ◌∙◌, subst}
-use Rattle.std.proofs.Common.{ℕ, ◌+◌, ◌≤◌, ◌⊎◌, ◌↔◌, inl, inr, Bool, true, false, eqb, ◌||◌, Option, Some, None, List, [], ◌∷◌, ◌++◌, length, IsSome, IsTrue, arith}
+use mathlib.Core.Path.{◌≡◌, refl, sym, ◌∙◌, subst}
+use Rattle.std.proofs.Common.{ℕ, ◌+◌, ◌≤◌, ◌⊎◌, ◌↔◌, inl, inr, Bool, true, false, eqb, ◌||◌, Option, Some, None, List, [], length, IsTrue, arith}
 use Rattle.std.specs.Prelude.{slice_get}
 use Rattle.std.specs.List.{list_any}
 use Rattle.ir_model.specs.declared.ids.ArenaIndex.{ArenaIndex}
-use Rattle.ir_model.specs.declared.ids.Limits.{Limits}
-use Rattle.ir_model.specs.declared.answer.Answer.{Answer}
 use Rattle.ir_model.specs.declared.answer.Answer.TheVariants.{Done, Refused}
-use Rattle.ir_model.specs.declared.answer.Refused.TheVariants.{Condition as ForCondition, Counter, Slots}
+use Rattle.ir_model.specs.declared.answer.Refused.TheVariants.{Condition as ForCondition, Counter, Slots, Memory}
 use Rattle.ir_model.specs.Ids.{Fresh, Counts, counts}
 use Rattle.ir_model.specs.ContextIds.{context_ids, same_id}
 use Rattle.ir_model.specs.Forest.{Dialect, Behaviour, OpRecord, Entity, an_op, a_block, a_region}
 use Rattle.ir_model.specs.Nesting.{In, list_of}
 use Rattle.ir_model.specs.Changes.{Removes}
-use Rattle.ir_model.specs.Edits.{Edit, The, Condition, needs, answer as reply, EraseOp, EraseBlock, EraseRegion}
-use Rattle.ir_model.specs.Sessions.{Passed, Passes, Session, Step, condition, counter, slots, memory, made, Run, Skips, Makes, Number, HasNumbers, HasSlots, LacksNumbers, LacksSlots, TakesSlot, IsNewSession, live_op, live_block, live_region}
-use Rattle.ir_model.specs.Soundness.{Sound}
+use Rattle.ir_model.specs.Edits.{Edit, State, The, Condition, needs, MayRunOut, answer as reply, NewOp, NewBlock, AddRegion, EraseOp, EraseBlock, EraseRegion}
+use Rattle.ir_model.specs.Sessions.{Session, Step, condition, counter, slots, memory, made, Skips, Makes, HasNumbers, HasSlots, LacksNumbers, LacksSlots, live_op, live_block, live_region}
+use Rattle.ir_model.specs.Soundness.{AreGone, Sound}
 use Rattle.ir_model.specs.OneOfEach.{HasStep, NewSessionsStep}
-use Rattle.ir_model.specs.StepTells.{line, AreGone, NumbersFit, SlotsFit}
+use Rattle.ir_model.specs.StepTells.{line, NumbersFit, SlotsFit}
 use Rattle.ir_model.specs.Progress.{IsRoomFor, IsTakenOut, RoomIsEnough, SoundSessionsGoOn, RunsAreCounted, RunsGoOn, ClosedCanGo, ClosedAreErased}
 use Rattle.ir_model.proofs.Renaming.{Tells}
-use Rattle.ir_model.proofs.Nests.{In-left, In-right}
 use Rattle.ir_model.proofs.TwoRuns.{lawful, id_tells, number_tells}
 use Rattle.ir_model.proofs.Roomy.{any_iff}
 use Rattle.ir_model.proofs.Grows.{new_sound}
 use Rattle.ir_model.proofs.StepSound.{steps_sound, runs_sound}
 use Rattle.ir_model.proofs.KeepsErase.{Removes-kept}
 use Rattle.ir_model.proofs.StepTells.{takes_so, answers_so, makes_by}
-use Rattle.ir_model.proofs.Decided.{Decided, at_most, one}
-use Rattle.ir_model.proofs.Conditions.{some_so, condition_so}
-use Rattle.ir_model.proofs.Supply.{bit_so, above, supply_numbers, supply_ids, counted}
+use Rattle.ir_model.proofs.Decided.{Decided, some_so, at_most}
+use Rattle.ir_model.proofs.Conditions.{condition_so}
+use Rattle.ir_model.proofs.Supply.{above, supply_numbers, supply_ids}
 use Rattle.ir_model.proofs.Outcomes.{list_there, removes_it, change_is}
 
 or_iff : (a b : Bool) → IsTrue (a || b) ↔ (IsTrue a ⊎ IsTrue b)
@@ -43,47 +40,6 @@ more_iff same tells old xs x = (
   λ h. (or_iff (old x) (list_any (λ y. same y x) xs)).1 (elim h [ inl e ↦ inl e | inr i ↦ inr ((any_iff same tells xs x).1 i) ]),
 )
 
-takes_slot_so : (limits : Limits) (passed : ArenaIndex → Bool) (live : ArenaIndex → Type 0) → ((i : ArenaIndex) → Decided (live i)) → (i : ArenaIndex) → Decided (TakesSlot limits passed live i)
-takes_slot_so limits passed live d i = elim (d i) [
-  | inl l ↦ inl (inl l)
-  | inr n ↦ elim (bit_so (passed i)) [
-    | inr u ↦ inr (λ h. elim h [ inl l ↦ n l | inr p ↦ u p.0 ])
-    | inl p ↦ elim (at_most (limits.last_version + 1) (i.version + 2)) [
-      | inl late ↦ inl (inr (p, n, omega (arith, late)))
-      | inr early ↦ inr (λ h. elim h [ inl l ↦ n l | inr q ↦ (let late = q.2 in early (omega (arith, late))) ])
-    ]
-  ]
-]
-
--- lists of all that has passed
-record HandedOut (p : Passed) : Type 0 where
-  pub lists : Fresh context_ids
-  pub ops : (i : ArenaIndex) → IsTrue (p.ops i) → In i lists.ops
-  pub blocks : (i : ArenaIndex) → IsTrue (p.blocks i) → In i lists.blocks
-  pub regions : (i : ArenaIndex) → IsTrue (p.regions i) → In i lists.regions
-  pub numbers : (n : ℕ) → IsTrue (p.numbers n) → In n lists.numbers
-  pub uses : (n : ℕ) → IsTrue (p.uses n) → In n lists.uses
-
--- what passes is listed in front
-joined : {A : Type 0} (xs ys : List A) (x : A) → In x ys ⊎ In x xs → In x (xs ++ ys)
-joined xs ys x (inl h) = In-right x xs ys h
-joined xs ys x (inr h) = In-left x xs ys h
-
-handed_more : (old new : Passed) (fresh : Fresh context_ids) → Passes old fresh new → HandedOut old → HandedOut new
-handed_more old new fresh p h = record {
-  lists = record { ops = fresh.ops ++ h.lists.ops; blocks = fresh.blocks ++ h.lists.blocks; regions = fresh.regions ++ h.lists.regions; numbers = fresh.numbers ++ h.lists.numbers; uses = fresh.uses ++ h.lists.uses };
-  ops = λ i q. joined _ _ i (elim ((p.ops i).0 q) [ inl o ↦ inl (h.ops i o) | inr n ↦ inr n ]);
-  blocks = λ i q. joined _ _ i (elim ((p.blocks i).0 q) [ inl o ↦ inl (h.blocks i o) | inr n ↦ inr n ]);
-  regions = λ i q. joined _ _ i (elim ((p.regions i).0 q) [ inl o ↦ inl (h.regions i o) | inr n ↦ inr n ]);
-  numbers = λ i q. joined _ _ i (elim ((p.numbers i).0 q) [ inl o ↦ inl (h.numbers i o) | inr n ↦ inr n ]);
-  uses = λ i q. joined _ _ i (elim ((p.uses i).0 q) [ inl o ↦ inl (h.uses i o) | inr n ↦ inr n ]);
-}
-
--- what is live or dead for good stands in the lists, and so it is counted
-slots_gone : {R : Type 0} (limits : Limits) (passed : ArenaIndex → Bool) (m : ArenaIndex → Option R) (xs : List ArenaIndex) → ((i : ArenaIndex) → IsTrue (passed i) → In i xs) → ((i : ArenaIndex) → IsSome (m i) → IsTrue (passed i))
-    → (n : ℕ) × Number (TakesSlot limits passed (λ i. IsSome (m i))) n
-slots_gone limits passed m xs all live = counted (one same_id id_tells) _ (takes_slot_so limits passed _ (λ i. some_so (m i))) xs (λ i t. elim t [ inl l ↦ all i (live i l) | inr p ↦ all i p.0 ])
-
 -- it is there, and so it is as was said
 the_one : {A : Type 0} {m : Option A} {P : A → Type 0} → The m P → (x : A) → m ≡ Some x → P x
 the_one {m = m} {P = P} t x e =
@@ -92,15 +48,6 @@ the_one {m = m} {P = P} t x e =
     subst P g t.holds
 
 module _ {W : Dialect} where
-  are_gone : (s : Session W) → Sound s → HandedOut s.passed → (gone : Counts) × AreGone s gone
-  are_gone s k h =
-      let ops = slots_gone s.limits s.passed.ops s.state.forest.ops h.lists.ops h.ops (λ i l. k.passed.ops i (k.listed.ops i l)) in
-      let blocks = slots_gone s.limits s.passed.blocks s.state.forest.blocks h.lists.blocks h.blocks (λ i l. k.passed.blocks i (k.listed.blocks i l)) in
-      let regions = slots_gone s.limits s.passed.regions s.state.forest.regions h.lists.regions h.regions (λ i l. k.passed.regions i (k.listed.regions i l)) in
-      let numbers = counted (one eqb number_tells) (λ n. IsTrue (s.passed.numbers n)) (λ n. bit_so (s.passed.numbers n)) h.lists.numbers h.numbers in
-      let uses = counted (one eqb number_tells) (λ n. IsTrue (s.passed.uses n)) (λ n. bit_so (s.passed.uses n)) h.lists.uses h.uses in
-      (record { ops = ops.0; blocks = blocks.0; regions = regions.0; numbers = numbers.0; uses = uses.0 }, record { ops = ops.1; blocks = blocks.1; regions = regions.1; numbers = numbers.1; uses = uses.1 })
-
   -- a refusal may skip nothing
   skips_nothing : (s : Session W) (edit : Edit W) → Skips s edit s
   skips_nothing s edit = record {
@@ -140,13 +87,24 @@ module _ {W : Dialect} where
     ]
   ]
 
+  -- how many ids the edit needs
+  abbrev ids_needed : Edit W → ℕ
+  ids_needed edit = (needs edit).ops + (needs edit).blocks + (needs edit).regions
+
+  -- an edit that needs ids may run out of memory
+  runs_out_or_needs_none : (s : State context_ids W) (edit : Edit W) → MayRunOut s edit ⊎ (1 ≤ ids_needed edit → ⊥)
+  runs_out_or_needs_none s (NewOp kind types operands successors regions) = inl tt
+  runs_out_or_needs_none s (NewBlock label types) = inl tt
+  runs_out_or_needs_none s (AddRegion n) = inl tt
+  runs_out_or_needs_none s _ = inr (λ some. omega (arith, some))
+
 module _ {W : Dialect} (B : Behaviour W) where
   -- the edit is made
-  make : (edit : Edit W) (s : Session W) → Sound s → 1 ≤ s.limits.last_version → Condition s.state edit → HasNumbers s (needs edit) → HasSlots s (needs edit) → (t : Session W) × Step B s edit (reply s.state edit) t
+  make : (edit : Edit W) (s : Session W) → Sound s → (1 ≤ ids_needed edit → 1 ≤ s.limits.last_version) → Condition s.state edit → HasNumbers s (needs edit) → HasSlots s (needs edit) → (t : Session W) × Step B s edit (reply s.state edit) t
   make edit s k first c n m =
-      let ops = supply_ids s.limits s.passed.ops (live_op s.state) (λ i. some_so (s.state.forest.ops i)) first (needs edit).ops m.ops in
-      let blocks = supply_ids s.limits s.passed.blocks (live_block s.state) (λ i. some_so (s.state.forest.blocks i)) first (needs edit).blocks m.blocks in
-      let regions = supply_ids s.limits s.passed.regions (live_region s.state) (λ i. some_so (s.state.forest.regions i)) first (needs edit).regions m.regions in
+      let ops = supply_ids s.limits s.passed.ops (live_op s.state) (λ i. some_so (s.state.forest.ops i)) (needs edit).ops (λ some. first (omega (arith, some))) m.ops in
+      let blocks = supply_ids s.limits s.passed.blocks (live_block s.state) (λ i. some_so (s.state.forest.blocks i)) (needs edit).blocks (λ some. first (omega (arith, some))) m.blocks in
+      let regions = supply_ids s.limits s.passed.regions (live_region s.state) (λ i. some_so (s.state.forest.regions i)) (needs edit).regions (λ some. first (omega (arith, some))) m.regions in
       let numbers = supply_numbers s.limits.values s.passed.numbers (needs edit).numbers n.values in
       let uses = supply_numbers s.limits.uses s.passed.uses (needs edit).uses n.uses in
       let new : Fresh context_ids = record { ops = ops.0; blocks = blocks.0; regions = regions.0; numbers = numbers.0; uses = uses.0 } in
@@ -184,54 +142,30 @@ module _ {W : Dialect} (B : Behaviour W) where
   room_is_enough edit s k c r =
       let n = subst (HasNumbers s) (sym (takes_so s.state edit)) (numbers_there s r.gone (line s.state edit).takes r.are_gone r.numbers) in
       let m = subst (HasSlots s) (sym (takes_so s.state edit)) (slots_there s r.gone (line s.state edit).takes r.are_gone r.slots) in
-      let t = make edit s k r.first_version c n m in
+      let first = subst (λ (x : Counts). 1 ≤ x.ops + x.blocks + x.regions → 1 ≤ s.limits.last_version) (sym (takes_so s.state edit)) r.first_version in
+      let t = make edit s k first c n m in
       (t.0, subst (λ a. Step B s edit a t.0) (answers_so s.state edit) t.1)
 
   pub sound_sessions_go_on : SoundSessionsGoOn W B
-  sound_sessions_go_on edit s gone k g first = by (condition_so s k edit) (numbers_so s gone (needs edit) g) (slots_so s gone (needs edit) g)
+  sound_sessions_go_on edit s k = by (condition_so s k edit) (numbers_so s (k.counted).0 (needs edit) (k.counted).1) (slots_so s (k.counted).0 (needs edit) (k.counted).1)
     where
       by : Decided (Condition s.state edit) → HasNumbers s (needs edit) ⊎ LacksNumbers s (needs edit) → HasSlots s (needs edit) ⊎ LacksSlots s (needs edit) → HasStep B s edit
       by (inr fails) n m = record { given = Refused ForCondition; after = s; step = condition fails refl refl }
       by (inl c) (inr n) m = record { given = Refused Counter; after = s; step = counter c n refl (skips_nothing s edit) }
       by (inl c) (inl n) (inr m) = record { given = Refused Slots; after = s; step = slots c n m refl (skips_nothing s edit) }
-      by (inl c) (inl n) (inl m) = (let t = make edit s k first c n m in record { given = reply s.state edit; after = t.0; step = t.1 })
-
-  -- what has passed after a step is listed, and the limits stay
-  handed_by : (edit : Edit W) (s t : Session W) (a : Answer) → Step B s edit a t → HandedOut s.passed → HandedOut t.passed × (t.limits ≡ s.limits)
-  handed_by edit s t a (condition c e f) h = (subst (λ (u : Session W). HandedOut u.passed) (sym f) h, ap (λ (u : Session W). u.limits) f)
-  handed_by edit s t a (counter c n e k) h = (handed_more s.passed t.passed k.skipped k.passed h, k.limits)
-  handed_by edit s t a (slots c n m e k) h = (handed_more s.passed t.passed k.skipped k.passed h, k.limits)
-  handed_by edit s t a (memory c n m x e k) h = (handed_more s.passed t.passed k.skipped k.passed h, k.limits)
-  handed_by edit s t a (made c n m e k) h = (handed_more s.passed t.passed k.new k.passed h, k.limits)
-
-  handed_run : (edits : List (Edit W)) (s t : Session W) (answers : List Answer) → Run B s edits answers t → HandedOut s.passed → HandedOut t.passed × (t.limits ≡ s.limits)
-  handed_run [] s t answers r h = rw r.1 (h, refl)
-  handed_run (edit ∷ rest) s t answers r h =
-      let step = handed_by edit s r.2 r.0 r.4 h in
-      let more = handed_run rest r.2 t r.1 r.5 step.0 in
-      (more.0, more.1 ∙ step.1)
-
-  none_handed : (s : Session W) → IsNewSession s → HandedOut s.passed
-  none_handed s n = rw n.none_passed (record {
-    lists = record { ops = []; blocks = []; regions = []; numbers = []; uses = [] };
-    ops = λ i h. absurd (let g : false ≡ true = h in cc);
-    blocks = λ i h. absurd (let g : false ≡ true = h in cc);
-    regions = λ i h. absurd (let g : false ≡ true = h in cc);
-    numbers = λ i h. absurd (let g : false ≡ true = h in cc);
-    uses = λ i h. absurd (let g : false ≡ true = h in cc);
-  })
+      by (inl c) (inl n) (inl m) = elim (runs_out_or_needs_none s.state edit) [
+        | inl may ↦ record { given = Refused Memory; after = s; step = memory c n m may refl (skips_nothing s edit) }
+        | inr none ↦ (let t = make edit s k (λ some. absurd (none some)) c n m in record { given = reply s.state edit; after = t.0; step = t.1 })
+      ]
 
   pub runs_are_counted : RunsAreCounted W B
-  runs_are_counted edits s t answers n r = are_gone t (runs_sound B edits s t answers (new_sound s n) r) (handed_run edits s t answers r (none_handed s n)).0
+  runs_are_counted edits s t answers n r = (runs_sound B edits s t answers (new_sound s n) r).counted
 
   pub runs_go_on : RunsGoOn W B
-  runs_go_on edits s t answers edit n first r =
-      let gone = runs_are_counted edits s t answers n r in
-      let same = (handed_run edits s t answers r (none_handed s n)).1 in
-      sound_sessions_go_on edit t gone.0 (runs_sound B edits s t answers (new_sound s n) r) gone.1 (subst (λ (l : Limits). 1 ≤ l.last_version) (sym same) first)
+  runs_go_on edits s t answers edit n r = sound_sessions_go_on edit t (runs_sound B edits s t answers (new_sound s n) r)
 
   pub new_sessions_step : NewSessionsStep W B
-  new_sessions_step s edit n first = runs_go_on [] s s [] edit n first (refl, refl)
+  new_sessions_step s edit n = sound_sessions_go_on edit s (new_sound s n)
 
   pub closed_can_go : ClosedCanGo W B
   closed_can_go s e k closed =

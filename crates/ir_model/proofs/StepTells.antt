@@ -11,7 +11,8 @@ use Rattle.ir_model.specs.Forest.{Dialect, Behaviour, OpRecord}
 use Rattle.ir_model.specs.Nesting.{In, list_of, regions_of}
 use Rattle.ir_model.specs.Edits.{Edit, State, Condition, NewType, MoveRegion, ReplaceAllUses, needs, answer as reply, MayRunOut}
 use Rattle.ir_model.specs.Sessions.{Session, Passed, Step, condition, counter, slots, memory, made, Number, HasRoom, LacksRoom, HasNumbers, HasSlots, LacksNumbers, LacksSlots, Makes, Skips, live_op, live_block, live_region}
-use Rattle.ir_model.specs.StepTells.{line, AreGone, NumbersFit, NumbersLack, SlotsFit, SlotsLack, AtMostMore, PassesExactly, PassesAtMost, CounterIsTold, SlotsAreTold, OthersAreMade, OnlyGrowthIsRefused, MadePassExactly, RefusedPassAtMost, ConditionLeavesAll}
+use Rattle.ir_model.specs.Soundness.{AreGone}
+use Rattle.ir_model.specs.StepTells.{line, NumbersFit, NumbersLack, SlotsFit, SlotsLack, AtMostMore, PassesExactly, PassesAtMost, CounterIsTold, SlotsAreTold, OthersAreMade, OnlyGrowthIsRefused, MadePassExactly, RefusedPassAtMost, ConditionLeavesAll}
 use Rattle.ir_model.proofs.Removal.{length-same}
 use Rattle.ir_model.proofs.TwoRuns.{new_unpassed}
 

@@ -1,6 +1,6 @@
--- Where there is room there are new ids and numbers, and what has passed can be counted.
+-- Where there is room there are new ids and numbers.
 use mathlib.Core.Path.{◌≡◌, refl, sym, ap, ◌∙◌, subst}
-use Rattle.std.proofs.Common.{ℕ, zero, suc, ◌+◌, ◌<◌, ◌≤◌, ◌⊎◌, ◌↔◌, inl, inr, Bool, true, false, not, eqb, List, [], ◌∷◌, length, cond, take, IsTrue, arith}
+use Rattle.std.proofs.Common.{ℕ, zero, suc, ◌+◌, ◌<◌, ◌≤◌, ◌⊎◌, inl, inr, Bool, true, false, not, eqb, List, [], ◌∷◌, length, cond, take, IsTrue, arith}
 use Rattle.std.proofs.lemmas.Bool.Decides.{leb_tells}
 use Rattle.std.proofs.lemmas.List.{length-take-le}
 use Rattle.std.specs.List.{filter}
@@ -8,18 +8,14 @@ use Rattle.ir_model.specs.declared.ids.ArenaIndex.{ArenaIndex}
 use Rattle.ir_model.specs.declared.ids.Limits.{Limits}
 use Rattle.ir_model.specs.Ids.{Distinct}
 use Rattle.ir_model.specs.Nesting.{In}
-use Rattle.ir_model.specs.Sessions.{IsNewNumber, IsNewId, Number, HasRoom, TakesSlot}
+use Rattle.ir_model.specs.Sessions.{IsNewNumber, IsNewId, HasRoom, TakesSlot}
 use Rattle.ir_model.proofs.Nests.{Absent-not_in, not_in-Absent}
-use Rattle.ir_model.proofs.Filters.{In-filter, In-kept, Distinct-filter}
+use Rattle.ir_model.proofs.Filters.{In-filter, Distinct-filter}
 use Rattle.ir_model.proofs.Fresh.{take-in, take-distinct}
 use Rattle.ir_model.proofs.Removal.{length-within}
 use Rattle.ir_model.proofs.Roomy.{numbers_from, numbers_from-in, numbers_from-distinct, numbers_from-length}
 use Rattle.ir_model.proofs.TwoRuns.{number_tells}
-use Rattle.ir_model.proofs.Decided.{Decided, says, holds, says_true, at_most, one, some}
-
-pub bit_so : (b : Bool) → Decided (IsTrue b)
-bit_so true = inl refl
-bit_so false = inr (λ h. absurd cc)
+use Rattle.ir_model.proofs.Decided.{Decided, bit_so, at_most, one, some}
 
 not_true : (b : Bool) → not b ≡ true → b ≡ false
 not_true true e = absurd cc
@@ -188,9 +184,8 @@ module _ (limits : Limits) (passed : ArenaIndex → Bool) (live : ArenaIndex →
           sum = (let e = m.sum in omega (arith, e));
         }
 
-  -- so many new ids
-  pub supply_ids : (n : ℕ) → HasRoom limits.slots (TakesSlot limits passed live) n → (is : List ArenaIndex) × Distinct is × (length is ≡ n) × ((i : ArenaIndex) → In i is → New i)
-  supply_ids n room =
+  supply : (n : ℕ) → HasRoom limits.slots (TakesSlot limits passed live) n → (is : List ArenaIndex) × Distinct is × (length is ≡ n) × ((i : ArenaIndex) → In i is → New i)
+  supply n room =
       let xs = (room.1).0 in
       let all = sorted xs (λ i h. ((room.1).2 i).1 h) (numbers_from 1 limits.slots) (numbers_from-distinct 1 limits.slots) (λ k h. (let b = numbers_from-in 1 limits.slots k h in let l = b.0 in let m = b.1 in (l, omega (arith, m)))) in
       let few = length-within all.taken xs all.taken_once all.taken_in in
@@ -200,18 +195,8 @@ module _ (limits : Limits) (passed : ArenaIndex → Bool) (live : ArenaIndex →
       let fits = room.2 in
       (take n all.free, take-distinct n all.free all.free_once, length-take-le n all.free (omega (arith, few, long, sum, gone, fits)), λ i h. all.free_new i (take-in n all.free i h))
 
--- each of the list once
-once : {A : Type 0} → ((x y : A) → Decided (x ≡ y)) → (xs : List A) → (ys : List A) × Distinct ys × ((x : A) → In x ys ↔ In x xs)
-once same [] = ([], tt, λ x. (λ h. h, λ h. h))
-once {A = A} same (y ∷ xs) = by (once same xs) (some (λ z. z ≡ y) (λ z. same z y) (once same xs).0)
-  where
-    by : (more : (ys : List A) × Distinct ys × ((x : A) → In x ys ↔ In x xs)) → Decided ((z : A) × In z more.0 × (z ≡ y)) → (ys : List A) × Distinct ys × ((x : A) → In x ys ↔ In x (y ∷ xs))
-    by more (inl t) = (more.0, more.1, λ x. (λ h. inr ((more.2 x).0 h), λ h. elim h [ inl e ↦ subst (λ z. In z more.0) (t.2 ∙ sym e) t.1 | inr i ↦ (more.2 x).1 i ]))
-    by more (inr n) = (y ∷ more.0, (Absent-not_in y more.0 (λ h. n (y, h, refl)), more.1), λ x. (λ h. elim h [ inl e ↦ inl e | inr i ↦ inr ((more.2 x).0 i) ], λ h. elim h [ inl e ↦ inl e | inr i ↦ inr ((more.2 x).1 i) ]))
-
--- what is decided and stands in a list is counted
-pub counted : {A : Type 0} → ((x y : A) → Decided (x ≡ y)) → (P : A → Type 0) → ((x : A) → Decided (P x)) → (xs : List A) → ((x : A) → P x → In x xs) → (n : ℕ) × Number P n
-counted same P d xs all =
-    let o = once same xs in
-    let ys = filter (λ x. says (d x)) o.0 in
-    (length ys, (ys, Distinct-filter (λ x. says (d x)) o.0 o.1, λ x. (λ h. holds (d x) (In-filter (λ x. says (d x)) x o.0 h).1, λ p. In-kept (λ x. says (d x)) x o.0 ((o.2 x).1 (all x p)) (says_true (d x) p)), refl))
+-- so many new ids, where a slot may have a first version or none is asked for
+pub supply_ids : (limits : Limits) (passed : ArenaIndex → Bool) (live : ArenaIndex → Type 0) → ((i : ArenaIndex) → Decided (live i)) → (n : ℕ) → (1 ≤ n → 1 ≤ limits.last_version) → HasRoom limits.slots (TakesSlot limits passed live) n
+    → (is : List ArenaIndex) × Distinct is × (length is ≡ n) × ((i : ArenaIndex) → In i is → IsNewId limits passed live i)
+supply_ids limits passed live live_so zero first room = ([], tt, refl, λ i h. elim h [ ])
+supply_ids limits passed live live_so (suc n) first room = supply limits passed live live_so (first (omega arith)) (suc n) room

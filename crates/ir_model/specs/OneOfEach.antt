@@ -1,5 +1,5 @@
 -- One edit of each kind, and what it means that an edit can be made.
-use Rattle.std.specs.Prelude.{◌≤◌, List, [], ◌∷◌, None}
+use Rattle.std.specs.Prelude.{List, [], ◌∷◌, None}
 use Rattle.ir_model.specs.declared.answer.Answer.{Answer}
 use Rattle.ir_model.specs.Forest.{Dialect, Behaviour}
 use Rattle.ir_model.specs.Nesting.{In}
@@ -69,9 +69,9 @@ module _ {W : Dialect} where
     pub step : Step B s edit given after
 
 module _ (W : Dialect) (B : Behaviour W) where
-  -- in a new session each edit has a step, whatever the limits, if an id may have the version 1
+  -- in a new session each edit has a step, whatever the limits
   abbrev pub NewSessionsStep : Type 0
-  NewSessionsStep = (s : Session W) (edit : Edit W) → IsNewSession s → 1 ≤ s.limits.last_version → HasStep B s edit
+  NewSessionsStep = (s : Session W) (edit : Edit W) → IsNewSession s → HasStep B s edit
 
   -- an edit of each kind can be made
   abbrev pub EachCanBeMade : Type 0

@@ -1,5 +1,5 @@
 -- Sessions go on: in every sound session each edit has a step, and where its condition holds and there is room, one that makes it.
-use Rattle.std.specs.Prelude.{◌≡◌, ℕ, ◌≤◌, List, length, Some, slice_get}
+use Rattle.std.specs.Prelude.{◌≡◌, ℕ, ◌+◌, ◌≤◌, List, length, Some, slice_get}
 use Rattle.ir_model.specs.declared.ids.ArenaIndex.{ArenaIndex}
 use Rattle.ir_model.specs.declared.answer.Answer.{Answer}
 use Rattle.ir_model.specs.declared.answer.Answer.TheVariants.{Done}
@@ -10,18 +10,18 @@ use Rattle.ir_model.specs.Nesting.{IsClosed, WellFormed, regions_of}
 use Rattle.ir_model.specs.Changes.{Removes}
 use Rattle.ir_model.specs.Edits.{Edit, Condition, EraseOp, EraseBlock, EraseRegion, no_needs}
 use Rattle.ir_model.specs.Sessions.{Session, Step, Run, IsNewSession, live_op, live_block}
-use Rattle.ir_model.specs.Soundness.{Sound}
+use Rattle.ir_model.specs.Soundness.{AreGone, IsCounted, Sound}
 use Rattle.ir_model.specs.OneOfEach.{HasStep}
-use Rattle.ir_model.specs.StepTells.{AreGone, NumbersFit, SlotsFit, line}
+use Rattle.ir_model.specs.StepTells.{NumbersFit, SlotsFit, line}
 
 module _ {W : Dialect} where
-  -- the counts of what is gone leave room for this much, and a slot may have a first version
+  -- the counts of what is gone leave room for this much, and where a slot is needed it may have a first version
   pub record IsRoomFor (s : Session W) (n : Counts) : Type 0 where
     pub gone : Counts
     pub are_gone : AreGone s gone
     pub numbers : NumbersFit s gone n
     pub slots : SlotsFit s gone n
-    pub first_version : 1 ≤ s.limits.last_version
+    pub first_version : 1 ≤ n.ops + n.blocks + n.regions → 1 ≤ s.limits.last_version
 
   -- a step of the edit leaves exactly what is not inside the entity, and that is well formed
   pub record IsTakenOut (B : Behaviour W) (s : Session W) (edit : Edit W) (e : Entity context_ids) : Type 0 where
@@ -37,19 +37,17 @@ module _ (W : Dialect) (B : Behaviour W) where
       (edit : Edit W) (s : Session W) → Sound s → Condition s.state edit → IsRoomFor s (line s.state edit).takes
       → (t : Session W) × Step B s edit (line s.state edit).answer t
 
-  -- in a sound session in which so many are gone each edit has a step
+  -- in every sound session each edit has a step
   abbrev pub SoundSessionsGoOn : Type 0
-  SoundSessionsGoOn = (edit : Edit W) (s : Session W) (gone : Counts) → Sound s → AreGone s gone → 1 ≤ s.limits.last_version → HasStep B s edit
+  SoundSessionsGoOn = (edit : Edit W) (s : Session W) → Sound s → HasStep B s edit
 
-  -- after every run from a new session so many are gone, of each kind
+  -- after every run from a new session what is gone can be counted
   abbrev pub RunsAreCounted : Type 0
-  RunsAreCounted = (edits : List (Edit W)) (s t : Session W) (answers : List Answer) → IsNewSession s → Run B s edits answers t → (gone : Counts) × AreGone t gone
+  RunsAreCounted = (edits : List (Edit W)) (s t : Session W) (answers : List Answer) → IsNewSession s → Run B s edits answers t → IsCounted t
 
   -- after every run from a new session each edit has a step
   abbrev pub RunsGoOn : Type 0
-  RunsGoOn =
-      (edits : List (Edit W)) (s t : Session W) (answers : List Answer) (edit : Edit W)
-      → IsNewSession s → 1 ≤ s.limits.last_version → Run B s edits answers t → HasStep B t edit
+  RunsGoOn = (edits : List (Edit W)) (s t : Session W) (answers : List Answer) (edit : Edit W) → IsNewSession s → Run B s edits answers t → HasStep B t edit
 
   -- a closed entity has a removal, and that is well formed
   abbrev pub ClosedCanGo : Type 0

@@ -3,11 +3,11 @@ use Rattle.std.specs.Prelude.{ℕ, ◌<◌, List, map, length, IsTrue}
 use Rattle.ir_model.specs.declared.ids.ArenaIndex.{ArenaIndex}
 use Rattle.ir_model.specs.declared.answer.Answer.{Answer}
 use Rattle.ir_model.specs.ContextIds.{context_ids}
-use Rattle.ir_model.specs.Ids.{Distinct}
+use Rattle.ir_model.specs.Ids.{Counts, Distinct}
 use Rattle.ir_model.specs.Forest.{Dialect, Behaviour, Value, a_value}
 use Rattle.ir_model.specs.Nesting.{In, IsLiveNamed, WellFormed, uses_of}
 use Rattle.ir_model.specs.Edits.{Edit}
-use Rattle.ir_model.specs.Sessions.{Session, Step, Run, IsNewSession, live_op, live_block, live_region}
+use Rattle.ir_model.specs.Sessions.{Session, Step, Run, Number, TakesSlot, IsNewSession, live_op, live_block, live_region}
 
 module _ {W : Dialect} where
   -- what is live stands in the tables
@@ -32,13 +32,26 @@ module _ {W : Dialect} where
     pub regions : Distinct s.state.tables.regions
     pub numbers : Distinct (map (λ (v : Value context_ids). v.number) s.state.tables.values)
 
-  -- the forest is well formed over the stored types, the types that are known are stored, all that is live is listed, once, and what is listed was handed out
+  -- exactly so many of each kind are gone: value and use numbers that were passed, and slots that are taken
+  pub record AreGone (s : Session W) (gone : Counts) : Type 0 where
+    pub numbers : Number (λ n. IsTrue (s.passed.numbers n)) gone.numbers
+    pub uses : Number (λ u. IsTrue (s.passed.uses u)) gone.uses
+    pub ops : Number (TakesSlot s.limits s.passed.ops (live_op s.state)) gone.ops
+    pub blocks : Number (TakesSlot s.limits s.passed.blocks (live_block s.state)) gone.blocks
+    pub regions : Number (TakesSlot s.limits s.passed.regions (live_region s.state)) gone.regions
+
+  -- what is gone can be counted
+  abbrev pub IsCounted : Session W → Type 0
+  IsCounted s = (gone : Counts) × AreGone s gone
+
+  -- the forest is well formed over the stored types, the types that are known are stored, all that is live is listed, once, what is listed was handed out, and what is gone can be counted
   pub record Sound (s : Session W) : Type 0 where
     pub forest : WellFormed s.state.forest (length s.state.store)
     pub stored : (k : ℕ) → In k s.state.tables.types → k < length s.state.store
     pub listed : LiveAreListed s
     pub passed : ListedHavePassed s
     pub once : ListedOnce s
+    pub counted : IsCounted s
 
   -- every step of this edit from a sound session ends in a sound one
   abbrev pub KeepsSound : Behaviour W → Edit W → Type 0

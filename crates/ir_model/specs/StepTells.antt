@@ -10,8 +10,8 @@ use Rattle.ir_model.specs.ContextIds.{context_ids}
 use Rattle.ir_model.specs.Forest.{Dialect, Behaviour}
 use Rattle.ir_model.specs.Nesting.{In, regions_of, uses_of}
 use Rattle.ir_model.specs.Edits.{Edit, State, Condition, NewType, NewOp, NewBlock, AddRegion, PushResult, PushArgument, InsertResult, InsertArgument, RemoveResult, RemoveArgument, PushOperand, PushSuccessor, InsertOperand, InsertSuccessor, RemoveOperand, RemoveSuccessor, ReplaceOperand, ReplaceSuccessor, ReplaceAllUses, RetargetAll, OpFront, OpBack, OpBefore, OpAfter, UnlinkOp, UnlinkBlock, BlockFront, BlockBack, BlockBefore, BlockAfter, AppendOps, AppendBlocks, MoveRegion, DropOpUses, DropBlockUses, DropRegionUses, EraseOp, EraseBlock, EraseRegion}
-use Rattle.ir_model.specs.Sessions.{Session, Passed, Step, Number, TakesSlot, live_op, live_block, live_region}
-use Rattle.ir_model.specs.Soundness.{Sound}
+use Rattle.ir_model.specs.Sessions.{Session, Passed, Step}
+use Rattle.ir_model.specs.Soundness.{AreGone, Sound}
 
 -- a line of the table of edits: the answer of the edit where it is made, when it may grow, and how much it takes
 pub record Line : Type 1 where
@@ -82,14 +82,6 @@ module _ {W : Dialect} where
   -- the numbers of the values in the table
   abbrev pub numbers_in : Session W → List ℕ
   numbers_in s = map (λ v. v.number) s.state.tables.values
-
-  -- exactly so many of each kind are gone: value and use numbers that were passed, and slots that are taken
-  pub record AreGone (s : Session W) (gone : Counts) : Type 0 where
-    pub numbers : Number (λ n. IsTrue (s.passed.numbers n)) gone.numbers
-    pub uses : Number (λ u. IsTrue (s.passed.uses u)) gone.uses
-    pub ops : Number (TakesSlot s.limits s.passed.ops (live_op s.state)) gone.ops
-    pub blocks : Number (TakesSlot s.limits s.passed.blocks (live_block s.state)) gone.blocks
-    pub regions : Number (TakesSlot s.limits s.passed.regions (live_region s.state)) gone.regions
 
   -- beside those that are gone, there are still so many value and use numbers
   abbrev pub NumbersFit : Session W → Counts → Counts → Type 0

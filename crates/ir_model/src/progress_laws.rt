@@ -3,7 +3,7 @@
 ghost use Rattle.ir_model.specs.Forest.{Behaviour};
 ghost use Rattle.ir_model.specs.Progress.{RoomIsEnough, SoundSessionsGoOn, RunsAreCounted, RunsGoOn, ClosedCanGo, ClosedAreErased};
 
-/// In every sound session every edit has a step, with one answer or another, and where its condition holds and there is room, one that makes it. After every run from a new session what is gone is counted, and so every edit has a step there.
+/// In every sound session every edit has a step, with one answer or another, and where its condition holds and there is room, one that makes it. After every run from a new session what is gone can be counted, and every edit has a step.
 pub fn sessions_go_on<Key, Body, Attr, Saved, Aux, Loc>()
     ensures made { (behaviour : Behaviour (record { Key = Key; Body = Body; Attr = Attr; Saved = Saved; Aux = Aux; Loc = Loc })) → RoomIsEnough _ behaviour }
     ensures steps { (behaviour : Behaviour (record { Key = Key; Body = Body; Attr = Attr; Saved = Saved; Aux = Aux; Loc = Loc })) → SoundSessionsGoOn _ behaviour }
