@@ -8,7 +8,7 @@ ghost use Rattle.ir_core.specs.State.{forest_of, types_of};
 
 use ir_base::{CoreError, Dialects, Ptr, TypeHandle};
 use ir_core::{Context, Operation, OperationPtr, TypeQueries, Value};
-use ir_run::{Toy, ToyType};
+use ir_toy::{Toy, ToyType};
 use std::alloc::Global;
 use std::collections::HashSet;
 use std::time::CpuClock;

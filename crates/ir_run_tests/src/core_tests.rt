@@ -13,7 +13,7 @@ use ir_core::{
     Context, DanglingPtrDerefError, DefiningEntity, IndexErr, Operation, OperationPtr, RegionPtr,
     TypeQueries, Use, UseError, UseIndex, Value, ValueError, ValueIndex,
 };
-use ir_run::{Toy, ToyType};
+use ir_toy::{Toy, ToyType};
 use std::alloc::Global;
 use std::process::Abort;
 use std::test::Fail;

@@ -1,11 +1,7 @@
-//! Tests of the context, of sessions, of scripts and of the dialect Toy.
+//! Tests of the context and of sessions, over the dialect Toy.
 #![tactic(auto)]
 
 #[cfg(test)]
 mod core_tests;
 #[cfg(test)]
-mod script_tests;
-#[cfg(test)]
 mod session_tests;
-#[cfg(test)]
-mod toy_tests;

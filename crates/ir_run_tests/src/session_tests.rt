@@ -3,7 +3,8 @@
 ghost use Rattle.std.specs.Prelude.{◌<◌, ◌≤◌};
 
 use ir_base::{Answer, CoreError, Dialects, Limits, Refused};
-use ir_run::{Edit, Session, Toy, ToyType, choices_unseen};
+use ir_run::{Edit, Session, choices_unseen};
+use ir_toy::{Toy, ToyType};
 use std::alloc::{AllocError, Global};
 use std::process::Abort;
 use std::test::Fail;

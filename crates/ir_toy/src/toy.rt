@@ -3,7 +3,7 @@
 //! A kind that isn't named here implements nothing, and its id is `toy.unknown`.
 ghost use Rattle.std.specs.Prelude.{◌≡◌, IfOk, IfErr, None, Some, codes, false, refl, true};
 ghost use Rattle.std.proofs.Common.{rules};
-ghost use Rattle.ir_run.specs.Toy.{attr_name, attr_table, has_pair, is_ssa, op_name, op_table, type_name, type_table};
+ghost use Rattle.ir_toy.specs.Toy.{attr_name, attr_table, has_pair, is_ssa, op_name, op_table, type_name, type_table};
 
 use ir_base::interfaces::{
     NO_TERMINATOR, OUTLINED_ATTRIBUTE, PURE_OPERATION, REGION_KIND, TERMINATOR, TYPED_ATTRIBUTE,
@@ -111,10 +111,10 @@ fn type_name(kind: u32) -> Identifier
 }
 
 impl Dialects for Toy {
-    ghost use Rattle.ir_run.specs.declared.toy.ToyAttr.TheVariants as attr;
-    ghost use Rattle.ir_run.specs.declared.toy.ToyType.TheVariants as ty;
-    ghost use Rattle.ir_run.specs.declared.toy.ToySaved.TheVariants as saved;
-    ghost use Rattle.ir_run.specs.declared.toy.ToyLoc.TheVariants as loc;
+    ghost use Rattle.ir_toy.specs.declared.toy.ToyAttr.TheVariants as attr;
+    ghost use Rattle.ir_toy.specs.declared.toy.ToyType.TheVariants as ty;
+    ghost use Rattle.ir_toy.specs.declared.toy.ToySaved.TheVariants as saved;
+    ghost use Rattle.ir_toy.specs.declared.toy.ToyLoc.TheVariants as loc;
 
     type Attr = ToyAttr;
 

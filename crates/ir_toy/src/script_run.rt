@@ -9,10 +9,10 @@ ghost use Rattle.ir_core.specs.State.{forest_of};
 
 use crate::script_parse::{Script, ScriptError, parse_script};
 use crate::script_print::{answers_text, finish, read_script, write_text};
-use crate::session::Session;
 use crate::toy::Toy;
 use ir_base::{ArenaIndex, Dialects, Limits};
 use ir_core::{Context, Value};
+use ir_run::Session;
 use std::alloc::Global;
 use std::collections::HashMap;
 use std::io::{Read, Write};

@@ -4,7 +4,7 @@ use ir_base::interfaces::{
     NO_TERMINATOR, OUTLINED_ATTRIBUTE, PURE_OPERATION, REGION_KIND, TERMINATOR, TYPED_ATTRIBUTE,
 };
 use ir_base::{Dialects, Identifier, TypeHandle};
-use ir_run::{SIZED_TYPE, Toy, ToyAttr, ToyLoc, ToySaved, ToyType};
+use ir_toy::{SIZED_TYPE, Toy, ToyAttr, ToyLoc, ToySaved, ToyType};
 use std::test::Fail;
 
 #[test]

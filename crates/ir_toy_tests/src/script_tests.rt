@@ -1,7 +1,8 @@
 //! Scripts over memory, with what the program prints for them and its status.
 
 use ir_base::{Answer, Limits, Refused};
-use ir_run::{Edit, Session, Toy, ToyType, run_script};
+use ir_run::{Edit, Session};
+use ir_toy::{Toy, ToyType, run_script};
 use std::alloc::Global;
 use std::io;
 use std::io::{ErrorKind, Read, Write};

@@ -2,7 +2,7 @@ use Rattle.std.proofs.Common.{sym, subst, All}
 use Rattle.ir_core.specs.Meaning.{use_of}
 use Rattle.ir_core.specs.State.{forest_of}
 use Rattle.ir_core.specs.Values.{IsLiveUse}
-use Rattle.ir_run.proofs.script_run.places.Goals as goal
+use Rattle.ir_toy.proofs.script_run.places.Goals as goal
 
 pub find_index-requires : goal.find_index-requires
 find_index-requires g c =

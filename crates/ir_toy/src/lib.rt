@@ -1,0 +1,10 @@
+//! The dialect `Toy`, and scripts: their reading, their answers, and the program's work over any reader and writer.
+#![tactic(auto)]
+
+mod script_parse;
+mod script_print;
+mod script_run;
+mod toy;
+
+pub use script_run::run_script;
+pub use toy::{SIZED_TYPE, Toy, ToyAttr, ToyLoc, ToySaved, ToyType};
