@@ -6,3 +6,4 @@ pub mod Links
 pub mod Chains
 pub mod Nested
 pub mod Frames
+pub mod Growth

@@ -1,0 +1,9 @@
+pub mod Readings
+pub mod Kept
+pub mod Listed
+pub mod Chained
+pub mod Growths
+pub mod NewOperation
+pub mod NewBlock
+pub mod RegionLists
+pub mod Removal
