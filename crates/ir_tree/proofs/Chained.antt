@@ -1,15 +1,11 @@
 -- Changes that leave all chains.
 use mathlib.Core.Path.{fun_ext}
-use Rattle.std.proofs.Common.{◌≡◌, ℕ, suc, ◌<◌, nat_eq, Bool, true, false, cond, List, [], ◌∷◌, All, refl, arith}
+use Rattle.std.proofs.Common.{◌≡◌, ℕ, suc, nat_eq, Bool, true, false, cond, List, [], ◌∷◌, All, refl, arith}
 use Rattle.ir_model.specs.declared.ids.ArenaIndex.{ArenaIndex}
-use Rattle.ir_arena.specs.Arena.{Arena}
 use Rattle.ir_records.specs.declared.record.Definer.{Definer}
 use Rattle.ir_records.specs.declared.record.Definer.TheVariants.{Op, Block}
-use Rattle.ir_records.specs.declared.record.ValueIndex.{ValueIndex}
 use Rattle.ir_records.specs.declared.record.BlockIndex.{BlockIndex}
 use Rattle.ir_records.specs.declared.record.Definition.{Definition}
-use Rattle.ir_records.specs.declared.record.Operation.{Operation}
-use Rattle.ir_records.specs.declared.record.BasicBlock.{BasicBlock}
 use Rattle.ir_records.specs.declared.records.Records.{Records}
 use Rattle.ir_records.specs.Lists.{uses_with}
 use Rattle.ir_records.specs.Table.{operands_at, successors_at, definitions_at, uses_at, block_uses_at}

@@ -1,9 +1,9 @@
 -- One insertion, and one removal, in the words of what was handed out.
-use Rattle.std.proofs.Common.{◌≡◌, ◌⊎◌, ℕ, ◌≤◌, length, List, [], ◌∷◌, Option, Some, None, is_some, OnSome, IfNone, refl, sym, ap, subst, ◌∙◌, inl, inr, true≢false, arith}
+use Rattle.std.proofs.Common.{◌≡◌, List, [], ◌∷◌, Option, Some, None, is_some, OnSome, refl, sym, ap, subst, ◌∙◌, inl, inr, true≢false, arith}
 use Rattle.ir_model.specs.declared.ids.ArenaIndex.{ArenaIndex}
 use Rattle.ir_model.specs.Nesting.{In}
 use Rattle.ir_model.specs.Sessions.{IsNewId}
-use Rattle.ir_model.proofs.Arenas.{get-new, get-cut, get-cut_other, get-fill_new_other, passed-fill_new, passed-fill_live, passed-cut, new-is_new, get-fill_live, get-fill_live_other, get-fill_new}
+use Rattle.ir_model.proofs.Arenas.{get-new, get-cut, get-cut_other, passed-fill_new, passed-fill_live, passed-cut, new-is_new, get-fill_live, get-fill_live_other, get-fill_new}
 use Rattle.ir_model.proofs.ArenaRoom.{len-fill_live, room-fill_live}
 use Rattle.ir_model.proofs.IdCases.{id_cases}
 use Rattle.ir_arena.specs.Arena.{Arena, get, IsLive, IsNew, is_passed, fill, cut}

@@ -1,6 +1,6 @@
 -- A new bare block.
 use mathlib.Core.Path.{fun_ext}
-use Rattle.std.proofs.Common.{◌≡◌, List, [], map, All, Option, Some, None, refl, sym, ap, ◌∙◌, subst, inl, inr, cond}
+use Rattle.std.proofs.Common.{◌≡◌, List, [], All, Some, refl, sym, ap, ◌∙◌, subst, inl, inr, cond}
 use Rattle.std.specs.Option.{option_map}
 use Rattle.std.proofs.lemmas.Option.{same_Some}
 use Rattle.ir_model.specs.declared.ids.ArenaIndex.{ArenaIndex}
@@ -11,7 +11,6 @@ use Rattle.ir_model.proofs.Arenas.{get-fill_new, get-fill_new_other, get-new}
 use Rattle.ir_arena.specs.Arena.{Arena, get, IsNew, fill}
 use Rattle.ir_arena.specs.Lists.{AreLists, seen}
 use Rattle.ir_records.specs.declared.record.Definition.{Definition}
-use Rattle.ir_records.specs.declared.record.BlockIndex.{BlockIndex}
 use Rattle.ir_records.specs.declared.record.BasicBlock.{BasicBlock}
 use Rattle.ir_records.specs.declared.records.Records.{Records}
 use Rattle.ir_records.specs.Lists.{in_record, uses_with}

@@ -1,25 +1,25 @@
 -- A new bare operation.
 use mathlib.Core.Path.{fun_ext}
-use Rattle.std.proofs.Common.{◌≡◌, List, [], map, All, Option, Some, None, refl, sym, ap, ◌∙◌, subst, inl, inr}
+use Rattle.std.proofs.Common.{◌≡◌, List, [], All, Some, refl, sym, ap, ◌∙◌, subst, inl, inr}
 use Rattle.std.specs.Option.{option_map}
 use Rattle.std.proofs.lemmas.Option.{same_Some}
 use Rattle.ir_model.specs.declared.ids.ArenaIndex.{ArenaIndex}
-use Rattle.ir_model.specs.ContextIds.{context_ids, same_id}
-use Rattle.ir_model.specs.Changes.{put, new_op}
+use Rattle.ir_model.specs.ContextIds.{same_id}
+use Rattle.ir_model.specs.Changes.{put}
 use Rattle.ir_model.specs.Nesting.{In, list_of}
 use Rattle.ir_model.proofs.IdCases.{id_cases}
-use Rattle.ir_model.proofs.Arenas.{get-fill_new, get-fill_new_other, get-new}
+use Rattle.ir_model.proofs.Arenas.{get-fill_new, get-fill_new_other}
 use Rattle.ir_arena.specs.Arena.{Arena, get, IsNew, fill}
-use Rattle.ir_arena.specs.Lists.{AreLists, seen, unlinked}
+use Rattle.ir_arena.specs.Lists.{AreLists, seen}
 use Rattle.ir_records.specs.declared.record.Definition.{Definition}
 use Rattle.ir_records.specs.declared.record.Operation.{Operation}
 use Rattle.ir_records.specs.declared.records.Records.{Records}
 use Rattle.ir_records.specs.Lists.{in_record, uses_with}
 use Rattle.ir_records.specs.Chains.{chains_of}
 use Rattle.ir_records.specs.Table.{KnowOwn}
-use Rattle.ir_records.specs.Tree.{tree_of, ops_in, blocks_in, op_links, block_ends, op_regions}
+use Rattle.ir_records.specs.Tree.{tree_of, ops_in, op_links, block_ends, op_regions}
 use Rattle.ir_records.specs.Nested.{AreNested}
-use Rattle.ir_records.specs.Meaning.{forest_of, op_record, block_record, definition_of}
+use Rattle.ir_records.specs.Meaning.{forest_of, op_record, block_record}
 use Rattle.ir_tree.proofs.Readings.{read-new, seen-new}
 use Rattle.ir_tree.proofs.Kept.{OpsFound, Becomes, ops-are, nested-still}
 use Rattle.ir_tree.proofs.Chained.{uses-none, chains-same}

@@ -9,7 +9,7 @@ use Rattle.ir_model.specs.ContextIds.{context_ids, same_id}
 use Rattle.ir_model.specs.Forest.{OpRecord}
 use Rattle.ir_model.specs.Changes.{put, rewrite, add_region, on_op, on_regions}
 use Rattle.ir_model.specs.Ids.{Distinct}
-use Rattle.ir_model.specs.Nesting.{In, list_of}
+use Rattle.ir_model.specs.Nesting.{In, list_of, regions_of}
 use Rattle.ir_model.proofs.IdCases.{id_cases, id_same, id_differs}
 use Rattle.ir_model.proofs.Nests.{In-append, In-left, In-right, not_in-Absent}
 use Rattle.ir_model.proofs.Arenas.{get-fill_new, get-fill_new_other, get-new, get-cut, get-cut_other, get-fill_live, get-fill_live_other}
@@ -25,7 +25,7 @@ use Rattle.ir_records.specs.Tree.{tree_of, ops_in, blocks_in, op_links, block_li
 use Rattle.ir_records.specs.Nested.{AreNested}
 use Rattle.ir_records.specs.Meaning.{closed, forest_of, op_record, block_record}
 use Rattle.ir_tree.specs.Leaves.{without_region}
-use Rattle.ir_tree.proofs.Readings.{live-of, read-written, seen-new, seen-written, seen-cut}
+use Rattle.ir_tree.proofs.Readings.{live-of, read-written, seen-written, seen-cut}
 use Rattle.ir_tree.proofs.Kept.{OpsFound, BlocksFound, Becomes, ops-are, blocks-are, nested-still}
 use Rattle.ir_tree.proofs.Chained.{chains-same}
 
@@ -241,3 +241,19 @@ module _ {D A K B S X L : Type 0} (old : Records D A K B S X L) (op : ArenaIndex
         chains = relisted-chains old op x found rest (cut old.regions r);
         own = relisted-own old op x found rest (cut old.regions r);
       })
+
+-- the regions of an operation in the forest are those of its record
+pub regions-read : {D A K B S X L : Type 0} (t : Records D A K B S X L) (op : ArenaIndex) → regions_of (forest_of t) op ≡ in_record op_regions [] (get t.ops op)
+regions-read {D} {A} {K} {B} {S} {X} {L} t op = by (get t.ops op)
+  where
+    by : (m : Option (Operation D A K B S X L)) → list_of (λ (r : OpRecord context_ids (closed A K B S X L)). r.regions) (option_map op_record m) ≡ in_record op_regions [] m
+    by None = refl
+    by (Some y) = refl
+
+-- a region that is empty in the forest is live, and the walk finds nothing
+pub empty-region : {D A K B S X L : Type 0} (t : Records D A K B S X L) (r : ArenaIndex) → (forest_of t).regions r ≡ Some [] → IsLive t.regions r × (blocks_in (tree_of t) r ≡ [])
+empty-region t r e = by (get t.regions r) refl e
+  where
+    by : (m : Option Region) → get t.regions r ≡ m → option_map (λ (_ : Region). blocks_in (tree_of t) r) m ≡ Some [] → IsLive t.regions r × (blocks_in (tree_of t) r ≡ [])
+    by None is h = absurd cc
+    by (Some x) is h = (ap is_some is, same_Some _ _ h)

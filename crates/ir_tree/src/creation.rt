@@ -110,11 +110,11 @@ pub fn insert_operation<D: Dialects>(
 {
     node_changes_keep_lists::<Operation<D>, BasicBlock<D>>();
     lists_are_one::<Operation<D>, BasicBlock<D>>();
-    let inserted = records.ops.insert_with(move |op: Ptr<Operation<D>>|
-        ensures { result ≡ bare_op D.unknown op.index kind results }
-    {
-        new_operation(alloc, op.index, kind, results)
-    });
+    let inserted = records.ops.insert_with(
+        move |op: Ptr<Operation<D>>|
+            ensures { result ≡ bare_op D.unknown op.index kind results }
+        { new_operation(alloc, op.index, kind, results) },
+    );
     match inserted {
         Ok(op) => Ok(op.index()),
         Err(_) => Err(AllocError),
@@ -149,11 +149,11 @@ pub fn insert_block<D: Dialects>(
     lists_are_one::<BasicBlock<D>, Region>();
     container_changes_keep_lists::<Operation<D>, BasicBlock<D>>();
     lists_are_one::<Operation<D>, BasicBlock<D>>();
-    let inserted = records.blocks.insert_with(move |block: Ptr<BasicBlock<D>>|
-        ensures { result ≡ bare_block D.unknown block.index label arguments }
-    {
-        new_block(alloc, block.index, label, arguments)
-    });
+    let inserted = records.blocks.insert_with(
+        move |block: Ptr<BasicBlock<D>>|
+            ensures { result ≡ bare_block D.unknown block.index label arguments }
+        { new_block(alloc, block.index, label, arguments) },
+    );
     match inserted {
         Ok(block) => Ok(block.index()),
         Err(_) => Err(AllocError),
@@ -208,11 +208,17 @@ pub fn add_region<D: Dialects>(
     lists_are_one::<Operation<D>, BasicBlock<D>>();
     container_changes_keep_lists::<BasicBlock<D>, Region>();
     lists_are_one::<BasicBlock<D>, Region>();
-    let inserted = records.regions.insert_with(move |_: Ptr<Region>| Region {
-        parent: op,
-        first: Link::none(),
-        last: Link::none(),
-    });
+    let inserted = records.regions.insert_with(
+        move |_: Ptr<Region>|
+            ensures { result ≡ record { parent = op; first = None; last = None } }
+        {
+            Region {
+                parent: op,
+                first: Link::none(),
+                last: Link::none(),
+            }
+        },
+    );
     let Ok(region) = inserted else {
         return Err(AllocError);
     };
