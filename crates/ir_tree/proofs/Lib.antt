@@ -7,3 +7,6 @@ pub mod NewOperation
 pub mod NewBlock
 pub mod RegionLists
 pub mod Removal
+pub mod Relisted
+pub mod ListWords
+pub mod ListEdits
