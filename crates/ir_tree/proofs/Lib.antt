@@ -10,3 +10,7 @@ pub mod Removal
 pub mod Relisted
 pub mod ListWords
 pub mod ListEdits
+pub mod Climbs
+pub mod LiveIds
+pub mod ForestParents
+pub mod Depth

@@ -7,7 +7,9 @@ pub mod block_list;
 mod creation;
 mod list_edits;
 pub mod operation_list;
+mod parents;
 
 pub use creation::{
     add_region, insert_block, insert_operation, remove_bare_operation, remove_last_region,
 };
+pub use parents::{is_inside, parent_of};
