@@ -1,0 +1,16 @@
+pub mod Readings
+pub mod Kept
+pub mod Listed
+pub mod Chained
+pub mod Growths
+pub mod NewOperation
+pub mod NewBlock
+pub mod RegionLists
+pub mod Removal
+pub mod Relisted
+pub mod ListWords
+pub mod ListEdits
+pub mod Climbs
+pub mod LiveIds
+pub mod ForestParents
+pub mod Depth

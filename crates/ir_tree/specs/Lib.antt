@@ -1,0 +1,4 @@
+pub mod Leaves
+pub mod Bare
+pub mod Edits
+pub mod Climbs
