@@ -1,5 +1,5 @@
 -- The chains of all records: the second projection, beside the tree.
-use Rattle.std.specs.Prelude.{List}
+use Rattle.std.specs.Prelude.{ℕ, ◌+◌, List, [], ◌∷◌, map}
 use Rattle.ir_model.specs.declared.ids.ArenaIndex.{ArenaIndex}
 use Rattle.ir_records.specs.declared.record.ValueIndex.{ValueIndex}
 use Rattle.ir_records.specs.declared.record.BlockIndex.{BlockIndex}
@@ -25,3 +25,15 @@ module _ {D A K B S X L : Type 0} where
   -- what all records say of uses
   abbrev pub chains_of : Records D A K B S X L → Chains
   chains_of t = record { operands = operands_at t; successors = successors_at t; uses = uses_at t; block_uses = block_uses_at t }
+
+-- a place's number and what it names, without where its use stands
+abbrev pub name_of : {N : Type 0} → UsePlace N → ℕ × N
+name_of a = (a.number, a.names)
+
+abbrev pub names_in : {N : Type 0} → List (UsePlace N) → List (ℕ × N)
+names_in xs = map name_of xs
+
+-- these are named, with the numbers from n on
+abbrev pub names_from : {N : Type 0} → ℕ → List N → List (ℕ × N)
+names_from n [] = []
+names_from n (v ∷ vs) = (n, v) ∷ names_from (n + 1) vs

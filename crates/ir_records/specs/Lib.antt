@@ -3,7 +3,13 @@ pub mod Tree
 pub mod Meaning
 pub mod Table
 pub mod Links
+pub mod Chain
 pub mod Chains
 pub mod Nested
 pub mod Frames
+pub mod Values
 pub mod Growth
+pub mod Lends
+pub mod Numbered
+pub mod Edits
+pub mod TableLaws

@@ -1,7 +1,8 @@
 -- Lists inside records: one list of the record under an index, and the uses of one definition of a list.
-use Rattle.std.specs.Prelude.{◌≡◌, ℕ, List, [], ◌∷◌, map, Option, Some, None, slice_get, if◌then◌else◌, ◌==◌}
+use Rattle.std.specs.Prelude.{◌≡◌, ℕ, ◌+◌, List, [], ◌∷◌, map, Option, Some, None, slice_get, if◌then◌else◌, ◌==◌}
 use Rattle.ir_model.specs.declared.ids.ArenaIndex.{ArenaIndex}
 use Rattle.ir_model.specs.Ids.{Distinct}
+use Rattle.ir_base.specs.declared.type_handle.TypeHandle.{TypeHandle}
 use Rattle.ir_arena.specs.Arena.{Arena, get, fill}
 use Rattle.ir_records.specs.declared.record.UseIndex.{UseIndex}
 use Rattle.ir_records.specs.declared.record.UsePlace.{UsePlace}
@@ -38,3 +39,16 @@ in_record read none (Some x) = read x
 -- the record under a live index, changed
 abbrev pub edited : {T : Type 0} → (T → T) → Arena T → ArenaIndex → Arena T
 edited change t o = elim (get t o) [ None ↦ t | Some x ↦ fill t o (change x) ]
+
+-- the definition stands in the list, and has the number
+abbrev pub IsDefinition : List Definition → ℕ → Definition → Type 0
+IsDefinition rs n r = (i : ℕ) × (slice_get rs i ≡ Some r) × (r.number ≡ n)
+
+-- unused and unnamed definitions of these types, numbered from n on
+abbrev pub definitions_from : ℕ → List TypeHandle → List Definition
+definitions_from n [] = []
+definitions_from n (t ∷ ts) = record { number = n; ty = t.place; name = None; uses = [] } ∷ definitions_from (n + 1) ts
+
+-- no two places have one number
+abbrev pub HaveDistinctUses : {N : Type 0} → List (UsePlace N) → Type 0
+HaveDistinctUses xs = Distinct (map (λ a. a.number) xs)

@@ -85,6 +85,14 @@ module _ {D A K B S X L : Type 0} where
     loc = b.rest.loc;
   }
 
+  -- the index that an operation knows as its own
+  abbrev pub op_index : Operation D A K B S X L → ArenaIndex
+  op_index op = op.index
+
+  -- the index that a block knows as its own
+  abbrev pub block_index : BasicBlock D A K B S X L → ArenaIndex
+  block_index b = b.index
+
   -- what stands under each index
   abbrev pub op_records : Records D A K B S X L → ArenaIndex → Option (OpRecord context_ids (closed A K B S X L))
   op_records t o = option_map op_record (get t.ops o)

@@ -1,10 +1,14 @@
 //! The results of an operation, or the arguments of a block, which are found by their numbers. No two have one number.
 
-ghost use Rattle.std.specs.Prelude.{◌≡◌, ◌<◌, ◌==◌, [], length, Some, slice_get, position};
+ghost use Rattle.std.specs.Prelude.{◌≡◌, ◌+◌, ◌<◌, ◌^◌, ◌==◌, [], length, IfOk, Some, slice_get, position};
+ghost use Rattle.std.specs.Borrow.{sem};
+ghost use Rattle.ir_records.specs.Lists.{uses_with, HasNumber, IsDefinition, definitions_from};
+ghost use Rattle.ir_records.specs.Lends.{lends_definition_uses};
 
-use crate::record::Definition;
-use ir_base::ShortSeq;
-use std::alloc::Global;
+use crate::numbered::find_numbered;
+use crate::record::{Definition, Uses};
+use ir_base::{ShortSeq, TypeHandle};
+use std::alloc::{AllocError, Global};
 use std::marker::Model;
 
 /// Definitions in order, no two with one number. One of them takes no allocation.
@@ -25,6 +29,30 @@ impl Model for Definitions {
     ghost invariant = { λ s. HaveDistinctNumbers s.items };
 }
 
+// Unused and unnamed definitions of these types, numbered from `first` on.
+fn new_definitions(
+    alloc: Global,
+    first: u64,
+    types: &[TypeHandle],
+) -> Result<ShortSeq<Definition, 1>, AllocError>
+    requires { first + length types.now < 2 ^ 64 }
+    ensures { IfOk result (λ definitions. definitions ≡ definitions_from first types.now) }
+{
+    let mut definitions = ShortSeq::new(alloc);
+    definitions.reserve(types.len())?;
+    let mut number = first;
+    for ty in types {
+        definitions.push(Definition {
+            number,
+            ty: ty.place,
+            name: None,
+            uses: ShortSeq::new(alloc),
+        })?;
+        number += 1;
+    }
+    Ok(definitions)
+}
+
 impl Definitions {
     /// No definitions.
     pub fn new(alloc: Global) -> Self
@@ -33,6 +61,22 @@ impl Definitions {
         Definitions {
             items: ShortSeq::new(alloc),
         }
+    }
+
+    /// Unused and unnamed definitions of these types, numbered from `first` on.
+    ///
+    /// # Errors
+    /// Where there is no memory for them.
+    pub fn of_types(
+        alloc: Global,
+        first: u64,
+        types: &[TypeHandle],
+    ) -> Result<Definitions, AllocError>
+        requires { first + length types.now < 2 ^ 64 }
+        ensures { IfOk result (λ definitions. definitions ≡ definitions_from first types.now) }
+    {
+        let items = new_definitions(alloc, first, types)?;
+        Ok(Definitions { items })
     }
 
     /// How many there are.
@@ -55,5 +99,36 @@ impl Definitions {
         ensures { result.now ≡ self.now }
     {
         self.items.as_slice()
+    }
+
+    /// The place of the definition with this number.
+    pub fn find(&self, number: u64) -> Option<usize>
+        ensures { result ≡ position (λ r. r.number == number) self.now }
+    {
+        find_numbered(self.items.as_slice(), number)
+    }
+
+    /// The definition with this number.
+    pub fn with_number(&self, number: u64) -> &Definition
+        requires { HasNumber self.now number }
+        ensures is { IsDefinition self.now number result.now }
+        ensures uses { result.now.uses ≡ uses_with self.now number }
+    {
+        match self.find(number) {
+            Some(index) => self.items.at(index),
+            None => unreachable!(),
+        }
+    }
+
+    /// The uses of the definition with this number, for writing.
+    pub fn uses_mut(&mut self, number: u64) -> &mut Uses
+        requires { HasNumber self.old number }
+        ensures* writes_back { sem 𝓛 (lends_definition_uses self.entry number result) }
+        ensures value { result.now ≡ uses_with self.old number }
+    {
+        match self.find(number) {
+            Some(index) => &mut self.items.at_mut(index).uses,
+            None => unreachable!(),
+        }
     }
 }

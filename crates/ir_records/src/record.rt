@@ -3,8 +3,8 @@
 //! Each definition keeps the list of its uses, and each place that names one the place of its use in that list. Lists of common sizes lie in the record itself.
 
 use crate::definitions::Definitions;
-use ir_base::attribute::AttributeDict;
 use ir_arena::Link;
+use ir_base::attribute::AttributeDict;
 use ir_base::{ArenaIndex, Dialects, Identifier, Seq, ShortSeq};
 use std::alloc::Global;
 use std::default::MadeWith;
