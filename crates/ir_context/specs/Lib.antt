@@ -1,0 +1,5 @@
+pub mod State
+pub mod Sound
+pub mod Values
+pub mod Calls
+pub mod Creation

@@ -1,0 +1,25 @@
+//! The context, and all that changes it, under one invariant.
+#![tactic(auto)]
+
+mod block;
+mod context;
+pub mod creation;
+mod error;
+mod needs;
+mod operation;
+mod operation_uses;
+mod region;
+mod types;
+
+pub use block::BlockPtr;
+pub use context::Context;
+pub use error::{DanglingPtrDerefError, IndexErr, UseError, ValueError};
+pub use ir_records::{
+    BasicBlock, BasicBlockMut, BlockIndex, Definer, DefiningEntity, Operation, OperationMut,
+    Region, Use, UseIndex, Value, ValueIndex,
+};
+pub use needs::Needs;
+pub use operation::OperationPtr;
+pub use operation_uses::OperationUses;
+pub use region::RegionPtr;
+pub use types::TypeQueries;
