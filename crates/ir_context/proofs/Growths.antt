@@ -108,3 +108,20 @@ module _ {T : Type 0} where
 
   pub Skips-then : (a b c : Arena T) (n : ℕ) → SkipsIds a b n → ((i : ArenaIndex) → is_passed c i ≡ is_passed b i) → c.limit ≡ b.limit → c.last_version ≡ b.last_version → SkipsIds a c n
   Skips-then a b c n s passed limit last = record { skipped = s.skipped; few = s.few; grows = Grows-then a b c s.skipped s.grows passed limit last }
+
+  -- more that hands out none
+  pub Grows-nil : (a b c : Arena T) (xs : List ArenaIndex) → Grows a b xs → Grows b c [] → Grows a c xs
+  Grows-nil a b c xs f g = record {
+    distinct = f.distinct;
+    dead = f.dead;
+    are_new = f.are_new;
+    passed = λ i. (
+      λ p. elim ((g.passed i).0 p) [ inl q ↦ (f.passed i).0 q | inr k ↦ absurd k ],
+      λ p. (g.passed i).1 (inl ((f.passed i).1 p)),
+    );
+    limit = g.limit ∙ f.limit;
+    last_version = g.last_version ∙ f.last_version;
+  }
+
+  pub Skips-nil : (a b c : Arena T) (n : ℕ) → SkipsIds a b n → Grows b c [] → SkipsIds a c n
+  Skips-nil a b c n s g = record { skipped = s.skipped; few = s.few; grows = Grows-nil a b c s.skipped s.grows g }

@@ -17,3 +17,5 @@ pub mod Parents
 pub mod ResultUses
 pub mod Linking
 pub mod Giving
+pub mod Answers
+pub mod GivenRecords
