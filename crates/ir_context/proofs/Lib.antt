@@ -19,3 +19,4 @@ pub mod Linking
 pub mod Giving
 pub mod Answers
 pub mod GivenRecords
+pub mod GivenForests

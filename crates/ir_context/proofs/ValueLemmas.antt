@@ -1,5 +1,5 @@
 -- What a context knows of a value and of its uses, in the words of the forest.
-use Rattle.std.proofs.Common.{◌≡◌, refl, sym, ap, subst, ◌∙◌, ℕ, ◌<◌, ◌==◌, ◌↔◌, inl, Bool, true, false, List, [], ◌∷◌, map, length, Option, Some, None, IsSome, is_some, slice_get, not, ◌≢◌, IsTrue, position, arith}
+use Rattle.std.proofs.Common.{◌≡◌, refl, sym, ap, subst, ◌∙◌, ℕ, ◌<◌, ◌==◌, ◌↔◌, inl, Bool, true, List, [], ◌∷◌, map, length, Some, None, slice_get, not, ◌≢◌, IsTrue, position, arith}
 use Rattle.std.specs.Option.{option_map}
 use Rattle.std.proofs.lemmas.Bool.{eq-eqb, ne_eqb}
 use Rattle.std.proofs.lemmas.List.{length-map}
@@ -17,7 +17,7 @@ use Rattle.ir_records.specs.declared.record.UseIndex.{UseIndex}
 use Rattle.ir_records.specs.declared.record.UsePlace.{UsePlace}
 use Rattle.ir_records.specs.declared.record.Definition.{Definition}
 use Rattle.ir_records.specs.Chains.{AreLinked, chains_of}
-use Rattle.ir_records.specs.Meaning.{definer_of, definition_of, operand_of, successor_of, use_of, value_of}
+use Rattle.ir_records.specs.Meaning.{definition_of, use_of, value_of}
 use Rattle.ir_records.specs.Table.{IsValue, block_uses_at, definitions_at, operands_at, successors_at, uses_at}
 use Rattle.ir_records.specs.Values.{IsLiveBlockUse, IsLiveUse}
 use Rattle.ir_records.proofs.Found.{number-found, number-missing, place-In}

@@ -11,7 +11,7 @@ ghost use Rattle.ir_model.specs.Changes.{on_op, on_operands, on_successors};
 ghost use Rattle.ir_arena.specs.Arena.{room, IsLive};
 ghost use Rattle.ir_records.specs.Frames.{KeepsTree};
 ghost use Rattle.ir_records.specs.Meaning.{closed, forest_of as forest_in, operands_from, successors_from, value_of};
-ghost use Rattle.ir_context.specs.Creation.{AreFresh, Extends, HoldTogether, IsGiven, Skips};
+ghost use Rattle.ir_context.specs.Creation.{AreFresh, Extends, HoldTogether, IsGiven, Skips, with_regions};
 
 use ir_base::{ArenaIndex, Dialects, Ptr, TypeHandle};
 use ir_records::{BasicBlock, Records, Value, link_operands, link_successors, unlink_operands};
@@ -105,6 +105,40 @@ pub fn link_places<D: Dialects>(
     let next_use = first_use + parts.operands.len() as u64;
     if link_successors(records, op, next_use, parts.successors).is_err() {
         unlink_operands(records, op);
+        return Err(AllocError);
+    }
+    Ok(())
+}
+
+/// Gives a bare operation its regions, operands and successors: all or none.
+///
+/// # Errors
+/// Where there is no memory for them. Then the forest is as it was, and at most so many ids were skipped.
+pub fn complete<D: Dialects>(
+    records: &mut Records<D>,
+    op: ArenaIndex,
+    first_use: u64,
+    parts: &Parts<'_, D>,
+) -> Result<(), AllocError>
+    requires together { HoldTogether records.old }
+    requires live { IsLive records.old.ops op }
+    requires no_regions { regions_of (forest_in records.old) op ≡ [] }
+    requires no_operands { operands_of (forest_in records.old) op ≡ [] }
+    requires no_successors { successors_of (forest_in records.old) op ≡ [] }
+    requires operands { All (λ v. IsLiveNamed (forest_in records.old) (a_value (value_of v.index))) parts.now.operands.now }
+    requires successors { All (λ b. IsLiveNamed (forest_in records.old) (the_block b.index)) parts.now.successors.now }
+    requires fresh { AreFresh (forest_in records.old) first_use }
+    requires numbers { first_use + (length parts.now.operands.now + length parts.now.successors.now) < 2 ^ 64 }
+    requires room { parts.now.num_regions ≤ room records.old.regions }
+    ensures together { HoldTogether records.new }
+    ensures live { IsLive records.new.ops op }
+    ensures made { OnOk result ((rs : List ArenaIndex) × (length rs ≡ parts.now.num_regions) × (forest_in records.new ≡ on_op (on_op (with_regions (forest_in records.old) op rs) op (on_operands (λ _. operands_from first_use (map (λ v. v.index) parts.now.operands.now)))) op (on_successors (λ _. successors_from (first_use + length parts.now.operands.now) (map (λ b. record { index = b.index }) parts.now.successors.now)))) × Extends records.old records.new [] [] rs) }
+    ensures same { OnErr result (forest_in records.new ≡ forest_in records.old) }
+    ensures skipped { OnErr result (Skips records.old records.new 0 0 parts.now.num_regions) }
+{
+    add_regions(records, op, parts.num_regions)?;
+    if link_places(records, op, first_use, parts).is_err() {
+        remove_regions(records, op, parts.num_regions);
         return Err(AllocError);
     }
     Ok(())

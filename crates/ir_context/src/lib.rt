@@ -10,6 +10,7 @@ mod operation;
 mod operation_uses;
 mod region;
 mod types;
+mod value;
 
 pub use block::BlockPtr;
 pub use context::Context;
@@ -23,3 +24,4 @@ pub use operation::OperationPtr;
 pub use operation_uses::OperationUses;
 pub use region::RegionPtr;
 pub use types::TypeQueries;
+pub use value::{BlockUseQueries, UseQueries, ValueQueries};
