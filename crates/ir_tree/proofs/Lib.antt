@@ -14,3 +14,4 @@ pub mod Climbs
 pub mod LiveIds
 pub mod ForestParents
 pub mod Depth
+pub mod MovedRegions

@@ -161,7 +161,7 @@ pub fn insert_block<D: Dialects>(
 }
 
 // Puts a region at the end of the list of a live operation, or leaves the list as it was.
-fn push_region<D: Dialects>(
+pub(crate) fn push_region<D: Dialects>(
     ops: &mut Arena<Operation<D>>,
     op: ArenaIndex,
     region: ArenaIndex,

@@ -8,8 +8,10 @@ mod creation;
 mod list_edits;
 pub mod operation_list;
 mod parents;
+mod region_moves;
 
 pub use creation::{
     add_region, insert_block, insert_operation, remove_bare_operation, remove_last_region,
 };
 pub use parents::{is_inside, parent_of};
+pub use region_moves::move_region;
