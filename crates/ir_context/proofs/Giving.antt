@@ -57,15 +57,17 @@ module _ {W : Dialect} (f : Forest context_ids W) (o : ArenaIndex) where
       let r = last.1 in
       let distinct : Distinct (rest ++ r ∷ []) = subst Distinct last.2 is.distinct in
       let dead : f.regions r ≡ None = is.were_dead r (subst (In r) (sym last.2) (In-right r rest (r ∷ []) (inl refl))) in
-      let left : h ≡ without_region (on_op g o (on_regions (λ _. rest))) r = back rest r (given-regions-of rs (suc n) g is ∙ last.2) in
-      (rest, record {
-        number = last.3;
-        distinct = left-distinct rest (r ∷ []) distinct;
-        were_dead = λ q i. is.were_dead q (subst (In q) (sym last.2) (In-left q rest (r ∷ []) i));
-        live = is.live;
-        bare = is.bare;
-        is = left ∙ ap (λ k. without_region (on_op k o (on_regions (λ _. rest))) r) (is.is ∙ ap (with_regions f o) last.2) ∙ given-less f o is.bare rest r dead (last-apart rest r distinct);
-      })
+      let left : h ≡ without_region (on_op g o (on_regions (λ _. rest))) r = back rest r (given-regions-of rs (suc n) g is ∙ last.2) in (
+        rest,
+        record {
+          number = last.3;
+          distinct = left-distinct rest (r ∷ []) distinct;
+          were_dead = λ q i. is.were_dead q (subst (In q) (sym last.2) (In-left q rest (r ∷ []) i));
+          live = is.live;
+          bare = is.bare;
+          is = left ∙ ap (λ k. without_region (on_op k o (on_regions (λ _. rest))) r) (is.is ∙ ap (with_regions f o) last.2) ∙ given-less f o is.bare rest r dead (last-apart rest r distinct);
+        },
+      )
 
   pub given-done : (rs : List ArenaIndex) (g : Forest context_ids W) → IsGiven f o rs 0 g → g ≡ f
   given-done rs g h = h.is ∙ ap (with_regions f o) (none rs h.number) ∙ given-none f o

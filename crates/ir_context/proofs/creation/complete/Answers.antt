@@ -68,8 +68,7 @@ returns-clause-made g c =
     let first = c.args.records.now in
     let given = c.add_regions.new.records in
     let last = c.link_places.new.records in
-    let keeps = c.link_places.ensures.keeps in
-    (
+    let keeps = c.link_places.ensures.keeps in (
       w.0,
       w.1.number,
       linked ∙ ap (λ f. on_op (on_op f c.args.op (on_operands (λ _. operands_from c.args.first_use (map (λ v. v.index) c.args.parts.now.operands.now)))) c.args.op (on_successors (λ _. successors_from (c.args.first_use + length c.args.parts.now.operands.now) (map (λ b. record { index = b.index }) c.args.parts.now.successors.now)))) w.1.is,
