@@ -113,9 +113,17 @@ module _ {W : Dialect} where
     pub successor_count : option_map (λ r. length r.successors) (f.ops id) ≡ Some successors
     pub region_count : option_map (λ r. length r.regions) (f.ops id) ≡ Some regions
 
+  -- the block under the id has so many arguments
+  abbrev pub HasArguments : Forest context_ids W → ArenaIndex → ℕ → Type 0
+  HasArguments f id arguments = option_map (λ r. length r.arguments) (f.blocks id) ≡ Some arguments
+
   -- each value and block that was live is live still
   abbrev pub StayLive : Forest context_ids W → Forest context_ids W → Type 0
   StayLive old new = (d : Named context_ids) → IsLiveNamed old d → IsLiveNamed new d
+
+  -- each operation, block and region that was live is live still
+  abbrev pub EntitiesStayLive : Forest context_ids W → Forest context_ids W → Type 0
+  EntitiesStayLive old new = (e : Entity context_ids) → IsLive old e → IsLive new e
 
   -- all is as before, but that at most so many new ids and numbers were skipped
   pub record SkipsAtMost (old new : Session W) (most : Counts) : Type 0 where

@@ -17,6 +17,7 @@ ghost use Rattle.ir_records.specs.declared.record.ValueIndex.{ValueIndex as Plai
 ghost use Rattle.ir_records.specs.Meaning.{value_of};
 ghost use Rattle.ir_context.specs.State.{bare, behaviour, block_uses_of, forest_of, types_of, uses_of};
 ghost use Rattle.ir_context.specs.Sound.{AreLimits};
+ghost use Rattle.ir_context.specs.Creation.{HoldTogether};
 ghost use Rattle.ir_context.specs.Calls.{IsRoom, SameButTypes, NoEntity, TypesAreExact};
 
 use ir_base::{Arena, CoreError, Dialects, Limits, Room, TypeHandle, TypeStore};
@@ -146,6 +147,20 @@ impl<D: Dialects> Context<D> {
     pub fn uses_are_exact(&self)
         ensures values { (v : PlainIndex) → IsLiveNamed (forest_of self.now) (a_value (value_of v)) → AreUses (forest_of self.now) (a_value (value_of v)) (uses_of self.now v) }
         ensures blocks { (b : ArenaIndex) → IsLiveNamed (forest_of self.now) (the_block b) → AreUses (forest_of self.now) (the_block b) (block_uses_of self.now b) }
+    {
+        let _value = self.next_value;
+    }
+
+    /// The records, for the crates that read them.
+    pub fn records(&self) -> &Records<D>
+        ensures { result.now ≡ self.now.records }
+    {
+        &self.records
+    }
+
+    /// What holds of every context: uses and places name each other, links are those of lists, and records know their places.
+    pub fn holds_together(&self)
+        ensures { HoldTogether self.now.records }
     {
         let _value = self.next_value;
     }

@@ -3,9 +3,10 @@
 
 mod block;
 mod context;
-pub mod creation;
+mod creation;
 mod error;
 mod needs;
+mod new_entities;
 mod operation;
 mod operation_uses;
 mod region;
@@ -20,6 +21,7 @@ pub use ir_records::{
     Region, Use, UseIndex, Value, ValueIndex,
 };
 pub use needs::Needs;
+pub use new_entities::{AddRegion, NewBlock, NewOperation};
 pub use operation::OperationPtr;
 pub use operation_uses::OperationUses;
 pub use region::RegionPtr;
