@@ -20,3 +20,4 @@ pub mod Giving
 pub mod Answers
 pub mod GivenRecords
 pub mod GivenForests
+pub mod NewOperations
