@@ -21,3 +21,4 @@ pub mod Answers
 pub mod GivenRecords
 pub mod GivenForests
 pub mod NewOperations
+pub mod CreatedOperations
