@@ -23,9 +23,9 @@ use Rattle.ir_records.specs.Lists.{HaveDistinctUses, in_record}
 use Rattle.ir_records.specs.Meaning.{definer_of, use_of, value_of}
 use Rattle.ir_records.specs.Table.{block_uses_at, definitions_at, operands_at, successors_at, uses_at}
 use Rattle.ir_records.specs.Values.{IsLiveBlockUse, IsLiveUse}
-use Rattle.ir_records.proofs.Found.{number-found, number-missing}
-use Rattle.ir_records.proofs.KeptUses.{places-differ}
-use Rattle.ir_records.proofs.Meant.{numbers-meant}
+use Rattle.ir_records.specs.Found.{number-found, number-missing}
+use Rattle.ir_records.specs.KeptUses.{places-differ}
+use Rattle.ir_records.specs.Meant.{numbers-meant}
 use Rattle.ir_context.specs.declared.error.IndexErr.{IndexErr}
 use Rattle.ir_context.specs.declared.error.IndexErr.TheVariants.{ValueError as OfValue}
 use Rattle.ir_context.specs.declared.error.ValueError.TheVariants.{NotInOpResult, NotInBlockArgument}

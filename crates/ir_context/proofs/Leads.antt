@@ -15,7 +15,7 @@ use Rattle.ir_records.specs.declared.record.UseIndex.{UseIndex}
 use Rattle.ir_records.specs.declared.record.ValueIndex.{ValueIndex}
 use Rattle.ir_records.specs.Meaning.{closed, block_record, definer_of, op_record, use_of, value_of}
 use Rattle.ir_records.specs.Values.{IsLiveBlockUse, IsLiveUse}
-use Rattle.ir_records.proofs.Found.{some_behind}
+use Rattle.ir_records.specs.Found.{some_behind}
 use Rattle.ir_context.specs.Calls.{BlockLeadsToLive, IsBlock, IsOperation, LeadsToLive}
 use Rattle.ir_context.proofs.ValueLemmas.{block-use-live, use-live}
 

@@ -29,7 +29,7 @@ use Rattle.ir_context.specs.State.{State}
 use Rattle.ir_context.proofs.MadeParts.{operand-numbers}
 use Rattle.ir_context.proofs.Making.{rewrite-none, rewrite-twice}
 use Rattle.ir_context.proofs.Numbers.{In-range}
-use Rattle.ir_records.proofs.Meant.{operands-meant, successors-meant}
+use Rattle.ir_records.specs.Meant.{operands-meant, successors-meant}
 use Rattle.ir_context.proofs.ValueLemmas.{live-value}
 
 map-none : {U V : Type 0} (f : U → V) (xs : List U) → map f xs ≡ [] → xs ≡ []

@@ -14,7 +14,7 @@ use Rattle.ir_records.specs.declared.record.Operation.{Operation}
 use Rattle.ir_records.specs.declared.record.Region.{Region}
 use Rattle.ir_records.specs.Meaning.{closed, op_record}
 use Rattle.ir_records.specs.Tree.{blocks_in, op_regions, region_parent as parent_in, tree_of}
-use Rattle.ir_records.proofs.Found.{record-there}
+use Rattle.ir_records.specs.Found.{record-there}
 use Rattle.ir_context.specs.Calls.{IsRegion}
 use Rattle.ir_context.specs.Sound.{IsSound}
 use Rattle.ir_context.specs.State.{State, forest_of}

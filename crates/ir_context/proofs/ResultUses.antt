@@ -26,9 +26,9 @@ use Rattle.ir_records.specs.Meaning.{use_of}
 use Rattle.ir_context.specs.Sound.{IsSound}
 use Rattle.ir_context.specs.State.{State, forest_of, uses_of, uses_of_results}
 use Rattle.ir_records.specs.Table.{definitions_at, operands_at, uses_at}
-use Rattle.ir_records.proofs.Found.{place-In}
-use Rattle.ir_records.proofs.KeptUses.{numbers-differ, one_kept}
-use Rattle.ir_records.proofs.Meant.{map-map, numbers-meant}
+use Rattle.ir_records.specs.Found.{place-In}
+use Rattle.ir_records.specs.KeptUses.{numbers-differ, one_kept}
+use Rattle.ir_records.specs.Meant.{map-map, numbers-meant}
 use Rattle.ir_context.specs.Values.{AreUsesOfResults, IsUseOfResult}
 use Rattle.ir_context.proofs.RoomLemmas.{below, below-In, length-below}
 use Rattle.ir_context.proofs.ValueLemmas.{uses-exact}

@@ -20,9 +20,9 @@ use Rattle.ir_records.specs.Chains.{AreLinked, chains_of}
 use Rattle.ir_records.specs.Meaning.{definition_of, use_of, value_of}
 use Rattle.ir_records.specs.Table.{IsValue, block_uses_at, definitions_at, operands_at, successors_at, uses_at}
 use Rattle.ir_records.specs.Values.{IsLiveBlockUse, IsLiveUse}
-use Rattle.ir_records.proofs.Found.{number-found, number-missing, place-In}
-use Rattle.ir_records.proofs.KeptUses.{kept-exact, kept-once}
-use Rattle.ir_records.proofs.Meant.{definitions-meant, numbers-meant, operands-meant, successors-meant, value-same}
+use Rattle.ir_records.specs.Found.{number-found, number-missing, place-In}
+use Rattle.ir_records.specs.KeptUses.{kept-exact, kept-once}
+use Rattle.ir_records.specs.Meant.{definitions-meant, numbers-meant, operands-meant, successors-meant, value-same}
 use Rattle.ir_context.specs.State.{State, block_uses_of, forest_of, uses_of}
 use Rattle.ir_context.specs.Values.{HasType}
 

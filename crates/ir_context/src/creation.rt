@@ -17,9 +17,8 @@ ghost use Rattle.ir_context.specs.State.{bare, forest_of, types_of};
 
 use crate::context::Context;
 use ir_base::{ArenaIndex, Dialects, Identifier, Ptr, TypeHandle};
-use ir_records::{
-    BasicBlock, Definitions, Records, Value, link_operands, link_successors, unlink_operands,
-};
+use ir_chains::{link_operands, link_successors, unlink_operands};
+use ir_records::{BasicBlock, Definitions, Records, Value};
 use ir_tree::{
     add_region, insert_block, insert_operation, remove_bare_operation, remove_last_region,
 };

@@ -9,7 +9,7 @@ use Rattle.ir_base.specs.declared.type_handle.TypeHandle.{TypeHandle}
 use Rattle.ir_records.specs.declared.record.Definition.{Definition}
 use Rattle.ir_records.specs.declared.record.UseIndex.{UseIndex}
 use Rattle.ir_records.specs.Lists.{HaveDistinctNumbers, IsDefinition, definitions_from}
-use Rattle.ir_records.proofs.Distinct.{distinct_by_place}
+use Rattle.ir_records.specs.Distinct.{distinct_by_place}
 
 definitions_from-push : (n : ℕ) (ts : List TypeHandle) (t : TypeHandle) → definitions_from n (ts ++ t ∷ []) ≡ definitions_from n ts ++ record { number = n + length ts; ty = t.place; name = None; uses = [] } ∷ []
 definitions_from-push n [] t = let e : n ≡ n + 0 = omega arith in λ i. record { number = e i; ty = t.place; name = None; uses = [] } ∷ []

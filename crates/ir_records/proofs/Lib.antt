@@ -1,12 +1,1 @@
-pub mod Found
-pub mod Meant
-pub mod KeptUses
-pub mod Distinct
 pub mod DefinitionLists
-pub mod ListReads
-pub mod WrittenLists
-pub mod LinkLemmas
-pub mod ChainEdits
-pub mod ChainLoops
-pub mod Frames
-pub mod Meanings

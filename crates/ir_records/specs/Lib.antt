@@ -3,7 +3,6 @@ pub mod Tree
 pub mod Meaning
 pub mod Table
 pub mod Links
-pub mod Chain
 pub mod Chains
 pub mod Nested
 pub mod Frames
@@ -11,5 +10,7 @@ pub mod Values
 pub mod Growth
 pub mod Lends
 pub mod Numbered
-pub mod Edits
-pub mod TableLaws
+pub mod Distinct
+pub mod Found
+pub mod Meant
+pub mod KeptUses

@@ -1,5 +1,5 @@
 -- Who stands in whom, as all records say it by links and lists of regions: one of two projections of the records, beside the chains.
-use Rattle.std.specs.Prelude.{◌≡◌, ℕ, List, length, Option, None}
+use Rattle.std.specs.Prelude.{ℕ, List, length, None}
 use Rattle.ir_model.specs.declared.ids.ArenaIndex.{ArenaIndex}
 use Rattle.ir_arena.specs.Lists.{Links, Ends, Heap, seen}
 use Rattle.ir_arena.specs.Walks.{walk_to, head_in}

@@ -5,7 +5,6 @@ ghost use Rattle.std.specs.Option.{option_map};
 ghost use Rattle.ir_records.specs.Meaning.{closed, use_of, value_of};
 ghost use Rattle.ir_records.specs.Values.{block_of, op_of, BlockLiveWhereValue, LiveWhereBlockUse, LiveWhereUse, LiveWhereValue};
 
-use crate::named::Names;
 use crate::record::{BasicBlock, Definer, Operation, UseIndex, ValueIndex};
 use ir_base::{Dialects, Ptr};
 use std::marker::PhantomData;
@@ -91,14 +90,6 @@ impl<D: Dialects> Value<D> {
             Definer::Op(_) => None,
             Definer::Block(block) => Some(Ptr::from_index(block)),
         }
-    }
-}
-
-impl<D: Dialects> Names<ValueIndex> for Value<D> {
-    ghost named = { λ v. v.index };
-
-    fn named_index(&self) -> ValueIndex {
-        self.index
     }
 }
 

@@ -1,7 +1,7 @@
 use Rattle.std.proofs.Common.{sym, ◌∙◌, ap, map}
 use Rattle.std.proofs.lemmas.List.{take_all}
 use Rattle.ir_records.specs.Meaning.{use_of}
-use Rattle.ir_records.proofs.Meant.{map-map}
+use Rattle.ir_records.specs.Meant.{map-map}
 use Rattle.ir_context.proofs.value.copy_uses.Goals as goal
 
 pub returns-clause-kept : goal.returns-clause-kept

@@ -1,6 +1,6 @@
 use Rattle.std.proofs.Common.{Some, sym, ap, ◌∙◌}
 use Rattle.std.proofs.lemmas.Option.{slice_get-get_or}
-use Rattle.ir_records.proofs.Distinct.{first_with}
+use Rattle.ir_records.specs.Distinct.{first_with}
 use Rattle.ir_records.proofs.numbered.find_numbered.Goals as goal
 
 pub returns-then-number : goal.returns-then-number
