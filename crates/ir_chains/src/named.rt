@@ -195,7 +195,7 @@ impl<D: Dialects> Named<D> for ValueIndex {
 
     fn set_place(records: &mut Records<D>, moved: UseIndex, index: usize) {
         let operands = &mut records.ops.at_mut(Ptr::from_index(moved.user)).operands;
-        match find_place(operands, moved.number) {
+        match find_place(operands.as_slice(), moved.number) {
             Some(found) => operands.at_mut(found).place = index,
             None => unreachable!(),
         }
@@ -293,7 +293,7 @@ impl<D: Dialects> Named<D> for BlockIndex {
 
     fn set_place(records: &mut Records<D>, moved: UseIndex, index: usize) {
         let successors = &mut records.ops.at_mut(Ptr::from_index(moved.user)).successors;
-        match find_place(successors, moved.number) {
+        match find_place(successors.as_slice(), moved.number) {
             Some(found) => successors.at_mut(found).place = index,
             None => unreachable!(),
         }

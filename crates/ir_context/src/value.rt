@@ -207,7 +207,7 @@ impl<D: Dialects> UseQueries<D> for Use<Value<D>> {
 
     fn try_find_index(self, ctx: &Context<D>) -> Result<usize, IndexErr> {
         match ctx.records.ops.get(Ptr::from_index(self.index.user)) {
-            Some(op) => match find_place(&op.operands, self.index.number) {
+            Some(op) => match find_place(op.operands.as_slice(), self.index.number) {
                 Some(index) => Ok(index),
                 None => Err(IndexErr::UseError(UseError::OperandNotInUserOp)),
             },
@@ -268,7 +268,7 @@ impl<D: Dialects> BlockUseQueries<D> for Use<Ptr<BasicBlock<D>>> {
 
     fn try_find_index(self, ctx: &Context<D>) -> Result<usize, IndexErr> {
         match ctx.records.ops.get(Ptr::from_index(self.index.user)) {
-            Some(op) => match find_place(&op.successors, self.index.number) {
+            Some(op) => match find_place(op.successors.as_slice(), self.index.number) {
                 Some(index) => Ok(index),
                 None => Err(IndexErr::UseError(UseError::SuccessorNotInUserOp)),
             },

@@ -18,7 +18,7 @@ pub use definitions::Definitions;
 pub use handles::{DefiningEntity, Use, Value};
 pub use reads::{block_uses, definition, find_place, uses};
 pub use record::{
-    BasicBlock, BasicBlockMut, BlockIndex, Definer, Definition, EntityIndex, Operation,
-    OperationMut, Places, Region, UseIndex, UsePlace, Uses, ValueIndex,
+    BasicBlock, BasicBlockMut, BlockIndex, Definer, Definition, EntityIndex, Operands, Operation,
+    OperationMut, Region, Successors, UseIndex, UsePlace, Uses, ValueIndex,
 };
 pub use records::Records;

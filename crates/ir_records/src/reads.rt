@@ -5,7 +5,7 @@ ghost use Rattle.ir_records.specs.Lists.{HaveDistinctUses, IsDefinition};
 ghost use Rattle.ir_records.specs.Table.{block_uses_at, definitions_at, uses_at, IsBlock, IsValue};
 
 use crate::numbered::find_numbered;
-use crate::record::{BlockIndex, Definer, Definition, Places, Uses, ValueIndex};
+use crate::record::{BlockIndex, Definer, Definition, UsePlace, Uses, ValueIndex};
 use crate::records::Records;
 use ir_base::{Dialects, Ptr};
 
@@ -44,9 +44,9 @@ pub fn uses<D: Dialects>(records: &Records<D>, value: ValueIndex) -> &Uses
 }
 
 /// The index of the operand or successor with this number.
-pub fn find_place<N>(places: &Places<N>, number: u64) -> Option<usize>
+pub fn find_place<N>(places: &[UsePlace<N>], number: u64) -> Option<usize>
     requires { HaveDistinctUses places.now }
     ensures { result ≡ position (λ a. a.number == number) places.now }
 {
-    find_numbered(places.as_slice(), number)
+    find_numbered(places, number)
 }

@@ -68,8 +68,11 @@ pub struct UsePlace<N> {
     pub place: usize,
 }
 
-/// The operands or the successors of an operation, in order. Two of them take no allocation.
-pub type Places<N> = ShortSeq<UsePlace<N>, 2>;
+/// The operands of an operation, in order. Two of them take no allocation.
+pub type Operands = ShortSeq<UsePlace<ValueIndex>, 2>;
+
+/// The successors of an operation, in order. Most operations have none, so they lie outside the record.
+pub type Successors = Seq<UsePlace<BlockIndex>>;
 
 /// A result of an operation or an argument of a block.
 #[derive(Drop)]
@@ -78,8 +81,8 @@ pub struct Definition {
     pub number: u64,
     /// The place of its type.
     pub ty: usize,
-    /// The name that it was given.
-    pub name: Option<Identifier>,
+    /// The name that it was given. Few have one, so it lies outside the record.
+    pub name: Option<Box<Identifier>>,
     /// Its uses.
     pub uses: Uses,
 }
@@ -103,9 +106,9 @@ pub struct Operation<D: Dialects> {
     /// Its results.
     pub results: Definitions,
     /// Its operands.
-    pub operands: Places<ValueIndex>,
+    pub operands: Operands,
     /// Its successors.
-    pub successors: Places<BlockIndex>,
+    pub successors: Successors,
     /// Its regions, in order.
     pub regions: Seq<ArenaIndex>,
     /// The operation after it in its block.

@@ -46,7 +46,7 @@ fn new_operation<D: Dialects>(
         kind,
         results,
         operands: ShortSeq::new(alloc),
-        successors: ShortSeq::new(alloc),
+        successors: Seq::new(alloc),
         regions: Seq::new(alloc),
         next: Link::none(),
         prev: Link::none(),
