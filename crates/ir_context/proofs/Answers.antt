@@ -12,3 +12,7 @@ at_err (Err e) P h p = p
 pub ok_value : {T E : Type 0} (r : Result T E) → is_ok r ≡ true → (x : T) × (r ≡ Ok x)
 ok_value (Ok x) h = (x, refl)
 ok_value (Err e) h = absurd (cc)
+
+pub err_holds : {T E P : Type 0} (r : Result T E) → P → OnErr r P
+err_holds (Ok x) p = tt
+err_holds (Err e) p = p

@@ -7,9 +7,9 @@ use Rattle.ir_model.specs.declared.ids.ArenaIndex.{ArenaIndex}
 use Rattle.ir_model.specs.declared.ids.Limits.{Limits}
 use Rattle.ir_model.specs.ContextIds.{context_ids}
 use Rattle.ir_model.specs.Ids.{Fresh, Counts}
-use Rattle.ir_model.specs.Forest.{Definer}
+use Rattle.ir_model.specs.Forest.{Definer, Dialect}
 use Rattle.ir_model.specs.Nesting.{In, WellFormed, numbers_of, uses_of}
-use Rattle.ir_model.specs.Sessions.{IsNewId, live_op, live_block, live_region}
+use Rattle.ir_model.specs.Sessions.{IsNewId, Session, live_op, live_block, live_region}
 use Rattle.ir_arena.specs.Arena.{Arena, get, IsLive, is_passed}
 use Rattle.ir_records.specs.declared.records.Records.{Records}
 use Rattle.ir_records.specs.Growth.{Grows, SkipsIds}
@@ -41,7 +41,7 @@ new-meant : {T R : Type 0} (f : ArenaIndex → T → R) (limits : Limits) (a b :
 new-meant f limits a b made keeps grows i h =
     IsNewId-fewer limits (is_passed a) (IsLive a) (λ j. IsSome (option_map (f j) (get a j))) i (λ j. some-map (f j) (get a j)) (grows.are_new limits (sym keeps.limit) (sym keeps.last_version) i h)
 
-none-more : (passed : ℕ → Bool) (i : ℕ) → IsTrue (passed i) ↔ (IsTrue (passed i) ⊎ In i [])
+none-more : {U : Type 0} (passed : U → Bool) (i : U) → IsTrue (passed i) ↔ (IsTrue (passed i) ⊎ In i [])
 none-more passed i = (λ h. inl h, λ h. elim h [ inl p ↦ p | inr k ↦ absurd k ])
 
 module _ {D A K B S X L : Type 0} (s : State D A K B S X L) (sound : IsSound s) (t : Records D A K B S X L) (together : HoldTogether t) where
@@ -144,3 +144,22 @@ module _ {D A K B S X L : Type 0} (s : State D A K B S X L) (sound : IsSound s) 
       };
       limits = refl;
     }
+
+-- nothing was skipped
+pub skips-nothing : {W : Dialect} (s : Session W) (n : Counts) → SkipsAtMost s s n
+skips-nothing s n = record {
+  forest = refl;
+  store = refl;
+  beside = refl;
+  limits = refl;
+  skipped = record { ops = []; blocks = []; regions = []; numbers = []; uses = [] };
+  within = record { ops = omega arith; blocks = omega arith; regions = omega arith; numbers = omega arith; uses = omega arith };
+  were_new = record { ops = λ i h. absurd h; blocks = λ i h. absurd h; regions = λ i h. absurd h; numbers = λ i h. absurd h; uses = λ i h. absurd h };
+  passed = record {
+    ops = λ i. none-more s.passed.ops i;
+    blocks = λ i. none-more s.passed.blocks i;
+    regions = λ i. none-more s.passed.regions i;
+    numbers = λ i. none-more s.passed.numbers i;
+    uses = λ i. none-more s.passed.uses i;
+  };
+}
