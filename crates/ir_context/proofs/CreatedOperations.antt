@@ -1,13 +1,18 @@
 -- An operation that a context made of handles: what it has handed out, and what stays live.
-use Rattle.std.proofs.Common.{◌≡◌, ℕ, ◌+◌, ◌<◌, ◌≤◌, List, [], ◌∷◌, length, map, All, None, inl, refl, sym, ap, subst, ◌∙◌, arith}
-use Rattle.std.proofs.lemmas.List.{length-map}
+use Rattle.std.proofs.Common.{◌≡◌, ℕ, ◌+◌, ◌<◌, ◌≤◌, List, [], ◌∷◌, length, map, take, drop, All, None, Some, is_some, inl, refl, sym, ap, subst, ◌∙◌, arith}
+use Rattle.std.specs.List.{zip}
+use Rattle.std.specs.Option.{option_map}
+use Rattle.std.proofs.lemmas.List.{length-drop, length-map, length-take-le}
 use Rattle.std.proofs.lemmas.List.Elements.{All-map}
 use Rattle.std.proofs.lemmas.Simd.{map-map}
+use Rattle.std.proofs.lemmas.Slice.Zip.{length-zip}
 use Rattle.ir_model.specs.declared.ids.ArenaIndex.{ArenaIndex}
 use Rattle.ir_model.specs.ContextIds.{context_ids}
-use Rattle.ir_model.specs.Forest.{Definition as PlainDefinition, Operand, Successor, Value, a_value, the_block}
-use Rattle.ir_model.specs.Nesting.{In, IsLiveNamed}
-use Rattle.ir_model.specs.Changes.{new_op}
+use Rattle.ir_model.specs.Ids.{Counts}
+use Rattle.ir_model.specs.Forest.{Definition as PlainDefinition, Dialect, OpRecord, Operand, Successor, Value, a_value, an_op, the_block}
+use Rattle.ir_model.specs.Nesting.{In, IsLive, IsLiveNamed}
+use Rattle.ir_model.specs.Changes.{definition, new_op, operand, successor}
+use Rattle.ir_model.specs.Sessions.{Session}
 use Rattle.ir_base.specs.declared.type_handle.TypeHandle.{TypeHandle}
 use Rattle.ir_records.specs.declared.record.BlockIndex.{BlockIndex}
 use Rattle.ir_records.specs.declared.record.Definition.{Definition}
@@ -15,13 +20,13 @@ use Rattle.ir_records.specs.declared.record.ValueIndex.{ValueIndex}
 use Rattle.ir_records.specs.declared.records.Records.{Records}
 use Rattle.ir_records.specs.Lists.{definitions_from}
 use Rattle.ir_records.specs.Meaning.{closed, definition_of, forest_of as forest_in, operands_from, successors_from, value_of}
-use Rattle.ir_context.specs.Calls.{EntitiesStayLive, HasAll, MakesOperation, StayLive, op_needs}
+use Rattle.ir_context.specs.Calls.{EntitiesStayLive, HasAll, HasCounts, MakesOperation, StayLive, op_needs}
 use Rattle.ir_context.specs.Creation.{Extends, HoldTogether}
 use Rattle.ir_context.specs.Sound.{IsSound}
 use Rattle.ir_context.specs.State.{State, bare, forest_of, types_of}
 use Rattle.ir_context.proofs.GivenRecords.{dead-op, dead-region}
 use Rattle.ir_context.proofs.Made.{op-made, op-sound}
-use Rattle.ir_context.proofs.NewOperations.{new-entities-live, new-names-live}
+use Rattle.ir_context.proofs.NewOperations.{new-entities-live, new-found, new-names-live}
 
 -- what was live before is so after it
 module _ {D A K B S X L : Type 0} (s t : Records D A K B S X L) (loc : L) (u : ArenaIndex) (kind : ℕ) (results : List (PlainDefinition context_ids (closed A K B S X L)))
@@ -100,3 +105,43 @@ module _ {D A K B S X L V P : Type 0} (s : State D A K B S X L) (sound : IsSound
       (subst (λ (ys : List ArenaIndex). MakesOperation unknown (bare s) (bare (after (length vs + length bs))) u kind (map (λ (y : TypeHandle). y.place) ts) (map value_of named) ys n) successors
       (subst (λ k. MakesOperation unknown (bare s) (bare (after (length vs + length bs))) u kind (map (λ (y : TypeHandle). y.place) ts) (map value_of named) (map (λ (b : BlockIndex). b.index) targets) k) made.1
       (subst (λ k. MakesOperation unknown (bare s) (bare (after k)) u kind (map (λ (y : TypeHandle). y.place) ts) (map value_of named) (map (λ (b : BlockIndex). b.index) targets) (length rs)) all first)))
+
+-- what was made is live, and has as much as was asked for
+module _ {W : Dialect} {unknown : W.Loc} {old new : Session W} {id : ArenaIndex} {kind : ℕ} {types : List ℕ} {operands : List (Value context_ids)} {successors : List ArenaIndex} {regions : ℕ}
+    (m : MakesOperation unknown old new id kind types operands successors regions) where
+  abbrev operand_uses : List ℕ
+  operand_uses = take (length operands) m.fresh.uses
+
+  abbrev successor_uses : List ℕ
+  successor_uses = drop (length operands) m.fresh.uses
+
+  abbrev the_record : OpRecord context_ids W
+  the_record = record {
+    kind = kind;
+    results = map definition (zip m.fresh.numbers types);
+    operands = map operand (zip operand_uses operands);
+    successors = map successor (zip successor_uses successors);
+    regions = m.fresh.regions;
+    attributes = [];
+    loc = unknown;
+  }
+
+  found : new.state.forest.ops id ≡ Some the_record
+  found = new-found old.state.forest new.state.forest id unknown kind the_record.results the_record.operands the_record.successors m.fresh.regions m.forest
+
+  pub created-live : IsLive new.state.forest (an_op id)
+  created-live = ap is_some found
+
+  uses : length m.fresh.uses ≡ length operands + length successors
+  uses = ap (λ (c : Counts). c.uses) m.handed.enough
+
+  paired : {U V C : Type 0} (g : U × V → C) (xs : List U) (ys : List V) → length xs ≡ length ys → length (map g (zip xs ys)) ≡ length ys
+  paired g xs ys e = length-map (zip xs ys) g ∙ omega (arith, length-zip xs ys, e)
+
+  pub created-counts : HasCounts new.state.forest id (length types) (length operands) (length successors) regions
+  created-counts = record {
+    result_count = ap (option_map (λ (r : OpRecord context_ids W). length r.results)) found ∙ ap Some (paired definition m.fresh.numbers types (ap (λ (c : Counts). c.numbers) m.handed.enough));
+    operand_count = ap (option_map (λ (r : OpRecord context_ids W). length r.operands)) found ∙ ap Some (paired operand operand_uses operands (length-take-le (length operands) m.fresh.uses (omega (arith, uses))));
+    successor_count = ap (option_map (λ (r : OpRecord context_ids W). length r.successors)) found ∙ ap Some (paired successor successor_uses successors (omega (arith, length-drop (length operands) m.fresh.uses, uses)));
+    region_count = ap (option_map (λ (r : OpRecord context_ids W). length r.regions)) found ∙ ap Some (ap (λ (c : Counts). c.regions) m.handed.enough);
+  }
