@@ -60,7 +60,7 @@ successors_from n (b ∷ bs) = record { use_number = n; block = b.index } ∷ su
 
 module _ {A K B S X L : Type 0} where
   abbrev pub definition_of : Definition → PlainDefinition context_ids (closed A K B S X L)
-  definition_of r = record { number = r.number; ty = r.ty; name = r.name }
+  definition_of r = record { number = r.number; ty = r.ty; name = option_map (λ b. b.value) r.name }
 
 module _ {D A K B S X L : Type 0} where
   -- what an operation means
