@@ -12,5 +12,5 @@ returns g c =
     let b = is_ok c.push.result in
     pushed_or_same b (with_successors c.args.records.now c.args.user) (successors_at c.args.records.now c.args.user) c.push.new.self a c.args.records.now _
     (successors-written c.args.records.now c.args.user c.from_index.result.index c.at_mut-operation.result.now c.from_index.ensures c.at_mut-operation.ensures.value c.push.new.self)
-    (c.push.ensures.items ∙ ap (λ (xs : List (UsePlace BlockIndex)). cond b (xs ++ a ∷ []) xs) (successors-read c.args.records.now c.args.user c.from_index.result.index c.at_mut-operation.result.now c.from_index.ensures c.at_mut-operation.ensures.value))
+    (c.push.ensures ∙ ap (λ (xs : List (UsePlace BlockIndex)). cond b (xs ++ a ∷ []) xs) (successors-read c.args.records.now c.args.user c.from_index.result.index c.at_mut-operation.result.now c.from_index.ensures c.at_mut-operation.ensures.value))
     (chain-blocks.place_lists.self c.args.records.now c.args.user)
