@@ -9,6 +9,11 @@ pub mod Handed
 pub mod Making
 pub mod MadeParts
 pub mod Made
+pub mod StayLive
+pub mod CreatedBlock
+pub mod CreatedRegion
+pub mod Told
+pub mod MadeBlocks
 pub mod Growths
 pub mod ValueLemmas
 pub mod FindIndex

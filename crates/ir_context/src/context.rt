@@ -172,6 +172,14 @@ impl<D: Dialects> Context<D> {
         let _value = self.next_use;
     }
 
+    // What holds of every context: no more numbers were handed out than there are.
+    pub(crate) fn keeps_to_limits(&self)
+        ensures values { self.now.next_value ≤ self.now.limits.values }
+        ensures uses { self.now.next_use ≤ self.now.limits.uses }
+    {
+        let _value = self.next_value;
+    }
+
     /// What holds of every context: types are equal exactly where their keys are.
     pub fn types_are_exact(&self)
         ensures { TypesAreExact (behaviour D.TypeKey.eq D.first_body D.unknown D.op_impls_of) (types_of self.now) }
