@@ -20,3 +20,6 @@ pub mod Giving
 pub mod Answers
 pub mod GivenRecords
 pub mod GivenForests
+pub mod EditedLists
+pub mod Edited
+pub mod GoingBack
