@@ -1,5 +1,5 @@
 -- What an edit of the lists leaves of a context.
-use Rattle.std.proofs.Common.{◌≡◌, ◌∷◌, ◌++◌, ℕ, ◌⊎◌, List, [], length, refl, sym, subst, ◌∙◌, inl, inr}
+use Rattle.std.proofs.Common.{◌≡◌, ◌∷◌, ◌++◌, ℕ, ◌⊎◌, Bool, true, false, if◌then◌else◌, List, [], length, refl, sym, subst, ◌∙◌, inl, inr}
 use Rattle.ir_model.specs.declared.ids.ArenaIndex.{ArenaIndex}
 use Rattle.ir_model.specs.ContextIds.{context_ids, same_id}
 use Rattle.ir_model.specs.Forest.{Forest, a_block, a_region, an_op}
@@ -93,5 +93,8 @@ module _ {D A K B S X L : Type 0} where
     pub blocks-joined-edited : (r q : ArenaIndex) → IsLive (forest_of s) (a_region q) → MayJoin (forest_of s) (a_region r) (a_region q) → forest_in t ≡ append_blocks (forest_of s) r q (blocks_of (forest_of s) q) → Edited s t
     blocks-joined-edited r q live may is = edited _ is (blocks-joined (forest_of s) (length s.types) sound.formed r q live may)
 
-    pub region-moved-edited : (r o : ArenaIndex) → IsLive (forest_of s) (a_region r) → IsLive (forest_of s) (an_op o) → (Inside (forest_of s) (a_region r) (an_op o) → ⊥) → forest_in t ≡ move_region (forest_of s) r o → Edited s t
-    region-moved-edited r o live op_live outside is = edited _ is (region-moved (forest_of s) (length s.types) sound.formed r o live op_live outside)
+    -- the region stands there already, or goes there
+    pub region-moved-edited : (r o : ArenaIndex) (there : Bool) → IsLive (forest_of s) (a_region r) → IsLive (forest_of s) (an_op o) → (Inside (forest_of s) (a_region r) (an_op o) → ⊥)
+        → forest_in t ≡ (if there then forest_of s else move_region (forest_of s) r o) → Edited s t
+    region-moved-edited r o true live op_live outside is = same-edited is
+    region-moved-edited r o false live op_live outside is = edited _ is (region-moved (forest_of s) (length s.types) sound.formed r o live op_live outside)
