@@ -27,3 +27,6 @@ pub mod GivenRecords
 pub mod GivenForests
 pub mod NewOperations
 pub mod CreatedOperations
+pub mod EditedLists
+pub mod Edited
+pub mod GoingBack

@@ -1,7 +1,6 @@
 -- A context after an operation, a block or a region was made.
-use Rattle.std.proofs.Common.{◌≡◌, ◌⊎◌, ◌↔◌, ℕ, ◌+◌, ◌<◌, ◌≤◌, true, nat_eq, List, [], ◌∷◌, length, map, take, drop, All, Option, Some, None, refl, sym, ap, subst, ◌∙◌, inl, inr, arith}
+use Rattle.std.proofs.Common.{◌≡◌, ◌⊎◌, ℕ, ◌+◌, ◌<◌, ◌≤◌, List, [], ◌∷◌, length, map, take, drop, All, Option, Some, None, refl, sym, ap, subst, ◌∙◌, inl, inr, arith}
 use Rattle.std.specs.List.{range_with_len, zip}
-use Rattle.std.proofs.lemmas.Bool.Decides.{nat_tests}
 use Rattle.std.proofs.lemmas.List.{length-map}
 use Rattle.ir_model.specs.declared.ids.ArenaIndex.{ArenaIndex}
 use Rattle.ir_model.specs.ContextIds.{context_ids}
@@ -12,8 +11,7 @@ use Rattle.ir_model.proofs.KeepsDefinitions.{KeptOrMade, defines_block, made_kep
 use Rattle.ir_model.proofs.KeepsRegions.{AddRegion-kept}
 use Rattle.ir_model.proofs.Parts.{Kept}
 use Rattle.ir_model.proofs.KeepsNew.{NewOp-keeps, definitions_case, uses_case}
-use Rattle.ir_model.proofs.Loops.{Lawful}
-use Rattle.ir_model.proofs.TwoRuns.{id_tells}
+use Rattle.ir_model.proofs.TwoRuns.{lawful}
 use Rattle.ir_base.specs.declared.type_handle.TypeHandle.{TypeHandle}
 use Rattle.ir_records.specs.declared.record.BlockIndex.{BlockIndex}
 use Rattle.ir_records.specs.declared.record.ValueIndex.{ValueIndex}
@@ -27,12 +25,6 @@ use Rattle.ir_context.specs.State.{State, bare, forest_of, types_of}
 use Rattle.ir_context.proofs.Handed.{made, made-hands-out, made-sound}
 use Rattle.ir_context.proofs.MadeParts.{all-In, definition-numbers, definition-types, definitions-numbered, drop-range, names-live, operands-numbered, place-numbers, successors-numbered, take-range}
 use Rattle.ir_context.proofs.Numbers.{In-range, range-distinct}
-
-lawful : Lawful context_ids
-lawful = record { same_use = nat_eq; ops = id_tells; blocks = id_tells; regions = id_tells; numbers = number_tells; uses = number_tells }
-  where
-    number_tells : (a b : ℕ) → (nat_eq a b ≡ true) ↔ (a ≡ b)
-    number_tells a b = (λ h. grind (arith, nat_tests), λ h. grind (arith, nat_tests))
 
 module _ {D A K B S X L : Type 0} (s : State D A K B S X L) (sound : IsSound s) (t : Records D A K B S X L) (together : HoldTogether t) where
   abbrev f : Forest context_ids (closed A K B S X L)

@@ -67,6 +67,13 @@ module _ {W : Dialect} where
     pub passed : new.passed ≡ old.passed
     pub limits : new.limits ≡ old.limits
 
+  -- all but the forest is as before
+  pub record SameButForest (old new : Session W) : Type 0 where
+    pub store : new.state.store ≡ old.state.store
+    pub beside : new.beside ≡ old.beside
+    pub passed : new.passed ≡ old.passed
+    pub limits : new.limits ≡ old.limits
+
   -- two places of the store are equal exactly where their keys are, by the dialect
   pub record TypesAreExact (B : Behaviour W) (store : List (StoredType W)) : Type 0 where
     pub exact : (j k : ℕ) (a b : StoredType W) → slice_get store j ≡ Some a → slice_get store k ≡ Some b → (B.same_key a.key b.key ≡ true) ↔ (j ≡ k)

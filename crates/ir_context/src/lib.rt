@@ -2,18 +2,21 @@
 #![tactic(auto)]
 
 mod block;
+mod block_list;
 mod context;
 mod creation;
 mod error;
 mod needs;
 mod new_entities;
 mod operation;
+mod operation_list;
 mod operation_uses;
 mod region;
 mod types;
 mod value;
 
 pub use block::BlockPtr;
+pub use block_list::{BlockContainer, BlockList, RegionMoves};
 pub use context::Context;
 pub use error::{DanglingPtrDerefError, IndexErr, UseError, ValueError};
 pub use ir_records::{
@@ -23,6 +26,7 @@ pub use ir_records::{
 pub use needs::Needs;
 pub use new_entities::{AddRegion, NewBlock, NewOperation};
 pub use operation::OperationPtr;
+pub use operation_list::{OperationContainer, OperationList};
 pub use operation_uses::OperationUses;
 pub use region::RegionPtr;
 pub use types::TypeQueries;
