@@ -4,6 +4,7 @@
 mod script_parse;
 mod script_print;
 mod script_run;
+mod script_uses;
 mod toy;
 
 pub use script_run::run_script;
