@@ -2,7 +2,7 @@
 
 use ir_base::{Answer, Limits, Refused};
 use ir_run::{Edit, Session};
-use ir_toy::{Toy, ToyType, run_script};
+use ir_toy::{Toy, ToyType, run_script, run_script_with_limits};
 use std::alloc::Global;
 use std::io;
 use std::io::{ErrorKind, Read, Write};
@@ -103,6 +103,27 @@ fn script_refused_then_made(rt: HostRuntime) -> Result<(), Fail> {
 fn script_slots(rt: HostRuntime) -> Result<(), Fail> {
     let script = b"op 5 - - - 4294967295";
     expect(&rt, rt.alloc(), script, 0, "refused slots\n", "")?;
+    Ok(())
+}
+
+#[test]
+fn spent_counters_and_slots(rt: HostRuntime) -> Result<(), Fail> {
+    let limits = Limits {
+        values: 1,
+        slots: 2,
+        ..Limits::default()
+    };
+    let mut input = b"type 1\nop 0 t0,t0 - - 0\nblock t0\nblock t0\nop 5 - - - 3\n".as_slice();
+    let mut printed = Vec::new(rt.alloc());
+    let mut told = Vec::new(rt.alloc());
+    let status =
+        run_script_with_limits(rt.alloc(), limits, &mut input, &mut printed, &mut told);
+    if status == 1 || is_refused_memory(printed.as_slice()) {
+        return Err("out of memory")?;
+    }
+    let wanted = b"made t0\nrefused counter\nmade b0\nrefused counter\nrefused slots\nv0:\nb0:\n";
+    assert_eq!(rt; status, 0);
+    assert_eq!(rt; printed.as_slice(), wanted.as_slice());
     Ok(())
 }
 
