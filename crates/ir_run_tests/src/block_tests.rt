@@ -26,7 +26,7 @@ struct Branch<D: Dialects> {
 }
 
 // Makes the block and the operation.
-fn branch<D: Dialects>(ctx: &mut Context<D>, ty: TypeHandle) -> Result<Branch<D>, CoreError>
+fn make_branch<D: Dialects>(ctx: &mut Context<D>, ty: TypeHandle) -> Result<Branch<D>, CoreError>
     requires { ty.place < length (types_of ctx.old) }
     ensures block { IfOk result (λ made. IsLive (forest_of ctx.new) (a_block made.block.index)) }
     ensures argument { IfOk result (λ made. IsLiveNamed (forest_of ctx.new) (a_value (value_of made.argument.index))) }
@@ -164,7 +164,7 @@ fn with_type(alloc: Global, limits: Limits) -> Result<(Context<Toy>, TypeHandle)
 #[test]
 fn blocks_arguments_and_successors(rt: HostRuntime) -> Result<(), Fail> {
     let (mut ctx, ty) = with_type(rt.alloc(), Limits::default())?;
-    let made = branch(&mut ctx, ty)?;
+    let made = make_branch(&mut ctx, ty)?;
     tell_block(&rt, &ctx, &made);
     tell_argument(&rt, &ctx, &made)?;
     tell_successors(&rt, &ctx, &made);

@@ -10,8 +10,9 @@ ghost use Rattle.ir_context.specs.State.{forest_of, types_of};
 use example::chain;
 use ir_base::{ArenaIndex, CoreError, Dialects, Limits, Ptr, Room, TypeHandle};
 use ir_context::{
-    Context, DanglingPtrDerefError, DefiningEntity, IndexErr, NewOperation, Operation, OperationPtr, RegionPtr,
-    TypeQueries, Use, UseError, UseIndex, Value, ValueError, ValueIndex,
+    Context, DanglingPtrDerefError, DefiningEntity, IndexErr, NewOperation, Operation,
+    OperationPtr, RegionPtr, TypeQueries, Use, UseError, UseIndex, UseQueries, Value, ValueError,
+    ValueIndex, ValueQueries,
 };
 use ir_toy::{Toy, ToyType};
 use std::alloc::Global;
