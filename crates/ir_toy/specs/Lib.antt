@@ -1,1 +1,2 @@
 pub mod Toy
+pub mod Lines

@@ -4,7 +4,8 @@
 mod script_parse;
 mod script_print;
 mod script_run;
+mod script_uses;
 mod toy;
 
-pub use script_run::run_script;
+pub use script_run::{run_script, run_script_with_limits};
 pub use toy::{SIZED_TYPE, Toy, ToyAttr, ToyLoc, ToySaved, ToyType};

@@ -60,6 +60,8 @@ pub(crate) enum Letter {
     Type,
     /// An operation.
     Operation,
+    /// A block.
+    Block,
 }
 
 impl fmt::Display for Letter {
@@ -67,6 +69,7 @@ impl fmt::Display for Letter {
         f.write_str(match self {
             Letter::Type => "t",
             Letter::Operation => "o",
+            Letter::Block => "b",
         })
     }
 }
@@ -137,6 +140,8 @@ fn parse_line(alloc: Global, line: &str) -> Result<(Letter, Edit<Toy>), LineErro
         Ok((Letter::Type, parse_type(rest)?))
     } else if first == "op" {
         Ok((Letter::Operation, parse_op(alloc, rest)?))
+    } else if first == "block" {
+        Ok((Letter::Block, parse_block(alloc, rest)?))
     } else {
         Err(LineError::Malformed)
     }
@@ -164,6 +169,16 @@ fn parse_op(alloc: Global, text: &str) -> Result<Edit<Toy>, LineError> {
         operands: parse_names(alloc, 'v', values)?,
         successors: parse_names(alloc, 'b', blocks)?,
         regions: parse_number(regions)? as usize,
+    })
+}
+
+// The fields of `block types`.
+fn parse_block(alloc: Global, text: &str) -> Result<Edit<Toy>, LineError> {
+    let (types, rest) = take_field(text)?;
+    end_fields(rest)?;
+    Ok(Edit::NewBlock {
+        label: None,
+        types: parse_names(alloc, 't', types)?,
     })
 }
 

@@ -1,5 +1,6 @@
 //! What the program reads and writes around a session: the bytes of a script, the lines of the answers, and the status.
 ghost use Rattle.std.specs.Prelude.{◌≡◌, ◌≤◌, ◌↔◌, IsOk};
+ghost use Rattle.ir_toy.specs.Lines.{refusal_line as line_of};
 
 use crate::script_parse::{Letter, ScriptError};
 use ir_base::{Answer, Refused};
@@ -51,7 +52,9 @@ pub(crate) fn answers_text(
 }
 
 // The line of a refusal.
-fn refusal_line(refused: Refused) -> &'static str {
+fn refusal_line(refused: Refused) -> &'static str
+    ensures { result.now ≡ line_of refused }
+{
     match refused {
         Refused::Condition => "refused condition\n",
         Refused::Memory => "refused memory\n",

@@ -2,7 +2,7 @@
 
 use ir_base::{Answer, Limits, Refused};
 use ir_run::{Edit, Session};
-use ir_toy::{Toy, ToyType, run_script};
+use ir_toy::{Toy, ToyType, run_script, run_script_with_limits};
 use std::alloc::Global;
 use std::io;
 use std::io::{ErrorKind, Read, Write};
@@ -107,6 +107,27 @@ fn script_slots(rt: HostRuntime) -> Result<(), Fail> {
 }
 
 #[test]
+fn spent_counters_and_slots(rt: HostRuntime) -> Result<(), Fail> {
+    let limits = Limits {
+        values: 1,
+        slots: 2,
+        ..Limits::default()
+    };
+    let mut input = b"type 1\nop 0 t0,t0 - - 0\nblock t0\nblock t0\nop 5 - - - 3\n".as_slice();
+    let mut printed = Vec::new(rt.alloc());
+    let mut told = Vec::new(rt.alloc());
+    let status =
+        run_script_with_limits(rt.alloc(), limits, &mut input, &mut printed, &mut told);
+    if status == 1 || is_refused_memory(printed.as_slice()) {
+        return Err("out of memory")?;
+    }
+    let wanted = b"made t0\nrefused counter\nmade b0\nrefused counter\nrefused slots\nv0:\nb0:\n";
+    assert_eq!(rt; status, 0);
+    assert_eq!(rt; printed.as_slice(), wanted.as_slice());
+    Ok(())
+}
+
+#[test]
 fn script_lexis(rt: HostRuntime) -> Result<(), Fail> {
     expect(&rt, rt.alloc(), b"type 4294967295", 0, "made t0\n", "")?;
     expect(&rt, rt.alloc(), b"type 007", 0, "made t0\n", "")?;
@@ -122,6 +143,33 @@ fn script_lexis(rt: HostRuntime) -> Result<(), Fail> {
         "",
         "unreadable input\n",
     )?;
+    Ok(())
+}
+
+// Numbers may begin with zeros, however many.
+#[test]
+fn numbers_with_zeros(rt: HostRuntime) -> Result<(), Fail> {
+    let script = b"type 00000000000032\ntype 32\nop 0 t1 - - 0";
+    let output = "made t0\nmade t1\nmade o0\nv0:\n";
+    expect(&rt, rt.alloc(), script, 0, output, "")?;
+    Ok(())
+}
+
+#[test]
+fn blocks_and_successors(rt: HostRuntime) -> Result<(), Fail> {
+    let script = b"type 32\nblock -\nblock t0,t0\nop 3 - v1,v0 b1,b0,b1 0\nop 3 - v0 b1 0";
+    let output = "made t0\nmade b0\nmade b1\nmade o0\nmade o1\nv0: o0.1 o1.0\nv1: o0.0\nb0: o0.1\nb1: o0.0 o0.2 o1.0\n";
+    expect(&rt, rt.alloc(), script, 0, output, "")?;
+    Ok(())
+}
+
+#[test]
+fn blocks_that_never_were(rt: HostRuntime) -> Result<(), Fail> {
+    let script = b"op 3 - - b0 0";
+    expect(&rt, rt.alloc(), script, 0, "refused condition\n", "")?;
+    let script = b"block t0\nblock -\nop 3 - - b1 0\nop 3 - - b0 0";
+    let output = "refused condition\nmade b0\nrefused condition\nmade o0\nb0: o0.0\n";
+    expect(&rt, rt.alloc(), script, 0, output, "")?;
     Ok(())
 }
 
@@ -142,9 +190,25 @@ fn script_malformed(rt: HostRuntime) -> Result<(), Fail> {
     expect(&rt, rt.alloc(), b"type", 2, "", fault)?;
     expect(&rt, rt.alloc(), b"type +1", 2, "", fault)?;
     expect(&rt, rt.alloc(), b"type 1 2", 2, "", fault)?;
+    expect(&rt, rt.alloc(), b"erase b0", 2, "", fault)?;
+    expect(&rt, rt.alloc(), b"push o0 v", 2, "", fault)?;
     expect(&rt, rt.alloc(), b"op 0 t0,,t0 - - 0", 2, "", fault)?;
     expect(&rt, rt.alloc(), b"op 0 - - - 0 x", 2, "", fault)?;
     expect(&rt, rt.alloc(), b"type\t1", 2, "", fault)?;
+    Ok(())
+}
+
+// Lists of names with another letter, or with no number.
+#[test]
+fn malformed_names(rt: HostRuntime) -> Result<(), Fail> {
+    let fault = "line 1: malformed\n";
+    expect(&rt, rt.alloc(), b"op 0 t - - 0", 2, "", fault)?;
+    expect(&rt, rt.alloc(), b"op 0 - t0 - 0", 2, "", fault)?;
+    expect(&rt, rt.alloc(), b"op 0 v0 - - 0", 2, "", fault)?;
+    expect(&rt, rt.alloc(), b"block", 2, "", fault)?;
+    expect(&rt, rt.alloc(), b"block t0 t0", 2, "", fault)?;
+    expect(&rt, rt.alloc(), b"block b0", 2, "", fault)?;
+    expect(&rt, rt.alloc(), b"blocks -", 2, "", fault)?;
     Ok(())
 }
 
