@@ -1,9 +1,9 @@
 -- A forest with a new operation: what the operation has, what stays live, and who may name it.
-use Rattle.std.proofs.Common.{◌≡◌, ◌≢◌, ◌⊎◌, ℕ, true, is_some, List, [], ◌∷◌, ◌++◌, map, Option, Some, None, IsSome, refl, sym, ap, subst, ◌∙◌, inl, inr}
+use Rattle.std.proofs.Common.{◌≡◌, ◌≢◌, ◌⊎◌, ℕ, true, is_some, List, [], ◌∷◌, ◌++◌, map, Option, Some, None, refl, sym, ap, subst, ◌∙◌, inl, inr}
 use Rattle.ir_model.specs.declared.ids.ArenaIndex.{ArenaIndex}
 use Rattle.ir_model.specs.ContextIds.{context_ids, same_id}
-use Rattle.ir_model.specs.Forest.{Dialect, Definer, of_op, of_block, Definition, Entity, an_op, a_block, a_region, Forest, Named, OpRecord, Operand, Successor, Value, a_value, the_block}
-use Rattle.ir_model.specs.Nesting.{In, IsLinked, IsLive, IsLiveNamed, WellFormed, children, list_of, numbers_of, operands_of, regions_of, successors_of}
+use Rattle.ir_model.specs.Forest.{Dialect, Definer, of_op, of_block, Definition, Entity, an_op, a_block, a_region, Forest, OpRecord, Operand, Successor, a_value, the_block}
+use Rattle.ir_model.specs.Nesting.{In, IsLinked, IsLive, WellFormed, children, list_of, numbers_of, operands_of, regions_of, successors_of}
 use Rattle.ir_model.specs.Changes.{new_op}
 use Rattle.ir_model.specs.Uses.{AreUses, IsUse, Use}
 use Rattle.ir_model.proofs.KeepsNew.{any_in, put_at}

@@ -1,4 +1,4 @@
-use Rattle.std.proofs.Common.{◌≡◌, ◌+◌, List, [], length, map, All, refl, sym, subst, arith}
+use Rattle.std.proofs.Common.{◌≡◌, ◌+◌, List, [], length, All, sym, subst}
 use Rattle.ir_records.specs.declared.record.Definition.{Definition}
 use Rattle.ir_context.specs.Calls.{op_needs}
 use Rattle.ir_context.specs.State.{State, bare}

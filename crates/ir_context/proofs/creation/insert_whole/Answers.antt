@@ -115,8 +115,8 @@ returns-clause-made g c =
       w.0,
       w.1,
       w.2
-      ∙ ap (λ f. on_op (on_op (with_regions f op w.0) op (on_operands (λ _. operands))) op (on_successors (λ _. successors))) c.in_ok-op.ensures.forest
-      ∙ whole (forest_in first) op g.D.Dialects.unknown c.args.parts.now.kind (map definition_of c.args.results) operands successors w.0,
+          ∙ ap (λ f. on_op (on_op (with_regions f op w.0) op (on_operands (λ _. operands))) op (on_successors (λ _. successors))) c.in_ok-op.ensures.forest
+          ∙ whole (forest_in first) op g.D.Dialects.unknown c.args.parts.now.kind (map definition_of c.args.results) operands successors w.0,
       record {
         ops = Grows-nil first.ops bare.ops last.ops (op ∷ []) c.in_ok-op.ensures.grows w.3.ops;
         blocks = subst (λ (a : Arena _). Grows a last.blocks []) c.in_ok-op.ensures.blocks w.3.blocks;
