@@ -3,3 +3,4 @@ pub mod Sound
 pub mod Values
 pub mod Calls
 pub mod Creation
+pub mod Lending

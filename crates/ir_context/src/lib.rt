@@ -5,6 +5,7 @@ mod block;
 mod context;
 mod creation;
 mod error;
+mod lending;
 mod needs;
 mod new_entities;
 mod operation;
@@ -20,6 +21,7 @@ pub use ir_records::{
     BasicBlock, BasicBlockMut, BlockIndex, Definer, DefiningEntity, Operation, OperationMut,
     Region, Use, UseIndex, Value, ValueIndex,
 };
+pub use lending::{BlockPtrMut, OperationPtrMut};
 pub use needs::Needs;
 pub use new_entities::{AddRegion, NewBlock, NewOperation};
 pub use operation::OperationPtr;
