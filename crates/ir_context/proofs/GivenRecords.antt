@@ -23,6 +23,12 @@ module _ {D A K B S X L : Type 0} where
   pub live-op : (t : Records D A K B S X L) (o : ArenaIndex) → IsLive t.ops o → IsSome ((forest_in t).ops o)
   live-op t o live = mapped op_record (get t.ops o) live
 
+  pub live-there : (t : Records D A K B S X L) (o : ArenaIndex) → IsSome ((forest_in t).ops o) → IsLive t.ops o
+  live-there t o live = unmapped op_record (get t.ops o) live
+
+  pub dead-op : (t : Records D A K B S X L) (o : ArenaIndex) → get t.ops o ≡ None → (forest_in t).ops o ≡ None
+  dead-op t o dead = ap (option_map op_record) dead
+
   pub dead-region : (t : Records D A K B S X L) (r : ArenaIndex) → get t.regions r ≡ None → (forest_in t).regions r ≡ None
   dead-region t r dead = ap (option_map (λ _. blocks_in (tree_of t) r)) dead
 

@@ -125,3 +125,11 @@ module _ {T : Type 0} where
 
   pub Skips-nil : (a b c : Arena T) (n : ℕ) → SkipsIds a b n → Grows b c [] → SkipsIds a c n
   Skips-nil a b c n s g = record { skipped = s.skipped; few = s.few; grows = Grows-nil a b c s.skipped s.grows g }
+
+  -- none were skipped
+  pub Skips-none : (a b : Arena T) → SkipsIds a b 0 → Grows a b []
+  Skips-none a b s = by s.skipped s.few s.grows
+    where
+      by : (xs : List ArenaIndex) → length xs ≤ 0 → Grows a b xs → Grows a b []
+      by [] few grows = grows
+      by (x ∷ xs) few grows = absurd (omega (arith, few))

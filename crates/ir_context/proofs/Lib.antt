@@ -29,3 +29,5 @@ pub mod Giving
 pub mod Answers
 pub mod GivenRecords
 pub mod GivenForests
+pub mod NewOperations
+pub mod CreatedOperations

@@ -1,5 +1,5 @@
 -- What is left of a count is enough, or isn't.
-use Rattle.std.proofs.Common.{◌≡◌, ◌⊎◌, ℕ, ◌+◌, ◌<◌, ◌≤◌, List, [], ◌∷◌, length, IsTrue, nat_lt, Result, Ok, Err, true≢false, refl, sym, subst, ◌∙◌, inl, inr, arith}
+use Rattle.std.proofs.Common.{◌≡◌, ◌⊎◌, ◌↔◌, ℕ, ◌+◌, ◌<◌, ◌≤◌, List, [], ◌∷◌, length, IsTrue, nat_lt, Result, Ok, Err, true≢false, refl, sym, ap, subst, ◌∙◌, inl, inr, arith}
 use Rattle.ir_model.specs.declared.ids.ArenaIndex.{ArenaIndex}
 use Rattle.ir_model.specs.Ids.{Counts}
 use Rattle.ir_model.specs.Forest.{Dialect}
@@ -76,3 +76,15 @@ no_counter {T = T} (Err y) h e = (let k : OutOfMemory ≡ CounterSpent = sym h �
 pub no_slots : {T : Type 0} (r : Result T CoreError) → IsErrAnd r (λ e. e ≡ OutOfMemory) → r ≡ Err SlotsSpent → ⊥
 no_slots (Ok y) h e = h
 no_slots {T = T} (Err y) h e = (let k : OutOfMemory ≡ SlotsSpent = sym h ∙ same_error {T = T} y SlotsSpent e in cc)
+
+-- whether so much was refused, where one call hands on what another one answers
+module _ {U : Type 0} (P : Counts → Type 0) (m n : Counts) (same : m ≡ n) (e : CoreError) where
+  -- a refusal that is handed on is the same refusal
+  pub handed_on : {T : Type 0} (r : Result T CoreError) (x : CoreError) → IsErrAnd r (λ y. y ≡ x) → (◌≡◌ {A = Result U CoreError} (Err x) (Err e)) ↔ P m → (r ≡ Err e) ↔ P n
+  handed_on (Ok y) x h iff = absurd h
+  handed_on {T = T} (Err y) x h iff =
+      (λ k. subst P same (iff.0 (ap Err (sym h ∙ same_error {T = T} y e k))), λ p. ap Err (h ∙ same_error {T = U} x e (iff.1 (subst P (sym same) p))))
+
+  -- what was granted is not lacking
+  pub granted : (x : U) → (◌≡◌ {A = Result U CoreError} (Ok x) (Err e)) ↔ P m → P n → ⊥
+  granted x iff p = (let k : ◌≡◌ {A = Result U CoreError} (Ok x) (Err e) = iff.1 (subst P (sym same) p) in cc)
