@@ -27,7 +27,7 @@ IsNewId-fewer limits passed live live' i fewer (numbered, within, fits, inl firs
 IsNewId-fewer limits passed live live' i fewer (numbered, within, fits, inr (l, slot, version, was, dead, greatest)) =
     (numbered, within, fits, inr (l, slot, version, was, λ h. dead (fewer l h), greatest))
 
-some-map : {U V : Type 0} (f : U → V) (x : Option U) → IsSome (option_map f x) → IsSome x
+pub some-map : {U V : Type 0} (f : U → V) (x : Option U) → IsSome (option_map f x) → IsSome x
 some-map f None h = h
 some-map f (Some y) h = refl
 

@@ -13,6 +13,10 @@ pub mod StayLive
 pub mod CreatedBlock
 pub mod CreatedRegion
 pub mod Told
+pub mod LiveMade
+pub mod Rewritten
+pub mod WrittenOps
+pub mod WrittenBlocks
 pub mod MadeBlocks
 pub mod Growths
 pub mod ValueLemmas

@@ -1,15 +1,15 @@
 -- What the calls of a context promise.
-use Rattle.std.specs.Prelude.{◌≡◌, ◌↔◌, ℕ, ◌+◌, ◌<◌, ◌≤◌, true, List, [], ◌∷◌, map, length, take, drop, Option, Some, None, IsTrue, slice_get}
+use Rattle.std.specs.Prelude.{◌≡◌, ◌↔◌, ℕ, ◌+◌, ◌<◌, ◌≤◌, true, false, List, [], ◌∷◌, map, length, take, drop, Option, Some, None, IsTrue, slice_get}
 use Rattle.std.specs.List.{zip}
 use Rattle.std.specs.Option.{option_map}
 use Rattle.ir_model.specs.declared.ids.ArenaIndex.{ArenaIndex}
 use Rattle.ir_model.specs.ContextIds.{context_ids}
 use Rattle.ir_model.specs.Ids.{Fresh, Counts, counts, FreshDistinct}
-use Rattle.ir_model.specs.Forest.{Dialect, Behaviour, Forest, Named, Text, Value, Entity, a_block, a_region, a_value, an_op}
-use Rattle.ir_model.specs.Nesting.{In, IsLive, IsLiveNamed, ops_of, regions_of}
+use Rattle.ir_model.specs.Forest.{Dialect, Behaviour, Definer as DefinedBy, Forest, Named, Text, Value, Entity, a_block, a_region, a_value, an_op}
+use Rattle.ir_model.specs.Nesting.{In, IsLive, IsLiveNamed, numbers_of, ops_of, regions_of, uses_of}
 use Rattle.ir_model.specs.Edits.{StoredType, no_needs}
 use Rattle.ir_model.specs.Changes.{definition, operand, successor, new_op, new_block, add_region}
-use Rattle.ir_model.specs.Sessions.{Session, Number, TakesSlot, AreNew, Passes, Within, live_op, live_block, live_region}
+use Rattle.ir_model.specs.Sessions.{Beside, Session, Number, TakesSlot, AreNew, Passes, Within, live_op, live_block, live_region}
 use Rattle.ir_arena.specs.declared.room.Room.{Room}
 use Rattle.ir_arena.specs.Arena.{room}
 use Rattle.ir_records.specs.declared.record.Operation.{Operation}
@@ -59,6 +59,18 @@ module _ {W : Dialect} where
     pub ops : (i : ArenaIndex) → f.ops i ≡ None
     pub blocks : (i : ArenaIndex) → f.blocks i ≡ None
     pub regions : (i : ArenaIndex) → f.regions i ≡ None
+
+  -- there is no saved and no auxiliary data, and no name of any
+  abbrev pub nothing_beside : Beside W
+  nothing_beside = record { saved = []; aux = λ _. None; aux_names = λ _. None; aux_passed = λ _. false }
+
+  -- what is live was handed out
+  pub record LiveWasMade (s : Session W) : Type 0 where
+    pub ops : (i : ArenaIndex) → live_op s.state i → IsTrue (s.passed.ops i)
+    pub blocks : (i : ArenaIndex) → live_block s.state i → IsTrue (s.passed.blocks i)
+    pub regions : (i : ArenaIndex) → live_region s.state i → IsTrue (s.passed.regions i)
+    pub values : (d : DefinedBy context_ids) (n : ℕ) → In n (numbers_of s.state.forest d) → IsTrue (s.passed.numbers n)
+    pub uses : (o : ArenaIndex) (n : ℕ) → In n (uses_of s.state.forest o) → IsTrue (s.passed.uses n)
 
   -- all but the stored types is as before
   pub record SameButTypes (old new : Session W) : Type 0 where

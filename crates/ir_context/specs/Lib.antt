@@ -4,3 +4,4 @@ pub mod Values
 pub mod Calls
 pub mod Creation
 pub mod GoingBack
+pub mod Lending

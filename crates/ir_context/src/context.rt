@@ -18,7 +18,7 @@ ghost use Rattle.ir_records.specs.Meaning.{value_of};
 ghost use Rattle.ir_context.specs.State.{bare, behaviour, block_uses_of, forest_of, types_of, uses_of};
 ghost use Rattle.ir_context.specs.Sound.{AreLimits};
 ghost use Rattle.ir_context.specs.Creation.{HoldTogether};
-ghost use Rattle.ir_context.specs.Calls.{IsRoom, SameButTypes, NoEntity, TypesAreExact};
+ghost use Rattle.ir_context.specs.Calls.{IsRoom, LiveWasMade, NoEntity, SameButTypes, TypesAreExact, nothing_beside};
 
 use ir_base::{Arena, CoreError, Dialects, Limits, Room, TypeHandle, TypeStore};
 use ir_records::Records;
@@ -51,6 +51,7 @@ impl<D: Dialects> Context<D> {
     /// An empty context with the default limits. It allocates nothing.
     pub fn new(alloc: Global) -> Self
         ensures new { IsNewSession (bare result) }
+        ensures beside { (bare result).beside ≡ nothing_beside }
         ensures limits { result.limits ≡ record { values = 18446744073709551615; uses = 18446744073709551615; slots = 4294967294; last_version = 4294967295 } }
     {
         Context::with_limits(alloc, Limits::default())
@@ -61,6 +62,7 @@ impl<D: Dialects> Context<D> {
         requires slots { limits.slots < 4294967295 }
         requires versions { 1 ≤ limits.last_version }
         ensures new { IsNewSession (bare result) }
+        ensures beside { (bare result).beside ≡ nothing_beside }
         ensures limits { result.limits ≡ limits }
     {
         Context {
@@ -141,6 +143,15 @@ impl<D: Dialects> Context<D> {
         ensures { WellFormed (forest_of self.now) (length (types_of self.now)) }
     {
         let _value = self.next_value;
+    }
+
+    /// What holds of every context: what is live was handed out.
+    pub fn live_was_made(&self)
+        ensures { LiveWasMade (bare self.now) }
+    {
+        let _op_room = self.records.ops.room();
+        let _block_room = self.records.blocks.room();
+        let _region_room = self.records.regions.room();
     }
 
     /// What holds of every context: the kept uses of each live value and of each live block are exactly the places that name it.

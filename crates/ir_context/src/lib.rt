@@ -6,6 +6,7 @@ mod block_list;
 mod context;
 mod creation;
 mod error;
+mod lending;
 mod needs;
 mod new_entities;
 mod operation;
@@ -23,6 +24,7 @@ pub use ir_records::{
     BasicBlock, BasicBlockMut, BlockIndex, Definer, DefiningEntity, Operation, OperationMut,
     Region, Use, UseIndex, Value, ValueIndex,
 };
+pub use lending::{BlockPtrMut, OperationPtrMut};
 pub use needs::Needs;
 pub use new_entities::{AddRegion, NewBlock, NewOperation};
 pub use operation::OperationPtr;
