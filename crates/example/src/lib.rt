@@ -27,8 +27,11 @@ pub fn chain<D: Dialects>(
     let mut last = Operation::new(ctx, 0, &[ty], &[], &[], 0)?
         .deref(ctx)
         .get_result(0);
+    let successors = [];
     for _ in 0..length {
-        let next = Operation::new(ctx, 4, &[ty], &[last], &[], 0)?;
+        let types = [ty];
+        let operands = [last];
+        let next = Operation::new(ctx, 4, &types, &operands, &successors, 0)?;
         last = next.deref(ctx).get_result(0);
     }
     Ok(last)

@@ -81,8 +81,11 @@ fn timed_unlinked<D: Dialects>(
     requires first { IsLiveNamed (forest_of ctx.old) (a_value (value_of first.index)) }
     requires second { IsLiveNamed (forest_of ctx.old) (a_value (value_of second.index)) }
 {
+    let successors = [];
     for _i in 0..count {
-        let op = Operation::new(ctx, 1, &[ty], &[first, second], &[], 0)?;
+        let types = [ty];
+        let operands = [first, second];
+        let op = Operation::new(ctx, 1, &types, &operands, &successors, 0)?;
         made.push(op)?;
         first = second;
         second = op.deref(ctx).get_result(0);
