@@ -7,10 +7,10 @@ ghost use Rattle.std.specs.Prelude.{IfOk};
 ghost use Rattle.ir_model.specs.Forest.{a_value};
 ghost use Rattle.ir_model.specs.Nesting.{IsLiveNamed};
 ghost use Rattle.ir_records.specs.Meaning.{value_of};
-ghost use Rattle.ir_context.specs.State.{forest_of};
+ghost use Rattle.ir_core.specs.State.{forest_of};
 
 use ir_base::{CoreError, Dialects};
-use ir_context::{Context, NewOperation, Operation, OperationPtr, Value};
+use ir_core::{Context, NewOperation, Operation, OperationPtr, Value};
 
 /// Makes an operation with one result of the type with this key, and behind it a chain of so many operations, each of which uses the result of the one before. Answers the last result, which is live.
 ///

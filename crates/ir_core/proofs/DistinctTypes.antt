@@ -7,7 +7,7 @@ use Rattle.std.specs.Map.{keys_of}
 use Rattle.std.proofs.lemmas.Map.Keys.{IsDistinct-head, IsDistinct-tail}
 use Rattle.ir_model.specs.Edits.{StoredType}
 use Rattle.ir_core.specs.Calls.{TypesAreExact}
-use Rattle.ir_core.specs.Meaning.{closed}
+use Rattle.ir_records.specs.Meaning.{closed}
 use Rattle.ir_core.specs.State.{behaviour}
 
 absurd_bool : {A : Type 0} (b : Bool) → b ≡ true → b ≡ false → A

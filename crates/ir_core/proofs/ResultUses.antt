@@ -1,10 +1,9 @@
 -- The uses of all results of an operation: the kept lists, joined.
-use Rattle.std.proofs.Common.{cond, Bool, true, false, not, ◌||◌, ◌==◌, ◌≢◌, Option, IsTrue, ◌≡◌, refl, sym, ap, subst, ◌∙◌, ℕ, ◌↔◌, inl, inr, ◌≤◌, ◌<◌, List, [], ◌∷◌, ◌++◌, map, length, Some, slice_get, arith}
+use Rattle.std.proofs.Common.{cond, Bool, true, false, not, ◌||◌, ◌==◌, ◌≢◌, Option, IsTrue, ◌≡◌, refl, sym, ap, subst, ◌∙◌, ℕ, ◌↔◌, inl, inr, ◌≤◌, ◌<◌, List, [], ◌∷◌, ◌++◌, map, length, Some, arith}
 use Rattle.std.specs.List.{flat_map, list_any}
 use Rattle.std.proofs.lemmas.Bool.{eq-eqb, ne_eqb}
 use Rattle.std.proofs.lemmas.List.{length-map, map-append}
 use Rattle.std.proofs.lemmas.List.Folds.{flat_map-map}
-use Rattle.std.proofs.lemmas.Option.{slice_get-map}
 use Rattle.ir_model.specs.declared.ids.ArenaIndex.{ArenaIndex}
 use Rattle.ir_model.specs.ContextIds.{context_ids}
 use Rattle.ir_model.specs.Ids.{Distinct}
@@ -14,23 +13,25 @@ use Rattle.ir_model.specs.Uses.{Use}
 use Rattle.ir_model.proofs.Nests.{In-append, In-left, In-right, In-map, In-map_back, not_in-Absent, Distinct-append, Distinct-map}
 use Rattle.ir_model.proofs.Keeps.{Distinct-unmap}
 use Rattle.ir_model.proofs.Removal.{length-within}
-use Rattle.ir_arena.specs.Arena.{Arena, get}
-use Rattle.ir_core.specs.declared.operation.Operation.{Operation}
-use Rattle.ir_core.specs.declared.record.Definer.TheVariants.{Op}
-use Rattle.ir_core.specs.declared.record.ValueIndex.{ValueIndex}
-use Rattle.ir_core.specs.declared.record.UseIndex.{UseIndex}
-use Rattle.ir_core.specs.declared.record.OperandRecord.{OperandRecord}
-use Rattle.ir_core.specs.declared.record.ResultRecord.{ResultRecord}
-use Rattle.ir_core.specs.Links.{Linked}
-use Rattle.ir_core.specs.Meaning.{use_of}
+use Rattle.ir_arena.specs.Arena.{get}
+use Rattle.ir_records.specs.declared.record.Operation.{Operation}
+use Rattle.ir_records.specs.declared.record.Definer.TheVariants.{Op}
+use Rattle.ir_records.specs.declared.record.ValueIndex.{ValueIndex}
+use Rattle.ir_records.specs.declared.record.UseIndex.{UseIndex}
+use Rattle.ir_records.specs.declared.record.Definition.{Definition}
+use Rattle.ir_records.specs.declared.records.Records.{Records}
+use Rattle.ir_records.specs.Chains.{AreLinked, chains_of}
+use Rattle.ir_records.specs.Lists.{in_record, uses_with}
+use Rattle.ir_records.specs.Meaning.{use_of}
 use Rattle.ir_core.specs.Sound.{IsSound}
 use Rattle.ir_core.specs.State.{State, forest_of, uses_of, uses_of_results}
-use Rattle.ir_core.specs.Table.{operands_at, results_at, results_in, uses_at, uses_with}
+use Rattle.ir_records.specs.Table.{definitions_at, operands_at, uses_at}
+use Rattle.ir_records.specs.Found.{place-In}
+use Rattle.ir_records.specs.KeptUses.{numbers-differ, one_kept}
+use Rattle.ir_records.specs.Meant.{map-map, numbers-meant}
 use Rattle.ir_core.specs.Values.{AreUsesOfResults, IsUseOfResult}
-use Rattle.ir_core.proofs.LinkLemmas.{same_operand}
-use Rattle.ir_core.proofs.Meanings.{some_behind}
 use Rattle.ir_core.proofs.RoomLemmas.{below, below-In, length-below}
-use Rattle.ir_core.proofs.ValueLemmas.{Distinct-places, place-In, numbers-op, uses-exact}
+use Rattle.ir_core.proofs.ValueLemmas.{uses-exact}
 
 -- different numbers below n are at most n
 few-below : (n : ℕ) (xs : List ℕ) → Distinct xs → ((m : ℕ) → In m xs → m < n) → length xs ≤ n
@@ -69,36 +70,21 @@ module _ {A B : Type 0} (f : A → List B) where
 abbrev result_index : ArenaIndex → ℕ → ValueIndex
 result_index o n = record { definer = Op o; number = n }
 
-module _ {D A K B S X L : Type 0} (t : Arena (Operation D A K B S X L)) (linked : Linked t) where
-  -- two kept uses with one number are one
-  one-kept : (v w : ValueIndex) (i j : ℕ) (a b : UseIndex) → slice_get (uses_at t v) i ≡ Some a → slice_get (uses_at t w) j ≡ Some b → a.number ≡ b.number → (v ≡ w) × (i ≡ j)
-  one-kept v w i j a b at bt n =
-      let p = linked.backward v i a at in
-      let q = linked.backward w j b bt in
-      let same = linked.distinct a.user b.user p.0 q.0 _ _ p.1 q.1 n in
-      let e : ◌≡◌ {A = OperandRecord} (record { number = a.number; value = v; place = i }) (record { number = b.number; value = w; place = j }) = same_operand (operands_at t) b.user q.0 a.user p.0 _ _ q.1 p.1 same in
-      (ap (λ (x : OperandRecord). x.value) e, ap (λ (x : OperandRecord). x.place) e)
-
-  -- the uses of one value have different numbers
-  numbers-differ : (v : ValueIndex) → Distinct (map (λ (u : UseIndex). u.number) (uses_at t v))
-  numbers-differ v = Distinct-places (map (λ (u : UseIndex). u.number) (uses_at t v)) (λ i j n e f.
-      let a = some_behind (λ (u : UseIndex). u.number) (slice_get (uses_at t v) i) n (sym (slice_get-map (λ (u : UseIndex). u.number) (uses_at t v) i) ∙ e) in
-      let b = some_behind (λ (u : UseIndex). u.number) (slice_get (uses_at t v) j) n (sym (slice_get-map (λ (u : UseIndex). u.number) (uses_at t v) j) ∙ f) in
-      (one-kept v v i j a.0 b.0 a.1 b.1 (a.2 ∙ sym b.2)).1)
-
+module _ {D A K B S X L : Type 0} (t : Records D A K B S X L) (linked : AreLinked (chains_of t)) where
   -- the uses of different values have different numbers
   joined-differ : (vs : List ValueIndex) → Distinct vs → Distinct (map (λ (u : UseIndex). u.number) (flat_map (uses_at t) vs))
-  joined-differ vs d = Distinct-flat_map (uses_at t) (λ (u : UseIndex). u.number) vs d numbers-differ (λ v w a b h k n.
+  joined-differ vs d = Distinct-flat_map (uses_at t) (λ (u : UseIndex). u.number) vs d (numbers-differ (operands_at t) (uses_at t) linked.values) (λ v w a b h k n. (
       let p = place-In (uses_at t v) a h in
       let q = place-In (uses_at t w) b k in
-      (one-kept v w p.0 q.0 a b p.1 q.1 n).0)
+      (one_kept (operands_at t) (uses_at t) linked.values v w p.0 q.0 a b p.1 q.1 n).0
+      ))
 
 -- where the numbers differ, each result is the first with its number
-uses_with-own : (rs : List ResultRecord) → Distinct (map (λ (r : ResultRecord). r.number) rs) → (r : ResultRecord) → In r rs → uses_with rs r.number ≡ r.uses
+uses_with-own : (rs : List Definition) → Distinct (map (λ (r : Definition). r.number) rs) → (r : Definition) → In r rs → uses_with rs r.number ≡ r.uses
 uses_with-own [] d r h = elim h [ ]
-uses_with-own (x ∷ rs) d r (inl e) = subst (λ (y : ResultRecord). uses_with (x ∷ rs) y.number ≡ y.uses) (sym e) (subst (λ b. cond b x.uses (uses_with rs x.number) ≡ x.uses) (sym (eq-eqb x.number x.number refl)) refl)
+uses_with-own (x ∷ rs) d r (inl e) = subst (λ (y : Definition). uses_with (x ∷ rs) y.number ≡ y.uses) (sym e) (subst (λ b. cond b x.uses (uses_with rs x.number) ≡ x.uses) (sym (eq-eqb x.number x.number refl)) refl)
 uses_with-own (x ∷ rs) d r (inr h) =
-    let ne : x.number ≡ r.number → ⊥ = λ e. not_in-Absent x.number (map (λ (y : ResultRecord). y.number) rs) d.0 (subst (λ n. In n (map (λ (y : ResultRecord). y.number) rs)) (sym e) (In-map (λ (y : ResultRecord). y.number) r rs h)) in
+    let ne : x.number ≡ r.number → ⊥ = λ e. not_in-Absent x.number (map (λ (y : Definition). y.number) rs) d.0 (subst (λ n. In n (map (λ (y : Definition). y.number) rs)) (sym e) (In-map (λ (y : Definition). y.number) r rs h)) in
     subst (λ b. cond b x.uses (uses_with rs r.number) ≡ r.uses) (sym (ne_eqb x.number r.number ne)) (uses_with-own rs d.1 r h)
 
 module _ {D A K B S X L : Type 0} (s : State D A K B S X L) (sound : IsSound s) (o : ArenaIndex) where
@@ -109,19 +95,15 @@ module _ {D A K B S X L : Type 0} (s : State D A K B S X L) (sound : IsSound s) 
   results-differ : Distinct results
   results-differ = Distinct-map (result_index o) (λ m n e. ap (λ (v : ValueIndex). v.number) e) (numbers_of (forest_of s) (of_op o)) (sound.formed.numbers_once (of_op o))
 
-  joined : uses_of_results s o ≡ map use_of (flat_map (uses_at s.ops) results)
+  joined : uses_of_results s o ≡ map use_of (flat_map (uses_at s.records) results)
   joined = by (numbers_of (forest_of s) (of_op o))
     where
-      by : (ns : List ℕ) → flat_map (λ n. uses_of s (result_index o n)) ns ≡ map use_of (flat_map (uses_at s.ops) (map (result_index o) ns))
+      by : (ns : List ℕ) → flat_map (λ n. uses_of s (result_index o n)) ns ≡ map use_of (flat_map (uses_at s.records) (map (result_index o) ns))
       by [] = refl
-      by (n ∷ ns) = ap (λ us. uses_of s (result_index o n) ++ us) (by ns) ∙ sym (map-append use_of (uses_at s.ops (result_index o n)) (flat_map (uses_at s.ops) (map (result_index o) ns)))
-
-  maps : (us : List UseIndex) → map (λ (u : Use context_ids). u.number) (map use_of us) ≡ map (λ (u : UseIndex). u.number) us
-  maps [] = refl
-  maps (u ∷ us) = ap (λ ns. u.number ∷ ns) (maps us)
+      by (n ∷ ns) = ap (λ us. uses_of s (result_index o n) ++ us) (by ns) ∙ sym (map-append use_of (uses_at s.records (result_index o n)) (flat_map (uses_at s.records) (map (result_index o) ns)))
 
   uses-differ : Distinct (map (λ (u : Use context_ids). u.number) (uses_of_results s o))
-  uses-differ = subst (λ (us : List (Use context_ids)). Distinct (map (λ (u : Use context_ids). u.number) us)) (sym joined) (subst Distinct (sym (maps (flat_map (uses_at s.ops) results))) (joined-differ s.ops sound.linked results results-differ))
+  uses-differ = subst (λ (us : List (Use context_ids)). Distinct (map (λ (u : Use context_ids). u.number) us)) (sym joined) (subst Distinct (sym (map-map use_of (λ (u : Use context_ids). u.number) (flat_map (uses_at s.records) results))) (joined-differ s.records sound.linked results results-differ))
 
   -- the joined list has exactly the uses of the results, each once
   pub uses_of_results-exact : AreUsesOfResults (forest_of s) o (uses_of_results s o)
@@ -144,34 +126,34 @@ module _ {D A K B S X L : Type 0} (s : State D A K B S X L) (sound : IsSound s) 
       let k = (uses_of_results-exact.exact u.0).0 u.1 in
       let there : In u.0.number (use_numbers_of (forest_of s) u.0.user) =
       In-left u.0.number (map (λ (p : Operand context_ids). p.use_number) (operands_of (forest_of s) u.0.user)) _ (In-map (λ (p : Operand context_ids). p.use_number) (record { use_number = u.0.number; value = record { definer = of_op o; number = k.number } }) (operands_of (forest_of s) u.0.user) k.has) in
-      let less : u.0.number < s.next_use = sound.uses u.0.user u.0.number there in
+      let less : u.0.number < s.next_use = sound.counted.uses u.0.user u.0.number there in
       omega (arith, less, u.2)
       )) in
       omega (arith, below, length-map (uses_of_results s o) (λ (u : Use context_ids). u.number))
 
   -- the joined list, as the records of the results have it
-  pub read-joined : map use_of (flat_map (λ (r : ResultRecord). r.uses) (results_at s.ops o)) ≡ uses_of_results s o
-  read-joined = ap (map use_of) (sym (ap (flat_map (uses_at s.ops)) (ap (map (result_index o)) (numbers-op s o)) ∙ flat_map-map (uses_at s.ops) (result_index o) (map (λ (r : ResultRecord). r.number) (results_at s.ops o)) ∙ flat_map-map (λ n. uses_with (results_at s.ops o) n) (λ (r : ResultRecord). r.number) (results_at s.ops o) ∙ own (results_at s.ops o) (uses_with-own (results_at s.ops o) (subst Distinct (numbers-op s o) (sound.formed.numbers_once (of_op o)))))) ∙ sym joined
+  pub read-joined : map use_of (flat_map (λ (r : Definition). r.uses) (definitions_at s.records (Op o))) ≡ uses_of_results s o
+  read-joined = ap (map use_of) (sym (ap (flat_map (uses_at s.records)) (ap (map (result_index o)) (numbers-meant s.records (Op o))) ∙ flat_map-map (uses_at s.records) (result_index o) (map (λ (r : Definition). r.number) (definitions_at s.records (Op o))) ∙ flat_map-map (λ n. uses_with (definitions_at s.records (Op o)) n) (λ (r : Definition). r.number) (definitions_at s.records (Op o)) ∙ own (definitions_at s.records (Op o)) (uses_with-own (definitions_at s.records (Op o)) (subst Distinct (numbers-meant s.records (Op o)) (sound.formed.numbers_once (of_op o)))))) ∙ sym joined
     where
       -- each of these results is the first with its number
-      own : (rs : List ResultRecord) → ((r : ResultRecord) → In r rs → uses_with (results_at s.ops o) r.number ≡ r.uses) → flat_map (λ (r : ResultRecord). uses_with (results_at s.ops o) r.number) rs ≡ flat_map (λ (r : ResultRecord). r.uses) rs
+      own : (rs : List Definition) → ((r : Definition) → In r rs → uses_with (definitions_at s.records (Op o)) r.number ≡ r.uses) → flat_map (λ (r : Definition). uses_with (definitions_at s.records (Op o)) r.number) rs ≡ flat_map (λ (r : Definition). r.uses) rs
       own [] h = refl
-      own (r ∷ rs) h = ap (λ us. us ++ flat_map (λ (x : ResultRecord). uses_with (results_at s.ops o) x.number) rs) (h r (inl refl)) ∙ ap (λ us. r.uses ++ us) (own rs (λ x k. h x (inr k)))
+      own (r ∷ rs) h = ap (λ us. us ++ flat_map (λ (x : Definition). uses_with (definitions_at s.records (Op o)) x.number) rs) (h r (inl refl)) ∙ ap (λ us. r.uses ++ us) (own rs (λ x k. h x (inr k)))
 
 -- some result has a use exactly where the joined list has one
-joined-any : (rs : List ResultRecord) → list_any (λ (r : ResultRecord). not (length r.uses == 0)) rs ≡ true → (u : UseIndex) × In u (flat_map (λ (r : ResultRecord). r.uses) rs)
+joined-any : (rs : List Definition) → list_any (λ (r : Definition). not (length r.uses == 0)) rs ≡ true → (u : UseIndex) × In u (flat_map (λ (r : Definition). r.uses) rs)
 joined-any [] h = absurd (cc)
 joined-any (r ∷ rs) h = by r.uses refl (joined-any rs)
   where
-    by : (us : List UseIndex) → r.uses ≡ us → (list_any (λ (x : ResultRecord). not (length x.uses == 0)) rs ≡ true → (u : UseIndex) × In u (flat_map (λ (x : ResultRecord). x.uses) rs)) → (u : UseIndex) × In u (flat_map (λ (x : ResultRecord). x.uses) (r ∷ rs))
+    by : (us : List UseIndex) → r.uses ≡ us → (list_any (λ (x : Definition). not (length x.uses == 0)) rs ≡ true → (u : UseIndex) × In u (flat_map (λ (x : Definition). x.uses) rs)) → (u : UseIndex) × In u (flat_map (λ (x : Definition). x.uses) (r ∷ rs))
     by [] e rest =
-        let more = rest (subst (λ us. (not (length us == 0) || list_any (λ (x : ResultRecord). not (length x.uses == 0)) rs) ≡ true) e h) in
-        (more.0, In-right more.0 r.uses (flat_map (λ (x : ResultRecord). x.uses) rs) more.1)
-    by (u ∷ us) e rest = (u, In-left u r.uses (flat_map (λ (x : ResultRecord). x.uses) rs) (subst (In u) (sym e) (inl refl)))
+        let more = rest (subst (λ us. (not (length us == 0) || list_any (λ (x : Definition). not (length x.uses == 0)) rs) ≡ true) e h) in
+        (more.0, In-right more.0 r.uses (flat_map (λ (x : Definition). x.uses) rs) more.1)
+    by (u ∷ us) e rest = (u, In-left u r.uses (flat_map (λ (x : Definition). x.uses) rs) (subst (In u) (sym e) (inl refl)))
 
-any-joined : (rs : List ResultRecord) (u : UseIndex) → In u (flat_map (λ (r : ResultRecord). r.uses) rs) → list_any (λ (r : ResultRecord). not (length r.uses == 0)) rs ≡ true
+any-joined : (rs : List Definition) (u : UseIndex) → In u (flat_map (λ (r : Definition). r.uses) rs) → list_any (λ (r : Definition). not (length r.uses == 0)) rs ≡ true
 any-joined [] u h = elim h [ ]
-any-joined (r ∷ rs) u h = elim (In-append u r.uses (flat_map (λ (x : ResultRecord). x.uses) rs) h) [
+any-joined (r ∷ rs) u h = elim (In-append u r.uses (flat_map (λ (x : Definition). x.uses) rs) h) [
   | inl k ↦ by r.uses k
   | inr k ↦ rest (not (length r.uses == 0)) (any-joined rs u k)
 ]
@@ -180,32 +162,32 @@ any-joined (r ∷ rs) u h = elim (In-append u r.uses (flat_map (λ (x : ResultRe
     rest true e = refl
     rest false e = e
 
-    by : (us : List UseIndex) → In u us → (not (length us == 0) || list_any (λ (x : ResultRecord). not (length x.uses == 0)) rs) ≡ true
+    by : (us : List UseIndex) → In u us → (not (length us == 0) || list_any (λ (x : Definition). not (length x.uses == 0)) rs) ≡ true
     by [] k = elim k [ ]
     by (x ∷ us) k =
         let n : length (x ∷ us) ≢ 0 = omega arith in
-        subst (λ b. (not b || list_any (λ (y : ResultRecord). not (length y.uses == 0)) rs) ≡ true) (sym (ne_eqb (length (x ∷ us)) 0 n)) refl
+        subst (λ b. (not b || list_any (λ (y : Definition). not (length y.uses == 0)) rs) ≡ true) (sym (ne_eqb (length (x ∷ us)) 0 n)) refl
 
-module _ {D A K B S X L : Type 0} (s : State D A K B S X L) (sound : IsSound s) (o : ArenaIndex) (op : Operation D A K B S X L) (at : get s.ops o ≡ Some op) where
+module _ {D A K B S X L : Type 0} (s : State D A K B S X L) (sound : IsSound s) (o : ArenaIndex) (op : Operation D A K B S X L) (at : get s.records.ops o ≡ Some op) where
   -- what the results of a live operation keep
-  pub uses-here : map use_of (flat_map (λ (r : ResultRecord). r.uses) op.results) ≡ uses_of_results s o
-  uses-here = subst (λ (m : Option (Operation D A K B S X L)). map use_of (flat_map (λ (r : ResultRecord). r.uses) (results_in m)) ≡ uses_of_results s o) at (read-joined s sound o)
+  pub uses-here : map use_of (flat_map (λ (r : Definition). r.uses) op.results) ≡ uses_of_results s o
+  uses-here = subst (λ (m : Option (Operation D A K B S X L)). map use_of (flat_map (λ (r : Definition). r.uses) (in_record (λ (x : Operation D A K B S X L). x.results) [] m)) ≡ uses_of_results s o) at (read-joined s sound o)
 
-  pub count-here : length (flat_map (λ (r : ResultRecord). r.uses) op.results) ≡ length (uses_of_results s o)
-  count-here = sym (length-map (flat_map (λ (r : ResultRecord). r.uses) op.results) use_of) ∙ ap length uses-here
+  pub count-here : length (flat_map (λ (r : Definition). r.uses) op.results) ≡ length (uses_of_results s o)
+  count-here = sym (length-map (flat_map (λ (r : Definition). r.uses) op.results) use_of) ∙ ap length uses-here
 
-  pub few-here : length (flat_map (λ (r : ResultRecord). r.uses) op.results) ≤ s.next_use
+  pub few-here : length (flat_map (λ (r : Definition). r.uses) op.results) ≤ s.next_use
   few-here = let few = few-uses s sound o in omega (arith, few, count-here)
 
   -- whether a result has a use
-  pub has-here : (b : Bool) → b ≡ list_any (λ (r : ResultRecord). not (length r.uses == 0)) op.results → IsTrue b ↔ ((u : Use context_ids) × IsUseOfResult (forest_of s) o u)
+  pub has-here : (b : Bool) → b ≡ list_any (λ (r : Definition). not (length r.uses == 0)) op.results → IsTrue b ↔ ((u : Use context_ids) × IsUseOfResult (forest_of s) o u)
   has-here b e = (
     λ h. (
         let u = joined-any op.results (sym e ∙ h) in
-        (use_of u.0, ((uses_of_results-exact s sound o).exact (use_of u.0)).0 (subst (In (use_of u.0)) uses-here (In-map use_of u.0 (flat_map (λ (r : ResultRecord). r.uses) op.results) u.1)))
+        (use_of u.0, ((uses_of_results-exact s sound o).exact (use_of u.0)).0 (subst (In (use_of u.0)) uses-here (In-map use_of u.0 (flat_map (λ (r : Definition). r.uses) op.results) u.1)))
         ),
     λ p. (
-        let u = In-map_back use_of p.0 (flat_map (λ (r : ResultRecord). r.uses) op.results) (subst (In p.0) (sym uses-here) (((uses_of_results-exact s sound o).exact p.0).1 p.1)) in
+        let u = In-map_back use_of p.0 (flat_map (λ (r : Definition). r.uses) op.results) (subst (In p.0) (sym uses-here) (((uses_of_results-exact s sound o).exact p.0).1 p.1)) in
         e ∙ any-joined op.results u.0 u.1
         ),
   )

@@ -3,6 +3,7 @@ use Rattle.std.proofs.Common.{◌≡◌, refl, sym, ap, ℕ, zero, suc, ◌-◌,
 use Rattle.std.specs.Prelude.{nat_lt, IsSome}
 use Rattle.std.specs.Option.{option_map}
 use Rattle.std.proofs.lemmas.Bool.{lt-ltb, ltb-true, eqb-true, eqb-false}
+use Rattle.ir_model.specs.declared.ids.ArenaIndex.{ArenaIndex}
 use Rattle.ir_model.specs.declared.ids.Limits.{Limits}
 use Rattle.ir_model.specs.Ids.{Absent, Distinct}
 use Rattle.ir_model.specs.Nesting.{In}
@@ -57,17 +58,17 @@ Number-same n same p = (p.0, p.1, λ x. (λ h. (same x).0 ((p.2 x).0 h), λ h. (
 pub Left-below : (n count : ℕ) → n ≤ count → Left count (λ m. IsTrue (nat_lt m n)) (count - n)
 Left-below n count h = record { gone = n; number = Number-below n; whole = omega arith }
 
-module _ {T R : Type 0} (f : T → R) (limits : Limits) (a : Arena T) (keeps : Keeps limits a) (whole : IsWhole a) where
-  there : (m : Option T) → IsSome m ↔ IsSome (option_map f m)
-  there None = (λ h. h, λ h. h)
-  there (Some x) = (λ _. refl, λ _. refl)
+module _ {T R : Type 0} (f : ArenaIndex → T → R) (limits : Limits) (a : Arena T) (keeps : Keeps limits a) (whole : IsWhole a) where
+  there : (i : ArenaIndex) (m : Option T) → IsSome m ↔ IsSome (option_map (f i) m)
+  there i None = (λ h. h, λ h. h)
+  there i (Some x) = (λ _. refl, λ _. refl)
 
   -- the slots that are taken, counted by what the records mean
-  pub takes-meant : Number (TakesSlot limits (is_passed a) (λ i. IsSome (option_map f (get a i)))) (a.limit - room a)
+  pub takes-meant : Number (TakesSlot limits (is_passed a) (λ i. IsSome (option_map (f i) (get a i)))) (a.limit - room a)
   takes-meant = Number-same _ (λ i. (
-    λ h. elim h [ inl live ↦ inl ((there (get a i)).0 live) | inr gone ↦ inr (gone.0, λ live. gone.1 ((there (get a i)).1 live), gone.2) ],
-    λ h. elim h [ inl live ↦ inl ((there (get a i)).1 live) | inr gone ↦ inr (gone.0, λ live. gone.1 ((there (get a i)).0 live), gone.2) ],
+    λ h. elim h [ inl live ↦ inl ((there i (get a i)).0 live) | inr gone ↦ inr (gone.0, λ live. gone.1 ((there i (get a i)).1 live), gone.2) ],
+    λ h. elim h [ inl live ↦ inl ((there i (get a i)).1 live) | inr gone ↦ inr (gone.0, λ live. gone.1 ((there i (get a i)).0 live), gone.2) ],
   )) (takes-number limits a (sym keeps.last_version) whole)
 
-  pub Left-slots : Left limits.slots (TakesSlot limits (is_passed a) (λ i. IsSome (option_map f (get a i)))) (room a)
+  pub Left-slots : Left limits.slots (TakesSlot limits (is_passed a) (λ i. IsSome (option_map (f i) (get a i)))) (room a)
   Left-slots = record { gone = a.limit - room a; number = takes-meant; whole = omega (arith, room-splits a whole, keeps.limit) }

@@ -6,7 +6,6 @@ use Rattle.ir_model.specs.Forest.{Dialect}
 use Rattle.ir_model.specs.Nesting.{In}
 use Rattle.ir_model.specs.Sessions.{Session, Number, HasRoom, LacksRoom, HasNumbers, LacksNumbers, LacksSlots, TakesSlot, live_op, live_block, live_region}
 use Rattle.ir_arena.specs.declared.room.Room.{Room}
-use Rattle.ir_core.specs.State.{State, bare}
 use Rattle.std.specs.Result.{IsErrAnd}
 use Rattle.ir_model.specs.declared.error.CoreError.{CoreError}
 use Rattle.ir_model.specs.declared.error.CoreError.TheVariants.{OutOfMemory, CounterSpent, SlotsSpent}
@@ -30,14 +29,6 @@ module _ {A : Type 0} where
   pub lacks-left : (count : ℕ) (P : A → Type 0) (left n : ℕ) → Left count P left → LacksRoom count P n → left < n
   lacks-left count P left n l h = let same = Number-unique P l.gone h.0 l.number h.1 in omega (arith, l.whole, h.2, same)
 
-  -- none are wanted where none are gone
-  pub lacks-none : (count : ℕ) (P : A → Type 0) → ((x : A) → P x → ⊥) → LacksRoom count P 0 → ⊥
-  lacks-none count P none (gone, (xs, d, all, length_is), few) = by xs (λ x. (all x).0) length_is
-    where
-      by : (xs : List A) → ((x : A) → In x xs → P x) → length xs ≡ gone → ⊥
-      by [] all e = absurd (omega (arith, e, few))
-      by (x ∷ xs) all e = none x (all x (inl refl))
-
   has-left : (count : ℕ) (P : A → Type 0) (left n : ℕ) → Left count P left → HasRoom count P n → n ≤ left
   has-left count P left n l h = let same = Number-unique P l.gone h.0 l.number h.1 in omega (arith, l.whole, h.2, same)
 
@@ -60,19 +51,15 @@ module _ {W : Dialect} (s : Session W) (room : Room) (is : IsRoom s room) (n : C
   not_having (inl few) h = absurd (omega (arith, has-left s.limits.values (λ m. IsTrue (s.passed.numbers m)) room.values n.numbers is.values h.values))
   not_having (inr few) h = absurd (omega (arith, has-left s.limits.uses (λ m. IsTrue (s.passed.uses m)) room.uses n.uses is.uses h.uses))
 
-  pub lacks-slots : (room.ops < n.ops) ⊎ (room.regions < n.regions) → LacksSlots s n
+  pub lacks-slots : (room.ops < n.ops) ⊎ ((room.blocks < n.blocks) ⊎ (room.regions < n.regions)) → LacksSlots s n
   lacks-slots (inl few) = inl (left-lacks s.limits.slots (TakesSlot s.limits s.passed.ops (live_op s.state)) room.ops n.ops is.ops few)
-  lacks-slots (inr few) = inr (inr (left-lacks s.limits.slots (TakesSlot s.limits s.passed.regions (live_region s.state)) room.regions n.regions is.regions few))
+  lacks-slots (inr (inl few)) = inr (inl (left-lacks s.limits.slots (TakesSlot s.limits s.passed.blocks (live_block s.state)) room.blocks n.blocks is.blocks few))
+  lacks-slots (inr (inr few)) = inr (inr (left-lacks s.limits.slots (TakesSlot s.limits s.passed.regions (live_region s.state)) room.regions n.regions is.regions few))
 
-  pub slots_enough : n.blocks ≡ 0 → ((i : ArenaIndex) → TakesSlot s.limits s.passed.blocks (live_block s.state) i → ⊥) → n.ops ≤ room.ops → n.regions ≤ room.regions → LacksSlots s n → ⊥
-  slots_enough none no_block ops regions (inl h) = absurd (omega (arith, lacks-left s.limits.slots (TakesSlot s.limits s.passed.ops (live_op s.state)) room.ops n.ops is.ops h))
-  slots_enough none no_block ops regions (inr (inl h)) = lacks-none s.limits.slots (TakesSlot s.limits s.passed.blocks (live_block s.state)) no_block (subst (LacksRoom s.limits.slots (TakesSlot s.limits s.passed.blocks (live_block s.state))) none h)
-  slots_enough none no_block ops regions (inr (inr h)) = absurd (omega (arith, lacks-left s.limits.slots (TakesSlot s.limits s.passed.regions (live_region s.state)) room.regions n.regions is.regions h))
-
--- no block takes a slot
-pub no_block : {D A K B S X L : Type 0} (s : State D A K B S X L) (i : ArenaIndex) → TakesSlot s.limits (bare s).passed.blocks (live_block (bare s).state) i → ⊥
-no_block s i (inl live) = true≢false (sym live)
-no_block s i (inr h) = true≢false (sym h.0)
+  pub slots_enough : n.ops ≤ room.ops → n.blocks ≤ room.blocks → n.regions ≤ room.regions → LacksSlots s n → ⊥
+  slots_enough ops blocks regions (inl h) = absurd (omega (arith, lacks-left s.limits.slots (TakesSlot s.limits s.passed.ops (live_op s.state)) room.ops n.ops is.ops h))
+  slots_enough ops blocks regions (inr (inl h)) = absurd (omega (arith, lacks-left s.limits.slots (TakesSlot s.limits s.passed.blocks (live_block s.state)) room.blocks n.blocks is.blocks h))
+  slots_enough ops blocks regions (inr (inr h)) = absurd (omega (arith, lacks-left s.limits.slots (TakesSlot s.limits s.passed.regions (live_region s.state)) room.regions n.regions is.regions h))
 
 -- what is left of the numbers is what is above the next one
 pub left-above : (count next left : ℕ) → Left count (λ n. IsTrue (nat_lt n next)) left → next + left ≡ count

@@ -6,7 +6,7 @@ use Rattle.std.specs.Map.{keys_of}
 use Rattle.std.specs.Option.{option_map}
 use Rattle.ir_model.specs.Edits.{StoredType, place_of, type_place, with_type}
 use Rattle.ir_base.specs.Stores.{Stores, has_key}
-use Rattle.ir_core.specs.Meaning.{closed}
+use Rattle.ir_records.specs.Meaning.{closed}
 use Rattle.ir_core.specs.State.{behaviour}
 
 module _ (A K B S X L : Type 0) (same : K → K → Bool) (first : B) (unknown : L) (impls : ℕ → ℕ → Bool) where

@@ -1,10 +1,7 @@
-pub mod Table
-pub mod Links
-pub mod ChainLends
-pub mod Meaning
 pub mod State
 pub mod Sound
-pub mod Calls
 pub mod Values
-pub mod Entities
+pub mod Calls
 pub mod Creation
+pub mod GoingBack
+pub mod Lending

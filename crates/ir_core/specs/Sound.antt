@@ -1,13 +1,15 @@
--- What holds of every `Context`.
-use Rattle.std.specs.Prelude.{◌≡◌, ℕ, ◌<◌, ◌≤◌, length, Some}
+-- What holds of every `Context`, in five parts.
+use Rattle.std.specs.Prelude.{◌≡◌, ℕ, ◌<◌, ◌≤◌, length}
 use Rattle.ir_model.specs.declared.ids.ArenaIndex.{ArenaIndex}
 use Rattle.ir_model.specs.declared.ids.Limits.{Limits}
 use Rattle.ir_model.specs.ContextIds.{context_ids}
 use Rattle.ir_model.specs.Forest.{Definer}
-use Rattle.ir_model.specs.Nesting.{In, WellFormed, numbers_of, uses_of, regions_of}
-use Rattle.ir_arena.specs.Arena.{Arena, get}
-use Rattle.ir_core.specs.declared.operation.Operation.{Operation}
-use Rattle.ir_core.specs.Links.{Linked}
+use Rattle.ir_model.specs.Nesting.{In, WellFormed, numbers_of, uses_of}
+use Rattle.ir_arena.specs.Arena.{Arena}
+use Rattle.ir_records.specs.Chains.{AreLinked, chains_of}
+use Rattle.ir_records.specs.Nested.{AreNested}
+use Rattle.ir_records.specs.Table.{KnowOwn}
+use Rattle.ir_records.specs.Tree.{tree_of}
 use Rattle.ir_core.specs.State.{State, forest_of}
 
 -- the limits are in range
@@ -21,19 +23,23 @@ pub record Keeps {T : Type 0} (l : Limits) (a : Arena T) : Type 0 where
   pub last_version : a.last_version ≡ l.last_version
 
 module _ {D A K B S X L : Type 0} where
-  pub record IsSound (s : State D A K B S X L) : Type 0 where
-    -- uses and operands name each other
-    pub linked : Linked s.ops
-    -- each operation knows its own place
-    pub own : (i : ArenaIndex) (op : Operation D A K B S X L) → get s.ops i ≡ Some op → op.index ≡ i
-    -- each region knows its operation
-    pub parents : (o r : ArenaIndex) → In r (regions_of (forest_of s) o) → get s.regions r ≡ Some (record { parent = o })
-    pub formed : WellFormed (forest_of s) (length s.types)
-    -- each number in use was handed out
+  -- each number in use was handed out, and no limit is passed
+  pub record IsCounted (s : State D A K B S X L) : Type 0 where
     pub values : (d : Definer context_ids) (n : ℕ) → In n (numbers_of (forest_of s) d) → n < s.next_value
     pub uses : (o : ArenaIndex) (n : ℕ) → In n (uses_of (forest_of s) o) → n < s.next_use
     pub value_limit : s.next_value ≤ s.limits.values
     pub use_limit : s.next_use ≤ s.limits.uses
     pub limits : AreLimits s.limits
-    pub op_slots : Keeps s.limits s.ops
-    pub region_slots : Keeps s.limits s.regions
+    pub op_slots : Keeps s.limits s.records.ops
+    pub block_slots : Keeps s.limits s.records.blocks
+    pub region_slots : Keeps s.limits s.records.regions
+
+  pub record IsSound (s : State D A K B S X L) : Type 0 where
+    -- uses and places name each other
+    pub linked : AreLinked (chains_of s.records)
+    -- links, ends and parents are those of lists
+    pub nested : AreNested (tree_of s.records)
+    -- operations and blocks know their own places
+    pub own : KnowOwn s.records
+    pub formed : WellFormed (forest_of s) (length s.types)
+    pub counted : IsCounted s

@@ -1,7 +1,6 @@
 -- What a contract sees of a `Context`, and what it means: a forest, a store of types, what has passed, and limits.
 use Rattle.std.specs.Prelude.{ℕ, Bool, false, List, [], map, None, nat_lt}
 use Rattle.std.specs.List.{flat_map}
-use Rattle.std.specs.Option.{option_map}
 use Rattle.ir_model.specs.declared.ids.ArenaIndex.{ArenaIndex}
 use Rattle.ir_model.specs.declared.ids.Limits.{Limits}
 use Rattle.ir_model.specs.ContextIds.{context_ids}
@@ -10,22 +9,21 @@ use Rattle.ir_model.specs.Nesting.{numbers_of}
 use Rattle.ir_model.specs.Edits.{StoredType, Tables}
 use Rattle.ir_model.specs.Sessions.{Passed, Session, Beside}
 use Rattle.ir_model.specs.Uses.{Use}
-use Rattle.ir_arena.specs.Arena.{Arena, get, is_passed}
-use Rattle.ir_core.specs.declared.operation.Operation.{Operation}
-use Rattle.ir_core.specs.declared.region.Region.{Region}
-use Rattle.ir_core.specs.declared.record.Definer.TheVariants.{Op}
-use Rattle.ir_core.specs.declared.record.ValueIndex.{ValueIndex}
-use Rattle.ir_core.specs.Table.{uses_at}
-use Rattle.ir_core.specs.Meaning.{closed, op_records, use_of}
+use Rattle.ir_arena.specs.Arena.{is_passed}
+use Rattle.ir_records.specs.declared.record.Definer.TheVariants.{Op}
+use Rattle.ir_records.specs.declared.record.ValueIndex.{ValueIndex}
+use Rattle.ir_records.specs.declared.record.BlockIndex.{BlockIndex}
+use Rattle.ir_records.specs.declared.records.Records.{Records}
+use Rattle.ir_records.specs.Table.{uses_at, block_uses_at}
+use Rattle.ir_records.specs.Meaning.{closed, use_of, forest_of as forest_in}
 
 -- what the code of a dialect answers, as the definitions ask it
 abbrev pub behaviour : {A K B S X L : Type 0} → (K → K → Bool) → B → L → (ℕ → ℕ → Bool) → Behaviour (closed A K B S X L)
 behaviour same_key first_body unknown op_impls = record { same_key = same_key; first_body = first_body; unknown = unknown; op_impls = op_impls }
 
--- the arenas, the store of types, the next numbers, and the limits
+-- the records, the store of types, the next numbers, and the limits
 pub record State (D A K B S X L : Type 0) : Type 0 where
-  pub ops : Arena (Operation D A K B S X L)
-  pub regions : Arena Region
+  pub records : Records D A K B S X L
   pub types : List (K × B)
   pub next_value : ℕ
   pub next_use : ℕ
@@ -37,7 +35,7 @@ no_tables = record { types = []; ops = []; blocks = []; regions = []; values = [
 module _ {D A K B S X L : Type 0} where
   -- the forest that the context means
   abbrev pub forest_of : State D A K B S X L → Forest context_ids (closed A K B S X L)
-  forest_of s = record { ops = op_records s.ops; blocks = λ _. None; regions = λ r. option_map (λ _. []) (get s.regions r) }
+  forest_of s = forest_in s.records
 
   -- the types in order, each with its body
   abbrev pub types_of : State D A K B S X L → List (StoredType (closed A K B S X L))
@@ -46,9 +44,9 @@ module _ {D A K B S X L : Type 0} where
   -- what the context has handed out
   abbrev pub passed_of : State D A K B S X L → Passed
   passed_of s = record {
-    ops = is_passed s.ops;
-    blocks = λ _. false;
-    regions = is_passed s.regions;
+    ops = is_passed s.records.ops;
+    blocks = is_passed s.records.blocks;
+    regions = is_passed s.records.regions;
     numbers = λ n. nat_lt n s.next_value;
     uses = λ n. nat_lt n s.next_use;
   }
@@ -72,7 +70,11 @@ module _ {D A K B S X L : Type 0} where
 
   -- the kept list of the uses of a value
   abbrev pub uses_of : State D A K B S X L → ValueIndex → List (Use context_ids)
-  uses_of s v = map use_of (uses_at s.ops v)
+  uses_of s v = map use_of (uses_at s.records v)
+
+  -- the kept list of the uses of a block as a successor
+  abbrev pub block_uses_of : State D A K B S X L → ArenaIndex → List (Use context_ids)
+  block_uses_of s b = map use_of (block_uses_at s.records (record { index = b }))
 
   -- the kept lists of the uses of an operation's results, joined in the order of the results
   abbrev pub uses_of_results : State D A K B S X L → ArenaIndex → List (Use context_ids)

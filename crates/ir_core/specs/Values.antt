@@ -1,23 +1,21 @@
 -- What queries about values and uses answer.
-use Rattle.std.specs.Prelude.{◌≡◌, ◌↔◌, ℕ, List, Option, Some, None}
+use Rattle.std.specs.Prelude.{◌≡◌, ◌↔◌, ℕ, List, Option}
+use Rattle.std.specs.Option.{option_map}
 use Rattle.ir_model.specs.declared.ids.ArenaIndex.{ArenaIndex}
 use Rattle.ir_model.specs.ContextIds.{context_ids}
 use Rattle.ir_model.specs.Ids.{Distinct}
-use Rattle.ir_model.specs.Forest.{Dialect, Forest, Value, Definition, an_op, a_block, a_value, of_op, of_block}
-use Rattle.ir_model.specs.Nesting.{In, IsLive, IsLiveNamed, definitions_of, numbers_of, operands_of}
+use Rattle.ir_model.specs.Forest.{Dialect, Definer as DefinedBy, Forest, Value, Definition, an_op, a_block, a_value, of_op, of_block}
+use Rattle.ir_model.specs.Nesting.{In, IsLive, definitions_of, numbers_of}
 use Rattle.ir_model.specs.Uses.{IsUse, Use}
-use Rattle.ir_core.specs.declared.record.Definer.{Definer}
-use Rattle.ir_core.specs.declared.record.Definer.TheVariants.{Op, Block}
+use Rattle.ir_records.specs.declared.record.Definer.{Definer}
+use Rattle.ir_records.specs.declared.record.Definer.TheVariants.{Op, Block}
+use Rattle.ir_core.specs.declared.error.ValueError.{ValueError}
+use Rattle.ir_core.specs.declared.error.ValueError.TheVariants.{NotInOpResult, NotInBlockArgument}
 
--- the operation, where an operation defines it
-abbrev pub op_of : Definer → Option ArenaIndex
-op_of (Op o) = Some o
-op_of (Block b) = None
-
--- the block, where a block defines it
-abbrev pub block_of : Definer → Option ArenaIndex
-block_of (Op o) = None
-block_of (Block b) = Some b
+-- why a value isn't found at what defined it, which is live
+abbrev pub missing_from : Definer → ValueError
+missing_from (Op o) = NotInOpResult
+missing_from (Block b) = NotInBlockArgument
 
 module _ {W : Dialect} where
   -- a live operation defines the value no longer, or never did
@@ -41,9 +39,10 @@ module _ {W : Dialect} where
     pub number : definition.number ≡ v.number
     pub is : definition.ty ≡ ty
 
-  -- an operand of the live user has the use's number
-  abbrev pub IsLiveUse : Forest context_ids W → Use context_ids → Type 0
-  IsLiveUse f u = (v : Value context_ids) × In (record { use_number = u.number; value = v }) (operands_of f u.user)
+  -- the location of what defines a value, where it is live
+  abbrev pub loc_of : Forest context_ids W → DefinedBy context_ids → Option W.Loc
+  loc_of f (of_op o) = option_map (λ r. r.loc) (f.ops o)
+  loc_of f (of_block b) = option_map (λ r. r.loc) (f.blocks b)
 
   -- some result of the operation has the use
   pub record IsUseOfResult (f : Forest context_ids W) (o : ArenaIndex) (u : Use context_ids) : Type 0 where
@@ -55,11 +54,3 @@ module _ {W : Dialect} where
   pub record AreUsesOfResults (f : Forest context_ids W) (o : ArenaIndex) (uses : List (Use context_ids)) : Type 0 where
     pub once : Distinct uses
     pub exact : (u : Use context_ids) → In u uses ↔ IsUseOfResult f o u
-
--- the operation is live wherever the value is
-abbrev pub LiveWhereValue : Dialect → Value context_ids → ArenaIndex → Type 0
-LiveWhereValue W v o = (f : Forest context_ids W) → IsLiveNamed f (a_value v) → IsLive f (an_op o)
-
--- the operation is live wherever the use is
-abbrev pub LiveWhereUse : Dialect → Use context_ids → ArenaIndex → Type 0
-LiveWhereUse W u o = (f : Forest context_ids W) → IsLiveUse f u → IsLive f (an_op o)

@@ -6,29 +6,29 @@ ghost use Rattle.std.specs.Prelude.{◌≡◌, ◌⊎◌, ◌+◌, ◌-◌, ◌<
 ghost use Rattle.std.specs.Option.{option_copied};
 ghost use Rattle.std.specs.Map.{keys_of};
 ghost use Rattle.ir_model.specs.ContextIds.{context_ids};
-ghost use Rattle.ir_model.specs.Forest.{a_value};
+ghost use Rattle.ir_model.specs.Forest.{a_value, the_block};
+ghost use Rattle.ir_model.specs.declared.ids.ArenaIndex.{ArenaIndex};
 ghost use Rattle.ir_model.specs.Nesting.{IsLiveNamed, WellFormed};
 ghost use Rattle.ir_model.specs.Uses.{AreUses};
 ghost use Rattle.ir_model.specs.Edits.{type_place, with_type};
 ghost use Rattle.ir_model.specs.Sessions.{IsNewSession, Session};
 ghost use Rattle.ir_arena.specs.Arena.{room};
-ghost use Rattle.ir_core.specs.declared.record.ValueIndex.{ValueIndex as PlainIndex};
-ghost use Rattle.ir_core.specs.Meaning.{value_of};
-ghost use Rattle.ir_core.specs.State.{bare, behaviour, forest_of, types_of, uses_of};
+ghost use Rattle.ir_records.specs.declared.record.ValueIndex.{ValueIndex as PlainIndex};
+ghost use Rattle.ir_records.specs.Meaning.{value_of};
+ghost use Rattle.ir_core.specs.State.{bare, behaviour, block_uses_of, forest_of, types_of, uses_of};
 ghost use Rattle.ir_core.specs.Sound.{AreLimits};
-ghost use Rattle.ir_core.specs.Calls.{IsRoom, SameButTypes, NoEntity, TypesAreExact};
+ghost use Rattle.ir_core.specs.Creation.{HoldTogether};
+ghost use Rattle.ir_core.specs.Calls.{IsRoom, LiveWasMade, NoEntity, SameButTypes, TypesAreExact, nothing_beside};
 
-use crate::operation::Operation;
-use crate::region::Region;
 use ir_base::{Arena, CoreError, Dialects, Limits, Room, TypeHandle, TypeStore};
+use ir_records::Records;
 use std::alloc::Global;
 use std::marker::Model;
 
 /// The operations, regions and types of one compilation. It stands for pliron's `Context`.
 #[derive(Drop)]
 pub struct Context<D: Dialects> {
-    pub(crate) ops: Arena<Operation<D>>,
-    pub(crate) regions: Arena<Region>,
+    pub(crate) records: Records<D>,
     pub(crate) types: TypeStore<D::TypeKey, D::TypeBody>,
     pub(crate) next_value: u64,
     pub(crate) next_use: u64,
@@ -42,15 +42,16 @@ impl<D: Dialects> Model for Context<D> {
 
     ghost Value = { State D D.Attr D.TypeKey D.TypeBody D.Saved D.Aux D.Loc };
 
-    ghost view = { λ c. record { ops = c.ops; regions = c.regions; types = c.types; next_value = c.next_value; next_use = c.next_use; limits = c.limits } };
+    ghost view = { λ c. record { records = c.records; types = c.types; next_value = c.next_value; next_use = c.next_use; limits = c.limits } };
 
-    ghost invariant = { λ c. IsSound (record { ops = c.ops; regions = c.regions; types = c.types; next_value = c.next_value; next_use = c.next_use; limits = c.limits }) };
+    ghost invariant = { λ c. IsSound (record { records = c.records; types = c.types; next_value = c.next_value; next_use = c.next_use; limits = c.limits }) };
 }
 
 impl<D: Dialects> Context<D> {
     /// An empty context with the default limits. It allocates nothing.
     pub fn new(alloc: Global) -> Self
         ensures new { IsNewSession (bare result) }
+        ensures beside { (bare result).beside ≡ nothing_beside }
         ensures limits { result.limits ≡ record { values = 18446744073709551615; uses = 18446744073709551615; slots = 4294967294; last_version = 4294967295 } }
     {
         Context::with_limits(alloc, Limits::default())
@@ -61,11 +62,15 @@ impl<D: Dialects> Context<D> {
         requires slots { limits.slots < 4294967295 }
         requires versions { 1 ≤ limits.last_version }
         ensures new { IsNewSession (bare result) }
+        ensures beside { (bare result).beside ≡ nothing_beside }
         ensures limits { result.limits ≡ limits }
     {
         Context {
-            ops: Arena::new(alloc, limits.slots, limits.last_version),
-            regions: Arena::new(alloc, limits.slots, limits.last_version),
+            records: Records {
+                ops: Arena::new(alloc, limits.slots, limits.last_version),
+                blocks: Arena::new(alloc, limits.slots, limits.last_version),
+                regions: Arena::new(alloc, limits.slots, limits.last_version),
+            },
             types: TypeStore::new(alloc),
             next_value: 0,
             next_use: 0,
@@ -79,18 +84,19 @@ impl<D: Dialects> Context<D> {
         self.alloc
     }
 
-    /// How many numbers and slots are left. There is no room for blocks and for auxiliary data.
+    /// How many numbers and slots are left. There is no room for auxiliary data.
     pub fn room(&self) -> Room
         ensures exact { IsRoom (bare self.now) result }
-        ensures ops { result.ops ≡ room self.now.ops }
-        ensures regions { result.regions ≡ room self.now.regions }
+        ensures ops { result.ops ≡ room self.now.records.ops }
+        ensures blocks { result.blocks ≡ room self.now.records.blocks }
+        ensures regions { result.regions ≡ room self.now.records.regions }
     {
         Room {
             values: self.limits.values - self.next_value,
             uses: self.limits.uses - self.next_use,
-            ops: self.ops.room(),
-            blocks: 0,
-            regions: self.regions.room(),
+            ops: self.records.ops.room(),
+            blocks: self.records.blocks.room(),
+            regions: self.records.regions.room(),
             aux: 0,
         }
     }
@@ -99,7 +105,10 @@ impl<D: Dialects> Context<D> {
     pub fn is_ir_empty(&self) -> bool
         ensures { IsTrue result ↔ NoEntity (forest_of self.now) }
     {
-        self.ops.is_empty() && self.regions.is_empty()
+        if self.records.ops.len() > 0 || self.records.blocks.len() > 0 {
+            return false;
+        }
+        self.records.regions.is_empty()
     }
 
     /// The type with this key; where there is none it is stored last, with the default body.
@@ -136,9 +145,33 @@ impl<D: Dialects> Context<D> {
         let _value = self.next_value;
     }
 
-    /// What holds of every context: the kept uses of each live value are exactly the places that name it.
+    /// What holds of every context: what is live was handed out.
+    pub fn live_was_made(&self)
+        ensures { LiveWasMade (bare self.now) }
+    {
+        let _op_room = self.records.ops.room();
+        let _block_room = self.records.blocks.room();
+        let _region_room = self.records.regions.room();
+    }
+
+    /// What holds of every context: the kept uses of each live value and of each live block are exactly the places that name it.
     pub fn uses_are_exact(&self)
-        ensures { (v : PlainIndex) → IsLiveNamed (forest_of self.now) (a_value (value_of v)) → AreUses (forest_of self.now) (a_value (value_of v)) (uses_of self.now v) }
+        ensures values { (v : PlainIndex) → IsLiveNamed (forest_of self.now) (a_value (value_of v)) → AreUses (forest_of self.now) (a_value (value_of v)) (uses_of self.now v) }
+        ensures blocks { (b : ArenaIndex) → IsLiveNamed (forest_of self.now) (the_block b) → AreUses (forest_of self.now) (the_block b) (block_uses_of self.now b) }
+    {
+        let _value = self.next_value;
+    }
+
+    /// The records, for the crates that read them.
+    pub fn records(&self) -> &Records<D>
+        ensures { result.now ≡ self.now.records }
+    {
+        &self.records
+    }
+
+    /// What holds of every context: uses and places name each other, links are those of lists, and records know their places.
+    pub fn holds_together(&self)
+        ensures { HoldTogether self.now.records }
     {
         let _value = self.next_value;
     }
@@ -148,6 +181,14 @@ impl<D: Dialects> Context<D> {
         ensures { self.now.next_use < 2 ^ 64 }
     {
         let _value = self.next_use;
+    }
+
+    // What holds of every context: no more numbers were handed out than there are.
+    pub(crate) fn keeps_to_limits(&self)
+        ensures values { self.now.next_value ≤ self.now.limits.values }
+        ensures uses { self.now.next_use ≤ self.now.limits.uses }
+    {
+        let _value = self.next_value;
     }
 
     /// What holds of every context: types are equal exactly where their keys are.

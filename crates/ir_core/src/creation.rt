@@ -1,242 +1,248 @@
-//! How an operation is made whole or not at all.
+//! How operations, blocks and regions are made whole or not at all.
 //!
-//! The operation is put into its arena without operands and regions, its regions are made, and its operands are linked. Where a step is refused, what was made is taken back.
+//! An operation is put in bare, is given its regions, and its operands and successors are linked. Where a step is refused, what was made is taken back.
 
-ghost use Rattle.std.specs.Prelude.{◌≡◌, ℕ, ◌+◌, ◌<◌, ◌≤◌, ◌^◌, ◌∷◌, ◌++◌, All, [], length, map, IfOk, OnOk, OnErr};
-ghost use Rattle.ir_model.specs.Forest.{a_value};
-ghost use Rattle.ir_model.specs.Nesting.{IsLiveNamed};
-ghost use Rattle.ir_arena.specs.Arena.{room, IsLive};
+ghost use Rattle.std.specs.Prelude.{◌≡◌, ℕ, ◌+◌, ◌<◌, ◌≤◌, ◌^◌, All, List, [], ◌∷◌, length, map, IfOk, OnOk, OnErr};
 ghost use Rattle.ir_model.specs.declared.ids.ArenaIndex.{ArenaIndex};
-ghost use Rattle.ir_core.specs.Calls.{MakesOperation, SkipsAtMost, StayLive, op_needs};
-ghost use Rattle.ir_core.specs.Creation.{results_from, Completes, Fills, SkipsIds, Clears, SameRecords, InsertsWhole};
-ghost use Rattle.ir_core.specs.Links.{Linked, IsFreshUse, KnowOwn};
-ghost use Rattle.ir_core.specs.Meaning.{op_records, operands_from, value_of, SameIds};
+ghost use Rattle.ir_model.specs.ContextIds.{context_ids};
+ghost use Rattle.ir_model.specs.Forest.{Forest, a_value, an_op, the_block};
+ghost use Rattle.ir_model.specs.Nesting.{IsLive as IsLiveEntity, IsLiveNamed, WellFormed, operands_of, regions_of, successors_of};
+ghost use Rattle.ir_model.specs.Changes.{new_op, on_op, on_operands, on_successors};
+ghost use Rattle.ir_arena.specs.Arena.{room, IsLive};
+ghost use Rattle.ir_records.specs.Frames.{KeepsTree};
+ghost use Rattle.ir_records.specs.Meaning.{closed, definition_of, forest_of as forest_in, operands_from, successors_from, value_of};
+ghost use Rattle.ir_core.specs.Calls.{EntitiesStayLive, HasAll, MakesBlock, MakesOperation, MakesRegion, SkipsAtMost, StayLive, block_needs, op_needs, region_needs};
+ghost use Rattle.ir_core.specs.Creation.{AreFresh, Extends, HoldTogether, IsGiven, Skips, with_regions};
 ghost use Rattle.ir_core.specs.State.{bare, forest_of, types_of};
-ghost use Rattle.ir_core.specs.Table.{operands_at, IsResult};
 
-use crate::chains::link_operands;
 use crate::context::Context;
-use crate::operation::Operation;
-use crate::record::ResultRecord;
-use crate::region::Region;
-use crate::value::Value;
-use ir_base::{Arena, ArenaIndex, Dialects, Ptr, Seq, TypeHandle, unknown_loc};
+use ir_base::{ArenaIndex, Dialects, Identifier, Ptr, TypeHandle};
+use ir_chains::{link_operands, link_successors, unlink_operands};
+use ir_records::{BasicBlock, Definitions, Records, Value};
+use ir_tree::{
+    add_region, insert_block, insert_operation, remove_bare_operation, remove_last_region,
+};
 use std::alloc::{AllocError, Global};
 
-// Unused results of these types, numbered from `first` on.
-fn new_results(
-    alloc: Global,
-    first: u64,
-    types: &[TypeHandle],
-) -> Result<Seq<ResultRecord>, AllocError>
-    requires { first + length types.now < 2 ^ 64 }
-    ensures { IfOk result (λ results. results ≡ results_from first types.now) }
-{
-    let mut results = Seq::new(alloc);
-    results.reserve(types.len())?;
-    let mut number = first;
-    for ty in types {
-        results.push(ResultRecord {
-            number,
-            ty: ty.place,
-            uses: Seq::new(alloc),
-        })?;
-        number += 1;
-    }
-    Ok(results)
+/// What an operation is made of.
+#[derive(Drop)]
+pub(crate) struct Parts<'a, D: Dialects> {
+    /// Its kind.
+    pub(crate) kind: u32,
+    /// The types of its results.
+    pub(crate) types: &'a [TypeHandle],
+    /// What its operands name.
+    pub(crate) operands: &'a [Value<D>],
+    /// What its successors name.
+    pub(crate) successors: &'a [Ptr<BasicBlock<D>>],
+    /// How many regions it has.
+    pub(crate) num_regions: usize,
 }
 
-// Takes the records under these ids out.
-fn remove_all<T: Drop>(arena: &mut Arena<T>, ids: &[ArenaIndex])
-    ensures { Clears arena.old arena.new ids.now }
+// Takes back so many regions, all that an operation was given. It takes no memory.
+fn remove_regions<D: Dialects>(records: &mut Records<D>, op: ArenaIndex, count: usize)
+    requires together { HoldTogether records.old }
+    requires live { IsLive records.old.ops op }
+    requires given { (f : Forest context_ids (closed D.Attr D.TypeKey D.TypeBody D.Saved D.Aux D.Loc)) × (rs : List ArenaIndex) × IsGiven f op rs count (forest_in records.old) }
+    ensures together { HoldTogether records.new }
+    ensures live { IsLive records.new.ops op }
+    ensures forest { (f : Forest context_ids (closed D.Attr D.TypeKey D.TypeBody D.Saved D.Aux D.Loc)) (rs : List ArenaIndex) → IsGiven f op rs count (forest_in records.old) → forest_in records.new ≡ f }
+    ensures passed { Extends records.old records.new [] [] [] }
 {
-    for id in ids {
-        arena.remove(Ptr::from_index(*id));
-    }
-}
-
-// Makes one region more, and puts its id at the end of the list: both or neither.
-fn add_region(
-    regions: &mut Arena<Region>,
-    parent: ArenaIndex,
-    ids: &mut Seq<ArenaIndex>,
-) -> Result<(), AllocError>
-    requires { 0 < room regions.old }
-    ensures made { OnOk result ((id : ArenaIndex) × (ids.new ≡ ids.old ++ id ∷ []) × Fills regions.old regions.new (id ∷ []) (record { parent = parent })) }
-    ensures room { OnOk result (room regions.new + 1 ≡ room regions.old) }
-    ensures ids { OnErr result (ids.new ≡ ids.old) }
-    ensures skipped { OnErr result (SkipsIds regions.old regions.new 1) }
-    ensures same { OnErr result (SameRecords regions.old regions.new) }
-{
-    match regions.insert_with(move |_: Ptr<Region>| Region { parent }) {
-        Ok(region) => {
-            if ids.push(region.index()).is_err() {
-                regions.remove(region);
-                return Err(AllocError);
-            }
-            Ok(())
-        }
-        Err(_) => Err(AllocError),
+    let mut left = count;
+    while left > 0 {
+        remove_last_region(records, op);
+        left -= 1;
     }
 }
 
-// Makes so many regions of one operation: all or none.
-fn insert_regions(
-    alloc: Global,
-    regions: &mut Arena<Region>,
-    parent: ArenaIndex,
+// Gives an operation without regions so many empty ones: all or none.
+//
+// # Errors
+// Where there is no memory for them. Then the forest is as it was, and at most so many ids were skipped.
+fn add_regions<D: Dialects>(
+    records: &mut Records<D>,
+    op: ArenaIndex,
     count: usize,
-) -> Result<Seq<ArenaIndex>, AllocError>
-    requires { count ≤ room regions.old }
-    ensures made { IfOk result (λ ids. Fills regions.old regions.new ids (record { parent = parent })) }
-    ensures count { IfOk result (λ ids. length ids ≡ count) }
-    ensures skipped { OnErr result (SkipsIds regions.old regions.new count) }
-    ensures same { OnErr result (SameRecords regions.old regions.new) }
+) -> Result<(), AllocError>
+    requires together { HoldTogether records.old }
+    requires live { IsLive records.old.ops op }
+    requires bare { regions_of (forest_in records.old) op ≡ [] }
+    requires room { count ≤ room records.old.regions }
+    ensures together { HoldTogether records.new }
+    ensures live { IsLive records.new.ops op }
+    ensures given { OnOk result ((rs : List ArenaIndex) × IsGiven (forest_in records.old) op rs count (forest_in records.new) × Extends records.old records.new [] [] rs) }
+    ensures same { OnErr result (forest_in records.new ≡ forest_in records.old) }
+    ensures skipped { OnErr result (Skips records.old records.new 0 0 count) }
 {
-    let mut ids = Seq::new(alloc);
-    ids.reserve(count)?;
-    for _ in 0..count {
-        if add_region(regions, parent, &mut ids).is_err() {
-            remove_all(regions, ids.as_slice());
+    for made in 0..count {
+        if add_region(records, op).is_err() {
+            remove_regions(records, op, made);
             return Err(AllocError);
         }
     }
-    Ok(ids)
-}
-
-// Puts an operation without operands and regions into the arena.
-fn insert_bare<D: Dialects>(
-    alloc: Global,
-    ops: &mut Arena<Operation<D>>,
-    kind: u32,
-    results: Seq<ResultRecord>,
-) -> Result<ArenaIndex, AllocError>
-    requires linked { Linked ops.old }
-    requires own { KnowOwn ops.old }
-    requires room { 0 < room ops.old }
-    requires unused { All (λ r. r.uses ≡ []) results }
-    ensures made { IfOk result (λ user. Fills ops.old ops.new (user ∷ []) (record { index = user; kind = kind; results = results; operands = []; regions = []; loc = D.unknown })) }
-    ensures linked { Linked ops.new }
-    ensures own { KnowOwn ops.new }
-    ensures err { OnErr result (ops.new ≡ ops.old) }
-{
-    let loc = unknown_loc::<D>();
-    let inserted = ops.insert_with(move |user: Ptr<Operation<D>>| Operation {
-        index: user.index(),
-        kind,
-        results,
-        operands: Seq::new(alloc),
-        regions: Seq::new(alloc),
-        loc,
-    });
-    match inserted {
-        Ok(user) => Ok(user.index()),
-        Err(_) => Err(AllocError),
-    }
-}
-
-// Gives an operation without operands and regions its regions and operands: all or none.
-fn complete<D: Dialects>(
-    alloc: Global,
-    ops: &mut Arena<Operation<D>>,
-    regions: &mut Arena<Region>,
-    user: ArenaIndex,
-    first_use: u64,
-    operands: &[Value<D>],
-    num_regions: usize,
-) -> Result<(), AllocError>
-    requires linked { Linked ops.old }
-    requires live { IsLive ops.old user }
-    requires bare { operands_at ops.old user ≡ [] }
-    requires live_values { All (λ v. IsResult ops.old v.index) operands.now }
-    requires fresh { (n : ℕ) → first_use ≤ n → IsFreshUse ops.old n }
-    requires numbers { first_use + length operands.now < 2 ^ 64 }
-    requires room { num_regions ≤ room regions.old }
-    ensures linked { Linked ops.new }
-    ensures ids { SameIds ops.old ops.new }
-    ensures made { OnOk result (Completes ops.old ops.new regions.old regions.new user (operands_from first_use (map (λ v. v.index) operands.now)) num_regions) }
-    ensures records { OnErr result (op_records ops.new ≡ op_records ops.old) }
-    ensures skipped { OnErr result (SkipsIds regions.old regions.new num_regions) }
-    ensures same { OnErr result (SameRecords regions.old regions.new) }
-{
-    let ids = insert_regions(alloc, regions, user, num_regions)?;
-    if link_operands(ops, user, first_use, operands).is_err() {
-        remove_all(regions, ids.as_slice());
-        return Err(AllocError);
-    }
-    ops.at_mut(Ptr::from_index(user)).regions = ids;
     Ok(())
 }
 
-// Makes an operation with these results and operands and so many regions: all or nothing.
-fn insert_whole<D: Dialects>(
-    alloc: Global,
-    ops: &mut Arena<Operation<D>>,
-    regions: &mut Arena<Region>,
-    kind: u32,
-    results: Seq<ResultRecord>,
+// Gives an operation without operands and successors these: all or none.
+//
+// # Errors
+// Where a list had to grow and couldn't. Then the forest is as it was.
+fn link_places<D: Dialects>(
+    records: &mut Records<D>,
+    op: ArenaIndex,
     first_use: u64,
-    operands: &[Value<D>],
-    num_regions: usize,
-) -> Result<ArenaIndex, AllocError>
-    requires linked { Linked ops.old }
-    requires own { KnowOwn ops.old }
-    requires unused { All (λ r. r.uses ≡ []) results }
-    requires live_values { All (λ v. IsResult ops.old v.index) operands.now }
-    requires fresh { (n : ℕ) → first_use ≤ n → IsFreshUse ops.old n }
-    requires numbers { first_use + length operands.now < 2 ^ 64 }
-    requires op_room { 0 < room ops.old }
-    requires region_room { num_regions ≤ room regions.old }
-    ensures linked { Linked ops.new }
-    ensures own { KnowOwn ops.new }
-    ensures made { IfOk result (λ user. InsertsWhole D.unknown ops.old ops.new regions.old regions.new user kind results (operands_from first_use (map (λ v. v.index) operands.now)) num_regions) }
-    ensures records { OnErr result (op_records ops.new ≡ op_records ops.old) }
-    ensures op_skipped { OnErr result (SkipsIds ops.old ops.new 1) }
-    ensures region_skipped { OnErr result (SkipsIds regions.old regions.new num_regions) }
-    ensures same { OnErr result (SameRecords regions.old regions.new) }
+    parts: &Parts<'_, D>,
+) -> Result<(), AllocError>
+    requires together { HoldTogether records.old }
+    requires live { IsLive records.old.ops op }
+    requires no_operands { operands_of (forest_in records.old) op ≡ [] }
+    requires no_successors { successors_of (forest_in records.old) op ≡ [] }
+    requires operands { All (λ v. IsLiveNamed (forest_in records.old) (a_value (value_of v.index))) parts.now.operands.now }
+    requires successors { All (λ b. IsLiveNamed (forest_in records.old) (the_block b.index)) parts.now.successors.now }
+    requires fresh { AreFresh (forest_in records.old) first_use }
+    requires numbers { first_use + (length parts.now.operands.now + length parts.now.successors.now) < 2 ^ 64 }
+    ensures together { HoldTogether records.new }
+    ensures keeps { KeepsTree records.old records.new }
+    ensures linked { OnOk result (forest_in records.new ≡ on_op (on_op (forest_in records.old) op (on_operands (λ _. operands_from first_use (map (λ v. v.index) parts.now.operands.now)))) op (on_successors (λ _. successors_from (first_use + length parts.now.operands.now) (map (λ b. record { index = b.index }) parts.now.successors.now)))) }
+    ensures same { OnErr result (forest_in records.new ≡ forest_in records.old) }
 {
-    let user = insert_bare(alloc, ops, kind, results)?;
-    if complete(alloc, ops, regions, user, first_use, operands, num_regions).is_err() {
-        ops.remove(Ptr::from_index(user));
+    link_operands(records, op, first_use, parts.operands)?;
+    let next_use = first_use + parts.operands.len() as u64;
+    if link_successors(records, op, next_use, parts.successors).is_err() {
+        unlink_operands(records, op);
         return Err(AllocError);
     }
-    Ok(user)
+    Ok(())
 }
 
-/// Makes an operation where there are numbers and slots enough.
+// Gives a bare operation its regions, operands and successors: all or none.
+//
+// # Errors
+// Where there is no memory for them. Then the forest is as it was, and at most so many ids were skipped.
+fn complete<D: Dialects>(
+    records: &mut Records<D>,
+    op: ArenaIndex,
+    first_use: u64,
+    parts: &Parts<'_, D>,
+) -> Result<(), AllocError>
+    requires together { HoldTogether records.old }
+    requires live { IsLive records.old.ops op }
+    requires no_regions { regions_of (forest_in records.old) op ≡ [] }
+    requires no_operands { operands_of (forest_in records.old) op ≡ [] }
+    requires no_successors { successors_of (forest_in records.old) op ≡ [] }
+    requires operands { All (λ v. IsLiveNamed (forest_in records.old) (a_value (value_of v.index))) parts.now.operands.now }
+    requires successors { All (λ b. IsLiveNamed (forest_in records.old) (the_block b.index)) parts.now.successors.now }
+    requires fresh { AreFresh (forest_in records.old) first_use }
+    requires numbers { first_use + (length parts.now.operands.now + length parts.now.successors.now) < 2 ^ 64 }
+    requires room { parts.now.num_regions ≤ room records.old.regions }
+    ensures together { HoldTogether records.new }
+    ensures live { IsLive records.new.ops op }
+    ensures made { OnOk result ((rs : List ArenaIndex) × (length rs ≡ parts.now.num_regions) × (forest_in records.new ≡ on_op (on_op (with_regions (forest_in records.old) op rs) op (on_operands (λ _. operands_from first_use (map (λ v. v.index) parts.now.operands.now)))) op (on_successors (λ _. successors_from (first_use + length parts.now.operands.now) (map (λ b. record { index = b.index }) parts.now.successors.now)))) × Extends records.old records.new [] [] rs) }
+    ensures same { OnErr result (forest_in records.new ≡ forest_in records.old) }
+    ensures skipped { OnErr result (Skips records.old records.new 0 0 parts.now.num_regions) }
+{
+    add_regions(records, op, parts.num_regions)?;
+    if link_places(records, op, first_use, parts).is_err() {
+        remove_regions(records, op, parts.num_regions);
+        return Err(AllocError);
+    }
+    Ok(())
+}
+
+// Makes an operation with these results and parts: whole or not at all.
+//
+// # Errors
+// Where there is no memory for it. Then the forest is as it was, and at most one id of an operation and so many of regions were skipped.
+fn insert_whole<D: Dialects>(
+    records: &mut Records<D>,
+    alloc: Global,
+    results: Definitions,
+    first_use: u64,
+    parts: &Parts<'_, D>,
+) -> Result<ArenaIndex, AllocError>
+    requires together { HoldTogether records.old }
+    requires formed { (keys : ℕ) × WellFormed (forest_in records.old) keys }
+    requires unused { All (λ r. r.uses ≡ []) results }
+    requires operands { All (λ v. IsLiveNamed (forest_in records.old) (a_value (value_of v.index))) parts.now.operands.now }
+    requires successors { All (λ b. IsLiveNamed (forest_in records.old) (the_block b.index)) parts.now.successors.now }
+    requires fresh { AreFresh (forest_in records.old) first_use }
+    requires numbers { first_use + (length parts.now.operands.now + length parts.now.successors.now) < 2 ^ 64 }
+    requires op_room { 0 < room records.old.ops }
+    requires region_room { parts.now.num_regions ≤ room records.old.regions }
+    ensures together { HoldTogether records.new }
+    ensures made { IfOk result (λ op. (rs : List ArenaIndex) × (length rs ≡ parts.now.num_regions) × (forest_in records.new ≡ new_op (forest_in records.old) op D.unknown parts.now.kind (map definition_of results) (operands_from first_use (map (λ v. v.index) parts.now.operands.now)) (successors_from (first_use + length parts.now.operands.now) (map (λ b. record { index = b.index }) parts.now.successors.now)) rs) × Extends records.old records.new (op ∷ []) [] rs) }
+    ensures same { OnErr result (forest_in records.new ≡ forest_in records.old) }
+    ensures skipped { OnErr result (Skips records.old records.new 1 0 parts.now.num_regions) }
+{
+    let op = insert_operation(records, alloc, parts.kind, results)?;
+    if complete(records, op, first_use, parts).is_err() {
+        remove_bare_operation(records, op);
+        return Err(AllocError);
+    }
+    Ok(op)
+}
+
+/// Makes an operation where there are numbers and slots enough: whole or not at all.
 ///
 /// # Errors
-/// `OutOfMemory`.
-pub(crate) fn create<D: Dialects>(
+/// Where there is no memory for it. Then the context means what it meant, though ids may have been skipped.
+pub(crate) fn create_operation<D: Dialects>(
     ctx: &mut Context<D>,
-    kind: u32,
+    parts: &Parts<'_, D>,
+) -> Result<ArenaIndex, AllocError>
+    requires types { All (λ t. t.place < length (types_of ctx.old)) parts.now.types.now }
+    requires operands { All (λ v. IsLiveNamed (forest_of ctx.old) (a_value (value_of v.index))) parts.now.operands.now }
+    requires successors { All (λ b. IsLiveNamed (forest_of ctx.old) (the_block b.index)) parts.now.successors.now }
+    requires room { HasAll ctx.old (op_needs (length parts.now.types.now) (length parts.now.operands.now + length parts.now.successors.now) parts.now.num_regions) }
+    ensures made { IfOk result (λ op. MakesOperation D.unknown (bare ctx.old) (bare ctx.new) op parts.now.kind (map (λ t. t.place) parts.now.types.now) (map (λ v. value_of v.index) parts.now.operands.now) (map (λ b. b.index) parts.now.successors.now) parts.now.num_regions) }
+    ensures stay_live { OnOk result (StayLive (forest_of ctx.old) (forest_of ctx.new)) }
+    ensures entities_stay_live { OnOk result (EntitiesStayLive (forest_of ctx.old) (forest_of ctx.new)) }
+    ensures refused { OnErr result (SkipsAtMost (bare ctx.old) (bare ctx.new) (op_needs (length parts.now.types.now) (length parts.now.operands.now + length parts.now.successors.now) parts.now.num_regions)) }
+{
+    let results = Definitions::of_types(ctx.alloc, ctx.next_value, parts.types)?;
+    let op = insert_whole(&mut ctx.records, ctx.alloc, results, ctx.next_use, parts)?;
+    ctx.next_value += parts.types.len() as u64;
+    ctx.next_use += parts.operands.len() as u64 + parts.successors.len() as u64;
+    Ok(op)
+}
+
+/// Makes a block where there are numbers and slots enough.
+///
+/// # Errors
+/// Where there is no memory for it. Then nothing has changed.
+pub(crate) fn create_block<D: Dialects>(
+    ctx: &mut Context<D>,
+    label: Option<Identifier>,
     types: &[TypeHandle],
-    operands: &[Value<D>],
-    num_regions: usize,
 ) -> Result<ArenaIndex, AllocError>
     requires types { All (λ t. t.place < length (types_of ctx.old)) types.now }
-    requires operands { All (λ v. IsLiveNamed (forest_of ctx.old) (a_value (value_of v.index))) operands.now }
-    requires values { ctx.old.next_value + length types.now ≤ ctx.old.limits.values }
-    requires uses { ctx.old.next_use + length operands.now ≤ ctx.old.limits.uses }
-    requires op_slots { 0 < room ctx.old.ops }
-    requires region_slots { num_regions ≤ room ctx.old.regions }
-    ensures made { IfOk result (λ index. MakesOperation D.unknown (bare ctx.old) (bare ctx.new) index kind (map (λ t. t.place) types.now) (map (λ v. value_of v.index) operands.now) num_regions) }
+    requires room { HasAll ctx.old (block_needs (length types.now)) }
+    ensures made { IfOk result (λ block. MakesBlock D.unknown (bare ctx.old) (bare ctx.new) block label (map (λ t. t.place) types.now)) }
     ensures stay_live { OnOk result (StayLive (forest_of ctx.old) (forest_of ctx.new)) }
-    ensures refused { OnErr result (SkipsAtMost (bare ctx.old) (bare ctx.new) (op_needs (length types.now) (length operands.now) num_regions)) }
+    ensures entities_stay_live { OnOk result (EntitiesStayLive (forest_of ctx.old) (forest_of ctx.new)) }
+    ensures err { OnErr result (ctx.new ≡ ctx.old) }
 {
-    let results = new_results(ctx.alloc, ctx.next_value, types)?;
-    let first_use = ctx.next_use;
-    let index = insert_whole(
-        ctx.alloc,
-        &mut ctx.ops,
-        &mut ctx.regions,
-        kind,
-        results,
-        first_use,
-        operands,
-        num_regions,
-    )?;
+    let arguments = Definitions::of_types(ctx.alloc, ctx.next_value, types)?;
+    let block = insert_block(&mut ctx.records, ctx.alloc, label, arguments)?;
     ctx.next_value += types.len() as u64;
-    ctx.next_use += operands.len() as u64;
-    Ok(index)
+    Ok(block)
+}
+
+/// Makes an empty region, the last of a live operation, where there is a slot for it.
+///
+/// # Errors
+/// Where there is no memory for it. Then the context means what it meant, though an id may have been skipped.
+pub(crate) fn create_region<D: Dialects>(
+    ctx: &mut Context<D>,
+    op: ArenaIndex,
+) -> Result<ArenaIndex, AllocError>
+    requires live { IsLiveEntity (forest_of ctx.old) (an_op op) }
+    requires room { HasAll ctx.old region_needs }
+    ensures made { IfOk result (λ region. MakesRegion (bare ctx.old) (bare ctx.new) op region) }
+    ensures stay_live { OnOk result (StayLive (forest_of ctx.old) (forest_of ctx.new)) }
+    ensures entities_stay_live { OnOk result (EntitiesStayLive (forest_of ctx.old) (forest_of ctx.new)) }
+    ensures refused { OnErr result (SkipsAtMost (bare ctx.old) (bare ctx.new) region_needs) }
+{
+    add_region(&mut ctx.records, op)
 }

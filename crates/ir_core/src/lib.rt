@@ -1,24 +1,35 @@
 //! The context, and all that changes it, under one invariant.
 #![tactic(auto)]
 
-mod basic_block;
-mod chains;
+mod block;
+mod block_list;
 mod context;
 mod creation;
 mod error;
+mod lending;
+mod needs;
+mod new_entities;
 mod operation;
+mod operation_list;
 mod operation_uses;
-mod record;
 mod region;
 mod types;
 mod value;
 
-pub use basic_block::BasicBlock;
+pub use block::BlockPtr;
+pub use block_list::{BlockContainer, BlockList, RegionMoves};
 pub use context::Context;
 pub use error::{DanglingPtrDerefError, IndexErr, UseError, ValueError};
-pub use operation::{Operation, OperationPtr};
+pub use ir_records::{
+    BasicBlock, BasicBlockMut, BlockIndex, Definer, DefiningEntity, Operation, OperationMut,
+    Region, Use, UseIndex, Value, ValueIndex,
+};
+pub use lending::{BlockPtrMut, OperationPtrMut};
+pub use needs::Needs;
+pub use new_entities::{AddRegion, NewBlock, NewOperation};
+pub use operation::OperationPtr;
+pub use operation_list::{OperationContainer, OperationList};
 pub use operation_uses::OperationUses;
-pub use record::{Definer, UseIndex, ValueIndex};
-pub use region::{Region, RegionPtr};
+pub use region::RegionPtr;
 pub use types::TypeQueries;
-pub use value::{DefiningEntity, Use, Value};
+pub use value::{BlockUseQueries, UseQueries, ValueQueries};

@@ -5,15 +5,14 @@
 ghost use Rattle.std.specs.Prelude.{◌≡◌, ◌^◌, ◌<◌, ◌==◌, ⊤, length, map, not};
 ghost use Rattle.std.specs.Iterator.{YieldsFirstBy, item_count};
 ghost use Rattle.std.specs.List.{flat_map, list_any};
-ghost use Rattle.ir_core.specs.Meaning.{use_of};
+ghost use Rattle.ir_records.specs.Meaning.{use_of};
 
-use crate::record::{ResultRecord, UseIndex};
-use crate::value::{Use, Value};
 use ir_base::Dialects;
+use ir_records::{Definition, Use, UseIndex, Value};
 use std::marker::{Model, PhantomData};
 
 // How many uses the results have together.
-pub(crate) fn count_uses(results: &[ResultRecord]) -> usize
+pub(crate) fn count_uses(results: &[Definition]) -> usize
     requires { length (flat_map (λ r. r.uses) results.now) < 2 ^ 64 }
     ensures { result ≡ length (flat_map (λ r. r.uses) results.now) }
 {
@@ -25,7 +24,7 @@ pub(crate) fn count_uses(results: &[ResultRecord]) -> usize
 }
 
 // Whether a result has a use.
-pub(crate) fn has_any_use(results: &[ResultRecord]) -> bool
+pub(crate) fn has_any_use(results: &[Definition]) -> bool
     ensures { result ≡ list_any (λ r. not (length r.uses == 0)) results.now }
 {
     results.iter().any(|r| !r.uses.is_empty())
@@ -38,7 +37,7 @@ pub struct OperationUses<'a, D: Dialects> {
     // The uses that are left of one result.
     uses: &'a [UseIndex],
     // The results after that one.
-    results: &'a [ResultRecord],
+    results: &'a [Definition],
     of: PhantomData<D>,
 }
 
@@ -47,7 +46,7 @@ impl<'a, D: Dialects> Model for OperationUses<'a, D> {
     ghost use Rattle.std.specs.List.{flat_map};
     ghost use Rattle.ir_model.specs.ContextIds.{context_ids};
     ghost use Rattle.ir_model.specs.Uses.{Use as PlainUse};
-    ghost use Rattle.ir_core.specs.Meaning.{use_of};
+    ghost use Rattle.ir_records.specs.Meaning.{use_of};
 
     ghost Value = { List (PlainUse context_ids) };
 
@@ -66,7 +65,7 @@ impl<'a, D: Dialects> Drop for OperationUses<'a, D> {
 
 impl<'a, D: Dialects> OperationUses<'a, D> {
     // The uses of these results.
-    pub(crate) fn of_results(results: &'a [ResultRecord]) -> Self
+    pub(crate) fn of_results(results: &'a [Definition]) -> Self
         ensures { result ≡ map use_of (flat_map (λ r. r.uses) results.now) }
     {
         OperationUses {

@@ -4,10 +4,10 @@ ghost use Rattle.std.specs.Prelude.{◌<◌, ◌≤◌, length, IfOk};
 ghost use Rattle.ir_model.specs.Forest.{a_block, a_value};
 ghost use Rattle.ir_model.specs.Nesting.{IsLive, IsLiveNamed};
 ghost use Rattle.ir_records.specs.Meaning.{value_of};
-ghost use Rattle.ir_context.specs.State.{forest_of, types_of};
+ghost use Rattle.ir_core.specs.State.{forest_of, types_of};
 
 use ir_base::{ArenaIndex, CoreError, Dialects, Identifier, Limits, Ptr, TypeHandle};
-use ir_context::{
+use ir_core::{
     AddRegion, BasicBlock, BlockPtr, BlockUseQueries, Context, DanglingPtrDerefError,
     DefiningEntity, IndexErr, NewBlock, NewOperation, Operation, OperationPtr, RegionPtr, Use,
     UseError, UseIndex, UseQueries, Value, ValueError, ValueIndex, ValueQueries,

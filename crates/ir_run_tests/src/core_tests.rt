@@ -3,13 +3,13 @@
 ghost use Rattle.std.specs.Prelude.{◌≡◌, ◌<◌, ◌≤◌, length, IfOk};
 ghost use Rattle.ir_model.specs.Forest.{a_value};
 ghost use Rattle.ir_model.specs.Nesting.{IsLiveNamed};
-ghost use Rattle.ir_context.specs.Calls.{LeadsToLive};
+ghost use Rattle.ir_core.specs.Calls.{LeadsToLive};
 ghost use Rattle.ir_records.specs.Meaning.{value_of};
-ghost use Rattle.ir_context.specs.State.{forest_of, types_of};
+ghost use Rattle.ir_core.specs.State.{forest_of, types_of};
 
 use example::chain;
 use ir_base::{ArenaIndex, CoreError, Dialects, Limits, Ptr, Room, TypeHandle};
-use ir_context::{
+use ir_core::{
     Context, DanglingPtrDerefError, DefiningEntity, IndexErr, NewOperation, Operation,
     OperationPtr, RegionPtr, TypeQueries, Use, UseError, UseIndex, UseQueries, Value, ValueError,
     ValueIndex, ValueQueries,

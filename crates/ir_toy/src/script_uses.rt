@@ -5,7 +5,7 @@
 use crate::script_parse::ScriptError;
 use crate::toy::Toy;
 use ir_base::Ptr;
-use ir_context::{BasicBlock, BlockPtr, Operation, OperationPtr, Value, ValueQueries};
+use ir_core::{BasicBlock, BlockPtr, Operation, OperationPtr, Value, ValueQueries};
 use ir_run::Session;
 use std::alloc::Global;
 use std::collections::HashMap;

@@ -10,16 +10,19 @@ invariant_of-self-2 g c =
     let more = stores-longer g.row.D-Attr.Denot _ _ g.row.D-Saved.Denot g.row.D-Aux.Denot _ g.D.TypeKey.PartialEq.eq g.D.Dialects.first_body g.D.Dialects.unknown g.D.Dialects.op_impls_of _ c.self.inside.types c.get_or_insert.new.self c.args.key c.in_ok-place.ensures.stored in
     record {
       linked = s.linked;
+      nested = s.nested;
       own = s.own;
-      parents = s.parents;
       formed = WellFormed-more _ _ _ more s.formed;
-      values = s.values;
-      uses = s.uses;
-      value_limit = s.value_limit;
-      use_limit = s.use_limit;
-      limits = s.limits;
-      op_slots = s.op_slots;
-      region_slots = s.region_slots;
+      counted = record {
+        values = s.counted.values;
+        uses = s.counted.uses;
+        value_limit = s.counted.value_limit;
+        use_limit = s.counted.use_limit;
+        limits = s.counted.limits;
+        op_slots = s.counted.op_slots;
+        block_slots = s.counted.block_slots;
+        region_slots = s.counted.region_slots;
+      };
     }
 
 pub returns-clause-place : goal.returns-clause-place

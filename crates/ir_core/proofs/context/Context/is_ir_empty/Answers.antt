@@ -1,27 +1,20 @@
-use Rattle.std.proofs.Common.{◌≡◌, refl, sym, ◌∙◌, ap, true, false, Option, Some, None, eqb-true, eq-eqb}
-use Rattle.std.specs.Option.{option_map}
-use Rattle.ir_model.proofs.ArenaRoom.{len-none}
-use Rattle.ir_core.specs.Meaning.{op_record}
+use Rattle.std.proofs.Common.{◌≡◌, ◌⊎◌, ◌<◌, true, false, sym, inl, inr, arith}
+use Rattle.ir_arena.specs.Arena.{arena_len}
+use Rattle.ir_core.proofs.Emptiness.{some-entity, all-none}
 use Rattle.ir_core.proofs.context.Context.is_ir_empty.Goals as goal
+use Rattle.ir_core.proofs.context.Context.is_ir_empty.Goals.{then-len-gt0-via-then-len-gt0, then-len-gt0-via-else-len-gt0+then-len-gt0-2}
 
-unmap : {T U : Type 0} (f : T → U) (m : Option T) → option_map f m ≡ None → m ≡ None
-unmap f None e = refl
-unmap f (Some x) e = cc
-
-pub returns-then-is_empty : goal.returns-then-is_empty
-returns-then-is_empty g c =
+pub returns-then-len-gt0 : goal.returns-then-len-gt0
+returns-then-len-gt0 g c =
+    let i = c.self.inside in
+    let some : (0 < arena_len i.records.ops) ⊎ (0 < arena_len i.records.blocks) =
+    elim c.then-len-gt0.branch [ then-len-gt0-via-then-len-gt0 w ↦ inl (omega (arith, w.if-len-gt0.true, c.len.ensures)) | then-len-gt0-via-else-len-gt0+then-len-gt0-2 w ↦ inr (omega (arith, w.if-len-gt0-2.true, w.len-else-len-gt0.ensures)) ] in
     rw (sym c.self.view_is) (
-      λ h. record {
-        ops = λ i. ap (option_map op_record) ((len-none c.self.inside.ops).0 (eqb-true _ 0 (sym c.is_empty.ensures ∙ c.if-is_empty.true)) i);
-        blocks = λ i. refl;
-        regions = λ i. ap (option_map _) ((len-none c.self.inside.regions).0 (eqb-true _ 0 (sym c.is_empty-then-is_empty.ensures ∙ h)) i);
-      },
-      λ n. c.is_empty-then-is_empty.ensures ∙ eq-eqb _ 0 ((len-none c.self.inside.regions).1 (λ i. unmap _ _ (n.regions i))),
+      λ h. absurd (let e : true ≡ false = sym h in cc),
+      λ n. absurd (some-entity (record { records = i.records; types = i.types; next_value = i.next_value; next_use = i.next_use; limits = i.limits }) some n),
     )
 
-pub returns-else-is_empty : goal.returns-else-is_empty
-returns-else-is_empty g c =
-    rw (sym c.self.view_is) (
-      λ h. absurd (let e : true ≡ false = sym h ∙ c.if-is_empty.false in cc),
-      λ n. c.is_empty.ensures ∙ eq-eqb _ 0 ((len-none c.self.inside.ops).1 (λ i. unmap op_record _ (n.ops i))),
-    )
+pub returns : goal.returns
+returns g c =
+    let i = c.self.inside in
+    rw (sym c.self.view_is) (all-none (record { records = i.records; types = i.types; next_value = i.next_value; next_use = i.next_use; limits = i.limits }) (omega (arith, c.len.ensures, c.if-len-gt0.false)) (omega (arith, c.len-else-len-gt0.ensures, c.if-len-gt0-2.false)) c.is_empty.result c.is_empty.ensures)

@@ -1,18 +1,23 @@
 use Rattle.std.proofs.Common.{[], sym}
-use Rattle.ir_core.specs.Meaning.{op_record}
+use Rattle.ir_records.specs.Meaning.{op_record, block_record}
+use Rattle.ir_records.specs.Tree.{tree_of, ops_in, blocks_in}
 use Rattle.ir_core.proofs.RoomLemmas.{Left-below, Left-slots}
 use Rattle.ir_core.proofs.context.Context.room.Goals as goal
 
 pub returns-clause-exact : goal.returns-clause-exact
 returns-clause-exact g c = rw (sym c.self.view_is) (record {
-  values = Left-below c.self.inside.next_value c.self.inside.limits.values c.self.invariant.value_limit;
-  uses = Left-below c.self.inside.next_use c.self.inside.limits.uses c.self.invariant.use_limit;
-  ops = rw c.room.ensures.value (Left-slots op_record c.self.inside.limits c.self.inside.ops c.self.invariant.op_slots c.room.ensures.whole);
-  regions = rw c.room-2.ensures.value (Left-slots (λ _. []) c.self.inside.limits c.self.inside.regions c.self.invariant.region_slots c.room-2.ensures.whole);
+  values = Left-below c.self.inside.next_value c.self.inside.limits.values c.self.invariant.counted.value_limit;
+  uses = Left-below c.self.inside.next_use c.self.inside.limits.uses c.self.invariant.counted.use_limit;
+  ops = rw c.room.ensures.value (Left-slots (λ _. op_record) c.self.inside.limits c.self.inside.records.ops c.self.invariant.counted.op_slots c.room.ensures.whole);
+  blocks = rw c.room-2.ensures.value (Left-slots (λ b. block_record (ops_in (tree_of c.self.inside.records) b)) c.self.inside.limits c.self.inside.records.blocks c.self.invariant.counted.block_slots c.room-2.ensures.whole);
+  regions = rw c.room-3.ensures.value (Left-slots (λ g _. blocks_in (tree_of c.self.inside.records) g) c.self.inside.limits c.self.inside.records.regions c.self.invariant.counted.region_slots c.room-3.ensures.whole);
 })
 
 pub returns-clause-ops : goal.returns-clause-ops
 returns-clause-ops g c = rw (sym c.self.view_is) c.room.ensures.value
 
+pub returns-clause-blocks : goal.returns-clause-blocks
+returns-clause-blocks g c = rw (sym c.self.view_is) c.room-2.ensures.value
+
 pub returns-clause-regions : goal.returns-clause-regions
-returns-clause-regions g c = rw (sym c.self.view_is) c.room-2.ensures.value
+returns-clause-regions g c = rw (sym c.self.view_is) c.room-3.ensures.value

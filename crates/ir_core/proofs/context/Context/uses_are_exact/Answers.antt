@@ -1,8 +1,10 @@
 use Rattle.std.proofs.Common.{sym}
-use Rattle.ir_core.proofs.ValueLemmas.{uses-exact}
+use Rattle.ir_core.proofs.ValueLemmas.{uses-exact, block-uses-exact}
 use Rattle.ir_core.proofs.context.Context.uses_are_exact.Goals as goal
 
 pub returns : goal.returns
 returns g c =
-    rw (sym c.self.view_is)
-    (λ v live. uses-exact (record { ops = c.self.inside.ops; regions = c.self.inside.regions; types = c.self.inside.types; next_value = c.self.inside.next_value; next_use = c.self.inside.next_use; limits = c.self.inside.limits }) c.self.invariant.linked v)
+    rw (sym c.self.view_is) (record {
+      values = λ v live. uses-exact (record { records = c.self.inside.records; types = c.self.inside.types; next_value = c.self.inside.next_value; next_use = c.self.inside.next_use; limits = c.self.inside.limits }) c.self.invariant.linked v;
+      blocks = λ b live. block-uses-exact (record { records = c.self.inside.records; types = c.self.inside.types; next_value = c.self.inside.next_value; next_use = c.self.inside.next_use; limits = c.self.inside.limits }) c.self.invariant.linked b;
+    })

@@ -1,0 +1,72 @@
+//! How many new ids and numbers a call needs, and whether they are left.
+
+ghost use Rattle.std.specs.Prelude.{◌≡◌, ◌⊎◌, ◌↔◌, Err, IfErr, OnOk};
+ghost use Rattle.ir_model.specs.Sessions.{HasNumbers, LacksNumbers, LacksSlots};
+ghost use Rattle.ir_core.specs.State.{bare};
+ghost use Rattle.ir_model.specs.Edits.{no_needs};
+ghost use Rattle.ir_core.specs.Calls.{HasAll, counts_of};
+
+use crate::context::Context;
+use ir_base::{CoreError, Dialects};
+
+/// How many new ids and numbers a call needs. Operands and successors make up the uses.
+#[derive(Clone, Copy, Debug, Drop, PartialEq, Eq)]
+pub struct Needs {
+    /// Operations.
+    pub ops: usize,
+    /// Blocks.
+    pub blocks: usize,
+    /// Regions.
+    pub regions: usize,
+    /// Results and arguments.
+    pub values: usize,
+    /// Operands.
+    pub operands: usize,
+    /// Successors.
+    pub successors: usize,
+}
+
+impl Needs {
+    /// Nothing.
+    pub fn none() -> Needs
+        ensures { counts_of result ≡ no_needs }
+    {
+        Needs {
+            ops: 0,
+            blocks: 0,
+            regions: 0,
+            values: 0,
+            operands: 0,
+            successors: 0,
+        }
+    }
+}
+
+impl<D: Dialects> Context<D> {
+    /// Whether so many ids and numbers are left. It tells what `room` tells.
+    ///
+    /// # Errors
+    /// `CounterSpent` where too few numbers are left, else `SlotsSpent` where too few slots are.
+    pub fn covers(&self, needs: Needs) -> Result<(), CoreError>
+        ensures enough { OnOk result (HasAll self.now (counts_of needs)) }
+        ensures counter { (result ≡ Err CoreError.CounterSpent) ↔ LacksNumbers (bare self.now) (counts_of needs) }
+        ensures slots { (result ≡ Err CoreError.SlotsSpent) ↔ (HasNumbers (bare self.now) (counts_of needs) × LacksSlots (bare self.now) (counts_of needs)) }
+        ensures only { IfErr result (λ e. (e ≡ CoreError.CounterSpent) ⊎ (e ≡ CoreError.SlotsSpent)) }
+    {
+        let room = self.room();
+        let operands = needs.operands as u64;
+        if room.values < needs.values as u64
+            || room.uses < operands
+            || room.uses - operands < needs.successors as u64
+        {
+            return Err(CoreError::CounterSpent);
+        }
+        if (room.ops as usize) < needs.ops
+            || (room.blocks as usize) < needs.blocks
+            || (room.regions as usize) < needs.regions
+        {
+            return Err(CoreError::SlotsSpent);
+        }
+        Ok(())
+    }
+}
