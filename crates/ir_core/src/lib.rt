@@ -1,4 +1,6 @@
 //! The context, and all that changes it, under one invariant.
+//!
+//! It gives out what its callers need of the crates below.
 #![tactic(auto)]
 
 mod block;
@@ -20,6 +22,11 @@ pub use block::BlockPtr;
 pub use block_list::{BlockContainer, BlockList, RegionMoves};
 pub use context::Context;
 pub use error::{DanglingPtrDerefError, IndexErr, UseError, ValueError};
+pub use ir_base::{
+    AttrId, AttrName, CoreError, DialectName, Dialects, Identifier, Iter, Legaliser, Limits, OpId,
+    OpName, Ptr, Room, TypeHandle, TypeId, TypeName, attribute, interfaces,
+};
+pub use ir_model::ArenaIndex;
 pub use ir_records::{
     BasicBlock, BasicBlockMut, BlockIndex, Definer, DefiningEntity, Operation, OperationMut,
     Region, Use, UseIndex, Value, ValueIndex,

@@ -1,0 +1,8 @@
+pub mod Above
+pub mod Live
+pub mod Listed
+pub mod Neighbours
+pub mod Handles
+pub mod Childless
+pub mod Dominance
+pub mod Places

@@ -1,0 +1,4 @@
+pub mod Above
+pub mod Dominance
+pub mod Entities
+pub mod Neighbours

@@ -1,0 +1,86 @@
+//! Operations, blocks and regions alike: what each stands in, and whether it stands inside another.
+
+ghost use Rattle.std.specs.Prelude.{◌≡◌, ◌↔◌, [], IsTrue};
+ghost use Rattle.ir_model.specs.Nesting.{children, Inside, IsLinked};
+ghost use Rattle.ir_records.specs.Meaning.{entity_of, forest_of as forest_in};
+ghost use Rattle.ir_records.specs.Nested.{AreNested};
+ghost use Rattle.ir_records.specs.Tree.{tree_of};
+ghost use Rattle.ir_core.specs.State.{forest_of};
+ghost use Rattle.ir_walk.specs.Entities.{meant};
+
+use ir_base::{Dialects, Ptr};
+use ir_core::Context;
+use ir_records::{BasicBlock, EntityIndex, Operation, Records, Region};
+use ir_tree::parent_of;
+
+/// An operation, a block or a region, as a handle.
+#[derive_where(Clone, Copy, PartialEq, Eq, Hash)]
+#[derive(Drop)]
+pub enum Entity<D: Dialects> {
+    /// An operation.
+    Op(Ptr<Operation<D>>),
+    /// A block.
+    Block(Ptr<BasicBlock<D>>),
+    /// A region.
+    Region(Ptr<Region>),
+}
+
+impl<D: Dialects> Entity<D> {
+    // The entity as an index.
+    fn index(self) -> EntityIndex
+        ensures { entity_of result ≡ meant self }
+    {
+        match self {
+            Entity::Op(op) => EntityIndex::Op(op.index()),
+            Entity::Block(block) => EntityIndex::Block(block.index()),
+            Entity::Region(region) => EntityIndex::Region(region.index()),
+        }
+    }
+}
+
+// Whether an entity stands in a list.
+pub(crate) fn is_linked<D: Dialects>(ctx: &Context<D>, entity: EntityIndex) -> bool
+    ensures { IsTrue result ↔ IsLinked (forest_of ctx.now) (entity_of entity) }
+{
+    ctx.is_well_formed();
+    ctx.holds_together();
+    parent_of(ctx.records(), entity).is_some()
+}
+
+// Whether nothing stands in an entity.
+fn is_childless<D: Dialects>(records: &Records<D>, entity: EntityIndex) -> bool
+    requires { AreNested (tree_of records.now) }
+    ensures { IsTrue result → children (forest_in records.now) (entity_of entity) ≡ [] }
+{
+    match entity {
+        EntityIndex::Op(op) => match records.ops.get(Ptr::from_index(op)) {
+            Some(op) => op.regions.is_empty(),
+            None => true,
+        },
+        EntityIndex::Block(block) => match records.blocks.get(Ptr::from_index(block)) {
+            Some(block) => block.first.get().is_none(),
+            None => true,
+        },
+        EntityIndex::Region(region) => match records.regions.get(Ptr::from_index(region)) {
+            Some(region) => region.first.get().is_none(),
+            None => true,
+        },
+    }
+}
+
+/// Whether `inner` is `outer` or stands inside it, however deep. It asks for no live handles: in a dead one nothing stands but itself.
+///
+/// It climbs from `inner`, a step a level, and not at all where nothing stands in `outer`.
+pub fn is_inside<D: Dialects>(ctx: &Context<D>, inner: Entity<D>, outer: Entity<D>) -> bool
+    ensures { IsTrue result ↔ Inside (forest_of ctx.now) (meant outer) (meant inner) }
+{
+    ctx.is_well_formed();
+    ctx.holds_together();
+    let records = ctx.records();
+    let outer = outer.index();
+    let inner = inner.index();
+    if is_childless(records, outer) {
+        return inner == outer;
+    }
+    ir_tree::is_inside(records, outer, inner)
+}

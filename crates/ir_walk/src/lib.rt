@@ -1,0 +1,18 @@
+//! Where operations, blocks and regions stand: what they stand in, their neighbours, and the lists walked. Everything here only reads.
+//!
+//! Each answer is what a search over the lists of the forest finds. What a call gives is live.
+#![tactic(auto)]
+
+mod block;
+mod entity;
+mod links;
+mod operation;
+mod region;
+mod value;
+
+pub use block::BlockPlace;
+pub use entity::{Entity, is_inside};
+pub use ir_base::Iter;
+pub use operation::OperationPlace;
+pub use region::RegionPlace;
+pub use value::ValuePlace;
