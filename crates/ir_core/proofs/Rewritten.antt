@@ -16,7 +16,7 @@ use Rattle.ir_arena.specs.Arena.{Arena, IsLive, get}
 use Rattle.ir_arena.specs.Lists.{SameIds}
 use Rattle.ir_records.specs.declared.records.Records.{Records}
 use Rattle.ir_records.specs.Chains.{AreLinked, chains_of}
-use Rattle.ir_records.specs.Edits.{edited-by, edited-kept}
+use Rattle.ir_chains.specs.Edits.{edited-by, edited-kept}
 use Rattle.ir_records.specs.Lists.{edited}
 use Rattle.ir_records.specs.Meaning.{forest_of as forest_in}
 use Rattle.ir_records.specs.Nested.{AreNested}

@@ -17,7 +17,7 @@ use Rattle.ir_records.specs.declared.record.Definer.{Definer as DefinedBy}
 use Rattle.ir_records.specs.declared.record.Definer.TheVariants.{Op, Block}
 use Rattle.ir_records.specs.declared.records.Records.{Records}
 use Rattle.ir_records.specs.Chains.{chains_of}
-use Rattle.ir_records.specs.Edits.{edited-kept, edited-lent, get-edited, get-edited_other, slots-edited}
+use Rattle.ir_chains.specs.Edits.{edited-kept, edited-lent, get-edited, get-edited_other, slots-edited}
 use Rattle.ir_records.specs.Lists.{edited, in_record, uses_with}
 use Rattle.ir_records.specs.Meaning.{block_record, closed, forest_of as forest_in, op_records}
 use Rattle.ir_records.specs.Table.{KnowOwn, definitions_at, operands_at, successors_at}

@@ -17,7 +17,7 @@ use Rattle.ir_records.specs.declared.record.Operation.{Operation}
 use Rattle.ir_records.specs.declared.record.OperationMut.{OperationMut}
 use Rattle.ir_records.specs.declared.records.Records.{Records}
 use Rattle.ir_records.specs.Chains.{chains_of}
-use Rattle.ir_records.specs.Edits.{edited-kept, edited-lent, get-edited, get-edited_other, slots-edited}
+use Rattle.ir_chains.specs.Edits.{edited-kept, edited-lent, get-edited, get-edited_other, slots-edited}
 use Rattle.ir_records.specs.Lists.{edited, in_record, uses_with}
 use Rattle.ir_records.specs.Meaning.{block_record, closed, forest_of as forest_in, op_record}
 use Rattle.ir_records.specs.Table.{KnowOwn, block_uses_at, definitions_at}
