@@ -91,8 +91,18 @@ if-found P Live live c (Some x) h = live (c x) h
 module _ {W : Dialect} (f : Forest context_ids W) (nested : Nested f) (node container : ArenaIndex → Entity context_ids) (lists : ArenaIndex → List ArenaIndex) (listed : AreListed f node container lists)
     (nodes : Heap Links) (beside : (b x : ArenaIndex) (before after : List ArenaIndex) → lists b ≡ before ++ x ∷ after → nodes x ≡ Some (linked (last_or None before) (head_or None after) b))
     (x : ArenaIndex) (l : Links) (here : nodes x ≡ Some l) (covered : (l ≡ unlinked) ⊎ ((b : ArenaIndex) × In x (lists b))) where
+  -- the links, where a list is parted at the node
   links-at : (b : ArenaIndex) (before after : List ArenaIndex) → lists b ≡ before ++ x ∷ after → l ≡ linked (last_or None before) (head_or None after) b
   links-at b before after e = same_Some _ _ (sym here ∙ beside b x before after e)
+
+  container-at : (b : ArenaIndex) (before after : List ArenaIndex) → lists b ≡ before ++ x ∷ after → l.container ≡ Some b
+  container-at b before after e = ap (λ (k : Links). k.container) (links-at b before after e)
+
+  next-at : (b : ArenaIndex) (before after : List ArenaIndex) → lists b ≡ before ++ x ∷ after → l.next ≡ head_or None after
+  next-at b before after e = ap (λ (k : Links). k.next) (links-at b before after e)
+
+  previous-at : (b : ArenaIndex) (before after : List ArenaIndex) → lists b ≡ before ++ x ∷ after → l.prev ≡ last_or None before
+  previous-at b before after e = ap (λ (k : Links). k.prev) (links-at b before after e)
 
   -- where a list of the forest is parted at the node, so is the list of its container
   parted-list : (y : Entity context_ids) (bs cs : List (Entity context_ids)) → In (node x) (children f y) → children f y ≡ bs ++ node x ∷ cs → (b : ArenaIndex) × Parted node (lists b) bs x cs
@@ -104,48 +114,66 @@ module _ {W : Dialect} (f : Forest context_ids W) (nested : Nested f) (node cont
   listed-parts : (b : ArenaIndex) (before after : List ArenaIndex) → lists b ≡ before ++ x ∷ after → children f (container b) ≡ map node before ++ node x ∷ map node after
   listed-parts b before after e = listed.list b ∙ ap (map node) e ∙ map-append node before (x ∷ after)
 
+  listed-in : (b : ArenaIndex) → In (node x) (children f (container b)) → In x (lists b)
+  listed-in b h =
+      let m = In-map_back node (node x) (lists b) (subst (In (node x)) (listed.list b) h) in
+      subst (λ z. In z (lists b)) (sym (listed.one x m.0 m.2)) m.1
+
+  container-in : (b : ArenaIndex) → In x (lists b) → l.container ≡ Some b
+  container-in b h = let p = parted x (lists b) h in container-at b p.0 p.1 p.2
+
   parent-only : (y : Entity context_ids) → IsIn f (node x) y → option_map container l.container ≡ Some y
   parent-only y h =
       let at = listed.homes x y h in
-      let m = In-map_back node (node x) (lists at.0) (subst (In (node x)) (ap (children f) at.1 ∙ listed.list at.0) h) in
-      let p = parted x (lists at.0) (subst (λ z. In z (lists at.0)) (sym (listed.one x m.0 m.2)) m.1) in
-      ap (λ (k : Links). option_map container k.container) (links-at at.0 p.0 p.1 p.2) ∙ ap Some (sym at.1)
+      ap (option_map container) (container-in at.0 (listed-in at.0 (subst (λ z. In (node x) (children f z)) at.1 h))) ∙ ap Some (sym at.1)
+
+  parent-from : (y : Entity context_ids) (b : ArenaIndex) → In x (lists b) → option_map container l.container ≡ Some y → IsIn f (node x) y
+  parent-from y b h e =
+      let same : container b ≡ y = same_Some _ _ (sym (ap (option_map container) (container-in b h)) ∙ e) in
+      subst (λ z. In (node x) (children f z)) same (subst (In (node x)) (sym (listed.list b)) (In-map node x (lists b) h))
 
   parent-is : (y : Entity context_ids) → option_map container l.container ≡ Some y → IsIn f (node x) y
   parent-is y e = elim covered [
     | inl free ↦ absurd (let n : option_map container l.container ≡ None = ap (λ (k : Links). option_map container k.container) free in cc)
-    | inr home ↦
-        let p = parted x (lists home.0) home.1 in
-        let same : container home.0 ≡ y = same_Some _ _ (sym (ap (λ (k : Links). option_map container k.container) (links-at home.0 p.0 p.1 p.2)) ∙ e) in
-        subst (λ z. In (node x) (children f z)) same (subst (In (node x)) (sym (listed.list home.0)) (In-map node x (lists home.0) home.1))
+    | inr home ↦ parent-from y home.0 home.1 e
   ]
+
+  next-by : (y : Entity context_ids) (bs cs : List (Entity context_ids)) (b : ArenaIndex) → Parted node (lists b) bs x (y ∷ cs) → option_map node l.next ≡ Some y
+  next-by y bs cs b p = ap (option_map node) (next-at b p.before p.after p.splits) ∙ head-image node p.after y cs p.right
 
   next-only : (y : Entity context_ids) → ComesAfter f (node x) y → option_map node l.next ≡ Some y
   next-only y h =
       let p = parted-list h.0 h.1.0 (y ∷ h.1.1) (Adjacent-first (node x) y _ h.1) h.1.2 in
-      ap (λ (k : Links). option_map node k.next) (links-at p.0 p.1.before p.1.after p.1.splits) ∙ head-image node p.1.after y h.1.1 p.1.right
+      next-by y h.1.0 h.1.1 p.0 p.1
+
+  next-from : (y : Entity context_ids) (b : ArenaIndex) (before after : List ArenaIndex) → lists b ≡ before ++ x ∷ after → option_map node l.next ≡ Some y → ComesAfter f (node x) y
+  next-from y b before after splits e =
+      let q = head-parts node after y (sym (ap (option_map node) (next-at b before after splits)) ∙ e) in
+      (container b, (map node before, q.0, listed-parts b before after splits ∙ ap (λ zs. map node before ++ node x ∷ zs) q.1))
 
   next-is : (y : Entity context_ids) → option_map node l.next ≡ Some y → ComesAfter f (node x) y
   next-is y e = elim covered [
     | inl free ↦ absurd (let n : option_map node l.next ≡ None = ap (λ (k : Links). option_map node k.next) free in cc)
-    | inr home ↦
-        let p = parted x (lists home.0) home.1 in
-        let q = head-parts node p.1 y (sym (ap (λ (k : Links). option_map node k.next) (links-at home.0 p.0 p.1 p.2)) ∙ e) in
-        (container home.0, (map node p.0, q.0, listed-parts home.0 p.0 p.1 p.2 ∙ ap (λ zs. map node p.0 ++ node x ∷ zs) q.1))
+    | inr home ↦ let p = parted x (lists home.0) home.1 in next-from y home.0 p.0 p.1 p.2 e
   ]
+
+  previous-by : (y : Entity context_ids) (bs cs : List (Entity context_ids)) (b : ArenaIndex) → Parted node (lists b) (bs ++ y ∷ []) x cs → option_map node l.prev ≡ Some y
+  previous-by y bs cs b p = ap (option_map node) (previous-at b p.before p.after p.splits) ∙ last-image node p.before y bs p.left
 
   previous-only : (y : Entity context_ids) → ComesAfter f y (node x) → option_map node l.prev ≡ Some y
   previous-only y h =
       let p = parted-list h.0 (h.1.0 ++ y ∷ []) h.1.1 (Adjacent-second y (node x) _ h.1) (h.1.2 ∙ sym (append_assoc h.1.0 (y ∷ []) (node x ∷ h.1.1))) in
-      ap (λ (k : Links). option_map node k.prev) (links-at p.0 p.1.before p.1.after p.1.splits) ∙ last-image node p.1.before y h.1.0 p.1.left
+      previous-by y h.1.0 h.1.1 p.0 p.1
+
+  previous-from : (y : Entity context_ids) (b : ArenaIndex) (before after : List ArenaIndex) → lists b ≡ before ++ x ∷ after → option_map node l.prev ≡ Some y → ComesAfter f y (node x)
+  previous-from y b before after splits e =
+      let q = last-parts node before y (sym (ap (option_map node) (previous-at b before after splits)) ∙ e) in
+      (container b, (q.0, map node after, listed-parts b before after splits ∙ ap (λ zs. zs ++ node x ∷ map node after) q.1 ∙ append_assoc q.0 (y ∷ []) (node x ∷ map node after)))
 
   previous-is : (y : Entity context_ids) → option_map node l.prev ≡ Some y → ComesAfter f y (node x)
   previous-is y e = elim covered [
     | inl free ↦ absurd (let n : option_map node l.prev ≡ None = ap (λ (k : Links). option_map node k.prev) free in cc)
-    | inr home ↦
-        let p = parted x (lists home.0) home.1 in
-        let q = last-parts node p.0 y (sym (ap (λ (k : Links). option_map node k.prev) (links-at home.0 p.0 p.1 p.2)) ∙ e) in
-        (container home.0, (q.0, map node p.1, listed-parts home.0 p.0 p.1 p.2 ∙ ap (λ zs. zs ++ node x ∷ map node p.1) q.1 ∙ append_assoc q.0 (y ∷ []) (node x ∷ map node p.1)))
+    | inr home ↦ let p = parted x (lists home.0) home.1 in previous-from y home.0 p.0 p.1 p.2 e
   ]
 
   pub links-tell : LinksTell f node container x l

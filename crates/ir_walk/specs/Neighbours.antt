@@ -1,4 +1,4 @@
--- What the links of a record say of where it stands, and its ends of its list.
+-- What the links of a record say of where it stands, and the ends of one of the list that it has.
 use Rattle.std.specs.Prelude.{◌≡◌, List, Option, IfSome}
 use Rattle.std.specs.Option.{option_map}
 use Rattle.ir_model.specs.declared.ids.ArenaIndex.{ArenaIndex}
@@ -20,7 +20,7 @@ module _ {W : Dialect} (f : Forest context_ids W) (node : ArenaIndex → Entity 
     pub last : ends.tail ≡ last_of list
     pub last_live : IsLiveLink ends.tail
 
-  -- the links name what the node stands in and what stands beside it, which are live; it stands in containers alone
+  -- the links name what the node stands in and what stands beside it on either side, all of which is live
   pub record LinksTell (container : ArenaIndex → Entity context_ids) (x : ArenaIndex) (links : Links) : Type 0 where
     pub parent : IsParent f (node x) (option_map container links.container)
     pub parent_live : IfSome links.container (λ b. IsLive f (container b))

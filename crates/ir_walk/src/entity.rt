@@ -26,8 +26,8 @@ pub enum Entity<D: Dialects> {
 }
 
 impl<D: Dialects> Entity<D> {
-    // The entity as an index.
-    fn index(self) -> EntityIndex
+    /// The entity as an index.
+    pub fn index(self) -> EntityIndex
         ensures { entity_of result ≡ meant self }
     {
         match self {

@@ -17,8 +17,7 @@ returns-then-is_childless g c =
     let outer = meant c.args.outer in
     let none : children f outer ≡ [] = (rw (c.records-records.ensures, c.index-outer.ensures) at c.is_childless.ensures) c.if-is_childless.true in
     let same : c.eq.result ≡ same_entity context_ids (entity_of c.index-inner.result) (entity_of c.index-outer.result) = search rules in
-    let here : c.eq.result ≡ same_entity context_ids inner outer = rw (c.index-inner.ensures, c.index-outer.ensures) at same in
-    (
+    let here : c.eq.result ≡ same_entity context_ids inner outer = rw (c.index-inner.ensures, c.index-outer.ensures) at same in (
       λ yes. subst (Inside f outer) (sym (same_tells context_ids lawful inner outer (sym here ∙ yes))) itself,
       λ within. here ∙ ap (λ e. same_entity context_ids e outer) (alone (children f) outer inner none within) ∙ same_self context_ids lawful outer,
     )

@@ -1,0 +1,25 @@
+//! Views over what a context tells: iterators over the parts of an operation or a block, edges between blocks, and wrapped operations.
+//!
+//! All of it reads only. What a call gives is live, known or in range by its contract.
+#![tactic(auto)]
+
+mod backward_edges;
+mod block_parts;
+mod forward_edges;
+mod indexed;
+mod op_queries;
+mod operation_parts;
+mod wrappers;
+
+pub use backward_edges::BlockPredecessors;
+pub use block_parts::{ArgumentTypes, ArgumentTypesOf, Arguments, ArgumentsOf, BlockParts};
+pub use forward_edges::BlockSuccessors;
+pub use indexed::{HasParts, Parts};
+pub use op_queries::OperationKind;
+pub use operation_parts::{
+    OperandTypes, OperandTypesOf, OperandUses, OperandUsesOf, Operands, OperandsOf,
+    OperationParts, Regions, RegionsOf, ResultTypes, ResultTypesOf, Results, ResultsOf,
+    SuccessorUses, SuccessorUsesOf, Successors, SuccessorsOf,
+};
+pub use wrappers::{Op, OpObj, op_impls, op_impls_static};
+
