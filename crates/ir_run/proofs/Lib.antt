@@ -1,3 +1,6 @@
 pub mod SessionLists
+pub mod Entering
+pub mod Conditions
 pub mod SessionSteps
+pub mod NewEntities
 pub mod SessionRuns

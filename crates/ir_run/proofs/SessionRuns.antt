@@ -1,5 +1,5 @@
 -- Runs, joined step by step, and what they keep.
-use Rattle.std.proofs.Common.{◌≡◌, refl, ap, subst, ◌∙◌, cond, Bool, true, false, ℕ, zero, suc, List, [], ◌∷◌, ◌++◌, map, Some}
+use Rattle.std.proofs.Common.{◌≡◌, refl, ap, subst, ◌∙◌, cond, Bool, true, false, ℕ, List, [], ◌∷◌, ◌++◌, map, Some}
 use Rattle.std.specs.Prelude.{slice_get}
 use Rattle.std.specs.List.{list_any}
 use Rattle.ir_model.specs.declared.answer.Answer.{Answer}
@@ -9,9 +9,10 @@ use Rattle.ir_model.specs.Edits.{Edit as PlainEdit, with_type}
 use Rattle.ir_model.specs.Sessions.{Session, Step, Run, condition, counter, slots, memory, made}
 use Rattle.ir_model.specs.Soundness.{Sound}
 use Rattle.ir_model.proofs.Nests.{In-map}
+use Rattle.ir_model.proofs.Uniquing.{still_at}
 use Rattle.ir_run.specs.declared.edit.Edit.{Edit}
-use Rattle.ir_run.specs.declared.edit.Edit.TheVariants.{NewType, NewOp}
-use Rattle.ir_core.specs.Meaning.{closed}
+use Rattle.ir_run.specs.declared.edit.Edit.TheVariants.{AddRegion, NewBlock, NewOp, NewType}
+use Rattle.ir_records.specs.Meaning.{closed}
 use Rattle.ir_run.specs.SessionEdits.{edit_of}
 use Rattle.ir_run.specs.Headline.{KeepsKeys, LiveWasMade}
 
@@ -47,11 +48,6 @@ sound_made s k = record {
   uses = k.passed.uses;
 }
 
-kept_at : {A : Type 0} (xs ys : List A) (k : ℕ) (a : A) → slice_get xs k ≡ Some a → slice_get (xs ++ ys) k ≡ Some a
-kept_at [] ys k a h = absurd (cc)
-kept_at (x ∷ xs) ys zero a h = h
-kept_at (x ∷ xs) ys (suc k) a h = kept_at xs ys k a h
-
 module _ {W : Dialect} where
   same_store : (s t : Session W) → t.state.store ≡ s.state.store → KeepsKeys s t
   same_store s t e = record { keys = λ k a h. (a, ap (λ xs. slice_get xs k) e ∙ h, refl) }
@@ -63,7 +59,7 @@ module _ {W : Dialect} where
       by true is = same_store s t (e ∙ ap (λ b. cond b s.state.store (s.state.store ++ record { key = key; body = B.first_body } ∷ [])) is)
       by false is =
           let grown : t.state.store ≡ s.state.store ++ record { key = key; body = B.first_body } ∷ [] = e ∙ ap (λ b. cond b s.state.store (s.state.store ++ record { key = key; body = B.first_body } ∷ [])) is in
-          record { keys = λ k a h. (a, ap (λ xs. slice_get xs k) grown ∙ kept_at s.state.store (record { key = key; body = B.first_body } ∷ []) k a h, refl) }
+          record { keys = λ k a h. (a, ap (λ xs. slice_get xs k) grown ∙ still_at s.state.store (record { key = key; body = B.first_body } ∷ []) k a h, refl) }
 
   then_keys : (s t u : Session W) → KeepsKeys s t → KeepsKeys t u → KeepsKeys s u
   then_keys s t u a b = record { keys = λ k x h. (let y = a.keys k x h in let z = b.keys k y.0 y.1 in (z.0, z.1, z.2 ∙ y.2)) }
@@ -76,6 +72,8 @@ module _ {D A K B S X L : Type 0} (behave : Behaviour (closed A K B S X L)) wher
   step_keys edit s t a (memory c n m x e k) = same_store s t (ap (λ x. x.store) k.state)
   step_keys (NewType key) s t a (made c n m e k) = more_store behave s t key (ap (λ x. x.store) k.change)
   step_keys (NewOp kind types operands successors regions) s t a (made c n m e k) = same_store s t (ap (λ x. x.store) k.change.holds)
+  step_keys (NewBlock label types) s t a (made c n m e k) = same_store s t (ap (λ x. x.store) k.change.holds)
+  step_keys (AddRegion op) s t a (made c n m e k) = same_store s t (ap (λ x. x.store) k.change.holds.holds)
 
   pub run_keys : (edits : List (Edit D A K B S X L)) (s t : Session (closed A K B S X L)) (answers : List Answer) → Run behave s (map edit_of edits) answers t → KeepsKeys s t
   run_keys [] s t answers r = same_store s t (ap (λ x. x.state.store) r.1)

@@ -1,18 +1,19 @@
--- What the tables of a session mean, and how operations are entered into them.
+-- What the tables of a session mean, and how what was made is entered into them.
 use Rattle.std.specs.Prelude.{ℕ, ◌+◌, ◌≤◌, [], ◌∷◌, ◌++◌, map, Result, Ok, Err, vec_len, vec_capacity}
+use Rattle.ir_model.specs.declared.ids.ArenaIndex.{ArenaIndex}
 use Rattle.ir_model.specs.declared.answer.Answer.{Answer}
 use Rattle.ir_model.specs.declared.answer.Answer.TheVariants.{Made, Refused}
 use Rattle.ir_model.specs.declared.answer.Refused.TheVariants.{Memory, Counter, Slots}
-use Rattle.ir_model.specs.ContextIds.{context_ids}
-use Rattle.ir_model.specs.Ids.{Counts}
-use Rattle.ir_model.specs.Forest.{Dialect, of_op}
-use Rattle.ir_model.specs.Edits.{Tables as PlainTables, no_needs, numbered}
-use Rattle.ir_model.specs.Sessions.{Session, HasNumbers, HasSlots, LacksNumbers, LacksSlots}
 use Rattle.ir_model.specs.declared.error.CoreError.{CoreError}
 use Rattle.ir_model.specs.declared.error.CoreError.TheVariants.{OutOfMemory, CounterSpent, SlotsSpent}
-use Rattle.ir_core.specs.declared.operation.Operation.{Operation}
+use Rattle.ir_model.specs.ContextIds.{context_ids}
+use Rattle.ir_model.specs.Ids.{Counts}
+use Rattle.ir_model.specs.Forest.{of_op, of_block}
+use Rattle.ir_model.specs.Edits.{Tables as PlainTables, numbered}
+use Rattle.ir_records.specs.declared.record.Operation.{Operation}
+use Rattle.ir_records.specs.declared.record.BasicBlock.{BasicBlock}
+use Rattle.ir_records.specs.Meaning.{op_index, op_record, block_index, block_record, value_of}
 use Rattle.ir_run.specs.declared.session_tables.Tables.{Tables}
-use Rattle.ir_core.specs.Meaning.{op_index, op_record, value_of}
 
 -- how an edit is answered that made an entry with this number, or was refused for this
 abbrev pub answer_of : Result ℕ CoreError → Answer
@@ -21,18 +22,13 @@ answer_of (Err OutOfMemory) = Refused Memory
 answer_of (Err CounterSpent) = Refused Counter
 answer_of (Err SlotsSpent) = Refused Slots
 
-module _ {W : Dialect} where
-  -- there is room for all that is needed, or no numbers are left for it, or no slots
-  abbrev pub HasRoomFor : Session W → Counts → Result (Unit {0}) CoreError → Type 0
-  HasRoomFor s n (Ok u) = HasNumbers s n × HasSlots s n
-  HasRoomFor s n (Err CounterSpent) = LacksNumbers s n
-  HasRoomFor s n (Err SlotsSpent) = HasNumbers s n × LacksSlots s n
-  HasRoomFor s n (Err OutOfMemory) = ⊥
+-- the tables with the type behind the others
+abbrev pub with_type : PlainTables context_ids → ℕ → PlainTables context_ids
+with_type t ty = record t { types = t.types ++ ty ∷ [] }
 
-  -- there is room for nothing at all, as there always is
-  pub record HasRoomForNothing (s : Session W) : Type 0 where
-    pub numbers : HasNumbers s no_needs
-    pub slots : HasSlots s no_needs
+-- the tables with the region behind the others
+abbrev pub with_region : PlainTables context_ids → ArenaIndex → PlainTables context_ids
+with_region t region = record t { regions = t.regions ++ region ∷ [] }
 
 module _ {D A K B S X L : Type 0} where
   -- the entries, as plain ids and numbers
@@ -40,16 +36,17 @@ module _ {D A K B S X L : Type 0} where
   entries_of t = record {
     types = map (λ y. y.place) t.types.items;
     ops = map (λ p. p.index) t.ops.items;
-    blocks = [];
+    blocks = map (λ p. p.index) t.blocks.items;
     regions = map (λ p. p.index) t.regions.items;
-    values = map value_of (map (λ v. v.index) t.values.items);
+    values = map (λ v. value_of v.index) t.values.items;
   }
 
-  -- the tables can take one operation, and so many regions and values, without growing
-  pub record HasPlace (t : Tables D A K B S X L) (more_regions more_values : ℕ) : Type 0 where
-    pub ops : vec_len t.ops + 1 ≤ vec_capacity t.ops
-    pub regions : vec_len t.regions + more_regions ≤ vec_capacity t.regions
-    pub values : vec_len t.values + more_values ≤ vec_capacity t.values
+  -- the tables can take so many operations, blocks, regions and values without growing
+  pub record HasPlace (t : Tables D A K B S X L) (n : Counts) : Type 0 where
+    pub ops : vec_len t.ops + n.ops ≤ vec_capacity t.ops
+    pub blocks : vec_len t.blocks + n.blocks ≤ vec_capacity t.blocks
+    pub regions : vec_len t.regions + n.regions ≤ vec_capacity t.regions
+    pub values : vec_len t.values + n.numbers ≤ vec_capacity t.values
 
   -- the tables with the operation, its regions and its results behind the others
   abbrev pub with_op : PlainTables context_ids → Operation D A K B S X L → PlainTables context_ids
@@ -57,4 +54,11 @@ module _ {D A K B S X L : Type 0} where
     ops = t.ops ++ op_index op ∷ [];
     regions = t.regions ++ (op_record op).regions;
     values = t.values ++ numbered (of_op (op_index op)) (map (λ r. r.number) (op_record op).results);
+  }
+
+  -- the tables with the block and its arguments behind the others
+  abbrev pub with_block : PlainTables context_ids → BasicBlock D A K B S X L → PlainTables context_ids
+  with_block t block = record t {
+    blocks = t.blocks ++ block_index block ∷ [];
+    values = t.values ++ numbered (of_block (block_index block)) (map (λ r. r.number) (block_record [] block).arguments);
   }

@@ -3,6 +3,7 @@
 
 mod edit;
 mod laws;
+mod lookups;
 mod session;
 mod session_tables;
 mod steps;

@@ -2,32 +2,31 @@
 //!
 //! Whatever list of edits is run, and whichever of them memory, a counter or slots refuse, the context then means a plain forest to which the accepted edits lead.
 
-ghost use Rattle.std.specs.Prelude.{◌≡◌, ◌⊎◌, ◌+◌, ◌<◌, ◌≤◌, ◌↔◌, List, [], length, map, Some, None, Err, IsSome, IfOk, IfErr, OnOk, OnErr, slice_get};
+ghost use Rattle.std.specs.Prelude.{◌≡◌, ◌<◌, ◌≤◌, length, map, IfOk, IfErr, OnErr, slice_get};
 ghost use Rattle.std.specs.Option.{option_map};
-ghost use Rattle.ir_model.specs.Forest.{a_value};
+ghost use Rattle.ir_model.specs.declared.ids.ArenaIndex.{ArenaIndex};
+ghost use Rattle.ir_model.specs.Forest.{a_value, the_block};
 ghost use Rattle.ir_model.specs.Nesting.{IsLiveNamed, WellFormed};
-ghost use Rattle.ir_model.specs.Edits.{Condition, NewOp as PlainNewOp, NewType as PlainNewType};
 ghost use Rattle.ir_model.specs.Gone.{StaysGone};
-ghost use Rattle.ir_model.specs.Sessions.{HasNumbers, HasSlots, IsNewSession, LacksNumbers, LacksSlots, Run, Step};
+ghost use Rattle.ir_model.specs.Sessions.{IsNewSession, Run, Step};
 ghost use Rattle.ir_model.specs.Uses.{AreUses};
-ghost use Rattle.ir_core.specs.Calls.{TypesAreExact, op_needs};
-ghost use Rattle.ir_core.specs.Meaning.{value_of};
-ghost use Rattle.ir_core.specs.State.{bare, behaviour, forest_of, types_of, uses_of};
-ghost use Rattle.ir_core.specs.declared.record.ValueIndex.{ValueIndex as PlainIndex};
+ghost use Rattle.ir_records.specs.declared.record.ValueIndex.{ValueIndex as PlainIndex};
+ghost use Rattle.ir_records.specs.Meaning.{value_of};
+ghost use Rattle.ir_core.specs.Calls.{TypesAreExact};
+ghost use Rattle.ir_core.specs.State.{behaviour, block_uses_of, uses_of};
 ghost use Rattle.ir_run.specs.SessionEdits.{edit_of};
-ghost use Rattle.ir_run.specs.SessionTables.{answer_of};
 ghost use Rattle.ir_run.specs.Headline.{KeepsKeys, LiveWasMade};
 ghost use Rattle.ir_run.specs.SessionState.{plain};
 
 use crate::edit::Edit;
 use crate::session_tables::Tables;
-use crate::{session_tables, steps};
-use ir_base::{Answer, CoreError, Dialects, Limits, Ptr, Refused, TypeHandle};
-use ir_core::{Context, Operation, Region, Value};
+use crate::steps::{self, OpParts};
+use ir_base::{Answer, CoreError, Dialects, Limits, Ptr, TypeHandle};
+use ir_core::{BasicBlock, Context, Operation, Region, Value};
 use std::alloc::Global;
 use std::marker::Model;
 
-/// A context, and the types, operations, regions and values that edits made in it, in order. Nothing is ever taken out of these tables.
+/// A context, and the types, operations, blocks, regions and values that edits made in it, in order. Nothing is ever taken out of these tables.
 #[derive(Drop)]
 pub struct Session<D: Dialects> {
     ctx: Context<D>,
@@ -35,15 +34,15 @@ pub struct Session<D: Dialects> {
 }
 
 impl<D: Dialects> Model for Session<D> {
-    ghost use Rattle.std.specs.Prelude.{map};
     ghost use Rattle.ir_model.specs.Soundness.{Sound};
     ghost use Rattle.ir_run.specs.SessionState.{plain, SessionState};
+    ghost use Rattle.ir_run.specs.SessionTables.{entries_of};
 
     ghost Value = { SessionState D D.Attr D.TypeKey D.TypeBody D.Saved D.Aux D.Loc };
 
-    ghost view = { λ s. record { ctx = s.ctx; types = map (λ t. t.place) s.tables.types.items; ops = map (λ p. p.index) s.tables.ops.items; regions = map (λ p. p.index) s.tables.regions.items; values = map (λ v. v.index) s.tables.values.items } };
+    ghost view = { λ s. record { ctx = s.ctx; tables = entries_of s.tables } };
 
-    ghost invariant = { λ s. Sound (plain (record { ctx = s.ctx; types = map (λ t. t.place) s.tables.types.items; ops = map (λ p. p.index) s.tables.ops.items; regions = map (λ p. p.index) s.tables.regions.items; values = map (λ v. v.index) s.tables.values.items })) };
+    ghost invariant = { λ s. Sound (plain (record { ctx = s.ctx; tables = entries_of s.tables })) };
 }
 
 impl<D: Dialects> Session<D> {
@@ -56,12 +55,7 @@ impl<D: Dialects> Session<D> {
     {
         Session {
             ctx: Context::with_limits(alloc, limits),
-            tables: Tables {
-                types: Vec::new(alloc),
-                ops: Vec::new(alloc),
-                regions: Vec::new(alloc),
-                values: Vec::new(alloc),
-            },
+            tables: Tables::new(alloc),
         }
     }
 
@@ -86,6 +80,13 @@ impl<D: Dialects> Session<D> {
         self.tables.ops.get(number).copied()
     }
 
+    /// The block with this number, live or not; none where no block has it.
+    pub fn block(&self, number: usize) -> Option<Ptr<BasicBlock<D>>>
+        ensures { option_map (λ p. p.index) result ≡ slice_get (plain self.now).state.tables.blocks number }
+    {
+        self.tables.blocks.get(number).copied()
+    }
+
     /// The region with this number, live or not; none where no region has it.
     pub fn region(&self, number: usize) -> Option<Ptr<Region>>
         ensures { option_map (λ p. p.index) result ≡ slice_get (plain self.now).state.tables.regions number }
@@ -102,7 +103,7 @@ impl<D: Dialects> Session<D> {
 
     /// Carries the edits out in order, and answers each.
     ///
-    /// Whatever the edits are, the session before, the edits, the answers and the session after stand in `Run`; the forest is well formed; each live value's kept uses are exactly the places that name it; what is gone stays gone; and types are equal exactly where their keys are.
+    /// Whatever the edits are, the session before, the edits, the answers and the session after stand in `Run`; the forest is well formed; the kept uses of each live value and of each live block are exactly the places that name it; what is gone stays gone; and types are equal exactly where their keys are.
     ///
     /// # Errors
     /// `OutOfMemory`, where there was no room for the answers. Then nothing was done.
@@ -110,6 +111,7 @@ impl<D: Dialects> Session<D> {
         ensures headline { IfOk result (λ answers. Run (behaviour D.TypeKey.eq D.first_body D.unknown D.op_impls_of) (plain self.old) (map edit_of edits.items) answers.items (plain self.new)) }
         ensures well_formed { WellFormed (plain self.new).state.forest (length (plain self.new).state.store) }
         ensures uses_exact { (v : PlainIndex) → IsLiveNamed (plain self.new).state.forest (a_value (value_of v)) → AreUses (plain self.new).state.forest (a_value (value_of v)) (uses_of self.new.ctx v) }
+        ensures block_uses_exact { (b : ArenaIndex) → IsLiveNamed (plain self.new).state.forest (the_block b) → AreUses (plain self.new).state.forest (the_block b) (block_uses_of self.new.ctx b) }
         ensures stays_gone { StaysGone (plain self.old) (plain self.new) }
         ensures live_was_made { LiveWasMade (plain self.new) }
         ensures types_exact { TypesAreExact (behaviour D.TypeKey.eq D.first_body D.unknown D.op_impls_of) (plain self.new).state.store }
@@ -152,21 +154,19 @@ impl<D: Dialects> Session<D> {
                 successors,
                 regions,
             } => {
-                let known = session_tables::all_below(&types, self.tables.types.len());
-                let live = session_tables::all_live(&self.ctx, &self.tables.values, &operands);
-                if known && live && successors.is_empty() {
-                    steps::new_op(
-                        &mut self.ctx,
-                        &mut self.tables,
-                        kind,
-                        &types,
-                        &operands,
-                        regions,
-                    )
-                } else {
-                    Answer::Refused(Refused::Condition)
-                }
+                let parts = OpParts {
+                    kind,
+                    types: &types,
+                    operands: &operands,
+                    successors: &successors,
+                    regions,
+                };
+                steps::new_op(&mut self.ctx, &mut self.tables, &parts)
             }
+            Edit::NewBlock { label, types } => {
+                steps::new_block(&mut self.ctx, &mut self.tables, label, &types)
+            }
+            Edit::AddRegion { op } => steps::add_region(&mut self.ctx, &mut self.tables, op),
         }
     }
 }

@@ -1,45 +1,95 @@
 //! The tables of a session: what was made in it, in order, so that edits can name it by numbers.
 
-ghost use Rattle.std.specs.Prelude.{◌≡◌, ◌+◌, ◌<◌, ◌≤◌, ◌↔◌, ◌++◌, length, map, IfOk, OnOk, IsTrue, slice_get, vec_len, vec_capacity};
-ghost use Rattle.ir_model.specs.Forest.{a_value, of_op};
-ghost use Rattle.ir_model.specs.Nesting.{IsLiveNamed};
-ghost use Rattle.ir_model.specs.Edits.{Each, The, numbered, these};
-ghost use Rattle.ir_core.specs.Meaning.{op_index, op_record, value_of};
-ghost use Rattle.ir_run.specs.SessionTables.{entries_of, with_op, HasPlace};
-ghost use Rattle.ir_core.specs.State.{forest_of};
+ghost use Rattle.std.specs.Prelude.{◌≡◌, ◌+◌, ◌≤◌, ◌++◌, [], length, map, OnOk, vec_len, vec_capacity};
+ghost use Rattle.ir_model.specs.Forest.{of_block, of_op};
+ghost use Rattle.ir_model.specs.Edits.{numbered};
+ghost use Rattle.ir_records.specs.Meaning.{block_index, block_record, op_index, op_record, value_of};
+ghost use Rattle.ir_core.specs.Calls.{counts_of};
+ghost use Rattle.ir_run.specs.SessionTables.{entries_of, with_block, with_op, with_region, with_type, HasPlace};
 
 use ir_base::{Dialects, Ptr, TypeHandle};
-use ir_core::{Context, Operation, Region, Value};
+use ir_core::{BasicBlock, Needs, Operation, Region, Value};
 use std::alloc::{AllocError, Global};
 
-/// The types, operations, regions and values that edits made. Nothing is ever taken out.
+/// The types, operations, blocks, regions and values that edits made. Nothing is ever taken out.
 #[derive(Drop)]
 pub(crate) struct Tables<D: Dialects> {
     pub(crate) types: Vec<TypeHandle>,
     pub(crate) ops: Vec<Ptr<Operation<D>>>,
+    pub(crate) blocks: Vec<Ptr<BasicBlock<D>>>,
     pub(crate) regions: Vec<Ptr<Region>>,
     pub(crate) values: Vec<Value<D>>,
 }
 
 impl<D: Dialects> Tables<D> {
-    // Makes place for one operation, and so many regions and values.
-    pub(crate) fn reserve(&mut self, regions: usize, values: usize) -> Result<(), AllocError>
-        ensures same { entries_of self.new ≡ entries_of self.old }
-        ensures place { OnOk result (HasPlace self.new regions values) }
+    // Tables without entries. They take no memory.
+    pub(crate) fn new(alloc: Global) -> Self
+        ensures { entries_of result ≡ record { types = []; ops = []; blocks = []; regions = []; values = [] } }
     {
-        self.ops.reserve(1)?;
-        self.regions.reserve(regions)?;
-        self.values.reserve(values)
+        Tables {
+            types: Vec::new(alloc),
+            ops: Vec::new(alloc),
+            blocks: Vec::new(alloc),
+            regions: Vec::new(alloc),
+            values: Vec::new(alloc),
+        }
+    }
+
+    // Makes place for a type.
+    pub(crate) fn reserve_type(&mut self) -> Result<(), AllocError>
+        ensures same { entries_of self.new ≡ entries_of self.old }
+        ensures place { OnOk result (vec_len self.new.types + 1 ≤ vec_capacity self.new.types) }
+    {
+        self.types.reserve(1)
+    }
+
+    // Makes place for the operations, blocks, regions and values that are needed.
+    pub(crate) fn reserve(&mut self, needs: Needs) -> Result<(), AllocError>
+        ensures same { entries_of self.new ≡ entries_of self.old }
+        ensures place { OnOk result (HasPlace self.new (counts_of needs)) }
+    {
+        self.ops.reserve(needs.ops)?;
+        self.blocks.reserve(needs.blocks)?;
+        self.regions.reserve(needs.regions)?;
+        self.values.reserve(needs.values)
+    }
+
+    // Puts the type behind the others.
+    pub(crate) fn enter_type(&mut self, ty: TypeHandle)
+        requires { vec_len self.old.types + 1 ≤ vec_capacity self.old.types }
+        ensures { entries_of self.new ≡ with_type (entries_of self.old) ty.place }
+    {
+        self.types.push_reserved(ty);
     }
 
     // Puts the operation, its regions and its results behind the others.
-    pub(crate) fn enter(&mut self, op: &Operation<D>)
-        requires { HasPlace self.old (length (op_record op.now).regions) (length (op_record op.now).results) }
+    pub(crate) fn enter_op(&mut self, op: &Operation<D>)
+        requires ops { vec_len self.old.ops + 1 ≤ vec_capacity self.old.ops }
+        requires regions { vec_len self.old.regions + length (op_record op.now).regions ≤ vec_capacity self.old.regions }
+        requires values { vec_len self.old.values + length (op_record op.now).results ≤ vec_capacity self.old.values }
         ensures { entries_of self.new ≡ with_op (entries_of self.old) op.now }
     {
         self.ops.push_reserved(op.get_self_ptr());
         enter_regions(&mut self.regions, op);
         enter_results(&mut self.values, op);
+    }
+
+    // Puts the block and its arguments behind the others.
+    pub(crate) fn enter_block(&mut self, block: &BasicBlock<D>)
+        requires blocks { vec_len self.old.blocks + 1 ≤ vec_capacity self.old.blocks }
+        requires values { vec_len self.old.values + length (block_record [] block.now).arguments ≤ vec_capacity self.old.values }
+        ensures { entries_of self.new ≡ with_block (entries_of self.old) block.now }
+    {
+        self.blocks.push_reserved(block.get_self_ptr());
+        enter_arguments(&mut self.values, block);
+    }
+
+    // Puts the region behind the others.
+    pub(crate) fn enter_region(&mut self, region: Ptr<Region>)
+        requires { vec_len self.old.regions + 1 ≤ vec_capacity self.old.regions }
+        ensures { entries_of self.new ≡ with_region (entries_of self.old) region.index }
+    {
+        self.regions.push_reserved(region);
     }
 }
 
@@ -56,59 +106,19 @@ fn enter_regions<D: Dialects>(table: &mut Vec<Ptr<Region>>, op: &Operation<D>)
 // Puts the operation's results, in order, behind the others.
 fn enter_results<D: Dialects>(table: &mut Vec<Value<D>>, op: &Operation<D>)
     requires { vec_len table.old + length (op_record op.now).results ≤ vec_capacity table.old }
-    ensures { map value_of (map (λ v. v.index) table.new.items) ≡ map value_of (map (λ v. v.index) table.old.items) ++ numbered (of_op (op_index op.now)) (map (λ r. r.number) (op_record op.now).results) }
+    ensures { map (λ v. value_of v.index) table.new.items ≡ map (λ v. value_of v.index) table.old.items ++ numbered (of_op (op_index op.now)) (map (λ r. r.number) (op_record op.now).results) }
 {
     for index in 0..op.get_num_results() {
         table.push_reserved(op.get_result(index));
     }
 }
 
-// Whether each number is below the count.
-pub(crate) fn all_below(numbers: &[usize], count: usize) -> bool
-    ensures { IsTrue result ↔ Each (λ n. n < count) numbers.now }
+// Puts the block's arguments, in order, behind the others.
+fn enter_arguments<D: Dialects>(table: &mut Vec<Value<D>>, block: &BasicBlock<D>)
+    requires { vec_len table.old + length (block_record [] block.now).arguments ≤ vec_capacity table.old }
+    ensures { map (λ v. value_of v.index) table.new.items ≡ map (λ v. value_of v.index) table.old.items ++ numbered (of_block (block_index block.now)) (map (λ r. r.number) (block_record [] block.now).arguments) }
 {
-    for number in numbers {
-        if *number >= count {
-            return false;
-        }
+    for index in 0..block.get_num_arguments() {
+        table.push_reserved(block.get_argument(index));
     }
-    true
-}
-
-// Whether the entry with this number is there, and live.
-fn is_live_at<D: Dialects>(ctx: &Context<D>, table: &[Value<D>], number: usize) -> bool
-    ensures { IsTrue result ↔ The (slice_get (map value_of (map (λ v. v.index) table.now)) number) (λ v. IsLiveNamed (forest_of ctx.now) (a_value v) × Unit {0}) }
-{
-    match table.get(number) {
-        Some(value) => value.is_live(ctx),
-        None => false,
-    }
-}
-
-// Whether each of these entries is there, and live.
-pub(crate) fn all_live<D: Dialects>(ctx: &Context<D>, table: &[Value<D>], numbers: &[usize]) -> bool
-    ensures { IsTrue result ↔ Each (λ n. The (slice_get (map value_of (map (λ v. v.index) table.now)) n) (λ v. IsLiveNamed (forest_of ctx.now) (a_value v) × Unit {0})) numbers.now }
-{
-    for number in numbers {
-        if !is_live_at(ctx, table, *number) {
-            return false;
-        }
-    }
-    true
-}
-
-// The entries with these numbers, in the order of the numbers.
-pub(crate) fn picked<T: Copy + Drop>(
-    alloc: Global,
-    table: &[T],
-    numbers: &[usize],
-) -> Result<Vec<T>, AllocError>
-    requires { Each (λ n. n < length table.now) numbers.now }
-    ensures { IfOk result (λ found. found.items ≡ these table.now numbers.now) }
-{
-    let mut found = Vec::with_capacity(alloc, numbers.len())?;
-    for number in numbers {
-        found.push_reserved(table[*number]);
-    }
-    Ok(found)
 }

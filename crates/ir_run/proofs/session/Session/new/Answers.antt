@@ -5,5 +5,4 @@ use Rattle.ir_run.proofs.session.Session.new.Goals as goal
 pub invariant_of-result : goal.invariant_of-result
 invariant_of-result g c =
     let n = c.with_limits.ensures.new in
-    rw (c.new.ensures.items, c.new-2.ensures.items, c.new-3.ensures.items, c.new-4.ensures.items)
-    (new_sound _ (record { ops = n.ops; blocks = n.blocks; regions = n.regions; store = n.store; tables = refl; none_passed = n.none_passed }))
+    new_sound _ (record { ops = n.ops; blocks = n.blocks; regions = n.regions; store = n.store; tables = c.new.ensures; none_passed = n.none_passed })

@@ -2,7 +2,7 @@ use Rattle.std.proofs.Common.{◌<◌, ◌∙◌, ◌∷◌, [], ◌++◌, refl,
 use Rattle.std.proofs.lemmas.Option.{slice_get_read}
 use Rattle.ir_model.specs.Edits.{these}
 use Rattle.ir_run.proofs.SessionLists.{Each-at, these-push}
-use Rattle.ir_run.proofs.session_tables.picked.Goals as goal
+use Rattle.ir_run.proofs.lookups.picked.Goals as goal
 
 pub loop-number-preserved : goal.loop-number-preserved
 loop-number-preserved g c =
