@@ -7,9 +7,7 @@ ghost use Rattle.ir_records.specs.Meaning.{value_of};
 ghost use Rattle.ir_core.specs.State.{forest_of, types_of};
 
 use ir_base::{CoreError, Dialects, Ptr, TypeHandle};
-use ir_core::{
-    Context, NewOperation, Operation, OperationPtr, TypeQueries, Value, ValueQueries,
-};
+use ir_core::{Context, NewOperation, Operation, OperationPtr, TypeQueries, Value, ValueQueries};
 use ir_toy::{Toy, ToyType};
 use std::alloc::Global;
 use std::collections::HashSet;

@@ -81,10 +81,10 @@ module _ {D A K B S X L : Type 0} (behave : Behaviour (closed A K B S X L)) (c :
       abbrev made_forest : List ℕ → ℕ → List (Value context_ids) → List ArenaIndex → Forest context_ids (closed A K B S X L)
       made_forest ts n us cs =
           new_op (forest_of c) id behave.unknown kind
-              (map definition (zip makes.fresh.numbers ts))
-              (map operand (zip (take n makes.fresh.uses) us))
-              (map successor (zip (drop n makes.fresh.uses) cs))
-              makes.fresh.regions
+          (map definition (zip makes.fresh.numbers ts))
+          (map operand (zip (take n makes.fresh.uses) us))
+          (map successor (zip (drop n makes.fresh.uses) cs))
+          makes.fresh.regions
 
       op_forest : (forest_of d) ≡ made_forest (these tb.types types) (length operands) (these tb.values operands) (these tb.blocks successors)
       op_forest =
@@ -109,7 +109,7 @@ module _ {D A K B S X L : Type 0} (behave : Behaviour (closed A K B S X L)) (c :
           } in
           let same : op_record op ≡ put = put_there id put (op_record op) ((forest_of d).ops id) ((forest_of c).ops id) (ap (λ f. f.ops id) makes.forest) is.found in
           let numbers : map (λ x. x.number) (op_record op).results ≡ makes.fresh.numbers =
-              ap (λ q. map (λ x. x.number) q.results) same ∙ numbers-zip (closed A K B S X L) makes.fresh.numbers ys (ap (λ n. n.numbers) makes.handed.enough) in
+          ap (λ q. map (λ x. x.number) q.results) same ∙ numbers-zip (closed A K B S X L) makes.fresh.numbers ys (ap (λ n. n.numbers) makes.handed.enough) in
           entries (op_index op) id (op_record op).regions makes.fresh.regions (map (λ x. x.number) (op_record op).results) makes.fresh.numbers is.own (ap (λ q. q.regions) same) numbers
         where
           entries : (i j : ArenaIndex) (rs qs : List ArenaIndex) (ns ms : List ℕ) → i ≡ j → rs ≡ qs → ns ≡ ms
@@ -140,9 +140,9 @@ module _ {D A K B S X L : Type 0} (behave : Behaviour (closed A K B S X L)) (c :
       block_entered block is =
           let put : BlockRecord context_ids (closed A K B S X L) = record { label = label; arguments = map definition (zip makes.fresh.numbers ys); ops = []; attributes = []; loc = behave.unknown } in
           let same : block_record (ops_of (forest_of d) id) block ≡ put =
-              put_there id put (block_record (ops_of (forest_of d) id) block) ((forest_of d).blocks id) ((forest_of c).blocks id) (ap (λ f. f.blocks id) makes.forest) is.found in
+          put_there id put (block_record (ops_of (forest_of d) id) block) ((forest_of d).blocks id) ((forest_of c).blocks id) (ap (λ f. f.blocks id) makes.forest) is.found in
           let numbers : map (λ x. x.number) (block_record [] block).arguments ≡ makes.fresh.numbers =
-              ap (λ q. map (λ x. x.number) q.arguments) same ∙ numbers-zip (closed A K B S X L) makes.fresh.numbers ys (ap (λ n. n.numbers) makes.handed.enough) in
+          ap (λ q. map (λ x. x.number) q.arguments) same ∙ numbers-zip (closed A K B S X L) makes.fresh.numbers ys (ap (λ n. n.numbers) makes.handed.enough) in
           entries (block_index block) id (map (λ x. x.number) (block_record [] block).arguments) makes.fresh.numbers is.own numbers
         where
           entries : (i j : ArenaIndex) (ns ms : List ℕ) → i ≡ j → ns ≡ ms

@@ -95,9 +95,7 @@ pub(crate) fn all_live<D: Dialects, E: Entry<D>>(
 ) -> bool
     ensures { IsTrue result ↔ Each (λ n. The (slice_get table.now n) (λ entry. E.IsLiveIn (forest_of ctx.now) entry)) numbers.now }
 {
-    numbers
-        .iter()
-        .all(|number| is_live_at(ctx, table, *number))
+    numbers.iter().all(|number| is_live_at(ctx, table, *number))
 }
 
 // The entries with these numbers, in the order of the numbers.

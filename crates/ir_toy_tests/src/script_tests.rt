@@ -116,8 +116,7 @@ fn spent_counters_and_slots(rt: HostRuntime) -> Result<(), Fail> {
     let mut input = b"type 1\nop 0 t0,t0 - - 0\nblock t0\nblock t0\nop 5 - - - 3\n".as_slice();
     let mut printed = Vec::new(rt.alloc());
     let mut told = Vec::new(rt.alloc());
-    let status =
-        run_script_with_limits(rt.alloc(), limits, &mut input, &mut printed, &mut told);
+    let status = run_script_with_limits(rt.alloc(), limits, &mut input, &mut printed, &mut told);
     if status == 1 || is_refused_memory(printed.as_slice()) {
         return Err("out of memory")?;
     }
@@ -158,7 +157,8 @@ fn numbers_with_zeros(rt: HostRuntime) -> Result<(), Fail> {
 #[test]
 fn blocks_and_successors(rt: HostRuntime) -> Result<(), Fail> {
     let script = b"type 32\nblock -\nblock t0,t0\nop 3 - v1,v0 b1,b0,b1 0\nop 3 - v0 b1 0";
-    let output = "made t0\nmade b0\nmade b1\nmade o0\nmade o1\nv0: o0.1 o1.0\nv1: o0.0\nb0: o0.1\nb1: o0.0 o0.2 o1.0\n";
+    let output =
+        "made t0\nmade b0\nmade b1\nmade o0\nmade o1\nv0: o0.1 o1.0\nv1: o0.0\nb0: o0.1\nb1: o0.0 o0.2 o1.0\n";
     expect(&rt, rt.alloc(), script, 0, output, "")?;
     Ok(())
 }

@@ -102,10 +102,13 @@ listed-told i xs b is = (λ t. to xs (sym is ∙ t), λ h. is ∙ from xs h)
 -- all items have P where a test of each says so
 pub all-told : {A : Type 0} (P : A → Type 0) (r : Bool) (xs : List A) → MatchBool r (AllWithin P xs 0 (length xs)) ((k : ℕ) × (k < length xs) × HoldsAt (λ x. P x → ⊥) xs k) → IsTrue r ↔ All P xs
 all-told P true xs all = (λ t k d below. all k d (omega arith) below, λ h. refl)
-all-told P false xs some = (λ t. absurd cc, λ all. elim (slice_get_cases xs some.0).1 [
+all-told P false xs some = (
+  λ t. absurd cc,
+  λ all. elim (slice_get_cases xs some.0).1 [
     | inl at ↦ absurd (some.2 at.0 (all some.0 at.0 some.1))
     | inr past ↦ absurd (omega (arith, some.1, past.0))
-  ])
+  ],
+)
 
 -- of all that is read, to all items
 pub all-read : {A B : Type 0} (P : B → Type 0) (g : A → B) (xs : List A) → All P (map g xs) → All (λ x. P (g x)) xs

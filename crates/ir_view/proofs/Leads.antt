@@ -33,36 +33,36 @@ module _ {D A K B S X L : Type 0} where
     results-live result is f known leads =
         let P : ValueIndex → Type 0 = λ v. IsLiveNamed f (a_value (value_of v)) in
         subst (All P) (sym is) (all-mapped P (λ (d : Defined A K B S X L). record { definer = Op (op_index op); number = d.number }) (op_record op).results
-          (λ k d e. leads.results (record { definer = Op (op_index op); number = d.number }) k refl (ap (option_map (λ (x : Defined A K B S X L). x.number)) e)))
+        (λ k d e. leads.results (record { definer = Op (op_index op); number = d.number }) k refl (ap (option_map (λ (x : Defined A K B S X L). x.number)) e)))
 
     pub result-types-known : (result : List ℕ) → result ≡ result_types_of op → WhereLive op (λ f known. All (λ t. t < known) result)
     result-types-known result is f known leads =
         subst (All (λ t. t < known)) (sym is) (all-mapped (λ t. t < known) (λ (d : Defined A K B S X L). d.ty) (op_record op).results
-          (λ k d e. leads.types d.ty k (ap (option_map (λ (x : Defined A K B S X L). x.ty)) e)))
+        (λ k d e. leads.types d.ty k (ap (option_map (λ (x : Defined A K B S X L). x.ty)) e)))
 
     pub operands-live : (result : List ValueIndex) → result ≡ map (λ (a : UsePlace ValueIndex). a.names) op.operands → WhereLive op (λ f known. All (λ v. IsLiveNamed f (a_value (value_of v))) result)
     operands-live result is f known leads =
         let P : ValueIndex → Type 0 = λ v. IsLiveNamed f (a_value (value_of v)) in
         subst (All P) (sym is) (all-mapped P (λ (a : UsePlace ValueIndex). a.names) op.operands
-          (λ k a e. leads.operands a.names k (ap (option_map (λ (x : Operand context_ids). x.value)) (slice_get-map operand_of op.operands k ∙ ap (option_map operand_of) e))))
+        (λ k a e. leads.operands a.names k (ap (option_map (λ (x : Operand context_ids). x.value)) (slice_get-map operand_of op.operands k ∙ ap (option_map operand_of) e))))
 
     pub operand-uses-live : (result : List UseIndex) → result ≡ operand_uses_of op → WhereLive op (λ f known. All (λ u. IsLiveUse f (use_of u)) result)
     operand-uses-live result is f known leads =
         let P : UseIndex → Type 0 = λ u. IsLiveUse f (use_of u) in
         subst (All P) (sym is) (all-mapped P (λ (a : Operand context_ids). record { user = op_index op; number = a.use_number }) (op_record op).operands
-          (λ k a e. leads.uses (record { user = op_index op; number = a.use_number }) k refl (ap (option_map (λ (x : Operand context_ids). x.use_number)) e)))
+        (λ k a e. leads.uses (record { user = op_index op; number = a.use_number }) k refl (ap (option_map (λ (x : Operand context_ids). x.use_number)) e)))
 
     pub successors-live : (result : List ArenaIndex) → result ≡ successors_of op → WhereLive op (λ f known. All (λ b. IsLive f (a_block b)) result)
     successors-live result is f known leads =
         let P : ArenaIndex → Type 0 = λ b. IsLive f (a_block b) in
         subst (All P) (sym is) (all-mapped P (λ (a : Successor context_ids). a.block) (op_record op).successors
-          (λ k a e. leads.successors a.block k (ap (option_map (λ (x : Successor context_ids). x.block)) e)))
+        (λ k a e. leads.successors a.block k (ap (option_map (λ (x : Successor context_ids). x.block)) e)))
 
     pub successor-uses-live : (result : List UseIndex) → result ≡ successor_uses_of op → WhereLive op (λ f known. All (λ u. IsLiveBlockUse f (use_of u)) result)
     successor-uses-live result is f known leads =
         let P : UseIndex → Type 0 = λ u. IsLiveBlockUse f (use_of u) in
         subst (All P) (sym is) (all-mapped P (λ (a : Successor context_ids). record { user = op_index op; number = a.use_number }) (op_record op).successors
-          (λ k a e. leads.successor_uses (record { user = op_index op; number = a.use_number }) k refl (ap (option_map (λ (x : Successor context_ids). x.use_number)) e)))
+        (λ k a e. leads.successor_uses (record { user = op_index op; number = a.use_number }) k refl (ap (option_map (λ (x : Successor context_ids). x.use_number)) e)))
 
     -- in an answer that has the blocks that the operation names
     pub targets-live : {V E P : Type 0} (index : P → ArenaIndex) (items : V → List P) (r : Result V E) → IfOk r (λ v. map index (items v) ≡ successors_of op)
@@ -75,9 +75,9 @@ module _ {D A K B S X L : Type 0} where
     arguments-live result is f known index leads =
         let P : ValueIndex → Type 0 = λ v. IsLiveNamed f (a_value (value_of v)) in
         subst (All P) (sym is) (all-mapped P (λ (d : Defined A K B S X L). record { definer = Block (block_index b); number = d.number }) (block_record [] b).arguments
-          (λ k d e. leads.arguments (record { definer = Block (block_index b); number = d.number }) k refl (ap (option_map (λ (x : Defined A K B S X L). x.number)) e)))
+        (λ k d e. leads.arguments (record { definer = Block (block_index b); number = d.number }) k refl (ap (option_map (λ (x : Defined A K B S X L). x.number)) e)))
 
     pub argument-types-known : (result : List ℕ) → result ≡ argument_types_of b → WhereBlockLive b (λ f known. All (λ t. t < known) result)
     argument-types-known result is f known index leads =
         subst (All (λ t. t < known)) (sym is) (all-mapped (λ t. t < known) (λ (d : Defined A K B S X L). d.ty) (block_record [] b).arguments
-          (λ k d e. leads.types d.ty k (ap (option_map (λ (x : Defined A K B S X L). x.ty)) e)))
+        (λ k d e. leads.types d.ty k (ap (option_map (λ (x : Defined A K B S X L). x.ty)) e)))

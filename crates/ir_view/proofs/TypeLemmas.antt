@@ -94,4 +94,4 @@ module _ {D A K B S X L : Type 0} (f : Forest context_ids (closed A K B S X L)) 
   pub operand-types-known : (result : List ℕ) → result ≡ operand_types_of f op → All (λ t. t < keys) result
   operand-types-known result is =
       subst (All (λ t. t < keys)) (sym (is ∙ types-named op.operands)) (all-mapped (λ t. t < keys) (λ (a : UsePlace ValueIndex). type_of f (value_of a.names)) op.operands
-        (λ k a e. type-known f keys formed (value_of a.names) (type_of f (value_of a.names)) (operand-type k a e)))
+      (λ k a e. type-known f keys formed (value_of a.names) (type_of f (value_of a.names)) (operand-type k a e)))

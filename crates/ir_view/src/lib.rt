@@ -17,9 +17,8 @@ pub use forward_edges::BlockSuccessors;
 pub use indexed::{HasParts, Parts};
 pub use op_queries::OperationKind;
 pub use operation_parts::{
-    OperandTypes, OperandTypesOf, OperandUses, OperandUsesOf, Operands, OperandsOf,
-    OperationParts, Regions, RegionsOf, ResultTypes, ResultTypesOf, Results, ResultsOf,
-    SuccessorUses, SuccessorUsesOf, Successors, SuccessorsOf,
+    OperandTypes, OperandTypesOf, OperandUses, OperandUsesOf, Operands, OperandsOf, OperationParts,
+    Regions, RegionsOf, ResultTypes, ResultTypesOf, Results, ResultsOf, SuccessorUses,
+    SuccessorUsesOf, Successors, SuccessorsOf,
 };
 pub use wrappers::{Op, OpObj, op_impls, op_impls_static};
-

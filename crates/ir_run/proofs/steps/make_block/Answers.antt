@@ -40,8 +40,10 @@ returns-in_err-arg_types g c =
 
 pub new-requires : goal.new-requires
 new-requires g c =
-    record { types = picked-known c.make_room.new.tables.types.items c.deref.result.now c.in_ok-arg_types.arg_types.items c.deref-2.result.now c.args.types.now c.deref.ensures.value c.in_ok-arg_types.ensures c.deref-2.ensures.value
-        (λ t. t.place) (λ k. k < length (types_of c.args.ctx.now)) (λ k i. c.requires.sound.stored k (rw (sym (ap (λ e. e.types) c.make_room.ensures.same)) i)) }
+    record {
+      types = picked-known c.make_room.new.tables.types.items c.deref.result.now c.in_ok-arg_types.arg_types.items c.deref-2.result.now c.args.types.now c.deref.ensures.value c.in_ok-arg_types.ensures c.deref-2.ensures.value
+          (λ t. t.place) (λ k. k < length (types_of c.args.ctx.now)) (λ k i. c.requires.sound.stored k (rw (sym (ap (λ e. e.types) c.make_room.ensures.same)) i));
+    }
 
 pub returns-in_err-block : goal.returns-in_err-block
 returns-in_err-block g c =

@@ -9,4 +9,4 @@ use Rattle.ir_view.proofs.forward_edges.names_block.Goals as goal
 pub returns : goal.returns
 returns g c =
     listed-told c.args.block.index (successors_of c.args.op.now) c.any.result
-      (any_from_yields_List (λ b. same_id b c.args.block.index) _ _ c.any.result c.any.ensures.ran (YieldsList-from_first (λ p. p.index) (λ xs. xs) (successors_of c.args.op.now) c.successors.ensures.exact) (λ x b q k. search (rules, tests)))
+    (any_from_yields_List (λ b. same_id b c.args.block.index) _ _ c.any.result c.any.ensures.ran (YieldsList-from_first (λ p. p.index) (λ xs. xs) (successors_of c.args.op.now) c.successors.ensures.exact) (λ x b q k. search (rules, tests)))

@@ -8,4 +8,4 @@ blocks_of_users-requires g c = (users-linked (forest_of c.args.ctx.now) c.args.s
 pub returns-clause-exact : goal.returns-clause-exact
 returns-clause-exact g c =
     predecessors-ok (forest_of c.args.ctx.now) c.args.self.index c.kept_uses.result.now c.kept_uses.ensures.exact (λ p. p.index) (λ blocks. blocks.items) c.blocks_of_users.result
-      (block_uses_of c.args.ctx.now c.args.self.index) c.kept_uses.ensures.kept c.blocks_of_users.ensures.found
+    (block_uses_of c.args.ctx.now c.args.self.index) c.kept_uses.ensures.kept c.blocks_of_users.ensures.found
