@@ -1,5 +1,5 @@
 -- The uses of all results of an operation: the kept lists, joined.
-use Rattle.std.proofs.Common.{cond, Bool, true, false, not, ◌||◌, ◌==◌, ◌≢◌, Option, IsTrue, ◌≡◌, refl, sym, ap, subst, ◌∙◌, ℕ, ◌↔◌, inl, inr, ◌≤◌, ◌<◌, List, [], ◌∷◌, ◌++◌, map, length, Some, arith}
+use Rattle.std.proofs.Common.{cond, Bool, true, false, not, ◌||◌, ◌==◌, ◌≢◌, Option, IsTrue, ◌≡◌, refl, sym, ap, subst, ◌∙◌, ℕ, ◌↔◌, inl, inr, ◌≤◌, List, [], ◌∷◌, ◌++◌, map, length, Some, arith}
 use Rattle.std.specs.List.{flat_map, list_any}
 use Rattle.std.proofs.lemmas.Bool.{eq-eqb, ne_eqb}
 use Rattle.std.proofs.lemmas.List.{length-map, map-append}

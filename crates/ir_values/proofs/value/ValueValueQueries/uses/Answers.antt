@@ -1,4 +1,4 @@
-use Rattle.std.proofs.Common.{◌≡◌, sym, rules, map}
+use Rattle.std.proofs.Common.{◌≡◌, rules, map}
 use Rattle.std.specs.Prelude.{IfOk}
 use Rattle.ir_model.specs.Forest.{a_value}
 use Rattle.ir_model.specs.Uses.{AreUses}
