@@ -1,19 +1,19 @@
 -- A bare block that is removed.
 use mathlib.Core.Path.{fun_ext}
-use Rattle.std.proofs.Common.{◌≡◌, ℕ, List, [], Option, Some, None, refl, sym, ap, ◌∙◌, subst, inl, inr}
+use Rattle.std.proofs.Common.{◌≡◌, ℕ, List, [], Some, None, refl, sym, ap, ◌∙◌, inl, inr}
 use Rattle.std.specs.Option.{option_map}
 use Rattle.ir_model.specs.declared.ids.ArenaIndex.{ArenaIndex}
 use Rattle.ir_model.proofs.IdCases.{id_cases}
 use Rattle.ir_model.proofs.Arenas.{get-cut, get-cut_other}
-use Rattle.ir_arena.specs.Arena.{Arena, get, IsLive, cut}
-use Rattle.ir_arena.specs.Lists.{AreLists, seen}
+use Rattle.ir_arena.specs.Arena.{get, IsLive, cut}
+use Rattle.ir_arena.specs.Lists.{AreLists}
 use Rattle.ir_records.specs.declared.record.BasicBlock.{BasicBlock}
 use Rattle.ir_records.specs.declared.record.Region.{Region}
 use Rattle.ir_records.specs.declared.records.Records.{Records}
 use Rattle.ir_records.specs.Lists.{in_record, uses_with}
 use Rattle.ir_records.specs.Chains.{chains_of}
 use Rattle.ir_records.specs.Table.{KnowOwn}
-use Rattle.ir_records.specs.Tree.{tree_of, ops_in, blocks_in, op_links, block_links, block_ends, region_ends}
+use Rattle.ir_records.specs.Tree.{tree_of, ops_in, blocks_in}
 use Rattle.ir_records.specs.Nested.{AreNested}
 use Rattle.ir_records.specs.Meaning.{forest_of, block_record}
 use Rattle.ir_tree.specs.Leaves.{without_block}

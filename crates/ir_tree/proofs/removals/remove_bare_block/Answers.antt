@@ -2,7 +2,6 @@ use Rattle.std.proofs.Common.{◌≡◌, [], OnSome, refl, sym, ap, subst, ◌�
 use Rattle.ir_model.specs.declared.ids.ArenaIndex.{ArenaIndex}
 use Rattle.ir_arena.specs.Arena.{Arena, get, cut}
 use Rattle.ir_records.specs.declared.record.BasicBlock.{BasicBlock}
-use Rattle.ir_records.specs.declared.records.Records.{Records}
 use Rattle.ir_records.specs.Lists.{in_record, uses_with}
 use Rattle.ir_records.specs.Meaning.{forest_of}
 use Rattle.ir_records.specs.Tree.{tree_of, ops_in, blocks_in}

@@ -4,7 +4,6 @@ use Rattle.ir_model.specs.ContextIds.{same_id}
 use Rattle.ir_model.specs.Changes.{without}
 use Rattle.ir_arena.specs.Arena.{get, fill, cut, IsLive}
 use Rattle.ir_arena.specs.Lists.{SameIds}
-use Rattle.ir_records.specs.Meaning.{forest_of}
 use Rattle.ir_records.specs.Tree.{tree_of, blocks_in}
 use Rattle.ir_tree.proofs.Readings.{found-at, live-of, edited-at}
 use Rattle.ir_tree.proofs.Growths.{removed, SameIds-written}
