@@ -4,7 +4,7 @@ use ir_base::{Answer, CoreError, Limits, Ptr, Refused};
 use ir_core::{BasicBlock, BlockPtr, Operation, OperationPtr, Region, RegionPtr};
 use ir_run::{Edit, Session};
 use ir_toy::Toy;
-use ir_walk::{BlockPlace, RegionPlace};
+use ir_view::{BlockPlace, RegionPlace};
 use std::alloc::{AllocError, Global};
 use std::process::Abort;
 use std::test::Fail;
