@@ -25,7 +25,7 @@ pub returns-then-are_one-2 : goal.returns-then-are_one-2
 returns-then-are_one-2 g c =
     let f = forest_of c.args.records.now in
     let root = entity_of c.args.root in
-    let here : entity_of c.in-Some.entity ≡ entity_of c.args.home = same_tells context_ids lawful (entity_of c.in-Some.entity) (entity_of c.args.home) (sym c.are_one-2.ensures ∙ c.if-are_one-2.true) in
+    let here : entity_of c.in-Some.entity ≡ entity_of c.args.home = same_tells context_ids lawful (entity_of c.in-Some.entity) (entity_of c.args.home) (sym c.are_one-in-Some.ensures ∙ c.if-are_one-2.true) in
     let i : Inside f root (entity_of c.args.inner) ↔ Inside f root (entity_of c.in-Some.entity)
     = subst (λ (o : Option EntityIndex). Inside f root (entity_of c.args.inner) ↔ Reaches f root (option_map entity_of o)) c.in-Some.is c.loop-current.invariant in
     (λ _. i.1 (subst (Inside f root) (sym here) c.requires.home), λ _. refl)
