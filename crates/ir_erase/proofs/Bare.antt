@@ -5,7 +5,7 @@ use Rattle.std.specs.Prelude.{◌↔◌}
 use Rattle.std.specs.Option.{option_map}
 use Rattle.ir_model.specs.Ids.{Ids}
 use Rattle.ir_model.specs.Forest.{Dialect, Entity, an_op, a_region, OpRecord, Forest, Named, a_value, the_block, Operand, Successor}
-use Rattle.ir_model.specs.Nesting.{In, list_of, children, Inside, operands_of, successors_of}
+use Rattle.ir_model.specs.Nesting.{In, list_of, children, Inside}
 use Rattle.ir_model.specs.Changes.{on_regions, but, no_uses, DropsUses, Removes}
 use Rattle.ir_model.specs.Uses.{Use, IsUse, AreUses}
 use Rattle.ir_erase.specs.Dropping.{Bare}

@@ -1,14 +1,12 @@
 -- Kept uses tell the users of what an entity defines.
-use Rattle.std.proofs.Common.{◌≡◌, ◌↔◌, ◌<◌, ℕ, zero, suc, List, All, [], ◌∷◌, map, length, slice_get, slice_index_or, Option, Some, None, inl, inr, refl, sym, ap, ◌∙◌, subst, arith}
-use Rattle.std.proofs.lemmas.Option.{same_Some}
+use Rattle.std.proofs.Common.{◌≡◌, ◌↔◌, ◌<◌, ℕ, zero, suc, List, All, [], ◌∷◌, map, length, slice_index_or, Some, inl, inr, refl, sym, ap, ◌∙◌, subst, arith}
 use Rattle.ir_model.specs.declared.ids.ArenaIndex.{ArenaIndex}
 use Rattle.ir_model.specs.ContextIds.{context_ids}
 use Rattle.ir_model.specs.Ids.{Distinct}
-use Rattle.ir_model.specs.Forest.{Entity, an_op, a_block, of_block, Operand, Successor, a_value, the_block, owner, definer_entity, Named}
-use Rattle.ir_model.specs.Nesting.{In, Inside, names_of, numbers_of, operands_of, successors_of}
+use Rattle.ir_model.specs.Forest.{Entity, an_op, a_block, of_block, Operand, Successor, a_value, the_block, definer_entity, Named}
+use Rattle.ir_model.specs.Nesting.{In, Inside, numbers_of, operands_of, successors_of}
 use Rattle.ir_model.specs.Uses.{Use, IsUse}
 use Rattle.ir_model.proofs.Nests.{In-map, In-map_back}
-use Rattle.ir_model.proofs.Back.{slice_get-in}
 use Rattle.ir_arena.specs.Arena.{get}
 use Rattle.ir_records.specs.declared.record.Definer.{Definer}
 use Rattle.ir_records.specs.declared.record.Definer.TheVariants.{Op, Block}

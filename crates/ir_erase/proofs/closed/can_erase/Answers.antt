@@ -1,9 +1,7 @@
-use Rattle.std.proofs.Common.{◌≡◌, ◌↔◌, ◌∙◌, ◌<◌, ◌++◌, ◌∷◌, [], true, false, List, Option, Some, None, refl, sym, ap, subst}
+use Rattle.std.proofs.Common.{◌≡◌, ◌∙◌, ◌<◌, ◌∷◌, [], Option, Some, None, refl, sym, ap, subst}
 use Rattle.std.specs.Option.{option_map}
 use Rattle.std.proofs.lemmas.Bool.{false≢true}
-use Rattle.ir_model.specs.ContextIds.{context_ids}
-use Rattle.ir_model.specs.Forest.{Entity}
-use Rattle.ir_model.specs.Nesting.{Inside, IsClosed}
+use Rattle.ir_model.specs.Nesting.{Inside}
 use Rattle.ir_records.specs.declared.record.EntityIndex.{EntityIndex}
 use Rattle.ir_records.specs.Meaning.{entity_of, forest_of}
 use Rattle.ir_erase.specs.Walks.{subtree}

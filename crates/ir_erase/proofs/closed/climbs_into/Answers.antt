@@ -1,7 +1,6 @@
-use Rattle.std.proofs.Common.{◌≡◌, ◌↔◌, ◌∙◌, ◌<◌, suc, true, false, Option, Some, refl, sym, ap, subst, arith}
+use Rattle.std.proofs.Common.{◌≡◌, ◌↔◌, ◌∙◌, ◌<◌, Option, Some, refl, sym, ap, subst}
 use Rattle.std.specs.Option.{option_map}
 use Rattle.ir_model.specs.ContextIds.{context_ids}
-use Rattle.ir_model.specs.Forest.{Entity}
 use Rattle.ir_model.specs.Nesting.{itself, Inside}
 use Rattle.ir_model.proofs.KeepsErase.{same_tells}
 use Rattle.ir_model.proofs.TwoRuns.{lawful}

@@ -1,4 +1,4 @@
-use Rattle.std.proofs.Common.{◌≡◌, ◌↔◌, IsTrue, true, false, Some, refl, sym, ap, ◌∙◌, subst}
+use Rattle.std.proofs.Common.{◌↔◌, IsTrue, sym, ap, ◌∙◌, subst}
 use Rattle.std.proofs.lemmas.Bool.{false≢true}
 use Rattle.ir_arena.specs.Arena.{get}
 use Rattle.ir_records.specs.declared.record.Definer.{Definer}
@@ -15,11 +15,12 @@ returns-then-not-are_users_inside g c =
     let root = entity_of c.args.root in
     let once = λ (d : Definer). c.requires.formed.1.numbers_once (definer_of d) in
     let found = ap (get t.blocks) (sym c.from_index-in-Block.ensures) ∙ c.at-block.ensures in
-    let asked = block-uses-asked t c.requires.linked root once c.in-Block.block c.at-block.result.now found c.as_slice.result.now c.as_slice.ensures in
-    (λ e. absurd (false≢true e),
-    λ closed. absurd (
-        let here : EntityClosed (forest_of t) root (entity_of (BlockEntity c.in-Block.block)) = subst (λ (e : EntityIndex). EntityClosed (forest_of t) root (entity_of e)) c.in-Block.is closed in
-        false≢true (sym c.if-not-are_users_inside.true ∙ c.are_users_inside.ensures.1 (asked.1 here.0))))
+    let asked = block-uses-asked t c.requires.linked root once c.in-Block.block c.at-block.result.now found c.as_slice.result.now c.as_slice.ensures in (
+      λ e. absurd (false≢true e),
+      λ closed. absurd (
+          let here : EntityClosed (forest_of t) root (entity_of (BlockEntity c.in-Block.block)) = subst (λ (e : EntityIndex). EntityClosed (forest_of t) root (entity_of e)) c.in-Block.is closed in
+          false≢true (sym c.if-not-are_users_inside.true ∙ c.are_users_inside.ensures.1 (asked.1 here.0))),
+    )
 
 pub returns-in-Op : goal.returns-in-Op
 returns-in-Op g c =
