@@ -124,7 +124,7 @@ fn keeps_its_users<D: Dialects>(records: &Records<D>, root: EntityIndex, here: E
     }
 }
 
-/// Whether a live entity can be erased: whether each operand or successor that names a definition of its subtree belongs to an operation of the subtree. It takes no memory. It stands for the test in pliron's `erase`.
+/// Whether a live entity can be erased: whether each operand or successor that names a definition of its subtree belongs to an operation of the subtree. It takes no memory. It is the test that pliron's `erase` makes, asked of all definitions inside and not of the operation's own results alone.
 pub fn can_erase<D: Dialects>(records: &Records<D>, entity: EntityIndex) -> bool
     requires nested { AreNested (tree_of records.now) }
     requires formed { (keys : ℕ) × WellFormed (forest_of records.now) keys }
