@@ -1,7 +1,7 @@
 use Rattle.std.proofs.Common.{◌∙◌, sym}
 use Rattle.ir_records.specs.declared.record.UseIndex.{UseIndex}
 use Rattle.ir_chains.specs.Chain.{unchanged, by_places, by_uses}
-use Rattle.ir_chains.proofs.ChainEdits.{place_named, place_within, taken_last, taken_live, taken_names, taken_distinct, taken_place, taken_user, placed_links, placed_live, placed_names}
+use Rattle.ir_chains.specs.ChainEdits.{place_named, place_within, taken_last, taken_live, taken_names, taken_distinct, taken_place, taken_user, placed_links, placed_live, placed_names}
 use Rattle.ir_chains.proofs.chains.detach.Goals as goal
 
 pub take_use-requires-clause-named : goal.take_use-requires-clause-named

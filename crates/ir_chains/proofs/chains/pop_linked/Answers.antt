@@ -2,7 +2,7 @@ use Rattle.std.proofs.Common.{◌∙◌, ◌-◌, ap, arith}
 use Rattle.std.specs.List.{remove}
 use Rattle.ir_chains.specs.Chain.{by_places}
 use Rattle.ir_records.specs.Chains.{names_in}
-use Rattle.ir_chains.proofs.ChainEdits.{drop_links, drop_live, drop_names, drop_others, same_count}
+use Rattle.ir_chains.specs.ChainEdits.{drop_links, drop_live, drop_names, drop_others, same_count}
 use Rattle.ir_chains.proofs.chains.pop_linked.Goals as goal
 
 pub remove_place-requires-clause-within : goal.remove_place-requires-clause-within

@@ -12,10 +12,10 @@ use Rattle.ir_records.specs.Lists.{put_place, HaveDistinctUses}
 use Rattle.ir_records.specs.Links.{LinkedBut, NoHole, HoleAt, IsFreshUse, HasPlace}
 use Rattle.ir_chains.specs.Chain.{IsUseChain, Rewrites, unchanged, by_places, by_uses}
 use Rattle.ir_records.specs.Chains.{name_of, names_in}
-use Rattle.ir_chains.proofs.ListReads.{slice_get-push_at, moved_from_last, length-swap_remove, swap_remove-last, none_past}
+use Rattle.ir_chains.specs.ListReads.{slice_get-push_at, moved_from_last, length-swap_remove, swap_remove-last, none_past}
 use Rattle.ir_records.specs.Numbered.{put_place-set}
 use Rattle.ir_records.specs.Distinct.{distinct_by_place}
-use Rattle.ir_chains.proofs.LinkLemmas.{OperandsChange, UsesChange, detach, relabel, relabel-none, drop_operand, grow, attach}
+use Rattle.ir_chains.specs.LinkLemmas.{OperandsChange, UsesChange, detach, relabel, relabel-none, drop_operand, grow, attach}
 
 pub map-remove : {X Y : Type 0} (f : X → Y) (xs : List X) (i : ℕ) → map f (remove xs i) ≡ remove (map f xs) i
 map-remove f xs i = map-append f (take i xs) (drop (suc i) xs) ∙ rw (take-map f i xs, drop-map f (suc i) xs) refl

@@ -25,7 +25,7 @@ use Rattle.ir_records.specs.Tree.{op_links, block_links, block_ends, region_ends
 use Rattle.ir_records.specs.Frames.{KeepsTree}
 use Rattle.ir_chains.specs.Edits.{edited-by, edited-kept, slots-edited}
 use Rattle.ir_chains.specs.TableLaws.{chain-values, chain-blocks}
-use Rattle.ir_chains.proofs.ChainEdits.{rewrites-keep, rewrites-hold}
+use Rattle.ir_chains.specs.ChainEdits.{rewrites-keep, rewrites-hold}
 
 module _ {T : Type 0} where
   same_ids-refl : (a : Arena T) → SameIds a a
