@@ -1,0 +1,4 @@
+pub mod PlaceLemmas
+pub mod RenamedLemmas
+pub mod UseLemmas
+pub mod ForestLemmas

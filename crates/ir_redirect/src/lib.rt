@@ -1,0 +1,10 @@
+//! Uses of one definition come to name another, under their old numbers.
+//!
+//! Each call asks for records in which uses and places name each other (`AreLinked`), keeps that, and is one equation on the forest that the records mean (`forest_of`). None of them changes who stands in whom (`KeepsTree`).
+#![tactic(auto)]
+
+mod moves;
+mod redirect;
+mod renames;
+
+pub use redirect::{replace_use, retarget_pred};
