@@ -6,5 +6,9 @@
 mod moves;
 mod redirect;
 mod renames;
+mod use_lists;
 
-pub use redirect::{replace_use, retarget_pred};
+pub use redirect::{
+    replace_all_uses, replace_some_uses, replace_use, retarget_all_preds, retarget_pred,
+    retarget_some_preds,
+};
