@@ -13,8 +13,8 @@ use Rattle.ir_records.specs.declared.record.UsePlace.{UsePlace}
 use Rattle.ir_records.specs.Links.{LinkedBut, NoHole, IsFreshUse}
 use Rattle.ir_chains.specs.Chain.{IsUseChain, Rewrites, unchanged}
 use Rattle.ir_records.specs.Chains.{name_of, names_in, names_from}
-use Rattle.ir_chains.proofs.ListReads.{slice_get-push_cases}
-use Rattle.ir_chains.proofs.ChainEdits.{rewrites-trans, rewrites-live, rewrites-has}
+use Rattle.ir_chains.specs.ListReads.{slice_get-push_cases}
+use Rattle.ir_chains.specs.ChainEdits.{rewrites-trans, rewrites-live, rewrites-has}
 
 length-remove_last : {T : Type 0} (xs : List T) (k : ℕ) → k < length xs → length (remove xs k) + 1 ≡ length xs
 length-remove_last [] k within = absurd (omega arith)

@@ -10,8 +10,8 @@ use Rattle.ir_records.specs.declared.record.UsePlace.{UsePlace}
 use Rattle.ir_records.specs.Links.{LinkedBut, NoHole, HoleAt}
 use Rattle.ir_records.specs.Mapped.{slice_get-insert_at}
 use Rattle.ir_chains.specs.Besides.{LinkedBesides}
-use Rattle.ir_chains.proofs.ListReads.{slice_get-push_at, slice_get-push_before, slice_get-push_cases, slice_get-set_same, slice_get-set_other}
-use Rattle.ir_chains.proofs.LinkLemmas.{OperandsChange, UsesChange, operand_cases, same_operand, one_place}
+use Rattle.ir_chains.specs.ListReads.{slice_get-push_at, slice_get-push_before, slice_get-push_cases, slice_get-set_same, slice_get-set_other}
+use Rattle.ir_chains.specs.LinkLemmas.{OperandsChange, UsesChange, operand_cases, same_operand, one_place}
 
 module _ {X : Type 0} where
   slice_get-insert_below : (xs : List X) (i j : ℕ) (y : X) → i ≤ length xs → j < i → slice_get (insert xs i y) j ≡ slice_get xs j

@@ -10,7 +10,7 @@ mod places;
 mod places_at;
 mod use_lists;
 
-pub use named::Names;
+pub use named::{Named, Names};
 pub use places::{
     link_operands, link_successors, pop_operand, pop_successor, push_operand, push_successor,
     unlink_operands, unlink_successors,

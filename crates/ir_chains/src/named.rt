@@ -64,7 +64,7 @@ impl<D: Dialects> Names<ValueIndex> for Value<D> {
 /// What a place of an operation names: a value, as an operand does, or a block, as a successor does.
 ///
 /// Each kind has its list of places in each operation, and keeps its uses in one list each. Each call is one equation on all records.
-pub(crate) trait Named<D: Dialects>: Copy + Drop {
+pub trait Named<D: Dialects>: Copy + Drop {
     ghost places_at: { Plain D D.Attr D.TypeKey D.TypeBody D.Saved D.Aux D.Loc → Index → List (PlainPlace Self) };
 
     ghost with_places: { Plain D D.Attr D.TypeKey D.TypeBody D.Saved D.Aux D.Loc → Index → List (PlainPlace Self) → Plain D D.Attr D.TypeKey D.TypeBody D.Saved D.Aux D.Loc };

@@ -1,6 +1,6 @@
 use Rattle.std.proofs.Common.{◌≡◌, ◌∙◌, true, not, is_ok, ap, arith}
 use Rattle.ir_records.specs.Chains.{names_in}
-use Rattle.ir_chains.proofs.ChainEdits.{linked_by, err_holds, rewrites-same, rewrites-trans}
+use Rattle.ir_chains.specs.ChainEdits.{linked_by, err_holds, rewrites-same, rewrites-trans}
 use Rattle.ir_chains.proofs.ChainLoops.{first-start, first-step, first-named, first-fresh, first-end, at_ok}
 use Rattle.ir_chains.proofs.chains.link_all.Goals as goal
 

@@ -4,7 +4,7 @@ use Rattle.ir_records.specs.declared.record.UseIndex.{UseIndex}
 use Rattle.ir_chains.specs.Chain.{unchanged, by_places, by_uses}
 use Rattle.ir_records.specs.Chains.{names_in}
 use Rattle.ir_records.specs.Table.{IsOp}
-use Rattle.ir_chains.proofs.ChainEdits.{both_is, pushed_live, pushed_links, pushed_names, pushed_others, refused, refused_has, refused_within, linked_by, rewrites-same, err_holds}
+use Rattle.ir_chains.specs.ChainEdits.{both_is, pushed_live, pushed_links, pushed_names, pushed_others, refused, refused_has, refused_within, linked_by, rewrites-same, err_holds}
 use Rattle.ir_chains.proofs.chains.push_linked.Goals as goal
 
 pub returns-in_err-place-clause-err : goal.returns-in_err-place-clause-err

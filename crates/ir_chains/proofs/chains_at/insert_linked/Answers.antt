@@ -4,7 +4,7 @@ use Rattle.ir_records.specs.declared.record.UseIndex.{UseIndex}
 use Rattle.ir_chains.specs.Chain.{unchanged, by_places, by_uses}
 use Rattle.ir_records.specs.Chains.{names_in}
 use Rattle.ir_records.specs.Table.{IsOp}
-use Rattle.ir_chains.proofs.ChainEdits.{refused, refused_has, refused_within, linked_by, rewrites-same, err_holds}
+use Rattle.ir_chains.specs.ChainEdits.{refused, refused_has, refused_within, linked_by, rewrites-same, err_holds}
 use Rattle.ir_chains.proofs.Releases.{used_live, used_count, inserted_live, inserted_links, inserted_names, inserted_others}
 use Rattle.ir_chains.proofs.chains_at.insert_linked.Goals as goal
 

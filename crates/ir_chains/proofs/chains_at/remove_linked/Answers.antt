@@ -2,7 +2,7 @@ use Rattle.std.proofs.Common.{◌∙◌, ap}
 use Rattle.std.specs.Option.{option_map}
 use Rattle.ir_records.specs.declared.record.UsePlace.{UsePlace}
 use Rattle.ir_chains.specs.Chain.{unchanged, by_places}
-use Rattle.ir_chains.proofs.ChainEdits.{rewrites-live, rewrites-trans}
+use Rattle.ir_chains.specs.ChainEdits.{rewrites-live, rewrites-trans}
 use Rattle.ir_chains.proofs.Releases.{removed_links, removed_has, removed_within, removed_names, removed_others}
 use Rattle.ir_chains.proofs.chains_at.remove_linked.Goals as goal
 

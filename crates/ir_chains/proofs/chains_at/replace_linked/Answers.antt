@@ -3,7 +3,7 @@ use Rattle.ir_records.specs.declared.record.UsePlace.{UsePlace}
 use Rattle.ir_chains.specs.Chain.{unchanged, by_places, by_uses}
 use Rattle.ir_records.specs.Chains.{names_in}
 use Rattle.ir_records.specs.Table.{IsOp}
-use Rattle.ir_chains.proofs.ChainEdits.{linked_by, rewrites-same, rewrites-trans, rewrites-live, err_holds}
+use Rattle.ir_chains.specs.ChainEdits.{linked_by, rewrites-same, rewrites-trans, rewrites-live, err_holds}
 use Rattle.ir_chains.proofs.Releases.{used_live, used_count, swapped_links, swapped_has, swapped_within, swapped_names, swapped_others}
 use Rattle.ir_chains.proofs.chains_at.replace_linked.Goals as goal
 

@@ -1,9 +1,9 @@
-use Rattle.ir_chains.proofs.Frames.{keeps-by_values, linked-by_values}
+use Rattle.ir_chains.specs.Frames.{keeps-by_values, linked-by_values}
 use Rattle.std.proofs.Common.{map}
 use Rattle.ir_records.specs.Chains.{names_from}
 use Rattle.ir_records.specs.Meaning.{operands_from}
 use Rattle.ir_chains.proofs.ChainLoops.{ok_by, err_by}
-use Rattle.ir_chains.proofs.Meanings.{forest-linked, forest-undone, operands-named, operands-kind}
+use Rattle.ir_chains.specs.Meanings.{forest-linked, forest-undone, operands-named, operands-kind}
 use Rattle.ir_chains.proofs.places.link_operands.Goals as goal
 
 pub returns-clause-linked : goal.returns-clause-linked

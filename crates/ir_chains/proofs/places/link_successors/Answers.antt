@@ -1,9 +1,9 @@
-use Rattle.ir_chains.proofs.Frames.{keeps-by_successors, linked-by_blocks}
+use Rattle.ir_chains.specs.Frames.{keeps-by_successors, linked-by_blocks}
 use Rattle.std.proofs.Common.{map}
 use Rattle.ir_records.specs.Chains.{names_from}
 use Rattle.ir_records.specs.Meaning.{successors_from}
 use Rattle.ir_chains.proofs.ChainLoops.{ok_by, err_by}
-use Rattle.ir_chains.proofs.Meanings.{forest-linked, forest-undone, successors-named, successors-kind}
+use Rattle.ir_chains.specs.Meanings.{forest-linked, forest-undone, successors-named, successors-kind}
 use Rattle.ir_chains.proofs.places.link_successors.Goals as goal
 
 pub returns-clause-linked : goal.returns-clause-linked

@@ -1,5 +1,5 @@
-use Rattle.ir_chains.proofs.Frames.{keeps-by_successors, linked-by_blocks}
-use Rattle.ir_chains.proofs.Meanings.{forest-popped, successors-kind}
+use Rattle.ir_chains.specs.Frames.{keeps-by_successors, linked-by_blocks}
+use Rattle.ir_chains.specs.Meanings.{forest-popped, successors-kind}
 use Rattle.ir_chains.proofs.places.pop_successor.Goals as goal
 
 pub returns-clause-linked : goal.returns-clause-linked

@@ -1,6 +1,6 @@
-use Rattle.ir_chains.proofs.Frames.{keeps-by_successors, linked-by_blocks}
+use Rattle.ir_chains.specs.Frames.{keeps-by_successors, linked-by_blocks}
 use Rattle.ir_chains.proofs.ChainLoops.{ok_by}
-use Rattle.ir_chains.proofs.Meanings.{forest-pushed, successors-kind}
+use Rattle.ir_chains.specs.Meanings.{forest-pushed, successors-kind}
 use Rattle.ir_chains.proofs.places.push_successor.Goals as goal
 
 pub returns-clause-linked : goal.returns-clause-linked

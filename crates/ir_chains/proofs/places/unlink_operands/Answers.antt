@@ -1,5 +1,5 @@
-use Rattle.ir_chains.proofs.Frames.{keeps-by_values, linked-by_values}
-use Rattle.ir_chains.proofs.Meanings.{forest-cleared, operands-kind}
+use Rattle.ir_chains.specs.Frames.{keeps-by_values, linked-by_values}
+use Rattle.ir_chains.specs.Meanings.{forest-cleared, operands-kind}
 use Rattle.ir_chains.proofs.places.unlink_operands.Goals as goal
 
 pub returns-clause-linked : goal.returns-clause-linked

@@ -1,5 +1,5 @@
-use Rattle.ir_chains.proofs.Frames.{keeps-by_successors, linked-by_blocks}
-use Rattle.ir_chains.proofs.Meanings.{forest-cleared, successors-kind}
+use Rattle.ir_chains.specs.Frames.{keeps-by_successors, linked-by_blocks}
+use Rattle.ir_chains.specs.Meanings.{forest-cleared, successors-kind}
 use Rattle.ir_chains.proofs.places.unlink_successors.Goals as goal
 
 pub returns-clause-linked : goal.returns-clause-linked

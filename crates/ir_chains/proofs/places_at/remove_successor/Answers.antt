@@ -1,5 +1,5 @@
-use Rattle.ir_chains.proofs.Frames.{keeps-by_successors, linked-by_blocks}
-use Rattle.ir_chains.proofs.Meanings.{forest-removed, successors-kind}
+use Rattle.ir_chains.specs.Frames.{keeps-by_successors, linked-by_blocks}
+use Rattle.ir_chains.specs.Meanings.{forest-removed, successors-kind}
 use Rattle.ir_chains.proofs.places_at.remove_successor.Goals as goal
 
 pub returns-clause-linked : goal.returns-clause-linked

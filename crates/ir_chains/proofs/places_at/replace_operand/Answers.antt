@@ -1,6 +1,6 @@
-use Rattle.ir_chains.proofs.Frames.{keeps-by_values, linked-by_values}
+use Rattle.ir_chains.specs.Frames.{keeps-by_values, linked-by_values}
 use Rattle.ir_chains.proofs.ChainLoops.{ok_by}
-use Rattle.ir_chains.proofs.Meanings.{forest-replaced, operands-kind}
+use Rattle.ir_chains.specs.Meanings.{forest-replaced, operands-kind}
 use Rattle.ir_chains.proofs.places_at.replace_operand.Goals as goal
 
 pub returns-clause-linked : goal.returns-clause-linked

@@ -4,7 +4,7 @@ use Rattle.ir_records.specs.declared.record.BlockIndex.{BlockIndex}
 use Rattle.ir_records.specs.declared.record.UsePlace.{UsePlace}
 use Rattle.ir_records.specs.Table.{successors_at, with_successors}
 use Rattle.ir_chains.specs.TableLaws.{chain-blocks}
-use Rattle.ir_chains.proofs.WrittenLists.{written_or_same, successors-read, successors-written}
+use Rattle.ir_chains.specs.WrittenLists.{written_or_same, successors-read, successors-written}
 use Rattle.ir_chains.proofs.named.BlockIndexNamed.insert_place.Goals as goal
 
 pub returns : goal.returns

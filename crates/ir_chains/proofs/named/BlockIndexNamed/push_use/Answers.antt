@@ -2,7 +2,7 @@ use Rattle.std.proofs.Common.{is_ok, cond, ◌++◌, ◌∷◌, [], List, ap, �
 use Rattle.ir_records.specs.declared.record.UseIndex.{UseIndex}
 use Rattle.ir_records.specs.Table.{block_uses_at, with_block_uses}
 use Rattle.ir_chains.specs.TableLaws.{chain-blocks}
-use Rattle.ir_chains.proofs.WrittenLists.{pushed_or_same, block_uses-read, block_uses-written}
+use Rattle.ir_chains.specs.WrittenLists.{pushed_or_same, block_uses-read, block_uses-written}
 use Rattle.ir_chains.proofs.named.BlockIndexNamed.push_use.Goals as goal
 
 pub returns-clause-records : goal.returns-clause-records

@@ -1,7 +1,7 @@
 use Rattle.std.proofs.Common.{ap, ◌∙◌}
 use Rattle.ir_records.specs.Table.{with_successors}
 use Rattle.ir_chains.specs.TableLaws.{chain-blocks}
-use Rattle.ir_chains.proofs.WrittenLists.{successors-read, successors-written}
+use Rattle.ir_chains.specs.WrittenLists.{successors-read, successors-written}
 use Rattle.ir_chains.proofs.named.BlockIndexNamed.reserve_places.Goals as goal
 
 pub returns : goal.returns

@@ -4,7 +4,7 @@ use Rattle.ir_records.specs.declared.record.UsePlace.{UsePlace}
 use Rattle.ir_records.specs.Lists.{put_place}
 use Rattle.ir_records.specs.Table.{with_successors}
 use Rattle.ir_records.specs.Numbered.{put_place-at, has_place-found}
-use Rattle.ir_chains.proofs.WrittenLists.{successors-read, successors-written}
+use Rattle.ir_chains.specs.WrittenLists.{successors-read, successors-written}
 use Rattle.ir_chains.proofs.named.BlockIndexNamed.set_place.Goals as goal
 
 pub unreachable-requires : goal.unreachable-requires

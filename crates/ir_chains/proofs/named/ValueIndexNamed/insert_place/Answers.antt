@@ -4,7 +4,7 @@ use Rattle.ir_records.specs.declared.record.ValueIndex.{ValueIndex}
 use Rattle.ir_records.specs.declared.record.UsePlace.{UsePlace}
 use Rattle.ir_records.specs.Table.{operands_at, with_operands}
 use Rattle.ir_chains.specs.TableLaws.{chain-values}
-use Rattle.ir_chains.proofs.WrittenLists.{written_or_same, operands-read, operands-written}
+use Rattle.ir_chains.specs.WrittenLists.{written_or_same, operands-read, operands-written}
 use Rattle.ir_chains.proofs.named.ValueIndexNamed.insert_place.Goals as goal
 
 pub returns : goal.returns

@@ -2,7 +2,7 @@ use Rattle.std.proofs.Common.{is_ok, cond, ◌++◌, ◌∷◌, [], List, ap, �
 use Rattle.ir_records.specs.declared.record.UseIndex.{UseIndex}
 use Rattle.ir_records.specs.Table.{uses_at, with_uses}
 use Rattle.ir_chains.specs.TableLaws.{chain-values}
-use Rattle.ir_chains.proofs.WrittenLists.{pushed_or_same, result_uses-read, result_uses-written, argument_uses-read, argument_uses-written}
+use Rattle.ir_chains.specs.WrittenLists.{pushed_or_same, result_uses-read, result_uses-written, argument_uses-read, argument_uses-written}
 use Rattle.ir_chains.proofs.named.ValueIndexNamed.push_use.Goals as goal
 
 pub returns-in-Op-clause-records : goal.returns-in-Op-clause-records

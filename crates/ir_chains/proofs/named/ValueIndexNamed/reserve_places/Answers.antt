@@ -1,7 +1,7 @@
 use Rattle.std.proofs.Common.{ap, ◌∙◌}
 use Rattle.ir_records.specs.Table.{with_operands}
 use Rattle.ir_chains.specs.TableLaws.{chain-values}
-use Rattle.ir_chains.proofs.WrittenLists.{operands-read, operands-written}
+use Rattle.ir_chains.specs.WrittenLists.{operands-read, operands-written}
 use Rattle.ir_chains.proofs.named.ValueIndexNamed.reserve_places.Goals as goal
 
 pub returns : goal.returns

@@ -9,8 +9,8 @@ use Rattle.ir_records.specs.declared.record.UsePlace.{UsePlace}
 use Rattle.ir_records.specs.Links.{LinkedBut, NoHole, IsFreshUse}
 use Rattle.ir_chains.specs.Chain.{IsUseChain, Rewrites, unchanged, by_places, by_uses}
 use Rattle.ir_records.specs.Chains.{name_of, names_in}
-use Rattle.ir_chains.proofs.ListReads.{slice_get-push_at, swap_remove-last}
-use Rattle.ir_chains.proofs.LinkLemmas.{OperandsChange, UsesChange, grow, attach}
+use Rattle.ir_chains.specs.ListReads.{slice_get-push_at, swap_remove-last}
+use Rattle.ir_chains.specs.LinkLemmas.{OperandsChange, UsesChange, grow, attach}
 
 -- what holds anyway holds at an error, and after a success
 pub err_holds : {T E P : Type 0} (r : Result T E) → P → OnErr r P

@@ -9,7 +9,7 @@ use Rattle.ir_records.specs.declared.record.UseIndex.{UseIndex}
 use Rattle.ir_records.specs.declared.record.UsePlace.{UsePlace}
 use Rattle.ir_records.specs.Links.{LinkedBut, NoHole, HoleAt}
 use Rattle.ir_chains.specs.Besides.{LinkedBesides}
-use Rattle.ir_chains.proofs.ListReads.{swap_remove-at, swap_remove-other, swap_remove-within, slice_get-remove_below, slice_get-remove_from, slice_get-push_at, slice_get-push_before, slice_get-push_cases, slice_get-set_same, slice_get-set_other}
+use Rattle.ir_chains.specs.ListReads.{swap_remove-at, swap_remove-other, swap_remove-within, slice_get-remove_below, slice_get-remove_from, slice_get-push_at, slice_get-push_before, slice_get-push_cases, slice_get-set_same, slice_get-set_other}
 
 module _ {N : Type 0} where
   -- the operands are as before, but the one at place `last` of this value is at place `k` now

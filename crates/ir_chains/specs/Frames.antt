@@ -19,7 +19,7 @@ use Rattle.ir_records.specs.Frames.{KeepsTree}
 use Rattle.ir_chains.specs.Edits.{edited-kept}
 use Rattle.ir_chains.specs.TableLaws.{chain-values, chain-blocks}
 use Rattle.ir_records.specs.KeptTrees.{keeps-refl, keeps-trans, keeps-by_ops, keeps-by_blocks}
-use Rattle.ir_chains.proofs.ChainEdits.{rewrites-keep, rewrites-hold}
+use Rattle.ir_chains.specs.ChainEdits.{rewrites-keep, rewrites-hold}
 
 module _ {D A K B S X L : Type 0} where
   keeps-with_uses_by : (t : Records D A K B S X L) (d : Definer) (n : ℕ) (us : List UseIndex) → KeepsTree t (with_uses_by t d n us)

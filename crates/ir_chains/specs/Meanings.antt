@@ -28,11 +28,12 @@ use Rattle.ir_records.specs.Chains.{name_of, names_in, names_from}
 use Rattle.ir_records.specs.Table.{with_operands, with_successors, with_block_uses, with_uses_by, with_uses}
 use Rattle.ir_records.specs.Tree.{Tree, tree_of, ops_in, blocks_in}
 use Rattle.ir_records.specs.Frames.{KeepsTree}
+use Rattle.ir_records.specs.Meant.{map-map}
 use Rattle.ir_records.specs.Meaning.{closed, value_of, operands_from, successors_from, definition_of, op_record, block_record, op_records, block_records, region_records, forest_of}
 use Rattle.ir_chains.specs.Edits.{edited-kept}
 use Rattle.ir_chains.specs.TableLaws.{chain-values, chain-blocks}
-use Rattle.ir_chains.proofs.ChainEdits.{rewrites-keep}
-use Rattle.ir_chains.proofs.Frames.{keeps-by_values, keeps-by_successors}
+use Rattle.ir_chains.specs.ChainEdits.{rewrites-keep}
+use Rattle.ir_chains.specs.Frames.{keeps-by_values, keeps-by_successors}
 
 -- the operand, or the successor, that a number and a name mean
 abbrev pub operand_named : ℕ × ValueIndex → Operand context_ids
@@ -162,6 +163,22 @@ module _ {D A K B S X L N P : Type 0} {of_name : ℕ × N → P} {places : Opera
 
   forest-changed : (g : List P → List P) (t s : Records D A K B S X L) (o : ArenaIndex) → Writes t s → meant of_name (at s o) ≡ g (meant of_name (at t o)) → ((p : ArenaIndex) → ¬ (p ≡ o) → names_in (at s p) ≡ names_in (at t p)) → forest_of s ≡ on_op (forest_of t) o (on g)
   forest-changed g t s o w here others = forest-by_ops t s (rewrite same_id o (on g) (op_records t)) w (records-changed g t s o w here others)
+
+  meant-mapped : (f : ℕ × N → ℕ × N) (g : P → P) → ((n : ℕ × N) → of_name (f n) ≡ g (of_name n)) → (xs ys : List (UsePlace N)) → names_in ys ≡ map f (names_in xs) → meant of_name ys ≡ map g (meant of_name xs)
+  meant-mapped f g mean xs ys e =
+      meant-names of_name ys (map f (names_in xs)) e
+      ∙ map-map f of_name (names_in xs)
+      ∙ (λ i. map (λ (n : ℕ × N). mean n i) (names_in xs))
+      ∙ sym (map-map of_name g (names_in xs))
+      ∙ ap (map g) (by_names of_name xs)
+
+  -- where the names of each operation's places are mapped, so is what they mean
+  pub forest-mapped : (f : ArenaIndex → ℕ × N → ℕ × N) (g : ArenaIndex → P → P) → ((o : ArenaIndex) (n : ℕ × N) → of_name (f o n) ≡ g o (of_name n)) → (t s : Records D A K B S X L) → Writes t s → ((o : ArenaIndex) → names_in (at s o) ≡ map (f o) (names_in (at t o)))
+      → forest_of s ≡ record (forest_of t) { ops = λ o. option_map (on (map (g o))) (op_records t o) }
+  forest-mapped f g mean t s w names = forest-by_ops t s (λ o. option_map (on (map (g o))) (op_records t o)) w (λ i o. each o i)
+    where
+      each : (o : ArenaIndex) → op_records s o ≡ option_map (on (map (g o))) (op_records t o)
+      each o = now t s w o ∙ ap (λ (ps : List P). option_map (put ps) (bare_at t o)) (meant-mapped (f o) (g o) (mean o) (at t o) (at s o) (names o)) ∙ as_changed (map (g o)) (get t.ops o)
 
   -- one more, one less, none, and these
   pub forest-pushed : (t s : Records D A K B S X L) (o : ArenaIndex) (n : ℕ × N) → Writes t s → names_in (at s o) ≡ names_in (at t o) ++ n ∷ [] → ((p : ArenaIndex) → ¬ (p ≡ o) → names_in (at s p) ≡ names_in (at t p)) → forest_of s ≡ on_op (forest_of t) o (on (λ xs. xs ++ of_name n ∷ []))
