@@ -34,3 +34,4 @@ pub mod CreatedOperations
 pub mod EditedLists
 pub mod Edited
 pub mod GoingBack
+pub mod PlacedUses

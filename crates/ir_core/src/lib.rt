@@ -11,10 +11,12 @@ mod error;
 mod lending;
 mod needs;
 mod new_entities;
+mod operand_edits;
 mod operation;
 mod operation_list;
 mod operation_uses;
 mod region;
+mod successor_edits;
 mod types;
 mod value;
 
@@ -34,9 +36,11 @@ pub use ir_records::{
 pub use lending::{BlockPtrMut, OperationPtrMut};
 pub use needs::Needs;
 pub use new_entities::{AddRegion, NewBlock, NewOperation};
+pub use operand_edits::OperandEdits;
 pub use operation::OperationPtr;
 pub use operation_list::{OperationContainer, OperationList};
 pub use operation_uses::OperationUses;
 pub use region::RegionPtr;
+pub use successor_edits::SuccessorEdits;
 pub use types::TypeQueries;
 pub use value::{BlockUseQueries, UseQueries, ValueQueries};
