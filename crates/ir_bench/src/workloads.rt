@@ -7,8 +7,9 @@ ghost use Rattle.ir_records.specs.Meaning.{value_of};
 ghost use Rattle.ir_core.specs.State.{forest_of, types_of};
 
 use ir_base::{CoreError, Dialects, Ptr, TypeHandle};
-use ir_core::{Context, NewOperation, Operation, OperationPtr, TypeQueries, Value, ValueQueries};
+use ir_core::{Context, NewOperation, Operation, OperationPtr, TypeQueries, Value};
 use ir_toy::{Toy, ToyType};
+use ir_view::ValueQueries;
 use std::alloc::Global;
 use std::collections::HashSet;
 use std::time::CpuClock;

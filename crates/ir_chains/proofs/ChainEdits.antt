@@ -1,21 +1,16 @@
 -- What each edit of the lists of a chain does to its links, whatever is named and wherever the lists lie.
-use Rattle.std.proofs.Common.{◌≡◌, ℕ, suc, ◌-◌, ◌<◌, ◌==◌, List, [], ◌∷◌, ◌++◌, length, set, map, take, drop, Some, Result, Ok, Err, OnErr, true, false, slice_get, refl, sym, ap, subst, ◌∙◌, arith, None, inl, inr}
-use Rattle.std.proofs.lemmas.Bool.{cases_eq, eq-eqb, ne_eqb}
-use Rattle.ir_model.proofs.IdCases.{id_cases}
+use Rattle.std.proofs.Common.{◌≡◌, ℕ, suc, ◌<◌, List, [], ◌∷◌, ◌++◌, length, map, take, drop, Some, Result, Ok, Err, OnErr, slice_get, refl, sym, ap, subst, ◌∙◌, arith}
 use Rattle.std.specs.List.{swap_remove, remove}
 use Rattle.std.proofs.lemmas.List.{length_push, length-map, map-append, take-map, drop-map}
 use Rattle.std.proofs.lemmas.Option.{slice_get_within}
 use Rattle.ir_model.specs.declared.ids.ArenaIndex.{ArenaIndex}
 use Rattle.ir_records.specs.declared.record.UseIndex.{UseIndex}
 use Rattle.ir_records.specs.declared.record.UsePlace.{UsePlace}
-use Rattle.ir_records.specs.Lists.{put_place, HaveDistinctUses}
-use Rattle.ir_records.specs.Links.{LinkedBut, NoHole, HoleAt, IsFreshUse, HasPlace}
+use Rattle.ir_records.specs.Links.{LinkedBut, NoHole, IsFreshUse}
 use Rattle.ir_chains.specs.Chain.{IsUseChain, Rewrites, unchanged, by_places, by_uses}
 use Rattle.ir_records.specs.Chains.{name_of, names_in}
-use Rattle.ir_chains.proofs.ListReads.{slice_get-push_at, moved_from_last, length-swap_remove, swap_remove-last, none_past}
-use Rattle.ir_records.specs.Numbered.{put_place-set}
-use Rattle.ir_records.specs.Distinct.{distinct_by_place}
-use Rattle.ir_chains.proofs.LinkLemmas.{OperandsChange, UsesChange, detach, relabel, relabel-none, drop_operand, grow, attach}
+use Rattle.ir_chains.proofs.ListReads.{slice_get-push_at, swap_remove-last}
+use Rattle.ir_chains.proofs.LinkLemmas.{OperandsChange, UsesChange, grow, attach}
 
 pub map-remove : {X Y : Type 0} (f : X → Y) (xs : List X) (i : ℕ) → map f (remove xs i) ≡ remove (map f xs) i
 map-remove f xs i = map-append f (take i xs) (drop (suc i) xs) ∙ rw (take-map f i xs, drop-map f (suc i) xs) refl
@@ -29,12 +24,6 @@ module _ {S N : Type 0} {Live : S → ArenaIndex → Type 0} {ps : S → ArenaIn
   abbrev Linked : S → Type 0
   Linked t = LinkedBut NoHole (ps t) (us t)
 
-  abbrev LinkedButAt : S → ArenaIndex → ℕ → Type 0
-  LinkedButAt t o i = LinkedBut (HoleAt o i) (ps t) (us t)
-
-  abbrev with_place : S → UseIndex → ℕ → S
-  with_place t u k = put_ps t u.user (put_place (ps t u.user) u.number k)
-
   pub linked_by : (t s : S) → s ≡ t → Linked t → Linked s
   linked_by t s same linked = subst (λ (r : S). Linked r) (sym same) linked
 
@@ -47,60 +36,8 @@ module _ {S N : Type 0} {Live : S → ArenaIndex → Type 0} {ps : S → ArenaIn
   pub place_within : (t : S) (o : ArenaIndex) (i : ℕ) (a : UsePlace N) → Linked t → slice_get (ps t o) i ≡ Some a → a.place < length (us t a.names)
   place_within t o i a links at = slice_get_within (us t a.names) a.place (record { user = o; number = a.number }) (place_use t o i a links at)
 
-  places_change : (t : S) (o : ArenaIndex) (xs : List (UsePlace N)) → Live t o → OperandsChange o xs (ps t) (ps (put_ps t o xs))
-  places_change t o xs live = record { here = C.place_lists.here t o xs live; others = λ p ne. C.place_lists.others t o xs live p ne }
-
-  uses_change : (t : S) (v : N) (ws : List UseIndex) → Has t v → UsesChange v ws (us t) (us (put_us t v ws))
-  uses_change t v ws has = record { here = C.use_lists.here t v ws has; others = λ w ne. C.use_lists.others t v ws has w ne }
-
-  -- the state once the use of a place is out of its list
-  abbrev without_use : S → UsePlace N → UseIndex → S
-  without_use t a x = put_us t a.names (swap_remove (us t a.names) a.place x)
-
-  detached_last : (t : S) (o : ArenaIndex) (i : ℕ) (a : UsePlace N) (x : UseIndex) → Linked t → slice_get (ps t o) i ≡ Some a → a.place ≡ length (us t a.names) - 1 → LinkedButAt (without_use t a x) o i
-  detached_last t o i a x links at e =
-      let same = C.places_stay t a.names (swap_remove (us t a.names) a.place x) in
-      let U = uses_change t a.names (swap_remove (us t a.names) a.place x) (place_named t o i a links at) in
-      let M = detach C.tell (ps t) (ps t) (us t) (us (without_use t a x)) o i a x links at U (relabel-none C.tell {os = ps t} a.names (length (us t a.names) - 1) a.place e) in
-      let P : (ArenaIndex → List (UsePlace N)) → Type 0 = λ os. LinkedBut (HoleAt o i) os (us (without_use t a x)) in
-      subst P (sym same) M
-
-  -- the place of the last use
-  last_place : (t : S) (o : ArenaIndex) (i : ℕ) (a : UsePlace N) (x : UseIndex) → Linked t → slice_get (ps t o) i ≡ Some a → (u : UseIndex) → slice_get (us t a.names) (length (us t a.names) - 1) ≡ Some u
-      → (j : ℕ) × (slice_get (ps (without_use t a x) u.user) j ≡ Some (record { number = u.number; names = a.names; place = length (us t a.names) - 1 }))
-  last_place t o i a x links at u h =
-      let same = C.places_stay t a.names (swap_remove (us t a.names) a.place x) in
-      let was = links.backward a.names (length (us t a.names) - 1) u h in
-      (was.0, ap (λ (os : ArenaIndex → List (UsePlace N)). slice_get (os u.user) was.0) same ∙ was.1)
-
-  detached_moved : (t : S) (o : ArenaIndex) (i : ℕ) (a : UsePlace N) (x : UseIndex) → Linked t → slice_get (ps t o) i ≡ Some a → (u : UseIndex) → slice_get (us t a.names) (length (us t a.names) - 1) ≡ Some u → LinkedButAt (with_place (without_use t a x) u a.place) o i
-  detached_moved t o i a x links at u h =
-      let s = without_use t a x in
-      let same = C.places_stay t a.names (swap_remove (us t a.names) a.place x) in
-      let P : (ArenaIndex → List (UsePlace N)) → Type 0 = λ os. LinkedBut NoHole os (us t) in
-      let links' : LinkedBut NoHole (ps s) (us t) = subst P (sym same) links in
-      let at' : slice_get (ps s o) i ≡ Some a = ap (λ (os : ArenaIndex → List (UsePlace N)). slice_get (os o) i) same ∙ at in
-      let m = last_place t o i a x links at u h in
-      let m_is : UsePlace N = record { number = u.number; names = a.names; place = length (us t a.names) - 1 } in
-      let written : put_place (ps s u.user) u.number a.place ≡ set (ps s u.user) m.0 (record m_is { place = a.place }) = put_place-set (ps s u.user) u.number a.place m.0 m_is m.1 refl (λ j b atb e. (links'.distinct u.user u.user j m.0 b m_is atb m.1 e).1) in
-      let G = places_change s u.user (put_place (ps s u.user) u.number a.place) (C.place_lists.has s u.user m.0 m_is m.1) in
-      let G' : OperandsChange u.user (set (ps s u.user) m.0 (record m_is { place = a.place })) (ps s) (ps (with_place s u a.place)) = record { here = G.here ∙ written; others = G.others } in
-      let R = relabel C.tell {os = ps s} {os' = ps (with_place s u a.place)} {us = us t} a.names (length (us t a.names) - 1) a.place u.user m.0 m_is links' m.1 refl refl G' in
-      let U = uses_change t a.names (swap_remove (us t a.names) a.place x) (place_named t o i a links at) in
-      let M = detach C.tell (ps s) (ps (with_place s u a.place)) (us t) (us s) o i a x links' at' U R in
-      let Q : (N → List UseIndex) → Type 0 = λ ws. LinkedBut (HoleAt o i) (ps (with_place s u a.place)) ws in
-      subst Q (sym (C.uses_stay s u.user (put_place (ps s u.user) u.number a.place))) M
-
-  -- a place is removed once no use stands for it
-  dropped : (t : S) (o : ArenaIndex) (i : ℕ) → LinkedButAt t o i → Live t o → Linked (put_ps t o (remove (ps t o) i))
-  dropped t o i links live =
-      let s = put_ps t o (remove (ps t o) i) in
-      let M = drop_operand C.tell (ps t) (ps s) (us t) o i links (places_change t o (remove (ps t o) i) live) in
-      let Q : (N → List UseIndex) → Type 0 = λ ws. LinkedBut NoHole (ps s) ws in
-      subst Q (sym (C.uses_stay t o (remove (ps t o) i))) M
-
   -- a use is put at the end, and then its place
-  abbrev with_use : S → ArenaIndex → UsePlace N → S
+  abbrev pub with_use : S → ArenaIndex → UsePlace N → S
   with_use t o a = put_us t a.names (us t a.names ++ record { user = o; number = a.number } ∷ [])
 
   abbrev with_both : S → ArenaIndex → UsePlace N → S
@@ -173,81 +110,6 @@ module _ {S N : Type 0} {Live : S → ArenaIndex → Type 0} {ps : S → ArenaIn
       ∙ ap (λ (w : S). put_us w a.names (us t a.names)) same
       ∙ C.use_lists.twice t a.names (us t a.names ++ u ∷ []) (us t a.names) has
       ∙ C.use_lists.self t a.names
-
-  put_place-names : (xs : List (UsePlace N)) (n k : ℕ) → names_in (put_place xs n k) ≡ names_in xs
-  put_place-names [] n k = refl
-  put_place-names (x ∷ xs) n k =
-      elim (cases_eq x.number n) [
-        | inl q ↦ let hit : x.number == n ≡ true = eq-eqb x.number n q in rw hit refl
-        | inr q ↦ let miss : x.number == n ≡ false = ne_eqb x.number n q in rw miss (ap (λ ms. name_of x ∷ ms) (put_place-names xs n k))
-      ]
-
-  -- the use of a place was taken out of its list
-  module _ (t s : S) (o : ArenaIndex) (i : ℕ) (a : UsePlace N) (x : UseIndex) (links : Linked t) (at : slice_get (ps t o) i ≡ Some a) (taken : s ≡ without_use t a x) where
-    -- where nothing stands at its place now, it was the last
-    pub taken_last : slice_get (swap_remove (us t a.names) a.place x) a.place ≡ None → LinkedButAt s o i
-    taken_last none =
-        let within = place_within t o i a links at in
-        let size = length-swap_remove (us t a.names) a.place x in
-        let past = none_past (swap_remove (us t a.names) a.place x) a.place none in
-        let last : a.place ≡ length (us t a.names) - 1 = omega (arith, within, size, past) in
-        subst (λ (r : S). LinkedButAt r o i) (sym taken) (detached_last t o i a x links at last)
-
-    pub taken_live : (p : ArenaIndex) → Live t p → Live s p
-    taken_live p live = subst (λ (r : S). Live r p) (sym taken) (C.live_stays t a.names (swap_remove (us t a.names) a.place x) p live)
-
-    same_places : (p : ArenaIndex) → ps s p ≡ ps t p
-    same_places p = ap (λ (r : S). ps r p) taken ∙ ap (λ (os : ArenaIndex → List (UsePlace N)). os p) (C.places_stay t a.names (swap_remove (us t a.names) a.place x))
-
-    pub taken_names : (p : ArenaIndex) → names_in (ps s p) ≡ names_in (ps t p)
-    taken_names p = ap names_in (same_places p)
-
-    -- the numbers of an operation's places are distinct
-    pub taken_distinct : (p : ArenaIndex) → HaveDistinctUses (ps s p)
-    taken_distinct p = subst HaveDistinctUses (sym (same_places p)) (distinct_by_place (λ (b : UsePlace N). b.number) (ps t p) (λ j k b c at_b at_c e. (links.distinct p p j k b c at_b at_c e).1))
-
-    -- where a use stands there now, it was the last one, and its place is given that index
-    module _ (u : UseIndex) (h : slice_get (swap_remove (us t a.names) a.place x) a.place ≡ Some u) where
-      was_last : slice_get (us t a.names) (length (us t a.names) - 1) ≡ Some u
-      was_last = moved_from_last (us t a.names) a.place x u h
-
-      pub taken_place : HasPlace (ps s) u
-      taken_place =
-          let m = last_place t o i a x links at u was_last in
-          subst (λ (r : S). HasPlace (ps r) u) (sym taken) (m.0, record { number = u.number; names = a.names; place = length (us t a.names) - 1 }, m.1, refl)
-
-      pub taken_user : Live s u.user
-      taken_user = C.place_lists.has s u.user taken_place.0 taken_place.1 taken_place.2
-
-      module _ (r : S) (placed : r ≡ with_place s u a.place) where
-        pub placed_links : LinkedButAt r o i
-        placed_links = subst (λ (q : S). LinkedButAt q o i) (sym (placed ∙ ap (λ (q : S). with_place q u a.place) taken)) (detached_moved t o i a x links at u was_last)
-
-        pub placed_live : (p : ArenaIndex) → Live t p → Live r p
-        placed_live p live = subst (λ (q : S). Live q p) (sym placed) (C.place_lists.keeps s u.user (put_place (ps s u.user) u.number a.place) p (taken_live p live))
-
-        pub placed_names : (p : ArenaIndex) → names_in (ps r p) ≡ names_in (ps t p)
-        placed_names p =
-            let xs = put_place (ps s u.user) u.number a.place in
-            let at_p : names_in (ps (put_ps s u.user xs) p) ≡ names_in (ps s p) = elim (id_cases p u.user) [
-              | inl e ↦ ap (λ (j : ArenaIndex). names_in (ps (put_ps s u.user xs) j)) e ∙ ap names_in (C.place_lists.here s u.user xs taken_user) ∙ put_place-names (ps s u.user) u.number a.place ∙ ap (λ (j : ArenaIndex). names_in (ps s j)) (sym e)
-              | inr ne ↦ ap names_in (C.place_lists.others s u.user xs taken_user p ne)
-            ] in
-            ap (λ (q : S). names_in (ps q p)) placed ∙ at_p ∙ taken_names p
-
-  -- a place was taken out whose use was
-  module _ (t r : S) (o : ArenaIndex) (i : ℕ) (live : Live t o) (gone : r ≡ put_ps t o (remove (ps t o) i)) where
-    pub drop_links : LinkedButAt t o i → Linked r
-    drop_links links = subst Linked (sym gone) (dropped t o i links live)
-
-    pub drop_live : Live r o
-    drop_live = subst (λ (q : S). Live q o) (sym gone) (C.place_lists.keeps t o (remove (ps t o) i) o live)
-
-    pub drop_names : (ys : List (ℕ × N)) → names_in (ps t o) ≡ ys → names_in (ps r o) ≡ remove ys i
-    drop_names ys same = ap (λ (q : S). names_in (ps q o)) gone ∙ ap names_in (C.place_lists.here t o (remove (ps t o) i) live) ∙ map-remove name_of (ps t o) i ∙ ap (λ (ns : List (ℕ × N)). remove ns i) same
-
-    pub drop_others : (p : ArenaIndex) → ¬ (p ≡ o) → names_in (ps r p) ≡ names_in (ps t p)
-    drop_others p ne = ap (λ (q : S). names_in (ps q p)) gone ∙ ap names_in (C.place_lists.others t o (remove (ps t o) i) live p ne)
 
   pub same_count : (xs ys : List (UsePlace N)) → names_in xs ≡ names_in ys → length xs ≡ length ys
   same_count xs ys e = sym (length-map xs name_of) ∙ ap length e ∙ length-map ys name_of

@@ -1,7 +1,9 @@
 pub mod ListReads
 pub mod WrittenLists
 pub mod LinkLemmas
+pub mod InsertLemmas
 pub mod ChainEdits
+pub mod Releases
 pub mod ChainLoops
 pub mod Frames
 pub mod Meanings

@@ -8,6 +8,7 @@ use Rattle.ir_model.proofs.IdCases.{id_cases}
 use Rattle.ir_records.specs.declared.record.UseIndex.{UseIndex}
 use Rattle.ir_records.specs.declared.record.UsePlace.{UsePlace}
 use Rattle.ir_records.specs.Links.{LinkedBut, NoHole, HoleAt}
+use Rattle.ir_chains.specs.Besides.{LinkedBesides}
 use Rattle.ir_chains.proofs.ListReads.{swap_remove-at, swap_remove-other, swap_remove-within, slice_get-remove_below, slice_get-remove_from, slice_get-push_at, slice_get-push_before, slice_get-push_cases, slice_get-set_same, slice_get-set_other}
 
 module _ {N : Type 0} where
@@ -35,7 +36,7 @@ module _ {N : Type 0} (tell : (v w : N) → (v ≡ w) ⊎ (¬ (v ≡ w))) where
         | inr e ↦ inr (λ t. e t.0)
       ]
 
-  operand_cases : (o p : ArenaIndex) (i j : ℕ) → ((o ≡ p) × (i ≡ j)) ⊎ (¬ ((o ≡ p) × (i ≡ j)))
+  pub operand_cases : (o p : ArenaIndex) (i j : ℕ) → ((o ≡ p) × (i ≡ j)) ⊎ (¬ ((o ≡ p) × (i ≡ j)))
   operand_cases o p i j =
       elim (id_cases o p) [
         | inl e ↦ elim (cases_eq i j) [ inl f ↦ inl (e, f) | inr f ↦ inr (λ t. f t.1) ]
@@ -45,101 +46,97 @@ module _ {N : Type 0} (tell : (v w : N) → (v ≡ w) ⊎ (¬ (v ≡ w))) where
   renamed : (xs : List (UsePlace N)) (j number : ℕ) (v v' : N) (k k' : ℕ) → v ≡ v' → k ≡ k' → slice_get xs j ≡ Some (record { number = number; names = v'; place = k' }) → slice_get xs j ≡ Some (record { number = number; names = v; place = k })
   renamed xs j number v v' k k' e g h = h ∙ (λ i. Some (record { number = number; names = sym e i; place = sym g i }))
 
-  at_same : (os : ArenaIndex → List (UsePlace N)) (o p : ArenaIndex) (i j : ℕ) → (p ≡ o) × (j ≡ i) → slice_get (os p) j ≡ slice_get (os o) i
+  pub at_same : (os : ArenaIndex → List (UsePlace N)) (o p : ArenaIndex) (i j : ℕ) → (p ≡ o) × (j ≡ i) → slice_get (os p) j ≡ slice_get (os o) i
   at_same os o p i j t = λ x. slice_get (os (t.0 x)) (t.1 x)
 
   pub same_operand : (os : ArenaIndex → List (UsePlace N)) (o : ArenaIndex) (i : ℕ) (p : ArenaIndex) (j : ℕ) (a b : UsePlace N) → slice_get (os o) i ≡ Some a → slice_get (os p) j ≡ Some b → (p ≡ o) × (j ≡ i) → b ≡ a
   same_operand os o i p j a b at at' t = same_Some _ _ (sym at' ∙ at_same os o p i j t ∙ at)
 
-  -- two operands at one place of one value are one operand
-  pub one_place : {H : ArenaIndex → ℕ → Type 0} {os : ArenaIndex → List (UsePlace N)} {us : N → List UseIndex} → LinkedBut H os us → (o : ArenaIndex) (i : ℕ) (p : ArenaIndex) (j : ℕ) (a b : UsePlace N)
-      → slice_get (os o) i ≡ Some a → slice_get (os p) j ≡ Some b → ¬ (H o i) → ¬ (H p j) → b.names ≡ a.names → b.place ≡ a.place → (p ≡ o) × (j ≡ i)
-  one_place {H} {os} {us} L o i p j a b at at' h h' e g =
-      let x : slice_get (us a.names) a.place ≡ Some (record { user = o; number = a.number }) = L.forward o i a at h in
-      let y : slice_get (us b.names) b.place ≡ Some (record { user = p; number = b.number }) = L.forward p j b at' h' in
+  -- two places whose uses stand at one place are one
+  placed_once : (os : ArenaIndex → List (UsePlace N)) (us : N → List UseIndex) → ((o p : ArenaIndex) (i j : ℕ) (a b : UsePlace N) → slice_get (os o) i ≡ Some a → slice_get (os p) j ≡ Some b → a.number ≡ b.number → (o ≡ p) × (i ≡ j))
+      → (o : ArenaIndex) (i : ℕ) (p : ArenaIndex) (j : ℕ) (a b : UsePlace N) → slice_get (os o) i ≡ Some a → slice_get (os p) j ≡ Some b
+      → slice_get (us a.names) a.place ≡ Some (record { user = o; number = a.number }) → slice_get (us b.names) b.place ≡ Some (record { user = p; number = b.number }) → b.names ≡ a.names → b.place ≡ a.place → (p ≡ o) × (j ≡ i)
+  placed_once os us distinct o i p j a b at at' x y e g =
       let one : slice_get (us b.names) b.place ≡ slice_get (us a.names) a.place = λ q. slice_get (us (e q)) (g q) in
       let z : ◌≡◌ {A = Option UseIndex} (Some (record { user = p; number = b.number })) (Some (record { user = o; number = a.number })) = sym y ∙ one ∙ x in
       let w : ◌≡◌ {A = UseIndex} (record { user = p; number = b.number }) (record { user = o; number = a.number }) = same_Some _ _ z in
-      L.distinct p o j i b a at' at (ap (λ (u : UseIndex). u.number) w)
+      distinct p o j i b a at' at (ap (λ (u : UseIndex). u.number) w)
 
-  module _ (os os' : ArenaIndex → List (UsePlace N)) (us us' : N → List UseIndex) (o : ArenaIndex) (i : ℕ) (a : UsePlace N) (x : UseIndex) where
-    detach-forward : LinkedBut NoHole os us → slice_get (os o) i ≡ Some a → UsesChange a.names (swap_remove (us a.names) a.place x) us us' → Relabelled a.names (length (us a.names) - 1) a.place os os'
-        → (p : ArenaIndex) (j : ℕ) (b : UsePlace N) → slice_get (os' p) j ≡ Some b → ¬ (HoleAt o i p j) → slice_get (us' b.names) b.place ≡ Some (record { user = p; number = b.number })
-    detach-forward L at U R p j b at' nh =
-        let xs = us a.names in
-        let mine = L.forward o i a at (λ h. h) in
-        let within : a.place < length xs = slice_get_within xs a.place _ mine in
+  pub one_place : {os : ArenaIndex → List (UsePlace N)} {us : N → List UseIndex} → LinkedBut NoHole os us → (o : ArenaIndex) (i : ℕ) (p : ArenaIndex) (j : ℕ) (a b : UsePlace N)
+      → slice_get (os o) i ≡ Some a → slice_get (os p) j ≡ Some b → b.names ≡ a.names → b.place ≡ a.place → (p ≡ o) × (j ≡ i)
+  one_place {os} {us} L o i p j a b at at' e g =
+      placed_once os us L.distinct o i p j a b at at' (L.forward o i a at (λ (h : ⊥). h)) (L.forward p j b at' (λ (h : ⊥). h)) e g
+
+  module _ (v : N) (k : ℕ) (os os' : ArenaIndex → List (UsePlace N)) (us us' : N → List UseIndex) (x : UseIndex) where
+    release-forward : LinkedBesides v k os us → k < length (us v) → UsesChange v (swap_remove (us v) k x) us us' → Relabelled v (length (us v) - 1) k os os'
+        → (p : ArenaIndex) (j : ℕ) (b : UsePlace N) → slice_get (os' p) j ≡ Some b → slice_get (us' b.names) b.place ≡ Some (record { user = p; number = b.number })
+    release-forward L within U R p j b at' =
+        let xs = us v in
         let old = R.came p j b at' in
         let c = old.0 in
-        let f : slice_get (us c.names) c.place ≡ Some (record { user = p; number = c.number }) = L.forward p j c old.1 (λ h. h) in
-        let apart : ¬ ((c.names ≡ a.names) × (c.place ≡ a.place)) = λ t. nh (one_place L o i p j a c at old.1 (λ h. h) (λ h. h) t.0 t.1) in
-        elim (placed_cases c.names a.names c.place (length xs - 1)) [
+        let f : slice_get (us c.names) c.place ≡ Some (record { user = p; number = c.number }) = L.forward p j c old.1 in
+        let apart : ¬ ((c.names ≡ v) × (c.place ≡ k)) = L.apart p j c old.1 in
+        elim (placed_cases c.names v c.place (length xs - 1)) [
           | inl e ↦
-              let b_is : b ≡ record c { place = a.place } = same_Some _ _ (sym at' ∙ R.moves p j c old.1 e.0 e.1) in
-              let more : a.place + 1 < length xs = omega (arith, λ (q : c.place ≡ a.place). apart (e.0, q)) in
+              let b_is : b ≡ record c { place = k } = same_Some _ _ (sym at' ∙ R.moves p j c old.1 e.0 e.1) in
+              let more : k + 1 < length xs = omega (arith, λ (q : c.place ≡ k). apart (e.0, q)) in
               let f' : slice_get xs (length xs - 1) ≡ Some (record { user = p; number = c.number }) = (λ q. slice_get (us (sym e.0 q)) (sym e.1 q)) ∙ f in
               (λ q. slice_get (us' (b_is q).names) (b_is q).place)
-              ∙ (λ q. slice_get (us' (e.0 q)) a.place)
-              ∙ (λ q. slice_get (U.here q) a.place)
-              ∙ swap_remove-at xs a.place x more
+              ∙ (λ q. slice_get (us' (e.0 q)) k)
+              ∙ (λ q. slice_get (U.here q) k)
+              ∙ swap_remove-at xs k x more
               ∙ f'
               ∙ (λ q. Some (record { user = p; number = (sym b_is q).number }))
           | inr ne ↦
               let b_is : b ≡ c = same_Some _ _ (sym at' ∙ R.stays p j c old.1 ne) in
               let now : slice_get (us' c.names) c.place ≡ Some (record { user = p; number = c.number }) =
-              elim (tell c.names a.names) [
+              elim (tell c.names v) [
                 | inl e ↦
                     let f' : slice_get xs c.place ≡ Some (record { user = p; number = c.number }) = (λ q. slice_get (us (sym e q)) c.place) ∙ f in
                     let w : c.place < length xs = slice_get_within xs c.place _ f' in
                     let other : c.place ≡ length xs - 1 → ⊥ = λ q. ne (e, q) in
                     (λ q. slice_get (us' (e q)) c.place)
                     ∙ (λ q. slice_get (U.here q) c.place)
-                    ∙ swap_remove-other xs a.place c.place x (omega arith) (λ q. apart (e, q))
+                    ∙ swap_remove-other xs k c.place x (omega arith) (λ q. apart (e, q))
                     ∙ f'
                 | inr e ↦ (λ q. slice_get (U.others c.names e q) c.place) ∙ f
               ] in
               (λ q. slice_get (us' (b_is q).names) (b_is q).place) ∙ now ∙ (λ q. Some (record { user = p; number = (sym b_is q).number }))
         ]
 
-    detach-backward : LinkedBut NoHole os us → slice_get (os o) i ≡ Some a → UsesChange a.names (swap_remove (us a.names) a.place x) us us' → Relabelled a.names (length (us a.names) - 1) a.place os os'
-        → (v : N) (k : ℕ) (u : UseIndex) → slice_get (us' v) k ≡ Some u → (j : ℕ) × (slice_get (os' u.user) j ≡ Some (record { number = u.number; names = v; place = k })) × (¬ (HoleAt o i u.user j))
-    detach-backward L at U R v k u h =
-        let xs = us a.names in
-        elim (tell v a.names) [
+    release-backward : LinkedBesides v k os us → UsesChange v (swap_remove (us v) k x) us us' → Relabelled v (length (us v) - 1) k os os'
+        → (w : N) (l : ℕ) (u : UseIndex) → slice_get (us' w) l ≡ Some u → (j : ℕ) × (slice_get (os' u.user) j ≡ Some (record { number = u.number; names = w; place = l })) × (¬ ⊥)
+    release-backward L U R w l u h =
+        let xs = us v in
+        elim (tell w v) [
           | inl e ↦
-              let h' : slice_get (swap_remove xs a.place x) k ≡ Some u = (λ q. slice_get (sym U.here q) k) ∙ (λ q. slice_get (us' (sym e q)) k) ∙ h in
-              let more = swap_remove-within xs a.place k x u h' in
-              elim (cases_eq k a.place) [
+              let h' : slice_get (swap_remove xs k x) l ≡ Some u = (λ q. slice_get (sym U.here q) l) ∙ (λ q. slice_get (us' (sym e q)) l) ∙ h in
+              let more = swap_remove-within xs k l x u h' in
+              elim (cases_eq l k) [
                 | inl q ↦
-                    let more' : a.place + 1 < length xs = omega arith in
-                    let f : slice_get xs (length xs - 1) ≡ Some u = sym (swap_remove-at xs a.place x more') ∙ (λ y. slice_get (swap_remove xs a.place x) (sym q y)) ∙ h' in
-                    let was = L.backward a.names (length xs - 1) u f in (
-                      was.0,
-                      renamed (os' u.user) was.0 u.number v a.names k a.place e q (R.moves u.user was.0 _ was.1 refl refl),
-                      λ t. absurd (omega (arith, ap (λ (b : UsePlace N). b.place) (same_operand os o i u.user was.0 a _ at was.1 t))),
-                    )
+                    let more' : k + 1 < length xs = omega arith in
+                    let f : slice_get xs (length xs - 1) ≡ Some u = sym (swap_remove-at xs k x more') ∙ (λ y. slice_get (swap_remove xs k x) (sym q y)) ∙ h' in
+                    let was = L.backward v (length xs - 1) u f (λ t. absurd (omega (arith, t.1))) in
+                    (was.0, renamed (os' u.user) was.0 u.number w v l k e q (R.moves u.user was.0 _ was.1 refl refl), λ (t : ⊥). t)
                 | inr q ↦
-                    let f : slice_get xs k ≡ Some u = sym (swap_remove-other xs a.place k x more q) ∙ h' in
-                    let was = L.backward a.names k u f in (
-                      was.0,
-                      renamed (os' u.user) was.0 u.number v a.names k k e refl (R.stays u.user was.0 _ was.1 (λ t. absurd (omega (arith, t.1)))),
-                      λ t. q (ap (λ (b : UsePlace N). b.place) (same_operand os o i u.user was.0 a _ at was.1 t)),
-                    )
+                    let f : slice_get xs l ≡ Some u = sym (swap_remove-other xs k l x more q) ∙ h' in
+                    let was = L.backward v l u f (λ t. q t.1) in
+                    (was.0, renamed (os' u.user) was.0 u.number w v l l e refl (R.stays u.user was.0 _ was.1 (λ t. absurd (omega (arith, t.1)))), λ (t : ⊥). t)
               ]
           | inr e ↦
-              let was = L.backward v k u ((λ q. slice_get (sym (U.others v e) q) k) ∙ h) in
-              (was.0, R.stays u.user was.0 _ was.1 (λ t. e t.0), λ t. e (ap (λ (b : UsePlace N). b.names) (same_operand os o i u.user was.0 a _ at was.1 t)))
+              let was = L.backward w l u ((λ q. slice_get (sym (U.others w e) q) l) ∙ h) (λ t. e t.0) in
+              (was.0, R.stays u.user was.0 _ was.1 (λ t. e t.0), λ (t : ⊥). t)
         ]
 
-    -- the use of the operand is taken out of its list, and the last one moves into its place
-    pub detach : LinkedBut NoHole os us → slice_get (os o) i ≡ Some a → UsesChange a.names (swap_remove (us a.names) a.place x) us us' → Relabelled a.names (length (us a.names) - 1) a.place os os' → LinkedBut (HoleAt o i) os' us'
-    detach L at U R = record {
-      forward = detach-forward L at U R;
-      backward = detach-backward L at U R;
-      distinct = λ p q j k b c atb atc same.
+    -- the one use is taken out, and the last one moves into its place
+    pub release : LinkedBesides v k os us → k < length (us v) → UsesChange v (swap_remove (us v) k x) us us' → Relabelled v (length (us v) - 1) k os os' → LinkedBut NoHole os' us'
+    release L within U R = record {
+      forward = λ p j b at nh. release-forward L within U R p j b at;
+      backward = release-backward L U R;
+      distinct = λ p q j l b c atb atc same.
           let old = R.came p j b atb in
-          let old' = R.came q k c atc in
-          L.distinct p q j k old.0 old'.0 old.1 old'.1 (old.2 ∙ same ∙ sym old'.2);
+          let old' = R.came q l c atc in
+          L.distinct p q j l old.0 old'.0 old.1 old'.1 (old.2 ∙ same ∙ sym old'.2);
     }
 
   module _ (os os' : ArenaIndex → List (UsePlace N)) (us : N → List UseIndex) (o : ArenaIndex) (i : ℕ) where
@@ -175,14 +172,16 @@ module _ {N : Type 0} (tell : (v w : N) → (v ≡ w) ⊎ (¬ (v ≡ w))) where
           | inr ne ↦ (k, (λ q. slice_get (C.others p ne q) k) ∙ at)
         ]
 
-    -- the entry of an operand that no use stands for is removed
-    pub drop_operand : LinkedBut (HoleAt o i) os us → OperandsChange o (remove (os o) i) os os' → LinkedBut NoHole os' us
-    drop_operand L C = record {
-      forward = λ p j b at nh. let was = was_at C p j b at in L.forward p was.0 b was.1 was.2;
-      backward = λ v k u h.
+    -- a place is taken out, and its use stands there still
+    pub drop_place : (a : UsePlace N) → LinkedBut NoHole os us → slice_get (os o) i ≡ Some a → OperandsChange o (remove (os o) i) os os' → LinkedBesides a.names a.place os' us
+    drop_place a L at C = record {
+      forward = λ p j b atb. let was = was_at C p j b atb in L.forward p was.0 b was.1 (λ (h : ⊥). h);
+      apart = λ p j b atb t. let was = was_at C p j b atb in was.2 (one_place L o i p was.0 a b at was.1 t.0 t.1);
+      backward = λ v k u h ne.
           let was = L.backward v k u h in
-          let now = goes_to C u.user was.0 _ was.1 was.2 in
-          (now.0, now.1, λ (t : ⊥). t);
+          let kept : ¬ (HoleAt o i u.user was.0) = λ t. (let same = same_operand os o i u.user was.0 a _ at was.1 t in ne (ap (λ (b : UsePlace N). b.names) same, ap (λ (b : UsePlace N). b.place) same)) in
+          let now = goes_to C u.user was.0 _ was.1 kept in
+          (now.0, now.1);
       distinct = λ p q j k b c atb atc same.
           let x = was_at C p j b atb in
           let y = was_at C q k c atc in
@@ -276,7 +275,7 @@ module _ {N : Type 0} (tell : (v w : N) → (v ≡ w) ⊎ (¬ (v ≡ w))) where
     }
 
   -- the place of one operand is written
-  pub relabel : {os os' : ArenaIndex → List (UsePlace N)} {us : N → List UseIndex} (v : N) (last k : ℕ) (p : ArenaIndex) (j : ℕ) (m : UsePlace N) → LinkedBut NoHole os us → slice_get (os p) j ≡ Some m → m.names ≡ v → m.place ≡ last
+  pub relabel : {os os' : ArenaIndex → List (UsePlace N)} {us : N → List UseIndex} (v : N) (last k : ℕ) (p : ArenaIndex) (j : ℕ) (m : UsePlace N) → LinkedBesides v k os us → slice_get (os p) j ≡ Some m → m.names ≡ v → m.place ≡ last
       → OperandsChange p (set (os p) j (record m { place = k })) os os' → Relabelled v last k os os'
   relabel {os} {os'} {us} v last k p j m L at ev el C =
       let within = slice_get_within (os p) j m at in
@@ -295,7 +294,7 @@ module _ {N : Type 0} (tell : (v w : N) → (v ≡ w) ⊎ (¬ (v ≡ w))) where
               | inr ne ↦ (b, sym (away q i ne) ∙ atb, refl)
             ];
         moves = λ q i b atb eb el'.
-            let one = one_place L p j q i m b at atb (λ (t : ⊥). t) (λ (t : ⊥). t) (eb ∙ sym ev) (el' ∙ sym el) in
+            let one = placed_once os us L.distinct p j q i m b at atb (L.forward p j m at) (L.forward q i b atb) (eb ∙ sym ev) (el' ∙ sym el) in
             let same : b ≡ m = same_operand os p j q i m b at atb one in
             at_same os' p q j i one ∙ here ∙ (λ x. Some (record (sym same x) { place = k }));
         stays = λ q i b atb no.

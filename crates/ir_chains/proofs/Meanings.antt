@@ -1,6 +1,6 @@
 -- What writes of one chain do to the forest: one operation names other things, and all else is as it was.
 use Rattle.std.proofs.Common.{◌≡◌, ℕ, ◌+◌, ◌-◌, ◌==◌, List, [], ◌∷◌, ◌++◌, length, map, Option, Some, None, Bool, true, false, cond, refl, sym, ap, ◌∙◌, inl, inr}
-use Rattle.std.specs.List.{remove}
+use Rattle.std.specs.List.{insert, remove}
 use Rattle.std.specs.Option.{option_map}
 use Rattle.std.proofs.lemmas.Bool.{cases_eq, eq-eqb, ne_eqb}
 use Rattle.std.proofs.lemmas.List.{length-map, map-append}
@@ -31,6 +31,7 @@ use Rattle.ir_records.specs.Meaning.{closed, value_of, operands_from, successors
 use Rattle.ir_chains.specs.Edits.{edited-kept}
 use Rattle.ir_chains.specs.TableLaws.{chain-values, chain-blocks}
 use Rattle.ir_chains.proofs.ChainEdits.{rewrites-keep, map-remove}
+use Rattle.ir_chains.proofs.InsertLemmas.{map-insert}
 use Rattle.ir_chains.proofs.Frames.{keeps-by_values, keeps-by_successors}
 
 -- the operand, or the successor, that a number and a name mean
@@ -72,6 +73,18 @@ module _ {N P : Type 0} (of_name : ℕ × N → P) where
       ∙ map-remove of_name (names_in xs) (length xs - 1)
       ∙ ap (λ ps. remove ps (length xs - 1)) (by_names xs)
       ∙ ap (λ n. remove (meant xs) (n - 1)) (sym (length-map xs (λ (a : UsePlace N). of_name (name_of a))))
+
+  meant-removed : (i : ℕ) (xs ys : List (UsePlace N)) → names_in ys ≡ remove (names_in xs) i → meant ys ≡ remove (meant xs) i
+  meant-removed i xs ys e = meant-names ys (remove (names_in xs) i) e ∙ map-remove of_name (names_in xs) i ∙ ap (λ ps. remove ps i) (by_names xs)
+
+  meant-inserted : (i : ℕ) (xs ys : List (UsePlace N)) (n : ℕ × N) → names_in ys ≡ insert (names_in xs) i n → meant ys ≡ insert (meant xs) i (of_name n)
+  meant-inserted i xs ys n e = meant-names ys (insert (names_in xs) i n) e ∙ map-insert of_name (names_in xs) i n ∙ ap (λ ps. insert ps i (of_name n)) (by_names xs)
+
+  meant-replaced : (i : ℕ) (xs ys : List (UsePlace N)) (n : ℕ × N) → names_in ys ≡ insert (remove (names_in xs) i) i n → meant ys ≡ insert (remove (meant xs) i) i (of_name n)
+  meant-replaced i xs ys n e =
+      meant-names ys (insert (remove (names_in xs) i) i n) e
+      ∙ map-insert of_name (remove (names_in xs) i) i n
+      ∙ ap (λ ps. insert ps i (of_name n)) (map-remove of_name (names_in xs) i ∙ ap (λ ps. remove ps i) (by_names xs))
 
 module _ {A K B S X L : Type 0} where
   put_uses-meaning : (rs : List Definition) (n : ℕ) (us : List UseIndex) → map (definition_of {A = A} {K = K} {B = B} {S = S} {X = X} {L = L}) (put_uses rs n us) ≡ map definition_of rs
@@ -156,6 +169,15 @@ module _ {D A K B S X L N P : Type 0} {of_name : ℕ × N → P} {places : Opera
 
   pub forest-popped : (t s : Records D A K B S X L) (o : ArenaIndex) → Writes t s → names_in (at s o) ≡ remove (names_in (at t o)) (length (at t o) - 1) → ((p : ArenaIndex) → ¬ (p ≡ o) → names_in (at s p) ≡ names_in (at t p)) → forest_of s ≡ on_op (forest_of t) o (on (λ xs. remove xs (length xs - 1)))
   forest-popped t s o w here others = forest-changed (λ xs. remove xs (length xs - 1)) t s o w (meant-popped of_name (at t o) (at s o) here) others
+
+  pub forest-removed : (i : ℕ) (t s : Records D A K B S X L) (o : ArenaIndex) → Writes t s → names_in (at s o) ≡ remove (names_in (at t o)) i → ((p : ArenaIndex) → ¬ (p ≡ o) → names_in (at s p) ≡ names_in (at t p)) → forest_of s ≡ on_op (forest_of t) o (on (λ xs. remove xs i))
+  forest-removed i t s o w here others = forest-changed (λ xs. remove xs i) t s o w (meant-removed of_name i (at t o) (at s o) here) others
+
+  pub forest-inserted : (i : ℕ) (t s : Records D A K B S X L) (o : ArenaIndex) (n : ℕ × N) → Writes t s → names_in (at s o) ≡ insert (names_in (at t o)) i n → ((p : ArenaIndex) → ¬ (p ≡ o) → names_in (at s p) ≡ names_in (at t p)) → forest_of s ≡ on_op (forest_of t) o (on (λ xs. insert xs i (of_name n)))
+  forest-inserted i t s o n w here others = forest-changed (λ xs. insert xs i (of_name n)) t s o w (meant-inserted of_name i (at t o) (at s o) n here) others
+
+  pub forest-replaced : (i : ℕ) (t s : Records D A K B S X L) (o : ArenaIndex) (n : ℕ × N) → Writes t s → names_in (at s o) ≡ insert (remove (names_in (at t o)) i) i n → ((p : ArenaIndex) → ¬ (p ≡ o) → names_in (at s p) ≡ names_in (at t p)) → forest_of s ≡ on_op (forest_of t) o (on (λ xs. insert (remove xs i) i (of_name n)))
+  forest-replaced i t s o n w here others = forest-changed (λ xs. insert (remove xs i) i (of_name n)) t s o w (meant-replaced of_name i (at t o) (at s o) n here) others
 
   pub forest-cleared : (t s : Records D A K B S X L) (o : ArenaIndex) → Writes t s → at s o ≡ [] → ((p : ArenaIndex) → ¬ (p ≡ o) → names_in (at s p) ≡ names_in (at t p)) → forest_of s ≡ on_op (forest_of t) o (on (λ _. []))
   forest-cleared t s o w here others = forest-changed (λ _. []) t s o w (ap (meant of_name) here) others

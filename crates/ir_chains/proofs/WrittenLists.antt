@@ -15,10 +15,13 @@ use Rattle.ir_records.specs.Lists.{uses_with, put_uses}
 use Rattle.ir_records.specs.Table.{operands_at, successors_at, block_uses_at, definitions_at, uses_at, with_operands, with_successors, with_block_uses, with_uses_by, with_uses}
 use Rattle.ir_chains.specs.Edits.{edited-lent, in_record-lent}
 
--- what was pushed where there was memory, and else written as it stood
+-- what was written where there was memory, and else written as it stood
+pub written_or_same : {S X : Type 0} (b : Bool) (put : List X → S) (xs ys zs : List X) (t s : S) → s ≡ put ys → ys ≡ cond b zs xs → put xs ≡ t → s ≡ cond b (put zs) t
+written_or_same true put xs ys zs t s written items self = written ∙ ap put items
+written_or_same false put xs ys zs t s written items self = written ∙ ap put items ∙ self
+
 pub pushed_or_same : {S X : Type 0} (b : Bool) (put : List X → S) (xs ys : List X) (y : X) (t s : S) → s ≡ put ys → ys ≡ cond b (xs ++ y ∷ []) xs → put xs ≡ t → s ≡ cond b (put (xs ++ y ∷ [])) t
-pushed_or_same true put xs ys y t s written items self = written ∙ ap put items
-pushed_or_same false put xs ys y t s written items self = written ∙ ap put items ∙ self
+pushed_or_same b put xs ys y t s written items self = written_or_same b put xs ys (xs ++ y ∷ []) t s written items self
 
 module _ {D A K B S X L : Type 0} (t : Records D A K B S X L) where
   -- lists of an operation

@@ -1,3 +1,4 @@
+pub mod Besides
 pub mod Chain
 pub mod Edits
 pub mod TableLaws

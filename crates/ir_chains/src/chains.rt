@@ -1,40 +1,27 @@
-//! The chains from definitions to their uses and back, kept while operands and successors are put in and taken out. A use is taken out by moving the last one into its place.
+//! The chains from definitions to their uses and back, kept while operands and successors are put in and taken out at the end, one or all.
 //!
 //! Everything here is generic in what is named: `N` is a value, as an operand names one, or a block, as a successor does.
 
-ghost use Rattle.std.specs.Prelude.{◌≡◌, ℕ, ◌+◌, ◌-◌, ◌^◌, ◌<◌, ◌≤◌, ◌++◌, ◌∷◌, [], All, length, map, OnOk, OnErr, remove};
+ghost use Rattle.std.specs.Prelude.{◌≡◌, ℕ, ◌+◌, ◌-◌, ◌^◌, ◌<◌, ◌≤◌, ◌++◌, ◌∷◌, [], All, length, map, OnOk, OnErr, remove, slice_get, Some};
+ghost use Rattle.std.specs.Option.{option_map};
 ghost use Rattle.ir_arena.specs.Arena.{IsLive};
 ghost use Rattle.ir_model.specs.declared.ids.ArenaIndex.{ArenaIndex};
-ghost use Rattle.ir_records.specs.Links.{LinkedBut, NoHole, HoleAt, IsFreshUse};
+ghost use Rattle.ir_records.specs.Links.{LinkedBut, NoHole, IsFreshUse};
 ghost use Rattle.ir_chains.specs.Chain.{Rewrites};
 ghost use Rattle.ir_records.specs.Chains.{names_in, names_from};
 
+use crate::chains_at::remove_linked;
 use crate::named::{Named, Names};
 use ir_base::{ArenaIndex, Dialects};
 use ir_records::{Records, UseIndex};
 use std::alloc::AllocError;
 
-// Takes the use of a place out of its list. The last use moves into its place.
-fn detach<D: Dialects, N: Named<D>>(records: &mut Records<D>, user: ArenaIndex, index: usize)
-    requires linked { LinkedBut NoHole (N.places_at records.old) (N.uses_at records.old) }
-    requires live { IsLive records.old.ops user }
-    requires within { index < length (N.places_at records.old user) }
-    ensures linked { LinkedBut (HoleAt user index) (N.places_at records.new) (N.uses_at records.new) }
-    ensures live { IsLive records.new.ops user }
-    ensures names { (o : ArenaIndex) → names_in (N.places_at records.new o) ≡ names_in (N.places_at records.old o) }
-    ensures rest { Rewrites N.with_places N.with_uses records.old records.new }
-{
-    let gone = N::place_at(records, user, index);
-    if let Some(moved) = N::take_use(records, gone.names, gone.place) {
-        N::set_place(records, moved, gone.place);
-    }
-}
-
-// Takes the last place out, and its use with it.
-pub(crate) fn pop_linked<D: Dialects, N: Named<D>>(records: &mut Records<D>, user: ArenaIndex)
+// Takes the last place out, and its use with it. It tells what the place named.
+pub(crate) fn pop_linked<D: Dialects, N: Named<D>>(records: &mut Records<D>, user: ArenaIndex) -> N
     requires linked { LinkedBut NoHole (N.places_at records.old) (N.uses_at records.old) }
     requires live { IsLive records.old.ops user }
     requires some { 0 < length (N.places_at records.old user) }
+    ensures value { option_map (λ a. a.names) (slice_get (N.places_at records.old user) (length (N.places_at records.old user) - 1)) ≡ Some result }
     ensures linked { LinkedBut NoHole (N.places_at records.new) (N.uses_at records.new) }
     ensures live { IsLive records.new.ops user }
     ensures here { names_in (N.places_at records.new user) ≡ remove (names_in (N.places_at records.old user)) (length (N.places_at records.old user) - 1) }
@@ -42,8 +29,7 @@ pub(crate) fn pop_linked<D: Dialects, N: Named<D>>(records: &mut Records<D>, use
     ensures rest { Rewrites N.with_places N.with_uses records.old records.new }
 {
     let last = N::place_count(records, user) - 1;
-    detach::<D, N>(records, user, last);
-    N::remove_place(records, user, last);
+    remove_linked::<D, N>(records, user, last)
 }
 
 // Puts the use into the list of what is named, and a place with a new number at the end: both or neither.

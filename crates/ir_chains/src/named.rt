@@ -1,6 +1,6 @@
 //! What operands and successors name, and the lists that the two directions of a chain are kept in.
 
-ghost use Rattle.std.specs.Prelude.{◌≡◌, ◌<◌, ◌++◌, ◌∷◌, [], List, length, is_ok, IfOk, if◌then◌else◌, remove, slice_get, Some};
+ghost use Rattle.std.specs.Prelude.{◌≡◌, ◌<◌, ◌≤◌, ◌++◌, ◌∷◌, [], List, length, is_ok, IfOk, if◌then◌else◌, insert, remove, slice_get, slice_set, Some};
 ghost use Rattle.std.specs.List.{swap_remove};
 ghost use Rattle.ir_arena.specs.Arena.{IsLive};
 ghost use Rattle.ir_model.specs.declared.ids.ArenaIndex.{ArenaIndex as Index};
@@ -18,6 +18,7 @@ use ir_records::{
     BasicBlock, BlockIndex, Definer, Records, UseIndex, UsePlace, Value, ValueIndex, find_place,
 };
 use std::alloc::AllocError;
+use std::mem::replace;
 
 /// What stands for an index that a place names: the index itself, or a handle.
 pub trait Names<N> {
@@ -105,11 +106,39 @@ pub(crate) trait Named<D: Dialects>: Copy + Drop {
         requires { IsLive records.old.ops user }
         ensures { records.new ≡ (if is_ok result then with_places records.old user (places_at records.old user ++ record { number = number; names = names; place = place } ∷ []) else records.old) };
 
-    // Takes the place at an index out.
-    fn remove_place(records: &mut Records<D>, user: ArenaIndex, index: usize)
+    // Puts a place at an index, before the one that stands there.
+    fn insert_place(
+        records: &mut Records<D>,
+        user: ArenaIndex,
+        index: usize,
+        number: u64,
+        names: Self,
+        place: usize,
+    ) -> Result<(), AllocError>
+        requires live { IsLive records.old.ops user }
+        requires within { index ≤ length (places_at records.old user) }
+        ensures { records.new ≡ (if is_ok result then with_places records.old user (insert (places_at records.old user) index (record { number = number; names = names; place = place })) else records.old) };
+
+    // Puts a place where another one stands, and gives that one back.
+    fn replace_place(
+        records: &mut Records<D>,
+        user: ArenaIndex,
+        index: usize,
+        number: u64,
+        names: Self,
+        place: usize,
+    ) -> UsePlace<Self>
         requires live { IsLive records.old.ops user }
         requires within { index < length (places_at records.old user) }
-        ensures { records.new ≡ with_places records.old user (remove (places_at records.old user) index) };
+        ensures gone { slice_get (places_at records.old user) index ≡ Some result }
+        ensures records { records.new ≡ with_places records.old user (slice_set (places_at records.old user) index (record { number = number; names = names; place = place })) };
+
+    // Takes the place at an index out, and gives it back.
+    fn remove_place(records: &mut Records<D>, user: ArenaIndex, index: usize) -> UsePlace<Self>
+        requires live { IsLive records.old.ops user }
+        requires within { index < length (places_at records.old user) }
+        ensures gone { slice_get (places_at records.old user) index ≡ Some result }
+        ensures records { records.new ≡ with_places records.old user (remove (places_at records.old user) index) };
 
     // Gives the place of a use the index where that use stands now.
     fn set_place(records: &mut Records<D>, moved: UseIndex, index: usize)
@@ -185,12 +214,52 @@ impl<D: Dialects> Named<D> for ValueIndex {
         })
     }
 
-    fn remove_place(records: &mut Records<D>, user: ArenaIndex, index: usize) {
+    fn insert_place(
+        records: &mut Records<D>,
+        user: ArenaIndex,
+        index: usize,
+        number: u64,
+        names: ValueIndex,
+        place: usize,
+    ) -> Result<(), AllocError> {
+        let operation = records.ops.at_mut(Ptr::from_index(user));
+        operation.operands.insert(
+            index,
+            UsePlace {
+                number,
+                names,
+                place,
+            },
+        )
+    }
+
+    fn replace_place(
+        records: &mut Records<D>,
+        user: ArenaIndex,
+        index: usize,
+        number: u64,
+        names: ValueIndex,
+        place: usize,
+    ) -> UsePlace<ValueIndex> {
+        let operation = records.ops.at_mut(Ptr::from_index(user));
+        let new = UsePlace {
+            number,
+            names,
+            place,
+        };
+        replace(operation.operands.at_mut(index), new)
+    }
+
+    fn remove_place(
+        records: &mut Records<D>,
+        user: ArenaIndex,
+        index: usize,
+    ) -> UsePlace<ValueIndex> {
         records
             .ops
             .at_mut(Ptr::from_index(user))
             .operands
-            .remove(index);
+            .remove(index)
     }
 
     fn set_place(records: &mut Records<D>, moved: UseIndex, index: usize) {
@@ -283,12 +352,52 @@ impl<D: Dialects> Named<D> for BlockIndex {
         })
     }
 
-    fn remove_place(records: &mut Records<D>, user: ArenaIndex, index: usize) {
+    fn insert_place(
+        records: &mut Records<D>,
+        user: ArenaIndex,
+        index: usize,
+        number: u64,
+        names: BlockIndex,
+        place: usize,
+    ) -> Result<(), AllocError> {
+        let operation = records.ops.at_mut(Ptr::from_index(user));
+        operation.successors.insert(
+            index,
+            UsePlace {
+                number,
+                names,
+                place,
+            },
+        )
+    }
+
+    fn replace_place(
+        records: &mut Records<D>,
+        user: ArenaIndex,
+        index: usize,
+        number: u64,
+        names: BlockIndex,
+        place: usize,
+    ) -> UsePlace<BlockIndex> {
+        let operation = records.ops.at_mut(Ptr::from_index(user));
+        let new = UsePlace {
+            number,
+            names,
+            place,
+        };
+        replace(operation.successors.at_mut(index), new)
+    }
+
+    fn remove_place(
+        records: &mut Records<D>,
+        user: ArenaIndex,
+        index: usize,
+    ) -> UsePlace<BlockIndex> {
         records
             .ops
             .at_mut(Ptr::from_index(user))
             .successors
-            .remove(index);
+            .remove(index)
     }
 
     fn set_place(records: &mut Records<D>, moved: UseIndex, index: usize) {

@@ -1,6 +1,7 @@
 //! Operands and successors, put in and taken out under both chains at once. The tree stays as it is.
 
-ghost use Rattle.std.specs.Prelude.{◌≡◌, ℕ, ◌+◌, ◌-◌, ◌^◌, ◌<◌, ◌≤◌, ◌++◌, ◌∷◌, [], All, length, map, remove, OnOk, OnErr};
+ghost use Rattle.std.specs.Prelude.{◌≡◌, ℕ, ◌+◌, ◌-◌, ◌^◌, ◌<◌, ◌≤◌, ◌++◌, ◌∷◌, [], All, length, map, remove, OnOk, OnErr, slice_get, Some};
+ghost use Rattle.std.specs.Option.{option_map};
 ghost use Rattle.ir_arena.specs.Arena.{IsLive};
 ghost use Rattle.ir_model.specs.Changes.{on_op, on_operands, on_successors};
 ghost use Rattle.ir_records.specs.Meaning.{forest_of, value_of, operands_from, successors_from};
@@ -37,16 +38,17 @@ pub fn push_operand<D: Dialects>(
     chains::push_linked::<D, ValueIndex>(records, user, number, value)
 }
 
-/// Takes the last operand out, and its use with it.
-pub fn pop_operand<D: Dialects>(records: &mut Records<D>, user: ArenaIndex)
+/// Takes the last operand out, and its use with it. It tells what the operand named.
+pub fn pop_operand<D: Dialects>(records: &mut Records<D>, user: ArenaIndex) -> ValueIndex
     requires linked { AreLinked (chains_of records.old) }
     requires live { IsLive records.old.ops user }
     requires some { 0 < length (operands_at records.old user) }
+    ensures value { option_map (λ a. a.names) (slice_get (operands_at records.old user) (length (operands_at records.old user) - 1)) ≡ Some result }
     ensures linked { AreLinked (chains_of records.new) }
     ensures keeps { KeepsTree records.old records.new }
     ensures forest { forest_of records.new ≡ on_op (forest_of records.old) user (on_operands (λ xs. remove xs (length xs - 1))) }
 {
-    chains::pop_linked::<D, ValueIndex>(records, user);
+    chains::pop_linked::<D, ValueIndex>(records, user)
 }
 
 /// Puts a successor with a new number at the end, and its use into the block's list: both or neither.
@@ -71,16 +73,17 @@ pub fn push_successor<D: Dialects>(
     chains::push_linked::<D, BlockIndex>(records, user, number, block)
 }
 
-/// Takes the last successor out, and its use with it.
-pub fn pop_successor<D: Dialects>(records: &mut Records<D>, user: ArenaIndex)
+/// Takes the last successor out, and its use with it. It tells what the successor named.
+pub fn pop_successor<D: Dialects>(records: &mut Records<D>, user: ArenaIndex) -> BlockIndex
     requires linked { AreLinked (chains_of records.old) }
     requires live { IsLive records.old.ops user }
     requires some { 0 < length (successors_at records.old user) }
+    ensures value { option_map (λ a. a.names) (slice_get (successors_at records.old user) (length (successors_at records.old user) - 1)) ≡ Some result }
     ensures linked { AreLinked (chains_of records.new) }
     ensures keeps { KeepsTree records.old records.new }
     ensures forest { forest_of records.new ≡ on_op (forest_of records.old) user (on_successors (λ xs. remove xs (length xs - 1))) }
 {
-    chains::pop_linked::<D, BlockIndex>(records, user);
+    chains::pop_linked::<D, BlockIndex>(records, user)
 }
 
 /// Gives an operation without operands these, numbered from `first` on, and puts their uses into the values' lists: all or none.

@@ -17,7 +17,7 @@ use Rattle.ir_records.specs.Meaning.{closed, block_record, definer_of, op_record
 use Rattle.ir_records.specs.Values.{IsLiveBlockUse, IsLiveUse}
 use Rattle.ir_records.specs.Found.{some_behind}
 use Rattle.ir_core.specs.Calls.{BlockLeadsToLive, IsBlock, IsOperation, LeadsToLive}
-use Rattle.ir_core.proofs.ValueLemmas.{block-use-live, use-live}
+use Rattle.ir_core.specs.Named.{block-use-live, use-live}
 
 -- what is read at a place stands among what is read of all
 read-in : {A B : Type 0} (g : A → B) (xs : List A) (k : ℕ) (b : B) → option_map g (slice_get xs k) ≡ Some b → In b (map g xs)

@@ -19,11 +19,9 @@ pub mod WrittenOps
 pub mod WrittenBlocks
 pub mod MadeBlocks
 pub mod Growths
-pub mod ValueLemmas
-pub mod FindIndex
+pub mod ExactUses
 pub mod Leads
 pub mod Parents
-pub mod ResultUses
 pub mod Linking
 pub mod Giving
 pub mod Answers

@@ -30,7 +30,7 @@ use Rattle.ir_core.proofs.MadeParts.{operand-numbers}
 use Rattle.ir_core.proofs.Making.{rewrite-none, rewrite-twice}
 use Rattle.ir_core.proofs.Numbers.{In-range}
 use Rattle.ir_records.specs.Meant.{operands-meant, successors-meant}
-use Rattle.ir_core.proofs.ValueLemmas.{live-value}
+use Rattle.ir_core.specs.Named.{live-value}
 
 map-none : {U V : Type 0} (f : U → V) (xs : List U) → map f xs ≡ [] → xs ≡ []
 map-none f [] e = refl
@@ -68,7 +68,7 @@ module _ {D A K B S X L : Type 0} (t : Records D A K B S X L) where
       omega (arith, low, high, is)
 
   pub live-values : {V : Type 0} (index : V → ValueIndex) (vs : List V) → All (λ v. IsLiveNamed (forest_in t) (a_value (value_of (index v)))) vs → All (λ v. IsValue t (index v)) vs
-  live-values index vs live k d within = live-value (record { records = t; types = []; next_value = 0; next_use = 0; limits = record { values = 0; uses = 0; slots = 0; last_version = 0 } }) _ (live k d within)
+  live-values index vs live k d within = live-value t _ (live k d within)
 
   pub live-block : (b : ArenaIndex) → IsLiveNamed (forest_in t) (the_block b) → IsLive t.blocks b
   live-block b h = some-map (block_record (ops_in (tree_of t) b)) (get t.blocks b) h

@@ -19,7 +19,8 @@ use Rattle.ir_records.specs.Table.{uses_at}
 use Rattle.ir_core.specs.Calls.{EntitiesStayLive, StayLive}
 use Rattle.ir_core.specs.Creation.{AreFresh}
 use Rattle.ir_core.specs.State.{State}
-use Rattle.ir_core.proofs.ValueLemmas.{use-live, uses-exact}
+use Rattle.ir_core.specs.Named.{use-live}
+use Rattle.ir_core.proofs.ExactUses.{uses-exact}
 
 module _ {W : Dialect} (f g : Forest context_ids W) (o : ArenaIndex) (loc : W.Loc) (kind : ℕ) (results : List (Definition context_ids W))
     (operands : List (Operand context_ids)) (successors : List (Successor context_ids)) (regions : List ArenaIndex)

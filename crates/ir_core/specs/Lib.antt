@@ -1,6 +1,6 @@
 pub mod State
+pub mod Named
 pub mod Sound
-pub mod Values
 pub mod Calls
 pub mod Creation
 pub mod GoingBack

@@ -1,16 +1,13 @@
 -- What a contract sees of a `Context`, and what it means: a forest, a store of types, what has passed, and limits.
 use Rattle.std.specs.Prelude.{ℕ, Bool, false, List, [], map, None, nat_lt}
-use Rattle.std.specs.List.{flat_map}
 use Rattle.ir_model.specs.declared.ids.ArenaIndex.{ArenaIndex}
 use Rattle.ir_model.specs.declared.ids.Limits.{Limits}
 use Rattle.ir_model.specs.ContextIds.{context_ids}
-use Rattle.ir_model.specs.Forest.{Behaviour, Forest, of_op}
-use Rattle.ir_model.specs.Nesting.{numbers_of}
+use Rattle.ir_model.specs.Forest.{Behaviour, Forest}
 use Rattle.ir_model.specs.Edits.{StoredType, Tables}
 use Rattle.ir_model.specs.Sessions.{Passed, Session, Beside}
 use Rattle.ir_model.specs.Uses.{Use}
 use Rattle.ir_arena.specs.Arena.{is_passed}
-use Rattle.ir_records.specs.declared.record.Definer.TheVariants.{Op}
 use Rattle.ir_records.specs.declared.record.ValueIndex.{ValueIndex}
 use Rattle.ir_records.specs.declared.record.BlockIndex.{BlockIndex}
 use Rattle.ir_records.specs.declared.records.Records.{Records}
@@ -75,7 +72,3 @@ module _ {D A K B S X L : Type 0} where
   -- the kept list of the uses of a block as a successor
   abbrev pub block_uses_of : State D A K B S X L → ArenaIndex → List (Use context_ids)
   block_uses_of s b = map use_of (block_uses_at s.records (record { index = b }))
-
-  -- the kept lists of the uses of an operation's results, joined in the order of the results
-  abbrev pub uses_of_results : State D A K B S X L → ArenaIndex → List (Use context_ids)
-  uses_of_results s o = flat_map (λ n. uses_of s (record { definer = Op o; number = n })) (numbers_of (forest_of s) (of_op o))

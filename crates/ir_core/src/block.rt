@@ -1,24 +1,18 @@
 //! What a context tells of the handle of a block.
 
-ghost use Rattle.std.specs.Prelude.{◌≡◌, ◌<◌, ◌↔◌, All, length, map, IsTrue, IfOk, IfErr, IsErr};
-ghost use Rattle.ir_model.specs.Forest.{a_block, the_block};
+ghost use Rattle.std.specs.Prelude.{◌↔◌, length, IsTrue, IfOk, IsErr};
+ghost use Rattle.ir_model.specs.Forest.{a_block};
 ghost use Rattle.ir_model.specs.Nesting.{IsLive};
-ghost use Rattle.ir_model.specs.Uses.{AreUses, IsUse};
-ghost use Rattle.ir_records.specs.Meaning.{use_of};
-ghost use Rattle.ir_records.specs.Values.{IsLiveBlockUse};
-ghost use Rattle.ir_core.specs.State.{block_uses_of, forest_of, types_of};
+ghost use Rattle.ir_core.specs.State.{forest_of, types_of};
 
 use crate::context::Context;
 use crate::error::DanglingPtrDerefError;
-use crate::value::copy_uses;
-use ir_base::{CoreError, Dialects, Ptr};
-use ir_records::{BasicBlock, BlockIndex, Use, block_uses};
+use ir_base::{Dialects, Ptr};
+use ir_records::BasicBlock;
 
 /// What can be asked of the handle of a block. It stands for pliron's calls of `Ptr<BasicBlock>`.
 pub trait BlockPtr<D: Dialects> {
     ghost use Rattle.ir_model.specs.declared.ids.ArenaIndex.{ArenaIndex};
-    ghost use Rattle.ir_model.specs.ContextIds.{context_ids};
-    ghost use Rattle.ir_model.specs.Uses.{Use as PlainUse};
     ghost use Rattle.ir_core.specs.Calls.{BlockLeadsToLive, IsBlock};
 
     ghost index_of: { Self → ArenaIndex };
@@ -41,28 +35,6 @@ pub trait BlockPtr<D: Dialects> {
         ensures found { IfOk result (λ block. IsBlock (forest_of ctx.now) (index_of self) block.now) }
         ensures leads { IfOk result (λ block. BlockLeadsToLive (forest_of ctx.now) (length (types_of ctx.now)) (index_of self) block.now) }
         ensures dangling { IsErr result ↔ (IsLive (forest_of ctx.now) (a_block (index_of self)) → ⊥) };
-
-    /// Whether an operation names the live block as a successor.
-    fn has_pred(self, ctx: &Context<D>) -> bool
-        requires { IsLive (forest_of ctx.now) (a_block (index_of self)) }
-        ensures { IsTrue result ↔ ((u : PlainUse context_ids) × IsUse (forest_of ctx.now) (the_block (index_of self)) u) };
-
-    /// How many successors name the live block.
-    fn num_preds(self, ctx: &Context<D>) -> usize
-        requires { IsLive (forest_of ctx.now) (a_block (index_of self)) }
-        ensures count { result ≡ length (block_uses_of ctx.now (index_of self)) }
-        ensures exact { AreUses (forest_of ctx.now) (the_block (index_of self)) (block_uses_of ctx.now (index_of self)) };
-
-    /// The uses of the live block as a successor, each once. Their order is open, and the same until the context changes.
-    ///
-    /// # Errors
-    /// `OutOfMemory`.
-    fn uses(self, ctx: &Context<D>) -> Result<Vec<Use<Ptr<BasicBlock<D>>>>, CoreError>
-        requires { IsLive (forest_of ctx.now) (a_block (index_of self)) }
-        ensures kept { IfOk result (λ uses. map (λ u. use_of u.index) uses.items ≡ block_uses_of ctx.now (index_of self)) }
-        ensures exact { AreUses (forest_of ctx.now) (the_block (index_of self)) (block_uses_of ctx.now (index_of self)) }
-        ensures live { IfOk result (λ uses. All (λ u. IsLiveBlockUse (forest_of ctx.now) (use_of u.index)) uses.items) }
-        ensures memory { IfErr result (λ e. e ≡ CoreError.OutOfMemory) };
 }
 
 impl<D: Dialects> BlockPtr<D> for Ptr<BasicBlock<D>> {
@@ -80,20 +52,5 @@ impl<D: Dialects> BlockPtr<D> for Ptr<BasicBlock<D>> {
     fn try_deref(self, ctx: &Context<D>) -> Result<&BasicBlock<D>, DanglingPtrDerefError> {
         ctx.is_well_formed();
         ctx.records.blocks.get(self).ok_or(DanglingPtrDerefError)
-    }
-
-    fn has_pred(self, ctx: &Context<D>) -> bool {
-        !block_uses(&ctx.records, BlockIndex { index: self.index }).is_empty()
-    }
-
-    fn num_preds(self, ctx: &Context<D>) -> usize {
-        ctx.uses_are_exact();
-        block_uses(&ctx.records, BlockIndex { index: self.index }).len()
-    }
-
-    fn uses(self, ctx: &Context<D>) -> Result<Vec<Use<Ptr<BasicBlock<D>>>>, CoreError> {
-        ctx.uses_are_exact();
-        let kept = block_uses(&ctx.records, BlockIndex { index: self.index });
-        copy_uses(ctx.alloc, kept.as_slice())
     }
 }

@@ -2,7 +2,7 @@
 //!
 //! It means a plain forest, found by `forest_of`, which is well formed at every time. What was handed out is never handed out again.
 
-ghost use Rattle.std.specs.Prelude.{◌≡◌, ◌⊎◌, ◌+◌, ◌-◌, ◌<◌, ◌≤◌, ◌^◌, ◌↔◌, [], length, Some, None, IsTrue, IfOk, IfErr, OnOk, OnErr, IsSome, IfSome};
+ghost use Rattle.std.specs.Prelude.{◌≡◌, ℕ, ◌⊎◌, ◌+◌, ◌-◌, ◌<◌, ◌≤◌, ◌^◌, ◌↔◌, [], length, Some, None, IsTrue, IfOk, IfErr, OnOk, OnErr, IsSome, IfSome};
 ghost use Rattle.std.specs.Option.{option_copied};
 ghost use Rattle.std.specs.Map.{keys_of};
 ghost use Rattle.ir_model.specs.ContextIds.{context_ids};
@@ -11,7 +11,7 @@ ghost use Rattle.ir_model.specs.declared.ids.ArenaIndex.{ArenaIndex};
 ghost use Rattle.ir_model.specs.Nesting.{IsLiveNamed, WellFormed};
 ghost use Rattle.ir_model.specs.Uses.{AreUses};
 ghost use Rattle.ir_model.specs.Edits.{type_place, with_type};
-ghost use Rattle.ir_model.specs.Sessions.{IsNewSession, Session};
+ghost use Rattle.ir_model.specs.Sessions.{IsNewSession, Number, Session};
 ghost use Rattle.ir_arena.specs.Arena.{room};
 ghost use Rattle.ir_records.specs.declared.record.ValueIndex.{ValueIndex as PlainIndex};
 ghost use Rattle.ir_records.specs.Meaning.{value_of};
@@ -176,9 +176,9 @@ impl<D: Dialects> Context<D> {
         let _value = self.next_value;
     }
 
-    // What holds of every context: the number of the next use fits its type.
-    pub(crate) fn use_numbers_fit(&self)
-        ensures { self.now.next_use < 2 ^ 64 }
+    /// What holds of every context: so many use numbers were handed out, fewer than 2^64.
+    pub fn use_numbers_fit(&self)
+        ensures { (gone : ℕ) × Number (λ n. IsTrue ((bare self.now).passed.uses n)) gone × (gone < 2 ^ 64) }
     {
         let _value = self.next_use;
     }

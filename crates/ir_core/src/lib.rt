@@ -14,16 +14,14 @@ mod new_entities;
 mod operand_edits;
 mod operation;
 mod operation_list;
-mod operation_uses;
 mod region;
 mod successor_edits;
 mod types;
-mod value;
 
 pub use block::BlockPtr;
 pub use block_list::{BlockContainer, BlockList, RegionMoves};
 pub use context::Context;
-pub use error::{DanglingPtrDerefError, IndexErr, UseError, ValueError};
+pub use error::DanglingPtrDerefError;
 pub use ir_base::{
     AttrId, AttrName, CoreError, DialectName, Dialects, Identifier, Iter, Legaliser, Limits, OpId,
     OpName, Ptr, Room, TypeHandle, TypeId, TypeName, attribute, interfaces,
@@ -39,8 +37,6 @@ pub use new_entities::{AddRegion, NewBlock, NewOperation};
 pub use operand_edits::OperandEdits;
 pub use operation::OperationPtr;
 pub use operation_list::{OperationContainer, OperationList};
-pub use operation_uses::OperationUses;
 pub use region::RegionPtr;
 pub use successor_edits::SuccessorEdits;
 pub use types::TypeQueries;
-pub use value::{BlockUseQueries, UseQueries, ValueQueries};

@@ -3,18 +3,18 @@ use Rattle.std.proofs.Common.{◌≡◌, refl, ap, subst, ◌∙◌, cond, Bool,
 use Rattle.std.specs.Prelude.{slice_get}
 use Rattle.std.specs.List.{list_any}
 use Rattle.ir_model.specs.declared.answer.Answer.{Answer}
-use Rattle.ir_model.specs.ContextIds.{context_ids}
-use Rattle.ir_model.specs.Forest.{Dialect, Behaviour, Value}
+use Rattle.ir_model.specs.Forest.{Dialect, Behaviour}
 use Rattle.ir_model.specs.Edits.{Edit as PlainEdit, with_type}
 use Rattle.ir_model.specs.Sessions.{Session, Step, Run, condition, counter, slots, memory, made}
 use Rattle.ir_model.specs.Soundness.{Sound}
-use Rattle.ir_model.proofs.Nests.{In-map}
+use Rattle.ir_model.proofs.RefusedForGood.{erased_are_gone, gone_for_good}
+use Rattle.ir_model.proofs.StepSound.{runs_sound}
 use Rattle.ir_model.proofs.Uniquing.{still_at}
 use Rattle.ir_run.specs.declared.edit.Edit.{Edit}
 use Rattle.ir_run.specs.declared.edit.Edit.TheVariants.{AddRegion, NewBlock, NewOp, NewType}
 use Rattle.ir_records.specs.Meaning.{closed}
 use Rattle.ir_run.specs.SessionEdits.{edit_of}
-use Rattle.ir_run.specs.Headline.{KeepsKeys, LiveWasMade}
+use Rattle.ir_run.specs.Headline.{GoneAtCuts, KeepsKeys}
 
 module _ {W : Dialect} (B : Behaviour W) where
   pub run-more : (edits : List (PlainEdit W)) (s : Session W) (answers : List Answer) (t : Session W) (edit : PlainEdit W) (a : Answer) (u : Session W)
@@ -36,17 +36,12 @@ module _ {W : Dialect} (B : Behaviour W) where
     run-more edits r.2 r.1 t edit a u r.5 st,
   )
 
--- what is live was handed out
-pub sound_made : {W : Dialect} (s : Session W) → Sound s → LiveWasMade s
-sound_made s k = record {
-  ops = λ i l. k.passed.ops i (k.listed.ops i l);
-  blocks = λ i l. k.passed.blocks i (k.listed.blocks i l);
-  regions = λ i l. k.passed.regions i (k.listed.regions i l);
-  values = λ d n i. (
-      let v : Value context_ids = record { definer = d; number = n } in
-      k.passed.numbers n (In-map (λ (v : Value context_ids). v.number) v s.state.tables.values (k.listed.values v i)));
-  uses = k.passed.uses;
-}
+module _ {W : Dialect} (B : Behaviour W) where
+  -- at each cut of a run of a sound session
+  pub gone_at_cuts : (old : Session W) (edits : List (PlainEdit W)) (answers : List Answer) (new : Session W) → Sound old → GoneAtCuts B old edits answers new
+  gone_at_cuts old edits answers new k before between behind first middle last cut later e f p q r =
+      let sound = runs_sound B before old cut first k p in
+      (gone_for_good B between cut later middle sound q, erased_are_gone B between cut later middle sound q)
 
 module _ {W : Dialect} where
   same_store : (s t : Session W) → t.state.store ≡ s.state.store → KeepsKeys s t

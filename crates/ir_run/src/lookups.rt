@@ -5,7 +5,8 @@ ghost use Rattle.ir_model.specs.Edits.{Each, The, these};
 ghost use Rattle.ir_core.specs.State.{forest_of};
 
 use ir_base::{Dialects, Ptr};
-use ir_core::{BasicBlock, BlockPtr, Context, Operation, OperationPtr, Value, ValueQueries};
+use ir_core::{BasicBlock, BlockPtr, Context, Operation, OperationPtr, Value};
+use ir_values::ValueQueries;
 use std::alloc::{AllocError, Global};
 
 /// An entry of a table, which is live or not.

@@ -12,10 +12,10 @@ ghost use Rattle.ir_model.specs.Sessions.{IsNewSession, Run, Step};
 ghost use Rattle.ir_model.specs.Uses.{AreUses};
 ghost use Rattle.ir_records.specs.declared.record.ValueIndex.{ValueIndex as PlainIndex};
 ghost use Rattle.ir_records.specs.Meaning.{value_of};
-ghost use Rattle.ir_core.specs.Calls.{TypesAreExact};
-ghost use Rattle.ir_core.specs.State.{behaviour, block_uses_of, uses_of};
+ghost use Rattle.ir_core.specs.Calls.{LiveWasMade, TypesAreExact};
+ghost use Rattle.ir_core.specs.State.{bare, behaviour, block_uses_of, uses_of};
 ghost use Rattle.ir_run.specs.SessionEdits.{edit_of};
-ghost use Rattle.ir_run.specs.Headline.{KeepsKeys, LiveWasMade};
+ghost use Rattle.ir_run.specs.Headline.{GoneAtCuts, KeepsKeys};
 ghost use Rattle.ir_run.specs.SessionState.{plain};
 
 use crate::edit::Edit;
@@ -103,7 +103,7 @@ impl<D: Dialects> Session<D> {
 
     /// Carries the edits out in order, and answers each.
     ///
-    /// Whatever the edits are, the session before, the edits, the answers and the session after stand in `Run`; the forest is well formed; the kept uses of each live value and of each live block are exactly the places that name it; what is gone stays gone; and types are equal exactly where their keys are.
+    /// Whatever the edits are, the session before, the edits, the answers and the session after stand in `Run`; the forest is well formed; the kept uses of each live value and of each live block are exactly the places that name it; what is gone stays gone, also in between; and types are equal exactly where their keys are.
     ///
     /// # Errors
     /// `OutOfMemory`, where there was no room for the answers. Then nothing was done.
@@ -113,7 +113,8 @@ impl<D: Dialects> Session<D> {
         ensures uses_exact { (v : PlainIndex) → IsLiveNamed (plain self.new).state.forest (a_value (value_of v)) → AreUses (plain self.new).state.forest (a_value (value_of v)) (uses_of self.new.ctx v) }
         ensures block_uses_exact { (b : ArenaIndex) → IsLiveNamed (plain self.new).state.forest (the_block b) → AreUses (plain self.new).state.forest (the_block b) (block_uses_of self.new.ctx b) }
         ensures stays_gone { StaysGone (plain self.old) (plain self.new) }
-        ensures live_was_made { LiveWasMade (plain self.new) }
+        ensures gone_at_cuts { IfOk result (λ answers. GoneAtCuts (behaviour D.TypeKey.eq D.first_body D.unknown D.op_impls_of) (plain self.old) (map edit_of edits.items) answers.items (plain self.new)) }
+        ensures live_was_made { LiveWasMade (bare self.new.ctx) }
         ensures types_exact { TypesAreExact (behaviour D.TypeKey.eq D.first_body D.unknown D.op_impls_of) (plain self.new).state.store }
         ensures keys_stay { KeepsKeys (plain self.old) (plain self.new) }
         ensures memory { IfErr result (λ e. e ≡ CoreError.OutOfMemory) }
@@ -122,6 +123,7 @@ impl<D: Dialects> Session<D> {
         let result = self.carry_out(edits);
         self.ctx.uses_are_exact();
         self.ctx.types_are_exact();
+        self.ctx.live_was_made();
         result
     }
 
@@ -129,6 +131,7 @@ impl<D: Dialects> Session<D> {
     fn carry_out(&mut self, edits: Vec<Edit<D>>) -> Result<Vec<Answer>, CoreError>
         ensures headline { IfOk result (λ answers. Run (behaviour D.TypeKey.eq D.first_body D.unknown D.op_impls_of) (plain self.old) (map edit_of edits.items) answers.items (plain self.new)) }
         ensures stays_gone { StaysGone (plain self.old) (plain self.new) }
+        ensures gone_at_cuts { IfOk result (λ answers. GoneAtCuts (behaviour D.TypeKey.eq D.first_body D.unknown D.op_impls_of) (plain self.old) (map edit_of edits.items) answers.items (plain self.new)) }
         ensures keys_stay { KeepsKeys (plain self.old) (plain self.new) }
         ensures memory { IfErr result (λ e. e ≡ CoreError.OutOfMemory) }
         ensures err { OnErr result (self.new ≡ self.old) }

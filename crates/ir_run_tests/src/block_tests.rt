@@ -8,11 +8,13 @@ ghost use Rattle.ir_core.specs.State.{forest_of, types_of};
 
 use ir_base::{ArenaIndex, CoreError, Dialects, Identifier, Limits, Ptr, TypeHandle};
 use ir_core::{
-    AddRegion, BasicBlock, BlockPtr, BlockUseQueries, Context, DanglingPtrDerefError,
-    DefiningEntity, IndexErr, NewBlock, NewOperation, Operation, OperationPtr, RegionPtr, Use,
-    UseError, UseIndex, UseQueries, Value, ValueError, ValueIndex, ValueQueries,
+    AddRegion, BasicBlock, BlockPtr, Context, DanglingPtrDerefError, DefiningEntity, NewBlock,
+    NewOperation, Operation, OperationPtr, RegionPtr, Use, UseIndex, Value, ValueIndex,
 };
 use ir_toy::{Toy, ToyType};
+use ir_view::{
+    BlockUseQueries, BlockUses, IndexErr, UseError, UseQueries, ValueError, ValueQueries,
+};
 use std::alloc::Global;
 use std::process::Abort;
 use std::test::Fail;

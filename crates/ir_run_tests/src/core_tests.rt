@@ -10,11 +10,11 @@ ghost use Rattle.ir_core.specs.State.{forest_of, types_of};
 use example::chain;
 use ir_base::{ArenaIndex, CoreError, Dialects, Limits, Ptr, Room, TypeHandle};
 use ir_core::{
-    Context, DanglingPtrDerefError, DefiningEntity, IndexErr, NewOperation, Operation,
-    OperationPtr, RegionPtr, TypeQueries, Use, UseError, UseIndex, UseQueries, Value, ValueError,
-    ValueIndex, ValueQueries,
+    Context, DanglingPtrDerefError, DefiningEntity, NewOperation, Operation, OperationPtr,
+    RegionPtr, TypeQueries, Use, UseIndex, Value, ValueIndex,
 };
 use ir_toy::{Toy, ToyType};
+use ir_view::{IndexErr, ResultUses, UseError, UseQueries, ValueError, ValueQueries};
 use std::alloc::Global;
 use std::process::Abort;
 use std::test::Fail;

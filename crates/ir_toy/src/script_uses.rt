@@ -5,8 +5,9 @@
 use crate::script_parse::ScriptError;
 use crate::toy::Toy;
 use ir_base::Ptr;
-use ir_core::{BasicBlock, BlockPtr, Operation, OperationPtr, Value, ValueQueries};
+use ir_core::{BasicBlock, BlockPtr, Operation, OperationPtr, Value};
 use ir_run::Session;
+use ir_values::ValueQueries;
 use std::alloc::Global;
 use std::collections::HashMap;
 

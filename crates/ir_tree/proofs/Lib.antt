@@ -15,3 +15,5 @@ pub mod LiveIds
 pub mod ForestParents
 pub mod Depth
 pub mod MovedRegions
+pub mod BlockRemoval
+pub mod RegionRemoval

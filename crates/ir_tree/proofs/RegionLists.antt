@@ -79,7 +79,7 @@ module _ {D A K B S X L : Type 0} (old : Records D A K B S X L) (op : ArenaIndex
     blocks-stay = blocks-are old with_regions found_blocks lists
 
     -- what regions know is told for the operation, and for all others
-    relisted-nested : ((g : ArenaIndex) → In g rs → (tree_of with_regions).parent_ops g ≡ Some op)
+    pub relisted-nested : ((g : ArenaIndex) → In g rs → (tree_of with_regions).parent_ops g ≡ Some op)
         → ((o g : ArenaIndex) → (o ≡ op → ⊥) → In g (list_of (λ gs. gs) ((tree_of old).regions_of o)) → (tree_of with_regions).parent_ops g ≡ Some o)
         → AreNested (tree_of with_regions)
     relisted-nested here others = nested-still old with_regions ops-stay blocks-stay (relisted-ops nested) lists parents
@@ -91,7 +91,7 @@ module _ {D A K B S X L : Type 0} (old : Records D A K B S X L) (op : ArenaIndex
         ]
 
     -- the record of the operation is rewritten, and the regions are told one by one
-    relisted-forest : (change : OpRecord context_ids (closed A K B S X L) → OpRecord context_ids (closed A K B S X L)) → op_record (record x { regions = rs }) ≡ change (op_record x)
+    pub relisted-forest : (change : OpRecord context_ids (closed A K B S X L) → OpRecord context_ids (closed A K B S X L)) → op_record (record x { regions = rs }) ≡ change (op_record x)
         → (lists_now : ArenaIndex → Option (List ArenaIndex)) → ((g : ArenaIndex) → option_map (λ (_ : Region). blocks_in (tree_of old) g) (get regions g) ≡ lists_now g)
         → forest_of with_regions ≡ record (forest_of old) { ops = rewrite same_id op change (forest_of old).ops; regions = lists_now }
     relisted-forest change changed lists_now is = λ i. record {

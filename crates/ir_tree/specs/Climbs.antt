@@ -1,11 +1,13 @@
 -- Climbs: from an entity to what it stands in, and so on, for so many steps at most.
-use Rattle.std.specs.Prelude.{ℕ, zero, suc, ◌+◌, List, [], ◌∷◌, length, Option, Some, None}
+use Rattle.std.specs.Prelude.{◌≡◌, ◌≤◌, ℕ, zero, suc, ◌+◌, List, [], ◌∷◌, length, Option, Some, None}
 use Rattle.std.specs.Option.{option_map}
 use Rattle.ir_model.specs.ContextIds.{context_ids}
 use Rattle.ir_model.specs.Forest.{Dialect, Entity, an_op, a_block, a_region, Forest}
-use Rattle.ir_model.specs.Nesting.{Inside}
+use Rattle.ir_model.specs.Nesting.{In, Inside, Nested, children}
 use Rattle.ir_arena.specs.Lists.{container_of}
 use Rattle.ir_records.specs.declared.records.Records.{Records}
+use Rattle.ir_records.specs.Meaning.{forest_of}
+use Rattle.ir_records.specs.Nested.{AreNested}
 use Rattle.ir_records.specs.Tree.{Tree, tree_of}
 
 -- where `up` leads from o on, with the start
@@ -37,3 +39,13 @@ module _ {D A K B S X L : Type 0} where
   -- how deep an entity stands
   abbrev pub depth : Records D A K B S X L → Option (Entity context_ids) → ℕ
   depth t o = length (above t o)
+
+-- what stands in an entity is one level deeper
+abbrev pub DepthsFollow : (D A K B S X L : Type 0) → Type 0
+DepthsFollow D A K B S X L =
+    (t : Records D A K B S X L) (x y : Entity context_ids)
+    → AreNested (tree_of t) → Nested (forest_of t) → In x (children (forest_of t) y) → depth t (Some x) ≡ suc (depth t (Some y))
+
+-- nothing is deeper than there are slots
+abbrev pub DepthsFit : (D A K B S X L : Type 0) → Type 0
+DepthsFit D A K B S X L = (t : Records D A K B S X L) (o : Option (Entity context_ids)) → depth t o ≤ suc (size t)

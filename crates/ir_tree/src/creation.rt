@@ -8,7 +8,7 @@ ghost use Rattle.ir_model.specs.Forest.{an_op};
 ghost use Rattle.ir_model.specs.Ids.{Distinct};
 ghost use Rattle.ir_model.specs.Nesting.{IsLinked, regions_of, operands_of, successors_of};
 ghost use Rattle.ir_model.specs.Changes.{new_op as with_op, new_block as with_block, add_region as with_region, on_op, on_regions};
-ghost use Rattle.ir_arena.specs.Arena.{get, room, IsLive};
+ghost use Rattle.ir_arena.specs.Arena.{get, room, cut, IsLive};
 ghost use Rattle.ir_arena.specs.Lists.{SameIds};
 ghost use Rattle.ir_records.specs.declared.record.Definer.TheVariants.{Op};
 ghost use Rattle.ir_records.specs.Chains.{chains_of, AreLinked};
@@ -240,6 +240,7 @@ pub fn remove_bare_operation<D: Dialects>(records: &mut Records<D>, op: ArenaInd
     requires unused { (number : ℕ) → uses_at records.old (record { definer = Op op; number = number }) ≡ [] }
     ensures forest { forest_of records.new ≡ without_op (forest_of records.old) op }
     ensures cleared { Clears records.old.ops records.new.ops (op ∷ []) }
+    ensures ops { records.new.ops ≡ cut records.old.ops op }
     ensures blocks { records.new.blocks ≡ records.old.blocks }
     ensures regions { records.new.regions ≡ records.old.regions }
     ensures nested { AreNested (tree_of records.new) }

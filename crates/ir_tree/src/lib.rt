@@ -9,9 +9,11 @@ mod list_edits;
 pub mod operation_list;
 mod parents;
 mod region_moves;
+mod removals;
 
 pub use creation::{
     add_region, insert_block, insert_operation, remove_bare_operation, remove_last_region,
 };
-pub use parents::{is_inside, parent_of};
+pub use parents::{are_one, depths_follow, is_inside, parent_of};
 pub use region_moves::move_region;
+pub use removals::{remove_bare_block, remove_empty_region};

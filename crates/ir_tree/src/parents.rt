@@ -8,7 +8,7 @@ ghost use Rattle.ir_model.specs.Parent.{IsParent};
 ghost use Rattle.ir_records.specs.Meaning.{entity_of, forest_of};
 ghost use Rattle.ir_records.specs.Nested.{AreNested};
 ghost use Rattle.ir_records.specs.Tree.{tree_of};
-ghost use Rattle.ir_tree.specs.Climbs.{kept_parent};
+ghost use Rattle.ir_tree.specs.Climbs.{kept_parent, DepthsFit, DepthsFollow};
 
 use ir_base::linked_list::LinkedList;
 use ir_base::list_laws::lists_hold_nodes;
@@ -39,8 +39,8 @@ fn parent_in_record<D: Dialects>(records: &Records<D>, entity: EntityIndex) -> O
     }
 }
 
-// Whether the entities are one.
-fn are_one(a: EntityIndex, b: EntityIndex) -> bool
+/// Whether the entities are one.
+pub fn are_one(a: EntityIndex, b: EntityIndex) -> bool
     ensures { result ≡ same_entity context_ids (entity_of a) (entity_of b) }
 {
     match (a, b) {
@@ -78,4 +78,13 @@ pub fn is_inside<D: Dialects>(records: &Records<D>, outer: EntityIndex, inner: E
         current = parent_in_record(records, entity);
     }
     false
+}
+
+/// What stands in an entity is one level deeper than that, and nothing is deeper than there are slots. So a walk up or down ends.
+pub fn depths_follow<D: Dialects>()
+    ensures below { DepthsFollow D D.Attr D.TypeKey D.TypeBody D.Saved D.Aux D.Loc }
+    ensures fits { DepthsFit D D.Attr D.TypeKey D.TypeBody D.Saved D.Aux D.Loc }
+{
+    lists_hold_nodes::<Operation<D>, BasicBlock<D>>();
+    lists_hold_nodes::<BasicBlock<D>, Region>();
 }

@@ -35,7 +35,11 @@ fn drop_item(items: &mut Seq<ArenaIndex>, item: ArenaIndex)
 }
 
 // Takes a region out of the list of a live operation.
-fn drop_region<D: Dialects>(ops: &mut Arena<Operation<D>>, op: ArenaIndex, region: ArenaIndex)
+pub(crate) fn drop_region<D: Dialects>(
+    ops: &mut Arena<Operation<D>>,
+    op: ArenaIndex,
+    region: ArenaIndex,
+)
     requires live { IsLive ops.old op }
     requires once { Distinct (in_record op_regions [] (get ops.old op)) }
     ensures { ops.new ≡ edited (λ x. record x { regions = without same_id region x.regions }) ops.old op }

@@ -1,6 +1,6 @@
 //! Views over what a context tells: iterators over the parts of an operation or a block, edges between blocks, and wrapped operations.
 //!
-//! All of it reads only. What a call gives is live, known or in range by its contract.
+//! All of it reads only. What a call gives is live, known or in range by its contract. It gives out what the crates between `ir_core` and it tell of a context, so that a caller names these two.
 #![tactic(auto)]
 
 mod backward_edges;
@@ -15,6 +15,11 @@ pub use backward_edges::BlockPredecessors;
 pub use block_parts::{ArgumentTypes, ArgumentTypesOf, Arguments, ArgumentsOf, BlockParts};
 pub use forward_edges::BlockSuccessors;
 pub use indexed::{HasParts, Parts};
+pub use ir_values::{
+    BlockUseQueries, BlockUses, IndexErr, OperationUses, ResultUses, UseError, UseQueries, ValueError,
+    ValueQueries,
+};
+pub use ir_walk::{BlockPlace, Entity, OperationPlace, RegionPlace, ValuePlace, is_inside};
 pub use op_queries::OperationKind;
 pub use operation_parts::{
     OperandTypes, OperandTypesOf, OperandUses, OperandUsesOf, Operands, OperandsOf, OperationParts,

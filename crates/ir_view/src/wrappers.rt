@@ -3,10 +3,10 @@
 //! A wrapper holds the handle of its operation alone, and says nothing of whether that is live, or of its kind: who makes one answers for it.
 
 ghost use Rattle.std.specs.Prelude.{◌≡◌, ◌↔◌, ℕ, Some, IsTrue, IfOk, IfErr, IfSome, IsSome};
+ghost use Rattle.ir_model.specs.Calls.{loc_of};
 ghost use Rattle.ir_model.specs.Forest.{an_op, of_op};
 ghost use Rattle.ir_model.specs.Nesting.{IsLive};
 ghost use Rattle.ir_core.specs.State.{forest_of};
-ghost use Rattle.ir_core.specs.Values.{loc_of};
 ghost use Rattle.ir_view.specs.Wrapped.{kind_in, operation_in};
 
 use ir_base::interfaces::OpInterfaceMarker;

@@ -33,6 +33,12 @@ returns-clause-cleared g c =
     let is : c.remove.new.self ≡ cut old.ops op = removed old.ops c.remove.new.self op c.remove.result c.requires.live (c.remove.ensures.value ∙ ap (get old.ops) c.from_index.ensures) (subst (λ (u : ArenaIndex). OnSome c.remove.result (c.remove.new.self ≡ cut old.ops u)) c.from_index.ensures c.remove.ensures.cut) in
     subst (λ a. Clears old.ops a (op ∷ [])) (sym is) (Clears-cut old.ops op c.requires.live)
 
+pub returns-clause-ops : goal.returns-clause-ops
+returns-clause-ops g c =
+    let old = c.args.records.now in
+    let op = c.args.op in
+    removed old.ops c.remove.new.self op c.remove.result c.requires.live (c.remove.ensures.value ∙ ap (get old.ops) c.from_index.ensures) (subst (λ (u : ArenaIndex). OnSome c.remove.result (c.remove.new.self ≡ cut old.ops u)) c.from_index.ensures c.remove.ensures.cut)
+
 pub returns-clause-nested : goal.returns-clause-nested
 returns-clause-nested g c =
     let old = c.args.records.now in

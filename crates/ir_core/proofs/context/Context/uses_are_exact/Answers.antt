@@ -1,5 +1,5 @@
 use Rattle.std.proofs.Common.{sym}
-use Rattle.ir_core.proofs.ValueLemmas.{uses-exact, block-uses-exact}
+use Rattle.ir_core.proofs.ExactUses.{uses-exact, block-uses-exact}
 use Rattle.ir_core.proofs.context.Context.uses_are_exact.Goals as goal
 
 pub returns : goal.returns

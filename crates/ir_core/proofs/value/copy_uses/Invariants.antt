@@ -1,5 +1,0 @@
-use Rattle.std.proofs.Common.{◌≡◌, map, take}
-use Rattle.ir_core.proofs.value.copy_uses.Given as goal
-
-abbrev pub invariant-loop-index : goal.invariant-loop-index
-invariant-loop-index g l = map (λ u. u.index) l.uses.items ≡ take l.index-index l.kept

@@ -1,0 +1,3 @@
+pub mod ValueLemmas
+pub mod FindIndex
+pub mod JoinedUses

@@ -1,0 +1,10 @@
+use Rattle.std.proofs.Common.{sym, ◌∙◌, ap, map}
+use Rattle.std.proofs.lemmas.List.{take_all}
+use Rattle.ir_records.specs.Meaning.{use_of}
+use Rattle.ir_records.specs.Meant.{map-map}
+use Rattle.ir_values.proofs.value.copy_uses.Goals as goal
+
+pub returns-clause-kept : goal.returns-clause-kept
+returns-clause-kept g c =
+    sym (map-map (λ u. u.index) use_of c.loop-index.uses.items)
+    ∙ ap (map use_of) (c.loop-index.invariant ∙ take_all c.loop-index.index-index c.args.kept.now c.loop-index-test.false)
