@@ -33,3 +33,4 @@ pub mod EditedLists
 pub mod Edited
 pub mod GoingBack
 pub mod PlacedUses
+pub mod TakenUses

@@ -17,7 +17,7 @@ ghost use Rattle.ir_core.specs.State.{bare, forest_of, types_of};
 use crate::context::Context;
 use crate::needs::has_use_number;
 use ir_base::{CoreError, Dialects, Ptr};
-use ir_chains::{pop_operand, push_operand};
+use ir_chains::{insert_operand, pop_operand, push_operand, remove_operand, replace_operand};
 use ir_records::{Operation, Value};
 
 /// How the operands of a live operation are changed one at a time. A place is the operand's index.
@@ -37,7 +37,11 @@ pub trait OperandEdits<D: Dialects> {
     ///
     /// # Errors
     /// `CounterSpent` where no use number is left, else `OutOfMemory` where a growth was refused. Then nothing has changed.
-    fn push_operand(self, ctx: &mut Context<D>, value: Self::Value) -> Result<usize, CoreError>
+    fn push_operand(
+        self,
+        ctx: &mut Context<D>,
+        value: Self::Value,
+    ) -> Result<usize, CoreError>
         requires live { IsLive (forest_of ctx.old) (an_op (index_of self)) }
         requires value_live { IsLiveNamed (forest_of ctx.old) (a_value (value_of value)) }
         ensures index { IfOk result (λ at. at ≡ length (operands_of (forest_of ctx.old) (index_of self))) }
@@ -49,7 +53,60 @@ pub trait OperandEdits<D: Dialects> {
         ensures slots { ¬ (result ≡ Err CoreError.SlotsSpent) }
         ensures err { OnErr result (ctx.new ≡ ctx.old) };
 
-    /// Takes the last operand out, and answers the value that it named. It stands for pliron's `Operation::pop_operand`.
+    /// Puts an operand that names the live value at an index up to their number; what stood there and behind it moves one place on. It stands for pliron's `Operation::insert_operand`.
+    ///
+    /// # Errors
+    /// `CounterSpent` where no use number is left, else `OutOfMemory` where a growth was refused. Then nothing has changed.
+    fn insert_operand(
+        self,
+        ctx: &mut Context<D>,
+        index: usize,
+        value: Self::Value,
+    ) -> Result<(), CoreError>
+        requires live { IsLive (forest_of ctx.old) (an_op (index_of self)) }
+        requires value_live { IsLiveNamed (forest_of ctx.old) (a_value (value_of value)) }
+        requires in_range { index ≤ length (operands_of (forest_of ctx.old) (index_of self)) }
+        ensures made { OnOk result (MakesUse (bare ctx.old) (bare ctx.new) (operand_inserted (forest_of ctx.old) (index_of self) index (value_of value))) }
+        ensures stay_live { StayLive (forest_of ctx.old) (forest_of ctx.new) }
+        ensures entities_stay_live { EntitiesStayLive (forest_of ctx.old) (forest_of ctx.new) }
+        ensures types_stay { types_of ctx.new ≡ types_of ctx.old }
+        ensures counter { (result ≡ Err CoreError.CounterSpent) ↔ LacksNumbers (bare ctx.old) one_use }
+        ensures slots { ¬ (result ≡ Err CoreError.SlotsSpent) }
+        ensures err { OnErr result (ctx.new ≡ ctx.old) };
+
+    /// Puts an operand that names the live value in the place of the one at the index, under a new number; the old use finds no index from then on. It stands for pliron's `Operation::replace_operand`.
+    ///
+    /// # Errors
+    /// `CounterSpent` where no use number is left, else `OutOfMemory` where a growth was refused. Then nothing has changed.
+    fn replace_operand(
+        self,
+        ctx: &mut Context<D>,
+        index: usize,
+        value: Self::Value,
+    ) -> Result<(), CoreError>
+        requires live { IsLive (forest_of ctx.old) (an_op (index_of self)) }
+        requires value_live { IsLiveNamed (forest_of ctx.old) (a_value (value_of value)) }
+        requires in_range { index < length (operands_of (forest_of ctx.old) (index_of self)) }
+        ensures made { OnOk result (MakesUse (bare ctx.old) (bare ctx.new) (operand_replaced (forest_of ctx.old) (index_of self) index (value_of value))) }
+        ensures stay_live { StayLive (forest_of ctx.old) (forest_of ctx.new) }
+        ensures entities_stay_live { EntitiesStayLive (forest_of ctx.old) (forest_of ctx.new) }
+        ensures types_stay { types_of ctx.new ≡ types_of ctx.old }
+        ensures counter { (result ≡ Err CoreError.CounterSpent) ↔ LacksNumbers (bare ctx.old) one_use }
+        ensures slots { ¬ (result ≡ Err CoreError.SlotsSpent) }
+        ensures err { OnErr result (ctx.new ≡ ctx.old) };
+
+    /// Takes the operand at the index out, and answers the value that it named, which is live; those behind it move up. It stands for pliron's `Operation::remove_operand`.
+    fn remove_operand(self, ctx: &mut Context<D>, index: usize) -> Self::Value
+        requires live { IsLive (forest_of ctx.old) (an_op (index_of self)) }
+        requires in_range { index < length (operands_of (forest_of ctx.old) (index_of self)) }
+        ensures named { option_map (λ p. p.value) (slice_get (operands_of (forest_of ctx.old) (index_of self)) index) ≡ Some (value_of result) }
+        ensures still_live { IsLiveNamed (forest_of ctx.new) (a_value (value_of result)) }
+        ensures forest { forest_of ctx.new ≡ on_op (forest_of ctx.old) (index_of self) (on_operands (λ ps. remove ps index)) }
+        ensures rest { SameButForest (bare ctx.old) (bare ctx.new) }
+        ensures stay_live { StayLive (forest_of ctx.old) (forest_of ctx.new) }
+        ensures entities_stay_live { EntitiesStayLive (forest_of ctx.old) (forest_of ctx.new) };
+
+    /// Takes the last operand out, and answers the value that it named, which is live. It stands for pliron's `Operation::pop_operand`.
     fn pop_operand(self, ctx: &mut Context<D>) -> Self::Value
         requires live { IsLive (forest_of ctx.old) (an_op (index_of self)) }
         requires some { 0 < length (operands_of (forest_of ctx.old) (index_of self)) }
@@ -78,10 +135,37 @@ impl<D: Dialects> OperandEdits<D> for Ptr<Operation<D>> {
         Ok(index)
     }
 
+    fn insert_operand(
+        self,
+        ctx: &mut Context<D>,
+        index: usize,
+        value: Value<D>,
+    ) -> Result<(), CoreError> {
+        has_use_number(ctx)?;
+        insert_operand(&mut ctx.records, self.index, index, ctx.next_use, value.index)?;
+        ctx.next_use += 1;
+        Ok(())
+    }
+
+    fn replace_operand(
+        self,
+        ctx: &mut Context<D>,
+        index: usize,
+        value: Value<D>,
+    ) -> Result<(), CoreError> {
+        has_use_number(ctx)?;
+        replace_operand(&mut ctx.records, self.index, index, ctx.next_use, value.index)?;
+        ctx.next_use += 1;
+        Ok(())
+    }
+
+    fn remove_operand(self, ctx: &mut Context<D>, index: usize) -> Value<D> {
+        let value = remove_operand(&mut ctx.records, self.index, index);
+        Value::from_index(value)
+    }
+
     fn pop_operand(self, ctx: &mut Context<D>) -> Value<D> {
-        let op = ctx.records.ops.at(self);
-        let value = op.get_operand(op.get_num_operands() - 1);
-        pop_operand(&mut ctx.records, self.index);
-        value
+        let value = pop_operand(&mut ctx.records, self.index);
+        Value::from_index(value)
     }
 }

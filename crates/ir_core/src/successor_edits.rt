@@ -17,7 +17,7 @@ ghost use Rattle.ir_core.specs.State.{bare, forest_of, types_of};
 use crate::context::Context;
 use crate::needs::has_use_number;
 use ir_base::{CoreError, Dialects, Ptr};
-use ir_chains::{pop_successor, push_successor};
+use ir_chains::{insert_successor, pop_successor, push_successor, remove_successor, replace_successor};
 use ir_records::{BasicBlock, BlockIndex, Operation};
 
 /// How the successors of a live operation are changed one at a time. A place is the successor's index.
@@ -35,7 +35,11 @@ pub trait SuccessorEdits<D: Dialects> {
     ///
     /// # Errors
     /// `CounterSpent` where no use number is left, else `OutOfMemory` where a growth was refused. Then nothing has changed.
-    fn push_successor(self, ctx: &mut Context<D>, block: Self::Block) -> Result<usize, CoreError>
+    fn push_successor(
+        self,
+        ctx: &mut Context<D>,
+        block: Self::Block,
+    ) -> Result<usize, CoreError>
         requires live { IsLive (forest_of ctx.old) (an_op (index_of self)) }
         requires block_live { IsLive (forest_of ctx.old) (a_block (block_of block)) }
         ensures index { IfOk result (λ at. at ≡ length (successors_of (forest_of ctx.old) (index_of self))) }
@@ -47,7 +51,60 @@ pub trait SuccessorEdits<D: Dialects> {
         ensures slots { ¬ (result ≡ Err CoreError.SlotsSpent) }
         ensures err { OnErr result (ctx.new ≡ ctx.old) };
 
-    /// Takes the last successor out, and answers the block that it named. It stands for pliron's `Operation::pop_successor`.
+    /// Puts a successor that names the live block at an index up to their number; what stood there and behind it moves one place on. It stands for pliron's `Operation::insert_successor`.
+    ///
+    /// # Errors
+    /// `CounterSpent` where no use number is left, else `OutOfMemory` where a growth was refused. Then nothing has changed.
+    fn insert_successor(
+        self,
+        ctx: &mut Context<D>,
+        index: usize,
+        block: Self::Block,
+    ) -> Result<(), CoreError>
+        requires live { IsLive (forest_of ctx.old) (an_op (index_of self)) }
+        requires block_live { IsLive (forest_of ctx.old) (a_block (block_of block)) }
+        requires in_range { index ≤ length (successors_of (forest_of ctx.old) (index_of self)) }
+        ensures made { OnOk result (MakesUse (bare ctx.old) (bare ctx.new) (successor_inserted (forest_of ctx.old) (index_of self) index (block_of block))) }
+        ensures stay_live { StayLive (forest_of ctx.old) (forest_of ctx.new) }
+        ensures entities_stay_live { EntitiesStayLive (forest_of ctx.old) (forest_of ctx.new) }
+        ensures types_stay { types_of ctx.new ≡ types_of ctx.old }
+        ensures counter { (result ≡ Err CoreError.CounterSpent) ↔ LacksNumbers (bare ctx.old) one_use }
+        ensures slots { ¬ (result ≡ Err CoreError.SlotsSpent) }
+        ensures err { OnErr result (ctx.new ≡ ctx.old) };
+
+    /// Puts a successor that names the live block in the place of the one at the index, under a new number; the old use finds no index from then on. It stands for pliron's `Operation::replace_successor`.
+    ///
+    /// # Errors
+    /// `CounterSpent` where no use number is left, else `OutOfMemory` where a growth was refused. Then nothing has changed.
+    fn replace_successor(
+        self,
+        ctx: &mut Context<D>,
+        index: usize,
+        block: Self::Block,
+    ) -> Result<(), CoreError>
+        requires live { IsLive (forest_of ctx.old) (an_op (index_of self)) }
+        requires block_live { IsLive (forest_of ctx.old) (a_block (block_of block)) }
+        requires in_range { index < length (successors_of (forest_of ctx.old) (index_of self)) }
+        ensures made { OnOk result (MakesUse (bare ctx.old) (bare ctx.new) (successor_replaced (forest_of ctx.old) (index_of self) index (block_of block))) }
+        ensures stay_live { StayLive (forest_of ctx.old) (forest_of ctx.new) }
+        ensures entities_stay_live { EntitiesStayLive (forest_of ctx.old) (forest_of ctx.new) }
+        ensures types_stay { types_of ctx.new ≡ types_of ctx.old }
+        ensures counter { (result ≡ Err CoreError.CounterSpent) ↔ LacksNumbers (bare ctx.old) one_use }
+        ensures slots { ¬ (result ≡ Err CoreError.SlotsSpent) }
+        ensures err { OnErr result (ctx.new ≡ ctx.old) };
+
+    /// Takes the successor at the index out, and answers the block that it named, which is live; those behind it move up. It stands for pliron's `Operation::remove_successor`.
+    fn remove_successor(self, ctx: &mut Context<D>, index: usize) -> Self::Block
+        requires live { IsLive (forest_of ctx.old) (an_op (index_of self)) }
+        requires in_range { index < length (successors_of (forest_of ctx.old) (index_of self)) }
+        ensures named { option_map (λ p. p.block) (slice_get (successors_of (forest_of ctx.old) (index_of self)) index) ≡ Some (block_of result) }
+        ensures still_live { IsLive (forest_of ctx.new) (a_block (block_of result)) }
+        ensures forest { forest_of ctx.new ≡ on_op (forest_of ctx.old) (index_of self) (on_successors (λ ps. remove ps index)) }
+        ensures rest { SameButForest (bare ctx.old) (bare ctx.new) }
+        ensures stay_live { StayLive (forest_of ctx.old) (forest_of ctx.new) }
+        ensures entities_stay_live { EntitiesStayLive (forest_of ctx.old) (forest_of ctx.new) };
+
+    /// Takes the last successor out, and answers the block that it named, which is live. It stands for pliron's `Operation::pop_successor`.
     fn pop_successor(self, ctx: &mut Context<D>) -> Self::Block
         requires live { IsLive (forest_of ctx.old) (an_op (index_of self)) }
         requires some { 0 < length (successors_of (forest_of ctx.old) (index_of self)) }
@@ -74,10 +131,37 @@ impl<D: Dialects> SuccessorEdits<D> for Ptr<Operation<D>> {
         Ok(index)
     }
 
+    fn insert_successor(
+        self,
+        ctx: &mut Context<D>,
+        index: usize,
+        block: Ptr<BasicBlock<D>>,
+    ) -> Result<(), CoreError> {
+        has_use_number(ctx)?;
+        insert_successor(&mut ctx.records, self.index, index, ctx.next_use, BlockIndex { index: block.index })?;
+        ctx.next_use += 1;
+        Ok(())
+    }
+
+    fn replace_successor(
+        self,
+        ctx: &mut Context<D>,
+        index: usize,
+        block: Ptr<BasicBlock<D>>,
+    ) -> Result<(), CoreError> {
+        has_use_number(ctx)?;
+        replace_successor(&mut ctx.records, self.index, index, ctx.next_use, BlockIndex { index: block.index })?;
+        ctx.next_use += 1;
+        Ok(())
+    }
+
+    fn remove_successor(self, ctx: &mut Context<D>, index: usize) -> Ptr<BasicBlock<D>> {
+        let block = remove_successor(&mut ctx.records, self.index, index);
+        Ptr::from_index(block.index)
+    }
+
     fn pop_successor(self, ctx: &mut Context<D>) -> Ptr<BasicBlock<D>> {
-        let op = ctx.records.ops.at(self);
-        let block = op.get_successor(op.get_num_successors() - 1);
-        pop_successor(&mut ctx.records, self.index);
-        block
+        let block = pop_successor(&mut ctx.records, self.index);
+        Ptr::from_index(block.index)
     }
 }
