@@ -8,6 +8,7 @@ use Rattle.ir_model.specs.Forest.{Dialect, Entity, an_op, a_region, OpRecord, Fo
 use Rattle.ir_model.specs.Nesting.{In, list_of, children, Inside, operands_of, successors_of}
 use Rattle.ir_model.specs.Changes.{on_regions, but, no_uses, DropsUses, Removes}
 use Rattle.ir_model.specs.Uses.{Use, IsUse, AreUses}
+use Rattle.ir_erase.specs.Dropping.{Bare}
 use Rattle.ir_model.proofs.Nests.{Within-trans}
 use Rattle.ir_model.proofs.Keeps.{list_of-map}
 use Rattle.ir_model.proofs.Removal.{uses_left, uses_still}
@@ -20,10 +21,6 @@ still_empty Ins of None kept gone out e = refl
 still_empty Ins of (Some r) kept gone out e = ap (list_of of) (out (λ i. (let k : Some r ≡ None = gone i in cc))) ∙ e
 
 module _ {N : Ids} {W : Dialect} where
-  -- no operation inside e has operands or successors
-  abbrev pub Bare : Forest N W → Entity N → Type 0
-  Bare f e = (o : N.Op) → Inside f e (an_op o) → (operands_of f o ≡ []) × (successors_of f o ≡ [])
-
   no_operands : (m : Option (OpRecord N W)) → list_of (λ r. r.operands) (option_map no_uses m) ≡ []
   no_operands None = refl
   no_operands (Some r) = refl

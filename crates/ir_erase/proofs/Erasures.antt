@@ -7,10 +7,11 @@ use Rattle.ir_model.specs.Nesting.{children, Inside, IsClosed, WellFormed}
 use Rattle.ir_model.specs.Changes.{DropsUses, Removes}
 use Rattle.ir_model.specs.Subtree.{IsSubtreeSize}
 use Rattle.ir_model.proofs.Loops.{Lawful}
-use Rattle.ir_erase.proofs.Drops.{Unnamed, drop-first, drop-unnamed, drop-inside, drop-was_inside}
+use Rattle.ir_erase.specs.Dropping.{Bare, Unnamed}
+use Rattle.ir_erase.proofs.Drops.{drop-first, drop-unnamed, drop-inside, drop-was_inside}
 use Rattle.ir_erase.proofs.Unnamed.{leaf-unnamed, leaf-formed, drop-formed}
-use Rattle.ir_erase.proofs.Bare.{Bare, drop-bare, removed-bare}
-use Rattle.ir_erase.proofs.Leaves.{leaf-first, leaf-counts, leaf-size}
+use Rattle.ir_erase.proofs.Bare.{drop-bare, removed-bare}
+use Rattle.ir_erase.proofs.LeafRemovals.{leaf-first, leaf-counts, leaf-size}
 
 module _ {N : Ids} {W : Dialect} where
   pub drop-size : (f g : Forest N W) (e : Entity N) (n : ℕ) → DropsUses f e g → IsSubtreeSize g e n → IsSubtreeSize f e n

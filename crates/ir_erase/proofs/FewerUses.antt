@@ -13,8 +13,9 @@ use Rattle.ir_model.proofs.Nests.{Within-fewer}
 use Rattle.ir_model.proofs.Keeps.{list_of-map}
 use Rattle.ir_model.proofs.Parts.{Kept}
 use Rattle.ir_model.proofs.KeepsUses.{named_by, names_are, use_numbers, uses_are, on_uses, kept_uses}
-use Rattle.ir_erase.proofs.Drops.{Unnamed, DropsOne, DropsListed}
-use Rattle.ir_erase.proofs.Closed.{use-named}
+use Rattle.ir_erase.specs.Dropping.{Unnamed}
+use Rattle.ir_erase.proofs.Drops.{DropsOne, DropsListed}
+use Rattle.ir_erase.proofs.ClosedListings.{use-named}
 
 abbrev all_or_none : {P Q A : Type 0} → P ⊎ Q → List A → List A
 all_or_none (inl k) ps = ps

@@ -12,7 +12,8 @@ use Rattle.ir_model.proofs.Filters.{In-filter}
 use Rattle.ir_model.proofs.Keeps.{list_of-map}
 use Rattle.ir_model.proofs.KeepsUses.{named_by, names_are, DropsUses-kept}
 use Rattle.ir_model.proofs.KeepsErase.{Removes-kept}
-use Rattle.ir_erase.proofs.Drops.{Unnamed, unnamed-closed, drop-unnamed}
+use Rattle.ir_erase.specs.Dropping.{Unnamed}
+use Rattle.ir_erase.proofs.Drops.{unnamed-closed, drop-unnamed}
 
 -- a list that is read off a record that is gone or as it was kept is among what was kept
 read_kept : {A B : Type 0} (Ins : Type 0) (of : B → List A) (now kept : Option B) → (Ins → now ≡ None) → ((Ins → ⊥) → now ≡ kept) → (x : A) → In x (list_of of now) → In x (list_of of kept)

@@ -1,1 +1,4 @@
 pub mod Walks
+pub mod Closed
+pub mod Dropping
+pub mod Erasing

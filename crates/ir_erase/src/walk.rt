@@ -13,7 +13,6 @@ ghost use Rattle.ir_records.specs.Nested.{AreNested};
 ghost use Rattle.ir_records.specs.Tree.{tree_of};
 ghost use Rattle.ir_erase.specs.Walks.{before_from, kept_last, kept_previous, subtree, SubtreesListed};
 
-use ir_base::linked_list::{ContainsLinkedList, LinkedList};
 use ir_base::list_laws::links_are_neighbours;
 use ir_base::{ArenaIndex, Dialects, Ptr};
 use ir_records::{BasicBlock, EntityIndex, Operation, Records, Region};
@@ -30,15 +29,11 @@ fn last_in_record<D: Dialects>(records: &Records<D>, entity: EntityIndex) -> Opt
             Some(EntityIndex::Region(last))
         }
         EntityIndex::Block(block) => {
-            let last = records.blocks.get(Ptr::from_index(block))?.get_tail().get()?;
+            let last = records.blocks.get(Ptr::from_index(block))?.last.get()?;
             Some(EntityIndex::Op(last))
         }
         EntityIndex::Region(region) => {
-            let last = records
-                .regions
-                .get(Ptr::from_index(region))?
-                .get_tail()
-                .get()?;
+            let last = records.regions.get(Ptr::from_index(region))?.last.get()?;
             Some(EntityIndex::Block(last))
         }
     }
@@ -67,11 +62,11 @@ fn previous_in_record<D: Dialects>(
 {
     match entity {
         EntityIndex::Op(op) => {
-            let previous = records.ops.get(Ptr::from_index(op))?.get_prev().get()?;
+            let previous = records.ops.get(Ptr::from_index(op))?.prev.get()?;
             Some(EntityIndex::Op(previous))
         }
         EntityIndex::Block(block) => {
-            let previous = records.blocks.get(Ptr::from_index(block))?.get_prev().get()?;
+            let previous = records.blocks.get(Ptr::from_index(block))?.prev.get()?;
             Some(EntityIndex::Block(previous))
         }
         EntityIndex::Region(region) => {

@@ -4,3 +4,5 @@ pub mod Conditions
 pub mod SessionSteps
 pub mod NewEntities
 pub mod SessionRuns
+pub mod Placing
+pub mod ListSteps

@@ -3,15 +3,16 @@ use Rattle.std.proofs.Common.{◌≡◌, refl, ap, subst, ◌∙◌, cond, Bool,
 use Rattle.std.specs.Prelude.{slice_get}
 use Rattle.std.specs.List.{list_any}
 use Rattle.ir_model.specs.declared.answer.Answer.{Answer}
-use Rattle.ir_model.specs.Forest.{Dialect, Behaviour}
-use Rattle.ir_model.specs.Edits.{Edit as PlainEdit, with_type}
+use Rattle.ir_model.specs.ContextIds.{context_ids}
+use Rattle.ir_model.specs.Forest.{Behaviour, Dialect, Forest}
+use Rattle.ir_model.specs.Edits.{Edit as PlainEdit, over, with_type}
 use Rattle.ir_model.specs.Sessions.{Session, Step, Run, condition, counter, slots, memory, made}
 use Rattle.ir_model.specs.Soundness.{Sound}
 use Rattle.ir_model.proofs.RefusedForGood.{erased_are_gone, gone_for_good}
 use Rattle.ir_model.proofs.StepSound.{runs_sound}
 use Rattle.ir_model.proofs.Uniquing.{still_at}
 use Rattle.ir_run.specs.declared.edit.Edit.{Edit}
-use Rattle.ir_run.specs.declared.edit.Edit.TheVariants.{AddRegion, NewBlock, NewOp, NewType}
+use Rattle.ir_run.specs.declared.edit.Edit.TheVariants.{AddRegion, AppendBlocks, AppendOps, BlockAfter, BlockBack, BlockBefore, BlockFront, MoveRegion, NewBlock, NewOp, NewType, OpAfter, OpBack, OpBefore, OpFront, UnlinkBlock, UnlinkOp}
 use Rattle.ir_records.specs.Meaning.{closed}
 use Rattle.ir_run.specs.SessionEdits.{edit_of}
 use Rattle.ir_run.specs.Headline.{GoneAtCuts, KeepsKeys}
@@ -47,6 +48,10 @@ module _ {W : Dialect} where
   same_store : (s t : Session W) → t.state.store ≡ s.state.store → KeepsKeys s t
   same_store s t e = record { keys = λ k a h. (a, ap (λ xs. slice_get xs k) e ∙ h, refl) }
 
+  same_either : (s t : Session W) (g : Forest context_ids W) (b : Bool) → t.state ≡ cond b s.state (over s.state g) → KeepsKeys s t
+  same_either s t g true e = same_store s t (ap (λ x. x.store) e)
+  same_either s t g false e = same_store s t (ap (λ x. x.store) e)
+
   more_store : (B : Behaviour W) (s t : Session W) (key : W.Key) → t.state.store ≡ with_type B s.state.store key → KeepsKeys s t
   more_store B s t key e = by (list_any (λ x. B.same_key x.key key) s.state.store) refl
     where
@@ -69,6 +74,19 @@ module _ {D A K B S X L : Type 0} (behave : Behaviour (closed A K B S X L)) wher
   step_keys (NewOp kind types operands successors regions) s t a (made c n m e k) = same_store s t (ap (λ x. x.store) k.change.holds)
   step_keys (NewBlock label types) s t a (made c n m e k) = same_store s t (ap (λ x. x.store) k.change.holds)
   step_keys (AddRegion op) s t a (made c n m e k) = same_store s t (ap (λ x. x.store) k.change.holds.holds)
+  step_keys (OpFront op block) s t a (made c n m e k) = same_store s t (ap (λ x. x.store) k.change.holds.holds)
+  step_keys (OpBack op block) s t a (made c n m e k) = same_store s t (ap (λ x. x.store) k.change.holds.holds)
+  step_keys (OpBefore op mark) s t a (made c n m e k) = same_store s t (ap (λ x. x.store) k.change.holds.holds)
+  step_keys (OpAfter op mark) s t a (made c n m e k) = same_store s t (ap (λ x. x.store) k.change.holds.holds)
+  step_keys (UnlinkOp op) s t a (made c n m e k) = same_store s t (ap (λ x. x.store) k.change.holds)
+  step_keys (BlockFront block region) s t a (made c n m e k) = same_store s t (ap (λ x. x.store) k.change.holds.holds)
+  step_keys (BlockBack block region) s t a (made c n m e k) = same_store s t (ap (λ x. x.store) k.change.holds.holds)
+  step_keys (BlockBefore block mark) s t a (made c n m e k) = same_store s t (ap (λ x. x.store) k.change.holds.holds)
+  step_keys (BlockAfter block mark) s t a (made c n m e k) = same_store s t (ap (λ x. x.store) k.change.holds.holds)
+  step_keys (UnlinkBlock block) s t a (made c n m e k) = same_store s t (ap (λ x. x.store) k.change.holds)
+  step_keys (AppendOps donee donor) s t a (made c n m e k) = same_store s t (ap (λ x. x.store) k.change.holds.holds.holds)
+  step_keys (AppendBlocks donee donor) s t a (made c n m e k) = same_store s t (ap (λ x. x.store) k.change.holds.holds.holds)
+  step_keys (MoveRegion region op) s t a (made c n m e k) = same_either s t _ _ k.change.holds.holds.holds
 
   pub run_keys : (edits : List (Edit D A K B S X L)) (s t : Session (closed A K B S X L)) (answers : List Answer) → Run behave s (map edit_of edits) answers t → KeepsKeys s t
   run_keys [] s t answers r = same_store s t (ap (λ x. x.state.store) r.1)

@@ -2,3 +2,4 @@ pub mod SessionEdits
 pub mod SessionTables
 pub mod SessionState
 pub mod Headline
+pub mod Named

@@ -1,8 +1,8 @@
 -- What the edits of a program mean.
-use Rattle.ir_model.specs.Edits.{Edit as PlainEdit, NewType as PlainNewType, NewOp as PlainNewOp, NewBlock as PlainNewBlock, AddRegion as PlainAddRegion}
+use Rattle.ir_model.specs.Edits.{Edit as PlainEdit, NewType as PlainNewType, NewOp as PlainNewOp, NewBlock as PlainNewBlock, AddRegion as PlainAddRegion, OpFront as PlainOpFront, OpBack as PlainOpBack, OpBefore as PlainOpBefore, OpAfter as PlainOpAfter, UnlinkOp as PlainUnlinkOp, BlockFront as PlainBlockFront, BlockBack as PlainBlockBack, BlockBefore as PlainBlockBefore, BlockAfter as PlainBlockAfter, UnlinkBlock as PlainUnlinkBlock, AppendOps as PlainAppendOps, AppendBlocks as PlainAppendBlocks, MoveRegion as PlainMoveRegion}
 use Rattle.ir_records.specs.Meaning.{closed}
 use Rattle.ir_run.specs.declared.edit.Edit.{Edit}
-use Rattle.ir_run.specs.declared.edit.Edit.TheVariants.{NewType, NewOp, NewBlock, AddRegion}
+use Rattle.ir_run.specs.declared.edit.Edit.TheVariants.{NewType, NewOp, NewBlock, AddRegion, OpFront, OpBack, OpBefore, OpAfter, UnlinkOp, BlockFront, BlockBack, BlockBefore, BlockAfter, UnlinkBlock, AppendOps, AppendBlocks, MoveRegion}
 
 module _ {D A K B S X L : Type 0} where
   -- the edit, its lists of numbers as plain lists
@@ -11,3 +11,16 @@ module _ {D A K B S X L : Type 0} where
   edit_of (NewOp kind types operands successors regions) = PlainNewOp kind types.items operands.items successors.items regions
   edit_of (NewBlock label types) = PlainNewBlock label types.items
   edit_of (AddRegion op) = PlainAddRegion op
+  edit_of (OpFront op block) = PlainOpFront op block
+  edit_of (OpBack op block) = PlainOpBack op block
+  edit_of (OpBefore op mark) = PlainOpBefore op mark
+  edit_of (OpAfter op mark) = PlainOpAfter op mark
+  edit_of (UnlinkOp op) = PlainUnlinkOp op
+  edit_of (BlockFront block region) = PlainBlockFront block region
+  edit_of (BlockBack block region) = PlainBlockBack block region
+  edit_of (BlockBefore block mark) = PlainBlockBefore block mark
+  edit_of (BlockAfter block mark) = PlainBlockAfter block mark
+  edit_of (UnlinkBlock block) = PlainUnlinkBlock block
+  edit_of (AppendOps donee donor) = PlainAppendOps donee donor
+  edit_of (AppendBlocks donee donor) = PlainAppendBlocks donee donor
+  edit_of (MoveRegion region op) = PlainMoveRegion region op

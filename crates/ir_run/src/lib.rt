@@ -3,6 +3,8 @@
 
 mod edit;
 mod laws;
+mod list_conditions;
+mod list_steps;
 mod lookups;
 mod session;
 mod session_tables;

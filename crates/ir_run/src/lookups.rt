@@ -5,7 +5,7 @@ ghost use Rattle.ir_model.specs.Edits.{Each, The, these};
 ghost use Rattle.ir_core.specs.State.{forest_of};
 
 use ir_base::{Dialects, Ptr};
-use ir_core::{BasicBlock, BlockPtr, Context, Operation, OperationPtr, Value};
+use ir_core::{BasicBlock, BlockPtr, Context, Operation, OperationPtr, Region, RegionPtr, Value};
 use ir_values::ValueQueries;
 use std::alloc::{AllocError, Global};
 
@@ -38,6 +38,17 @@ impl<D: Dialects> Entry<D> for Ptr<BasicBlock<D>> {
     ghost use Rattle.ir_model.specs.Nesting.{IsLive};
 
     ghost IsLiveIn = { λ f p. IsLive f (a_block p.index) };
+
+    fn is_live_in(self, ctx: &Context<D>) -> bool {
+        self.is_live(ctx)
+    }
+}
+
+impl<D: Dialects> Entry<D> for Ptr<Region> {
+    ghost use Rattle.ir_model.specs.Forest.{a_region};
+    ghost use Rattle.ir_model.specs.Nesting.{IsLive};
+
+    ghost IsLiveIn = { λ f p. IsLive f (a_region p.index) };
 
     fn is_live_in(self, ctx: &Context<D>) -> bool {
         self.is_live(ctx)

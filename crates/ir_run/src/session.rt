@@ -19,6 +19,7 @@ ghost use Rattle.ir_run.specs.Headline.{GoneAtCuts, KeepsKeys};
 ghost use Rattle.ir_run.specs.SessionState.{plain};
 
 use crate::edit::Edit;
+use crate::list_steps;
 use crate::session_tables::Tables;
 use crate::steps::{self, OpParts};
 use ir_base::{Answer, CoreError, Dialects, Limits, Ptr, TypeHandle};
@@ -148,8 +149,10 @@ impl<D: Dialects> Session<D> {
     fn step(&mut self, edit: Edit<D>) -> Answer
         ensures { Step (behaviour D.TypeKey.eq D.first_body D.unknown D.op_impls_of) (plain self.old) (edit_of edit) result (plain self.new) }
     {
+        let ctx = &mut self.ctx;
+        let tables = &mut self.tables;
         match edit {
-            Edit::NewType(key) => steps::new_type(&mut self.ctx, &mut self.tables, key),
+            Edit::NewType(key) => steps::new_type(ctx, tables, key),
             Edit::NewOp {
                 kind,
                 types,
@@ -164,12 +167,27 @@ impl<D: Dialects> Session<D> {
                     successors: &successors,
                     regions,
                 };
-                steps::new_op(&mut self.ctx, &mut self.tables, &parts)
+                steps::new_op(ctx, tables, &parts)
             }
-            Edit::NewBlock { label, types } => {
-                steps::new_block(&mut self.ctx, &mut self.tables, label, &types)
+            Edit::NewBlock { label, types } => steps::new_block(ctx, tables, label, &types),
+            Edit::AddRegion { op } => steps::add_region(ctx, tables, op),
+            Edit::OpFront { op, block } => list_steps::op_front(ctx, tables, op, block),
+            Edit::OpBack { op, block } => list_steps::op_back(ctx, tables, op, block),
+            Edit::OpBefore { op, mark } => list_steps::op_before(ctx, tables, op, mark),
+            Edit::OpAfter { op, mark } => list_steps::op_after(ctx, tables, op, mark),
+            Edit::UnlinkOp { op } => list_steps::unlink_op(ctx, tables, op),
+            Edit::BlockFront { block, region } => {
+                list_steps::block_front(ctx, tables, block, region)
             }
-            Edit::AddRegion { op } => steps::add_region(&mut self.ctx, &mut self.tables, op),
+            Edit::BlockBack { block, region } => list_steps::block_back(ctx, tables, block, region),
+            Edit::BlockBefore { block, mark } => list_steps::block_before(ctx, tables, block, mark),
+            Edit::BlockAfter { block, mark } => list_steps::block_after(ctx, tables, block, mark),
+            Edit::UnlinkBlock { block } => list_steps::unlink_block(ctx, tables, block),
+            Edit::AppendOps { donee, donor } => list_steps::append_ops(ctx, tables, donee, donor),
+            Edit::AppendBlocks { donee, donor } => {
+                list_steps::append_blocks(ctx, tables, donee, donor)
+            }
+            Edit::MoveRegion { region, op } => list_steps::move_region(ctx, tables, region, op),
         }
     }
 }

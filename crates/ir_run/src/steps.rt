@@ -125,8 +125,8 @@ fn may_be_made<D: Dialects>(ctx: &Context<D>, tables: &Tables<D>, parts: &OpPart
         && all_live(ctx, &tables.blocks, parts.successors)
 }
 
-// What holds of every context: there is room for nothing.
-fn needs_nothing<D: Dialects>(ctx: &Context<D>)
+/// What holds of every context: there is room for nothing.
+pub(crate) fn needs_nothing<D: Dialects>(ctx: &Context<D>)
     ensures numbers { HasNumbers (bare ctx.now) no_needs }
     ensures slots { HasSlots (bare ctx.now) no_needs }
 {

@@ -53,7 +53,7 @@ impl<T: Drop> From<AllocFailed<T>> for ScriptError {
     }
 }
 
-/// What an accepted edit makes, as the letter of its name.
+/// What an edit makes, or, where it makes nothing, what it moves, as the letter of its name.
 #[derive(Clone, Copy, Debug, Drop, PartialEq, Eq)]
 pub(crate) enum Letter {
     /// A type.
@@ -62,6 +62,8 @@ pub(crate) enum Letter {
     Operation,
     /// A block.
     Block,
+    /// A region.
+    Region,
 }
 
 impl fmt::Display for Letter {
@@ -70,11 +72,12 @@ impl fmt::Display for Letter {
             Letter::Type => "t",
             Letter::Operation => "o",
             Letter::Block => "b",
+            Letter::Region => "r",
         })
     }
 }
 
-/// The edits of a script, and for each of them what it makes.
+/// The edits of a script, and for each of them what it makes or moves.
 #[derive(Drop)]
 pub(crate) struct Script {
     /// The edits, in the order of their lines.
@@ -133,7 +136,7 @@ fn is_skipped(line: &str) -> bool {
     line.starts_with('#') || line.trim_start_matches(' ').is_empty()
 }
 
-// The edit that a line asks for, and what it makes.
+// The edit that a line asks for, and what it makes or moves.
 fn parse_line(alloc: Global, line: &str) -> Result<(Letter, Edit<Toy>), LineError> {
     let (first, rest) = take_field(line)?;
     if first == "type" {
@@ -142,6 +145,18 @@ fn parse_line(alloc: Global, line: &str) -> Result<(Letter, Edit<Toy>), LineErro
         Ok((Letter::Operation, parse_op(alloc, rest)?))
     } else if first == "block" {
         Ok((Letter::Block, parse_block(alloc, rest)?))
+    } else if first == "back" {
+        let (op, block) = parse_two_names('o', 'b', rest)?;
+        Ok((Letter::Operation, Edit::OpBack { op, block }))
+    } else if first == "backb" {
+        let (block, region) = parse_two_names('b', 'r', rest)?;
+        Ok((Letter::Block, Edit::BlockBack { block, region }))
+    } else if first == "unlink" {
+        let op = parse_one_name('o', rest)?;
+        Ok((Letter::Operation, Edit::UnlinkOp { op }))
+    } else if first == "move" {
+        let (region, op) = parse_two_names('r', 'o', rest)?;
+        Ok((Letter::Region, Edit::MoveRegion { region, op }))
     } else {
         Err(LineError::Malformed)
     }
@@ -180,6 +195,25 @@ fn parse_block(alloc: Global, text: &str) -> Result<Edit<Toy>, LineError> {
         label: None,
         types: parse_names(alloc, 't', types)?,
     })
+}
+
+// The only field, a name with this letter.
+fn parse_one_name(letter: char, text: &str) -> Result<usize, LineError> {
+    let (name, rest) = take_field(text)?;
+    end_fields(rest)?;
+    parse_name(letter, name)
+}
+
+// The only two fields, names with these letters.
+fn parse_two_names(
+    letter: char,
+    other_letter: char,
+    text: &str,
+) -> Result<(usize, usize), LineError> {
+    let (name, rest) = take_field(text)?;
+    let name = parse_name(letter, name)?;
+    let other = parse_one_name(other_letter, rest)?;
+    Ok((name, other))
 }
 
 // The first field, and the text after it.
@@ -229,10 +263,15 @@ fn parse_names(alloc: Global, letter: char, text: &str) -> Result<Vec<usize>, Li
         return Ok(numbers);
     }
     for name in text.split(',') {
-        match name.strip_prefix(letter) {
-            Some(number) => numbers.push(parse_number(number)? as usize)?,
-            None => return Err(LineError::Malformed),
-        }
+        numbers.push(parse_name(letter, name)?)?;
     }
     Ok(numbers)
+}
+
+// The number of a name with this letter.
+fn parse_name(letter: char, text: &str) -> Result<usize, LineError> {
+    match text.strip_prefix(letter) {
+        Some(number) => Ok(parse_number(number)? as usize),
+        None => Err(LineError::Malformed),
+    }
 }

@@ -1,4 +1,4 @@
-use Rattle.ir_model.specs.Edits.{AddRegion, NewBlock, NewOp, NewType}
+use Rattle.ir_model.specs.Edits.{AddRegion, AppendBlocks, AppendOps, BlockAfter, BlockBack, BlockBefore, BlockFront, MoveRegion, NewBlock, NewOp, NewType, OpAfter, OpBack, OpBefore, OpFront, UnlinkBlock, UnlinkOp}
 use Rattle.ir_model.proofs.StepSound.{steps_sound}
 use Rattle.ir_run.proofs.session.Session.step.Goals as goal
 
@@ -14,3 +14,42 @@ invariant_of-self-in-NewBlock g c = steps_sound _ (NewBlock c.in-NewBlock.label 
 
 pub invariant_of-self-in-AddRegion : goal.invariant_of-self-in-AddRegion
 invariant_of-self-in-AddRegion g c = steps_sound _ (AddRegion c.in-AddRegion.op) _ _ c.add_region.result c.self.invariant c.add_region.ensures
+
+pub invariant_of-self-in-OpFront : goal.invariant_of-self-in-OpFront
+invariant_of-self-in-OpFront g c = steps_sound _ (OpFront c.in-OpFront.op c.in-OpFront.block) _ _ c.op_front.result c.self.invariant c.op_front.ensures
+
+pub invariant_of-self-in-OpBack : goal.invariant_of-self-in-OpBack
+invariant_of-self-in-OpBack g c = steps_sound _ (OpBack c.in-OpBack.op c.in-OpBack.block) _ _ c.op_back.result c.self.invariant c.op_back.ensures
+
+pub invariant_of-self-in-OpBefore : goal.invariant_of-self-in-OpBefore
+invariant_of-self-in-OpBefore g c = steps_sound _ (OpBefore c.in-OpBefore.op c.in-OpBefore.mark) _ _ c.op_before.result c.self.invariant c.op_before.ensures
+
+pub invariant_of-self-in-OpAfter : goal.invariant_of-self-in-OpAfter
+invariant_of-self-in-OpAfter g c = steps_sound _ (OpAfter c.in-OpAfter.op c.in-OpAfter.mark) _ _ c.op_after.result c.self.invariant c.op_after.ensures
+
+pub invariant_of-self-in-UnlinkOp : goal.invariant_of-self-in-UnlinkOp
+invariant_of-self-in-UnlinkOp g c = steps_sound _ (UnlinkOp c.in-UnlinkOp.op) _ _ c.unlink_op.result c.self.invariant c.unlink_op.ensures
+
+pub invariant_of-self-in-BlockFront : goal.invariant_of-self-in-BlockFront
+invariant_of-self-in-BlockFront g c = steps_sound _ (BlockFront c.in-BlockFront.block c.in-BlockFront.region) _ _ c.block_front.result c.self.invariant c.block_front.ensures
+
+pub invariant_of-self-in-BlockBack : goal.invariant_of-self-in-BlockBack
+invariant_of-self-in-BlockBack g c = steps_sound _ (BlockBack c.in-BlockBack.block c.in-BlockBack.region) _ _ c.block_back.result c.self.invariant c.block_back.ensures
+
+pub invariant_of-self-in-BlockBefore : goal.invariant_of-self-in-BlockBefore
+invariant_of-self-in-BlockBefore g c = steps_sound _ (BlockBefore c.in-BlockBefore.block c.in-BlockBefore.mark) _ _ c.block_before.result c.self.invariant c.block_before.ensures
+
+pub invariant_of-self-in-BlockAfter : goal.invariant_of-self-in-BlockAfter
+invariant_of-self-in-BlockAfter g c = steps_sound _ (BlockAfter c.in-BlockAfter.block c.in-BlockAfter.mark) _ _ c.block_after.result c.self.invariant c.block_after.ensures
+
+pub invariant_of-self-in-UnlinkBlock : goal.invariant_of-self-in-UnlinkBlock
+invariant_of-self-in-UnlinkBlock g c = steps_sound _ (UnlinkBlock c.in-UnlinkBlock.block) _ _ c.unlink_block.result c.self.invariant c.unlink_block.ensures
+
+pub invariant_of-self-in-AppendOps : goal.invariant_of-self-in-AppendOps
+invariant_of-self-in-AppendOps g c = steps_sound _ (AppendOps c.in-AppendOps.donee c.in-AppendOps.donor) _ _ c.append_ops.result c.self.invariant c.append_ops.ensures
+
+pub invariant_of-self-in-AppendBlocks : goal.invariant_of-self-in-AppendBlocks
+invariant_of-self-in-AppendBlocks g c = steps_sound _ (AppendBlocks c.in-AppendBlocks.donee c.in-AppendBlocks.donor) _ _ c.append_blocks.result c.self.invariant c.append_blocks.ensures
+
+pub invariant_of-self-in-MoveRegion : goal.invariant_of-self-in-MoveRegion
+invariant_of-self-in-MoveRegion g c = steps_sound _ (MoveRegion c.in-MoveRegion.region c.in-MoveRegion.op) _ _ c.move_region.result c.self.invariant c.move_region.ensures
