@@ -34,3 +34,4 @@ pub mod Edited
 pub mod GoingBack
 pub mod PlacedUses
 pub mod TakenUses
+pub mod Erased

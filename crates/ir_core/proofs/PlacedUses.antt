@@ -136,10 +136,9 @@ module _ {D A K B S X L : Type 0} {s : State D A K B S X L} {t : Records D A K B
           (subst (StayLive (forest_of s)) (sym same) (names-live (forest_of s) o (on_successors edit) (λ r. refl)))
           (subst (EntitiesStayLive (forest_of s)) (sym same) (entities-live (forest_of s) o (on_successors edit) (λ r. refl)))
 
-  -- places of one operation were edited under no new number
-  pub unplaced : (o : ArenaIndex) (edit : OpRecord context_ids (closed A K B S X L) → OpRecord context_ids (closed A K B S X L)) → ((r : OpRecord context_ids (closed A K B S X L)) → (edit r).results ≡ r.results)
-      → Kept (forest_of s) (on_op (forest_of s) o edit) (length s.types) [] → forest_in t ≡ on_op (forest_of s) o edit → Edited s t
-  unplaced o edit same kept is = record {
+  -- uses were edited under no new number
+  pub kept-edited : (g : Forest context_ids (closed A K B S X L)) → forest_in t ≡ g → Kept (forest_of s) g (length s.types) [] → StayLive (forest_of s) g → EntitiesStayLive (forest_of s) g → Edited s t
+  kept-edited g is kept stay entities_stay = record {
     sound = record {
       linked = linked;
       nested = together.nested;
@@ -162,9 +161,14 @@ module _ {D A K B S X L : Type 0} {s : State D A K B S X L} {t : Records D A K B
       passed = λ i. record (passed_of s) { ops = λ id. keeps.op_ids.passed id i; blocks = λ id. keeps.block_ids.passed id i; regions = is_passed (keeps.regions i) };
       limits = refl;
     };
-    stay_live = subst (StayLive (forest_of s)) (sym is) (names-live (forest_of s) o edit same);
-    entities_stay_live = subst (EntitiesStayLive (forest_of s)) (sym is) (entities-live (forest_of s) o edit same);
+    stay_live = subst (StayLive (forest_of s)) (sym is) stay;
+    entities_stay_live = subst (EntitiesStayLive (forest_of s)) (sym is) entities_stay;
   }
+
+  -- places of one operation were edited under no new number
+  pub unplaced : (o : ArenaIndex) (edit : OpRecord context_ids (closed A K B S X L) → OpRecord context_ids (closed A K B S X L)) → ((r : OpRecord context_ids (closed A K B S X L)) → (edit r).results ≡ r.results)
+      → Kept (forest_of s) (on_op (forest_of s) o edit) (length s.types) [] → forest_in t ≡ on_op (forest_of s) o edit → Edited s t
+  unplaced o edit same kept is = kept-edited (on_op (forest_of s) o edit) is kept (names-live (forest_of s) o edit same) (entities-live (forest_of s) o edit same)
 
 -- the next number is new
 module _ {D A K B S X L : Type 0} {s : State D A K B S X L} (sound : IsSound s) where

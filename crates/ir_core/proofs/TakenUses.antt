@@ -42,7 +42,7 @@ module _ {D A K B S X L : Type 0} (t : Records D A K B S X L) (o : ArenaIndex) w
   operand-named at v is =
       let found = some_behind (λ (a : UsePlace ValueIndex). a.names) (slice_get (operands_at t o) at) v is in
       ap (λ (ps : List (Operand context_ids)). option_map (λ (p : Operand context_ids). p.value) (slice_get ps at)) (operands-meant t o)
-      ∙ ap (option_map (λ (p : Operand context_ids). p.value)) (sym (slice_get-map operand_of (operands_at t o) at) ∙ ap (option_map operand_of) found.1)
+      ∙ ap (option_map (λ (p : Operand context_ids). p.value)) (slice_get-map operand_of (operands_at t o) at ∙ ap (option_map operand_of) found.1)
       ∙ ap (λ w. Some (value_of w)) found.2
 
   pub successor-named : (at : ℕ) (b : BlockIndex) → option_map (λ (a : UsePlace BlockIndex). a.names) (slice_get (successors_at t o) at) ≡ Some b
@@ -50,7 +50,7 @@ module _ {D A K B S X L : Type 0} (t : Records D A K B S X L) (o : ArenaIndex) w
   successor-named at b is =
       let found = some_behind (λ (a : UsePlace BlockIndex). a.names) (slice_get (successors_at t o) at) b is in
       ap (λ (ps : List (Successor context_ids)). option_map (λ (p : Successor context_ids). p.block) (slice_get ps at)) (successors-meant t o)
-      ∙ ap (option_map (λ (p : Successor context_ids). p.block)) (sym (slice_get-map successor_of (successors_at t o) at) ∙ ap (option_map successor_of) found.1)
+      ∙ ap (option_map (λ (p : Successor context_ids). p.block)) (slice_get-map successor_of (successors_at t o) at ∙ ap (option_map successor_of) found.1)
       ∙ ap (λ (c : BlockIndex). Some c.index) found.2
 
 module _ {D A K B S X L : Type 0} {s : State D A K B S X L} {t : Records D A K B S X L} (sound : IsSound s) (keeps : KeepsTree s.records t) (linked : AreLinked (chains_of t)) (o : ArenaIndex) where
@@ -76,9 +76,9 @@ module _ {D A K B S X L : Type 0} {s : State D A K B S X L} {t : Records D A K B
       → option_map (λ (p : Successor context_ids). p.block) (slice_get (successors_of (forest_of s) o) at) ≡ Some b → IsLiveNamed (forest_in t) (the_block b)
   successor-still edit is at b named = subst (λ f. IsLiveNamed f (the_block b)) (sym is) (names-live (forest_of s) o (on_successors edit) (λ r. refl) (the_block b) (successor-live at b named))
 
-  module _ (live : IsLive (forest_of s) (an_op o)) (at : {U : Type 0} → List U → ℕ) where
-    pub operand-taken : forest_in t ≡ on_op (forest_of s) o (on_operands (λ ps. remove ps (at ps))) → Edited s t
-    operand-taken is =
+  module _ (live : IsLive (forest_of s) (an_op o)) where
+    pub operand-taken : (at : List (Operand context_ids) → ℕ) → forest_in t ≡ on_op (forest_of s) o (on_operands (λ ps. remove ps (at ps))) → Edited s t
+    operand-taken at is =
         let q = there ((forest_of s).ops o) live in
         let r : OpRecord context_ids (closed A K B S X L) = q.0 in
         unplaced sound keeps linked o (on_operands (λ ps. remove ps (at ps))) (λ r. refl)
@@ -87,8 +87,8 @@ module _ {D A K B S X L : Type 0} {s : State D A K B S X L} {t : Records D A K B
         (Sub-append (Sub-map (λ (p : Operand context_ids). a_value p.value) (Sub-remove r.operands (at r.operands))) (Sub-all _)))
         is
 
-    pub successor-taken : forest_in t ≡ on_op (forest_of s) o (on_successors (λ ps. remove ps (at ps))) → Edited s t
-    successor-taken is =
+    pub successor-taken : (at : List (Successor context_ids) → ℕ) → forest_in t ≡ on_op (forest_of s) o (on_successors (λ ps. remove ps (at ps))) → Edited s t
+    successor-taken at is =
         let q = there ((forest_of s).ops o) live in
         let r : OpRecord context_ids (closed A K B S X L) = q.0 in
         unplaced sound keeps linked o (on_successors (λ ps. remove ps (at ps))) (λ r. refl)

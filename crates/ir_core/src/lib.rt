@@ -7,6 +7,7 @@ mod block;
 mod block_list;
 mod context;
 mod creation;
+mod erasing;
 mod error;
 mod lending;
 mod needs;
@@ -21,6 +22,7 @@ mod types;
 pub use block::BlockPtr;
 pub use block_list::{BlockContainer, BlockList, RegionMoves};
 pub use context::Context;
+pub use erasing::{DropUses, Erase, EraseRegion};
 pub use error::DanglingPtrDerefError;
 pub use ir_base::{
     AttrId, AttrName, CoreError, DialectName, Dialects, Identifier, Iter, Legaliser, Limits, OpId,

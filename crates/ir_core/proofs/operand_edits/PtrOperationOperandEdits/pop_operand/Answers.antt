@@ -6,40 +6,37 @@ use Rattle.ir_core.specs.State.{State, forest_of}
 use Rattle.ir_core.proofs.TakenUses.{operand-count, operand-named, operand-still, operand-taken}
 use Rattle.ir_core.proofs.operand_edits.PtrOperationOperandEdits.pop_operand.Goals as goal
 
-pub pop_operand-requires-clause-some : goal.pop_operand-requires-clause-some
-pop_operand-requires-clause-some g c = let many = operand-count c.ctx.inside.records c.args.self.index in let some = rw (sym c.ctx.view_is) at c.requires.some in omega (arith, many, some)
-
 pub invariant_of-ctx : goal.invariant_of-ctx
 invariant_of-ctx g c =
     let i = c.ctx.inside in
     let s : State _ _ _ _ _ _ _ = record { records = i.records; types = i.types; next_value = i.next_value; next_use = i.next_use; limits = i.limits } in
-    let e = c.pop_operand.ensures in
+    let e = c.pop_operand-value.ensures in
     (operand-taken {s = s} c.ctx.invariant e.keeps e.linked c.args.self.index (rw (sym c.ctx.view_is) at c.requires.live) (λ ps. length ps - 1) e.forest).sound
 
 pub returns-clause-named : goal.returns-clause-named
 returns-clause-named g c =
     let i = c.ctx.inside in
     let s : State _ _ _ _ _ _ _ = record { records = i.records; types = i.types; next_value = i.next_value; next_use = i.next_use; limits = i.limits } in
-    let e = c.pop_operand.ensures in
-    rw (sym c.ctx.view_is, c.from_index.ensures) (operand-named i.records c.args.self.index (length (operands_of (forest_of s) c.args.self.index) - 1) c.pop_operand.result (subst (λ n. option_map _ (slice_get _ (n - 1)) ≡ _) (sym (operand-count i.records c.args.self.index)) e.value))
+    let e = c.pop_operand-value.ensures in
+    rw (sym c.ctx.view_is, c.from_index.ensures) (operand-named i.records c.args.self.index (length (operands_of (forest_of s) c.args.self.index) - 1) c.pop_operand-value.result (subst (λ n. option_map _ (slice_get _ (n - 1)) ≡ _) (sym (operand-count i.records c.args.self.index)) e.value))
 
 pub returns-clause-still_live : goal.returns-clause-still_live
 returns-clause-still_live g c =
     let i = c.ctx.inside in
     let s : State _ _ _ _ _ _ _ = record { records = i.records; types = i.types; next_value = i.next_value; next_use = i.next_use; limits = i.limits } in
-    let e = c.pop_operand.ensures in
-    rw (sym c.ctx.view_is, c.from_index.ensures) (operand-still {s = s} c.ctx.invariant e.keeps e.linked c.args.self.index _ e.forest (length (operands_of (forest_of s) c.args.self.index) - 1) (value_in c.pop_operand.result) (operand-named i.records c.args.self.index (length (operands_of (forest_of s) c.args.self.index) - 1) c.pop_operand.result (subst (λ n. option_map _ (slice_get _ (n - 1)) ≡ _) (sym (operand-count i.records c.args.self.index)) e.value)))
+    let e = c.pop_operand-value.ensures in
+    rw (sym c.ctx.view_is, c.from_index.ensures) (operand-still {s = s} c.ctx.invariant e.keeps e.linked c.args.self.index _ e.forest (length (operands_of (forest_of s) c.args.self.index) - 1) (value_in c.pop_operand-value.result) (operand-named i.records c.args.self.index (length (operands_of (forest_of s) c.args.self.index) - 1) c.pop_operand-value.result (subst (λ n. option_map _ (slice_get _ (n - 1)) ≡ _) (sym (operand-count i.records c.args.self.index)) e.value)))
 
 pub returns-clause-rest : goal.returns-clause-rest
 returns-clause-rest g c =
     let i = c.ctx.inside in
     let s : State _ _ _ _ _ _ _ = record { records = i.records; types = i.types; next_value = i.next_value; next_use = i.next_use; limits = i.limits } in
-    let e = c.pop_operand.ensures in
+    let e = c.pop_operand-value.ensures in
     rw (sym c.ctx.view_is) (operand-taken {s = s} c.ctx.invariant e.keeps e.linked c.args.self.index (rw (sym c.ctx.view_is) at c.requires.live) (λ ps. length ps - 1) e.forest).rest
 
 pub returns-clause-stay_live : goal.returns-clause-stay_live
 returns-clause-stay_live g c =
     let i = c.ctx.inside in
     let s : State _ _ _ _ _ _ _ = record { records = i.records; types = i.types; next_value = i.next_value; next_use = i.next_use; limits = i.limits } in
-    let e = c.pop_operand.ensures in
+    let e = c.pop_operand-value.ensures in
     rw (sym c.ctx.view_is) (operand-taken {s = s} c.ctx.invariant e.keeps e.linked c.args.self.index (rw (sym c.ctx.view_is) at c.requires.live) (λ ps. length ps - 1) e.forest).stay_live

@@ -6,40 +6,37 @@ use Rattle.ir_core.specs.State.{State, forest_of}
 use Rattle.ir_core.proofs.TakenUses.{successor-count, successor-named, successor-still, successor-taken}
 use Rattle.ir_core.proofs.successor_edits.PtrOperationSuccessorEdits.pop_successor.Goals as goal
 
-pub pop_successor-requires-clause-some : goal.pop_successor-requires-clause-some
-pop_successor-requires-clause-some g c = let many = successor-count c.ctx.inside.records c.args.self.index in let some = rw (sym c.ctx.view_is) at c.requires.some in omega (arith, many, some)
-
 pub invariant_of-ctx : goal.invariant_of-ctx
 invariant_of-ctx g c =
     let i = c.ctx.inside in
     let s : State _ _ _ _ _ _ _ = record { records = i.records; types = i.types; next_value = i.next_value; next_use = i.next_use; limits = i.limits } in
-    let e = c.pop_successor.ensures in
+    let e = c.pop_successor-block.ensures in
     (successor-taken {s = s} c.ctx.invariant e.keeps e.linked c.args.self.index (rw (sym c.ctx.view_is) at c.requires.live) (λ ps. length ps - 1) e.forest).sound
 
 pub returns-clause-named : goal.returns-clause-named
 returns-clause-named g c =
     let i = c.ctx.inside in
     let s : State _ _ _ _ _ _ _ = record { records = i.records; types = i.types; next_value = i.next_value; next_use = i.next_use; limits = i.limits } in
-    let e = c.pop_successor.ensures in
-    rw (sym c.ctx.view_is, c.from_index.ensures) (successor-named i.records c.args.self.index (length (successors_of (forest_of s) c.args.self.index) - 1) c.pop_successor.result (subst (λ n. option_map _ (slice_get _ (n - 1)) ≡ _) (sym (successor-count i.records c.args.self.index)) e.value))
+    let e = c.pop_successor-block.ensures in
+    rw (sym c.ctx.view_is, c.from_index.ensures) (successor-named i.records c.args.self.index (length (successors_of (forest_of s) c.args.self.index) - 1) c.pop_successor-block.result (subst (λ n. option_map _ (slice_get _ (n - 1)) ≡ _) (sym (successor-count i.records c.args.self.index)) e.value))
 
 pub returns-clause-still_live : goal.returns-clause-still_live
 returns-clause-still_live g c =
     let i = c.ctx.inside in
     let s : State _ _ _ _ _ _ _ = record { records = i.records; types = i.types; next_value = i.next_value; next_use = i.next_use; limits = i.limits } in
-    let e = c.pop_successor.ensures in
-    rw (sym c.ctx.view_is, c.from_index.ensures) (successor-still {s = s} c.ctx.invariant e.keeps e.linked c.args.self.index _ e.forest (length (successors_of (forest_of s) c.args.self.index) - 1) c.pop_successor.result.index (successor-named i.records c.args.self.index (length (successors_of (forest_of s) c.args.self.index) - 1) c.pop_successor.result (subst (λ n. option_map _ (slice_get _ (n - 1)) ≡ _) (sym (successor-count i.records c.args.self.index)) e.value)))
+    let e = c.pop_successor-block.ensures in
+    rw (sym c.ctx.view_is, c.from_index.ensures) (successor-still {s = s} c.ctx.invariant e.keeps e.linked c.args.self.index _ e.forest (length (successors_of (forest_of s) c.args.self.index) - 1) c.pop_successor-block.result.index (successor-named i.records c.args.self.index (length (successors_of (forest_of s) c.args.self.index) - 1) c.pop_successor-block.result (subst (λ n. option_map _ (slice_get _ (n - 1)) ≡ _) (sym (successor-count i.records c.args.self.index)) e.value)))
 
 pub returns-clause-rest : goal.returns-clause-rest
 returns-clause-rest g c =
     let i = c.ctx.inside in
     let s : State _ _ _ _ _ _ _ = record { records = i.records; types = i.types; next_value = i.next_value; next_use = i.next_use; limits = i.limits } in
-    let e = c.pop_successor.ensures in
+    let e = c.pop_successor-block.ensures in
     rw (sym c.ctx.view_is) (successor-taken {s = s} c.ctx.invariant e.keeps e.linked c.args.self.index (rw (sym c.ctx.view_is) at c.requires.live) (λ ps. length ps - 1) e.forest).rest
 
 pub returns-clause-stay_live : goal.returns-clause-stay_live
 returns-clause-stay_live g c =
     let i = c.ctx.inside in
     let s : State _ _ _ _ _ _ _ = record { records = i.records; types = i.types; next_value = i.next_value; next_use = i.next_use; limits = i.limits } in
-    let e = c.pop_successor.ensures in
+    let e = c.pop_successor-block.ensures in
     rw (sym c.ctx.view_is) (successor-taken {s = s} c.ctx.invariant e.keeps e.linked c.args.self.index (rw (sym c.ctx.view_is) at c.requires.live) (λ ps. length ps - 1) e.forest).stay_live
