@@ -1,7 +1,7 @@
 -- What each edit of the lists of a chain does to its links, whatever is named and wherever the lists lie.
-use Rattle.std.proofs.Common.{◌≡◌, ℕ, suc, ◌<◌, List, [], ◌∷◌, ◌++◌, length, map, take, drop, Some, Result, Ok, Err, OnErr, slice_get, refl, sym, ap, subst, ◌∙◌, arith}
-use Rattle.std.specs.List.{swap_remove, remove}
-use Rattle.std.proofs.lemmas.List.{length_push, length-map, map-append, take-map, drop-map}
+use Rattle.std.proofs.Common.{◌≡◌, ℕ, ◌<◌, List, [], ◌∷◌, ◌++◌, length, Some, Result, Ok, Err, OnErr, slice_get, refl, sym, ap, subst, ◌∙◌, arith}
+use Rattle.std.specs.List.{swap_remove}
+use Rattle.std.proofs.lemmas.List.{length_push, length-map, map-append}
 use Rattle.std.proofs.lemmas.Option.{slice_get_within}
 use Rattle.ir_model.specs.declared.ids.ArenaIndex.{ArenaIndex}
 use Rattle.ir_records.specs.declared.record.UseIndex.{UseIndex}
@@ -11,9 +11,6 @@ use Rattle.ir_chains.specs.Chain.{IsUseChain, Rewrites, unchanged, by_places, by
 use Rattle.ir_records.specs.Chains.{name_of, names_in}
 use Rattle.ir_chains.proofs.ListReads.{slice_get-push_at, swap_remove-last}
 use Rattle.ir_chains.proofs.LinkLemmas.{OperandsChange, UsesChange, grow, attach}
-
-pub map-remove : {X Y : Type 0} (f : X → Y) (xs : List X) (i : ℕ) → map f (remove xs i) ≡ remove (map f xs) i
-map-remove f xs i = map-append f (take i xs) (drop (suc i) xs) ∙ rw (take-map f i xs, drop-map f (suc i) xs) refl
 
 -- what holds anyway holds at an error, and after a success
 pub err_holds : {T E P : Type 0} (r : Result T E) → P → OnErr r P

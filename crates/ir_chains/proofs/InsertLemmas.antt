@@ -1,20 +1,17 @@
 -- How the links change where a place is put in at an index, or put where another one stands, whatever is named.
-use Rattle.std.proofs.Common.{◌≡◌, ◌⊎◌, ℕ, zero, suc, ◌-◌, ◌<◌, ◌≤◌, List, [], ◌∷◌, ◌++◌, length, set, map, take, drop, Some, slice_get, refl, sym, ap, ◌∙◌, inl, inr, arith}
+use Rattle.std.proofs.Common.{◌≡◌, ◌⊎◌, ℕ, zero, suc, ◌-◌, ◌<◌, ◌≤◌, List, [], ◌∷◌, ◌++◌, length, set, Some, slice_get, refl, sym, ap, ◌∙◌, inl, inr, arith}
 use Rattle.std.specs.List.{insert, remove}
 use Rattle.std.proofs.lemmas.Bool.{cases_lt, cases_order}
-use Rattle.std.proofs.lemmas.List.{map-append, take-map, drop-map}
 use Rattle.std.proofs.lemmas.Option.{slice_get_within, same_Some}
 use Rattle.ir_model.specs.declared.ids.ArenaIndex.{ArenaIndex}
 use Rattle.ir_model.proofs.IdCases.{id_cases}
 use Rattle.ir_records.specs.declared.record.UseIndex.{UseIndex}
 use Rattle.ir_records.specs.declared.record.UsePlace.{UsePlace}
 use Rattle.ir_records.specs.Links.{LinkedBut, NoHole, HoleAt}
+use Rattle.ir_records.specs.Mapped.{slice_get-insert_at}
 use Rattle.ir_chains.specs.Besides.{LinkedBesides}
 use Rattle.ir_chains.proofs.ListReads.{slice_get-push_at, slice_get-push_before, slice_get-push_cases, slice_get-set_same, slice_get-set_other}
 use Rattle.ir_chains.proofs.LinkLemmas.{OperandsChange, UsesChange, operand_cases, same_operand, one_place}
-
-pub map-insert : {X Y : Type 0} (f : X → Y) (xs : List X) (i : ℕ) (y : X) → map f (insert xs i y) ≡ insert (map f xs) i (f y)
-map-insert f xs i y = map-append f (take i xs) (y ∷ drop i xs) ∙ rw (take-map f i xs, drop-map f i xs) refl
 
 module _ {X : Type 0} where
   slice_get-insert_below : (xs : List X) (i j : ℕ) (y : X) → i ≤ length xs → j < i → slice_get (insert xs i y) j ≡ slice_get xs j
@@ -22,11 +19,6 @@ module _ {X : Type 0} where
   slice_get-insert_below [] (suc i) j y within h = absurd (omega arith)
   slice_get-insert_below (x ∷ xs) (suc i) zero y within h = refl
   slice_get-insert_below (x ∷ xs) (suc i) (suc j) y within h = slice_get-insert_below xs i j y (omega arith) (omega arith)
-
-  pub slice_get-insert_at : (xs : List X) (i : ℕ) (y : X) → i ≤ length xs → slice_get (insert xs i y) i ≡ Some y
-  slice_get-insert_at xs zero y within = refl
-  slice_get-insert_at [] (suc i) y within = absurd (omega arith)
-  slice_get-insert_at (x ∷ xs) (suc i) y within = slice_get-insert_at xs i y (omega arith)
 
   slice_get-insert_behind : (xs : List X) (i j : ℕ) (y : X) → i ≤ length xs → i ≤ j → slice_get (insert xs i y) (suc j) ≡ slice_get xs j
   slice_get-insert_behind xs zero j y within h = refl

@@ -23,6 +23,7 @@ use Rattle.ir_records.specs.declared.record.Region.{Region}
 use Rattle.ir_records.specs.declared.records.Records.{Records}
 use Rattle.ir_records.specs.Lists.{in_record, put_uses}
 use Rattle.ir_chains.specs.Chain.{Rewrites}
+use Rattle.ir_records.specs.Mapped.{map-insert, map-remove}
 use Rattle.ir_records.specs.Chains.{name_of, names_in, names_from}
 use Rattle.ir_records.specs.Table.{with_operands, with_successors, with_block_uses, with_uses_by, with_uses}
 use Rattle.ir_records.specs.Tree.{Tree, tree_of, ops_in, blocks_in}
@@ -30,8 +31,7 @@ use Rattle.ir_records.specs.Frames.{KeepsTree}
 use Rattle.ir_records.specs.Meaning.{closed, value_of, operands_from, successors_from, definition_of, op_record, block_record, op_records, block_records, region_records, forest_of}
 use Rattle.ir_chains.specs.Edits.{edited-kept}
 use Rattle.ir_chains.specs.TableLaws.{chain-values, chain-blocks}
-use Rattle.ir_chains.proofs.ChainEdits.{rewrites-keep, map-remove}
-use Rattle.ir_chains.proofs.InsertLemmas.{map-insert}
+use Rattle.ir_chains.proofs.ChainEdits.{rewrites-keep}
 use Rattle.ir_chains.proofs.Frames.{keeps-by_values, keeps-by_successors}
 
 -- the operand, or the successor, that a number and a name mean

@@ -10,14 +10,15 @@ use Rattle.ir_records.specs.declared.record.UsePlace.{UsePlace}
 use Rattle.ir_records.specs.Lists.{put_place, HaveDistinctUses}
 use Rattle.ir_records.specs.Links.{LinkedBut, NoHole, IsFreshUse, HasPlace}
 use Rattle.ir_records.specs.Chains.{name_of, names_in}
+use Rattle.ir_records.specs.Mapped.{map-insert, map-remove, slice_get-insert_at}
 use Rattle.ir_records.specs.Numbered.{put_place-set}
 use Rattle.ir_records.specs.Distinct.{distinct_by_place}
 use Rattle.ir_chains.specs.Besides.{LinkedBesides}
 use Rattle.ir_chains.specs.Chain.{IsUseChain}
 use Rattle.ir_chains.proofs.ListReads.{moved_from_last, length-swap_remove, swap_remove-within, none_past}
 use Rattle.ir_chains.proofs.LinkLemmas.{OperandsChange, UsesChange, release, relabel, relabel-none, drop_place, attach}
-use Rattle.ir_chains.proofs.InsertLemmas.{map-insert, set-insert, slice_get-insert_at, insert_place, swap_place, use_stays}
-use Rattle.ir_chains.proofs.ChainEdits.{map-remove, place_named, place_within, place_use, with_use}
+use Rattle.ir_chains.proofs.InsertLemmas.{set-insert, insert_place, swap_place, use_stays}
+use Rattle.ir_chains.proofs.ChainEdits.{place_named, place_within, place_use, with_use}
 
 put_place-names : {N : Type 0} (xs : List (UsePlace N)) (n k : ℕ) → names_in (put_place xs n k) ≡ names_in xs
 put_place-names [] n k = refl

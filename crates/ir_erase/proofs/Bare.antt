@@ -1,17 +1,13 @@
--- While an erasure removes leaves, no operation inside has operands or successors, so the uses of all definitions stay as they are.
-use mathlib.Core.Path.{◌≡◌, refl, ap, ◌∙◌, subst}
+-- While an erasure removes leaves, no operation inside has operands or successors.
+use mathlib.Core.Path.{◌≡◌, refl, ap, ◌∙◌}
 use Rattle.std.proofs.Common.{Option, Some, None, List, []}
-use Rattle.std.specs.Prelude.{◌↔◌}
 use Rattle.std.specs.Option.{option_map}
 use Rattle.ir_model.specs.Ids.{Ids}
-use Rattle.ir_model.specs.Forest.{Dialect, Entity, an_op, a_region, OpRecord, Forest, Named, a_value, the_block, Operand, Successor}
-use Rattle.ir_model.specs.Nesting.{In, list_of, children, Inside, operands_of, successors_of}
+use Rattle.ir_model.specs.Forest.{Dialect, Entity, an_op, a_region, OpRecord, Forest}
+use Rattle.ir_model.specs.Nesting.{list_of, Inside}
 use Rattle.ir_model.specs.Changes.{on_regions, but, no_uses, DropsUses, Removes}
-use Rattle.ir_model.specs.Uses.{Use, IsUse, AreUses}
 use Rattle.ir_erase.specs.Dropping.{Bare}
-use Rattle.ir_model.proofs.Nests.{Within-trans}
 use Rattle.ir_model.proofs.Keeps.{list_of-map}
-use Rattle.ir_model.proofs.Removal.{uses_left, uses_still}
 use Rattle.ir_erase.proofs.Drops.{drop-was_inside}
 use Rattle.ir_erase.proofs.Unnamed.{removed-inside}
 
@@ -42,19 +38,3 @@ module _ {N : Ids} {W : Dialect} where
           still_empty (Inside f x (an_op o)) (λ (q : OpRecord N W). q.operands) (g.ops o) kept (r.ops_inside o) (r.ops_outside o) (list_of-map (λ q. q.operands) (on_regions (but x a_region)) (λ q. refl) (f.ops o) ∙ was.0),
           still_empty (Inside f x (an_op o)) (λ (q : OpRecord N W). q.successors) (g.ops o) kept (r.ops_inside o) (r.ops_outside o) (list_of-map (λ q. q.successors) (on_regions (but x a_region)) (λ q. refl) (f.ops o) ∙ was.1),
         )
-
-    module _ (within : Inside f e x) where
-      no_user : (d : Named N) (u : Use N) → IsUse f d u → Inside f x (an_op u.user) → ⊥
-      no_user (a_value v) u h i =
-          let none = (bare u.user (Within-trans (children f) (children f) e x (an_op u.user) within i)).0 in
-          (let k : In {A = Operand N} (record { use_number = u.number; value = v }) [] = subst (λ xs. In (record { use_number = u.number; value = v }) xs) none h in k)
-      no_user (the_block b) u h i =
-          let none = (bare u.user (Within-trans (children f) (children f) e x (an_op u.user) within i)).1 in
-          (let k : In {A = Successor N} (record { use_number = u.number; block = b }) [] = subst (λ xs. In (record { use_number = u.number; block = b }) xs) none h in k)
-
-      -- a removal inside e changes no uses
-      pub bare-uses : (d : Named N) (u : Use N) → IsUse f d u ↔ IsUse g d u
-      bare-uses d u = (λ h. uses_still f g x r d u (h, no_user d u h), λ h. (uses_left f g x r d u h).0)
-
-      pub bare-are_uses : (d : Named N) (uses : List (Use N)) → AreUses f d uses → AreUses g d uses
-      bare-are_uses d uses a = record { once = a.once; exact = λ u. (λ h. (bare-uses d u).0 ((a.exact u).0 h), λ h. (a.exact u).1 ((bare-uses d u).1 h)) }

@@ -1,8 +1,8 @@
 -- A climb to what an entity stands in ends, and meets the root exactly where the entity is inside it.
-use Rattle.std.proofs.Common.{◌≡◌, ◌↔◌, ◌<◌, suc, Option, Some, None, refl, sym, ap, subst, arith}
+use Rattle.std.proofs.Common.{◌≡◌, ◌↔◌, ◌<◌, Option, Some, None, sym, subst, arith}
 use Rattle.ir_model.specs.ContextIds.{context_ids}
 use Rattle.ir_model.specs.Forest.{Dialect, Entity, Forest}
-use Rattle.ir_model.specs.Nesting.{In, below, children, Inside, Nested}
+use Rattle.ir_model.specs.Nesting.{below, Inside, Nested}
 use Rattle.ir_model.specs.Parent.{IsParent}
 use Rattle.ir_records.specs.declared.records.Records.{Records}
 use Rattle.ir_records.specs.Meaning.{forest_of}

@@ -3,14 +3,14 @@ use mathlib.Core.Path.{◌≡◌, subst}
 use Rattle.std.proofs.Common.{ℕ, ◌+◌, [], arith}
 use Rattle.ir_model.specs.Ids.{Ids}
 use Rattle.ir_model.specs.Forest.{Dialect, Entity, Forest}
-use Rattle.ir_model.specs.Nesting.{children, Inside, IsClosed, WellFormed}
+use Rattle.ir_model.specs.Nesting.{children, Inside, WellFormed}
 use Rattle.ir_model.specs.Changes.{DropsUses, Removes}
 use Rattle.ir_model.specs.Subtree.{IsSubtreeSize}
 use Rattle.ir_model.proofs.Loops.{Lawful}
 use Rattle.ir_erase.specs.Dropping.{Bare, Unnamed}
-use Rattle.ir_erase.proofs.Drops.{drop-first, drop-unnamed, drop-inside, drop-was_inside}
-use Rattle.ir_erase.proofs.Unnamed.{leaf-unnamed, leaf-formed, drop-formed}
-use Rattle.ir_erase.proofs.Bare.{drop-bare, removed-bare}
+use Rattle.ir_erase.proofs.Drops.{drop-inside, drop-was_inside}
+use Rattle.ir_erase.proofs.Unnamed.{leaf-unnamed, leaf-formed}
+use Rattle.ir_erase.proofs.Bare.{removed-bare}
 use Rattle.ir_erase.proofs.LeafRemovals.{leaf-first, leaf-counts, leaf-size}
 
 module _ {N : Ids} {W : Dialect} where
@@ -30,15 +30,6 @@ module _ {N : Ids} {W : Dialect} where
     pub counts : (left : ℕ) → IsSubtreeSize now e left → IsSubtreeSize first e (left + steps)
 
   module _ (first : Forest N W) (e : Entity N) (keys : ℕ) where
-    pub erasing-start : (now : Forest N W) → WellFormed first keys → IsClosed first e → DropsUses first e now → Erasing first e keys now 0
-    erasing-start now w closed d = record {
-      formed = drop-formed first now e keys w d;
-      unnamed = drop-unnamed first now e d closed;
-      bare = drop-bare first now e d;
-      completes = λ last k. drop-first first now e d last k;
-      counts = λ left s. subst (IsSubtreeSize first e) (omega arith) (drop-size first now e left d s);
-    }
-
     module _ (L : Lawful N) (now next : Forest N W) (leaf : Entity N) (steps : ℕ) (at : Erasing first e keys now steps)
         (empty : children now leaf ≡ []) (i : Inside now e leaf) (r : Removes now leaf next) where
       pub erasing-step : (leaf ≡ e → ⊥) → Erasing first e keys next (steps + 1)

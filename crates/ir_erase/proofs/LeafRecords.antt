@@ -1,9 +1,9 @@
 -- What the removal of a leaf makes of the arenas.
-use Rattle.std.proofs.Common.{◌≡◌, ◌+◌, ℕ, List, [], ◌∷◌, map, Option, Some, None, IsSome, is_some, refl, sym, ap, ◌∙◌, subst, arith}
+use Rattle.std.proofs.Common.{◌≡◌, ◌+◌, List, [], ◌∷◌, map, Option, Some, None, IsSome, refl, sym, ap, ◌∙◌, subst, arith}
 use Rattle.std.specs.Option.{option_map}
 use Rattle.ir_model.specs.declared.ids.ArenaIndex.{ArenaIndex}
 use Rattle.ir_model.specs.ContextIds.{context_ids}
-use Rattle.ir_model.specs.Forest.{Dialect, Entity, Forest}
+use Rattle.ir_model.specs.Forest.{Entity, Forest}
 use Rattle.ir_model.specs.Changes.{Removes}
 use Rattle.ir_model.proofs.Arenas.{passed-cut}
 use Rattle.ir_model.proofs.ArenaRoom.{len-cut}

@@ -1,6 +1,5 @@
 pub mod ClosedListings
 pub mod Drops
-pub mod FewerUses
 pub mod Unnamed
 pub mod Bare
 pub mod LeafRemovals

@@ -1,5 +1,5 @@
 -- A teardown begins, goes on, and ends.
-use Rattle.std.proofs.Common.{◌≡◌, ◌+◌, ℕ, List, [], Option, Some, None, refl, sym, ap, ◌∙◌, subst, arith}
+use Rattle.std.proofs.Common.{◌≡◌, ◌+◌, ℕ, [], Option, Some, None, refl, sym, ◌∙◌, subst, arith}
 use Rattle.ir_model.specs.ContextIds.{context_ids}
 use Rattle.ir_model.specs.Forest.{Entity, an_op, owner}
 use Rattle.ir_model.specs.Nesting.{In, children, Inside, IsLive, WellFormed, itself}

@@ -4,7 +4,7 @@ use Rattle.std.proofs.Common.{ℕ, not, Option, Some, None, List, [], map}
 use Rattle.std.specs.Option.{option_map}
 use Rattle.ir_model.specs.Ids.{Ids}
 use Rattle.ir_model.specs.Forest.{Dialect, Entity, an_op, a_block, a_region, OpRecord, BlockRecord, Forest, Named, owner, same_entity}
-use Rattle.ir_model.specs.Nesting.{In, list_of, children, Inside, IsClosed, WellFormed, names_of}
+use Rattle.ir_model.specs.Nesting.{In, list_of, children, Inside, WellFormed, names_of}
 use Rattle.ir_model.specs.Changes.{on_ops, on_regions, but, DropsUses, Removes}
 use Rattle.ir_model.proofs.Loops.{Lawful}
 use Rattle.ir_model.proofs.Nests.{In-map, In-map_back, Within-fewer}
@@ -13,7 +13,7 @@ use Rattle.ir_model.proofs.Keeps.{list_of-map}
 use Rattle.ir_model.proofs.KeepsUses.{named_by, names_are, DropsUses-kept}
 use Rattle.ir_model.proofs.KeepsErase.{Removes-kept}
 use Rattle.ir_erase.specs.Dropping.{Unnamed}
-use Rattle.ir_erase.proofs.Drops.{unnamed-closed, drop-unnamed}
+use Rattle.ir_erase.proofs.Drops.{unnamed-closed}
 
 -- a list that is read off a record that is gone or as it was kept is among what was kept
 read_kept : {A B : Type 0} (Ins : Type 0) (of : B → List A) (now kept : Option B) → (Ins → now ≡ None) → ((Ins → ⊥) → now ≡ kept) → (x : A) → In x (list_of of now) → In x (list_of of kept)
@@ -68,6 +68,3 @@ module _ {N : Ids} {W : Dialect} where
   -- where the loop begins
   pub drop-formed : (f g : Forest N W) (e : Entity N) (keys : ℕ) → WellFormed f keys → DropsUses f e g → WellFormed g keys
   drop-formed f g e keys w d = (DropsUses-kept f keys [] w g e d).forest
-
-  pub drop-leaf_closed : (f g : Forest N W) (e leaf : Entity N) → IsClosed f e → DropsUses f e g → Inside g e leaf → IsClosed g leaf
-  drop-leaf_closed f g e leaf closed d i = unnamed-closed g e leaf (drop-unnamed f g e d closed) i

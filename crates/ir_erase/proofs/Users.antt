@@ -1,15 +1,17 @@
 -- Kept uses tell the users of what an entity defines.
-use Rattle.std.proofs.Common.{◌≡◌, ◌↔◌, ◌<◌, ℕ, zero, suc, List, All, [], ◌∷◌, map, length, slice_get, slice_index_or, Option, Some, None, inl, inr, refl, sym, ap, ◌∙◌, subst, arith}
-use Rattle.std.proofs.lemmas.Option.{same_Some}
+use Rattle.std.proofs.Common.{◌≡◌, ◌↔◌, ◌<◌, ℕ, zero, suc, List, All, [], ◌∷◌, map, length, slice_index_or, Some, inl, inr, refl, sym, ap, ◌∙◌, subst, arith}
 use Rattle.ir_model.specs.declared.ids.ArenaIndex.{ArenaIndex}
 use Rattle.ir_model.specs.ContextIds.{context_ids}
 use Rattle.ir_model.specs.Ids.{Distinct}
-use Rattle.ir_model.specs.Forest.{Entity, an_op, a_block, Operand, Successor, a_value, the_block, owner, definer_entity, Named}
-use Rattle.ir_model.specs.Nesting.{In, Inside, names_of, numbers_of, operands_of, successors_of}
+use Rattle.ir_model.specs.Forest.{Entity, an_op, a_block, of_block, Operand, Successor, a_value, the_block, definer_entity, Named}
+use Rattle.ir_model.specs.Nesting.{In, Inside, numbers_of, operands_of, successors_of}
 use Rattle.ir_model.specs.Uses.{Use, IsUse}
 use Rattle.ir_model.proofs.Nests.{In-map, In-map_back}
-use Rattle.ir_model.proofs.Back.{slice_get-in}
+use Rattle.ir_arena.specs.Arena.{get}
 use Rattle.ir_records.specs.declared.record.Definer.{Definer}
+use Rattle.ir_records.specs.declared.record.Definer.TheVariants.{Op, Block}
+use Rattle.ir_records.specs.declared.record.Operation.{Operation}
+use Rattle.ir_records.specs.declared.record.BasicBlock.{BasicBlock}
 use Rattle.ir_records.specs.declared.record.ValueIndex.{ValueIndex}
 use Rattle.ir_records.specs.declared.record.BlockIndex.{BlockIndex}
 use Rattle.ir_records.specs.declared.record.UseIndex.{UseIndex}
@@ -19,14 +21,20 @@ use Rattle.ir_records.specs.Chains.{chains_of, AreLinked}
 use Rattle.ir_records.specs.Distinct.{first_with}
 use Rattle.ir_records.specs.Found.{place-In}
 use Rattle.ir_records.specs.KeptUses.{kept-exact}
-use Rattle.ir_records.specs.Lists.{uses_with}
+use Rattle.ir_records.specs.Lists.{in_record, uses_with}
 use Rattle.ir_records.specs.Meaning.{forest_of, definer_of, value_of, use_of}
 use Rattle.ir_records.specs.Meant.{value-same, operands-meant, successors-meant, numbers-meant}
 use Rattle.ir_records.specs.Numbered.{uses_with-at}
 use Rattle.ir_records.specs.Table.{block_uses_at, definitions_at, operands_at, successors_at, uses_at}
-use Rattle.ir_erase.specs.Closed.{UsersInside}
+use Rattle.ir_erase.specs.Closed.{EntityClosed, UsersInside}
 use Rattle.ir_erase.specs.Dropping.{Unnamed}
 use Rattle.ir_erase.proofs.ClosedListings.{use-named}
+
+-- an item of a list is the same whatever stands for what is past it
+pub or-same : {A : Type 0} (xs : List A) (k : ℕ) (d e : A) → k < length xs → slice_index_or xs k d ≡ slice_index_or xs k e
+or-same [] k d e h = absurd (omega (arith, h))
+or-same (x ∷ xs) zero d e h = refl
+or-same (x ∷ xs) (suc k) d e h = or-same xs k d e (omega (arith, h))
 
 module _ {A : Type 0} (P : A → Type 0) where
   pub all-in : (xs : List A) → All P xs → (x : A) → In x xs → P x
@@ -112,3 +120,24 @@ module _ {D A K B S X L : Type 0} (t : Records D A K B S X L) (linked : AreLinke
             ((asked (a_value (record { definer = definer_of d; number = r.number })) (uses_with (definitions_at t d) r.number) (value-uses (record { definer = d; number = r.number }))).1
             (by r.number (subst (In r.number) (sym (numbers-meant t d)) (In-map (λ (x : Definition). x.number) r (definitions_at t d) h))))),
       )
+
+    module _ (once : (d : Definer) → Distinct (numbers_of (forest_of t) (definer_of d))) where
+      -- of an operation, by its record
+      pub op-asked : (op : ArenaIndex) (x : Operation D A K B S X L) → get t.ops op ≡ Some x → (results : List Definition) → results ≡ x.results
+          → All (λ (r : Definition). All IsUserInside r.uses) results ↔ EntityClosed (forest_of t) root (an_op op)
+      op-asked op x found results is =
+          subst (λ rs. All (λ (r : Definition). All IsUserInside r.uses) rs ↔ EntityClosed (forest_of t) root (an_op op)) (sym (is ∙ sym (ap (in_record (λ (y : Operation D A K B S X L). y.results) []) found)))
+          (definitions-asked (Op op) (once (Op op)))
+
+      -- of a block, by its record
+      pub block-uses-asked : (block : ArenaIndex) (x : BasicBlock D A K B S X L) → get t.blocks block ≡ Some x → (uses : List UseIndex) → uses ≡ x.uses
+          → All IsUserInside uses ↔ UsersInside (forest_of t) root (the_block block)
+      block-uses-asked block x found uses is =
+          subst (λ us. All IsUserInside us ↔ UsersInside (forest_of t) root (the_block block)) (sym (is ∙ sym (ap (in_record (λ (y : BasicBlock D A K B S X L). y.uses) []) found)))
+          (block-asked (record { index = block }))
+
+      pub arguments-asked : (block : ArenaIndex) (x : BasicBlock D A K B S X L) → get t.blocks block ≡ Some x → (arguments : List Definition) → arguments ≡ x.arguments
+          → All (λ (r : Definition). All IsUserInside r.uses) arguments ↔ ((n : ℕ) → In n (numbers_of (forest_of t) (of_block block)) → UsersInside (forest_of t) root (a_value (record { definer = of_block block; number = n })))
+      arguments-asked block x found arguments is =
+          subst (λ rs. All (λ (r : Definition). All IsUserInside r.uses) rs ↔ ((n : ℕ) → In n (numbers_of (forest_of t) (of_block block)) → UsersInside (forest_of t) root (a_value (record { definer = of_block block; number = n })))) (sym (is ∙ sym (ap (in_record (λ (y : BasicBlock D A K B S X L). y.arguments) []) found)))
+          (definitions-asked (Block block) (once (Block block)))

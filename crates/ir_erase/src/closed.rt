@@ -17,11 +17,7 @@ use ir_records::{Definition, EntityIndex, Records, UseIndex};
 use ir_tree::{are_one, depths_follow, parent_of};
 
 // What an entity stands in, but no further out than the root.
-fn up_within<D: Dialects>(
-    records: &Records<D>,
-    root: EntityIndex,
-    here: EntityIndex,
-) -> EntityIndex
+fn up_within<D: Dialects>(records: &Records<D>, root: EntityIndex, here: EntityIndex) -> EntityIndex
     requires nested { AreNested (tree_of records.now) }
     requires formed { Nested (forest_of records.now) }
     requires inside { Inside (forest_of records.now) (entity_of root) (entity_of here) }
@@ -103,11 +99,7 @@ fn are_all_users_inside<D: Dialects>(
 }
 
 // Whether the users of what the entity itself defines are all inside the root.
-fn keeps_its_users<D: Dialects>(
-    records: &Records<D>,
-    root: EntityIndex,
-    here: EntityIndex,
-) -> bool
+fn keeps_its_users<D: Dialects>(records: &Records<D>, root: EntityIndex, here: EntityIndex) -> bool
     requires nested { AreNested (tree_of records.now) }
     requires formed { (keys : ℕ) × WellFormed (forest_of records.now) keys }
     requires linked { AreLinked (chains_of records.now) }
@@ -132,7 +124,7 @@ fn keeps_its_users<D: Dialects>(
     }
 }
 
-/// Whether a live entity can be erased: whether each operand or successor that names a definition of its subtree belongs to an operation of the subtree. It takes no memory. It stands for the test in pliron's `erase`.
+/// Whether a live entity can be erased: whether each operand or successor that names a definition of its subtree belongs to an operation of the subtree. It takes no memory. It is the test that pliron's `erase` makes, asked of all definitions inside and not of the operation's own results alone.
 pub fn can_erase<D: Dialects>(records: &Records<D>, entity: EntityIndex) -> bool
     requires nested { AreNested (tree_of records.now) }
     requires formed { (keys : ℕ) × WellFormed (forest_of records.now) keys }

@@ -54,10 +54,7 @@ fn item_before(items: &[ArenaIndex], item: ArenaIndex) -> Option<ArenaIndex>
 }
 
 // The one before an entity in its list, as the records say.
-fn previous_in_record<D: Dialects>(
-    records: &Records<D>,
-    entity: EntityIndex,
-) -> Option<EntityIndex>
+fn previous_in_record<D: Dialects>(records: &Records<D>, entity: EntityIndex) -> Option<EntityIndex>
     ensures { option_map entity_of result ≡ kept_previous (tree_of records.now) (entity_of entity) }
 {
     match entity {

@@ -1,5 +1,5 @@
 -- Lists of definitions: as they are made, and with the uses of one of them written.
-use Rattle.std.proofs.Common.{◌≡◌, ℕ, zero, suc, ◌+◌, ◌<◌, ◌==◌, List, [], ◌∷◌, ◌++◌, length, take, get_or, set, map, Some, None, slice_get, refl, sym, ap, subst, ◌∙◌, arith, position}
+use Rattle.std.proofs.Common.{◌≡◌, ℕ, zero, suc, ◌+◌, ◌<◌, ◌==◌, List, [], ◌∷◌, ◌++◌, length, take, get_or, set, map, Some, None, slice_get, Bool, true, false, cond, refl, sym, ap, subst, ◌∙◌, arith, position}
 use Rattle.std.proofs.lemmas.Bool.{eqb-true}
 use Rattle.std.proofs.lemmas.Option.{same_Some, get_or_from_slice_get}
 use Rattle.std.proofs.lemmas.List.{take_more, length-take-le}
@@ -52,3 +52,8 @@ definition-found rs n i r at found =
     let p = position-Some (λ (x : Definition). x.number == n) rs i r found in
     let e = get_or_from_slice_get rs i r r at in
     (i, at, sym (ap (λ (x : Definition). x.number) e) ∙ eqb-true (get_or rs i r).number n p.1)
+
+-- of two lists, whichever it is
+pub distinct-either : (b : Bool) (rs ys xs : List Definition) → rs ≡ cond b ys xs → HaveDistinctNumbers ys → HaveDistinctNumbers xs → HaveDistinctNumbers rs
+distinct-either true rs ys xs is first second = subst HaveDistinctNumbers (sym is) first
+distinct-either false rs ys xs is first second = subst HaveDistinctNumbers (sym is) second

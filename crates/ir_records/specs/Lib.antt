@@ -14,3 +14,7 @@ pub mod Distinct
 pub mod Found
 pub mod Meant
 pub mod KeptUses
+pub mod Edited
+pub mod KeptTrees
+pub mod Mapped
+pub mod DefinitionEdits

@@ -1,8 +1,9 @@
 //! The results of an operation, or the arguments of a block, which are found by their numbers. No two have one number.
 
-ghost use Rattle.std.specs.Prelude.{◌≡◌, ◌+◌, ◌<◌, ◌^◌, ◌==◌, [], length, IfOk, Some, slice_get, position};
+ghost use Rattle.std.specs.Prelude.{◌≡◌, ◌+◌, ◌<◌, ◌≤◌, ◌^◌, ◌==◌, [], length, map, insert, remove, is_ok, if◌then◌else◌, IfOk, Some, slice_get, position};
 ghost use Rattle.std.specs.Borrow.{sem};
-ghost use Rattle.ir_records.specs.Lists.{uses_with, HasNumber, IsDefinition, definitions_from};
+ghost use Rattle.ir_records.specs.Lists.{uses_with, HasNumber, HaveDistinctNumbers, IsDefinition, definitions_from};
+ghost use Rattle.ir_records.specs.DefinitionEdits.{unused, retyped};
 ghost use Rattle.ir_records.specs.Lends.{lends_definition_uses};
 
 use crate::numbered::find_numbered;
@@ -29,6 +30,18 @@ impl Model for Definitions {
     ghost invariant = { λ s. HaveDistinctNumbers s.items };
 }
 
+// A definition with this number and type, and neither name nor uses.
+fn new_definition(alloc: Global, number: u64, ty: TypeHandle) -> Definition
+    ensures { result ≡ unused number ty.place }
+{
+    Definition {
+        number,
+        ty: ty.place,
+        name: None,
+        uses: ShortSeq::new(alloc),
+    }
+}
+
 // Unused and unnamed definitions of these types, numbered from `first` on.
 fn new_definitions(
     alloc: Global,
@@ -42,12 +55,7 @@ fn new_definitions(
     definitions.reserve(types.len())?;
     let mut number = first;
     for ty in types {
-        definitions.push(Definition {
-            number,
-            ty: ty.place,
-            name: None,
-            uses: ShortSeq::new(alloc),
-        })?;
+        definitions.push(new_definition(alloc, number, *ty))?;
         number += 1;
     }
     Ok(definitions)
@@ -128,6 +136,45 @@ impl Definitions {
     {
         match self.find(number) {
             Some(index) => &mut self.items.at_mut(index).uses,
+            None => unreachable!(),
+        }
+    }
+
+    /// Puts an unused and unnamed definition with this number and type at `index`, before the one that stands there.
+    ///
+    /// # Errors
+    /// Where the list had to grow and couldn't. Then the definitions are as before.
+    pub fn insert(
+        &mut self,
+        alloc: Global,
+        index: usize,
+        number: u64,
+        ty: TypeHandle,
+    ) -> Result<(), AllocError>
+        requires within { index ≤ length self.old }
+        requires new_number { ¬ (HasNumber self.old number) }
+        ensures { self.new ≡ (if is_ok result then insert self.old index (unused number ty.place) else self.old) }
+    {
+        self.items.insert(index, new_definition(alloc, number, ty))
+    }
+
+    /// Takes the definition at `index` out. Those behind it move up.
+    pub fn remove(&mut self, index: usize) -> Definition
+        requires { index < length self.old }
+        ensures value { slice_get self.old index ≡ Some result }
+        ensures items { self.new ≡ remove self.old index }
+        ensures distinct { HaveDistinctNumbers self.old }
+    {
+        self.items.remove(index)
+    }
+
+    /// Gives the definition with this number this type.
+    pub fn set_type(&mut self, number: u64, ty: TypeHandle)
+        requires { HasNumber self.old number }
+        ensures { self.new ≡ map (retyped number ty.place) self.old }
+    {
+        match self.find(number) {
+            Some(index) => self.items.at_mut(index).ty = ty.place,
             None => unreachable!(),
         }
     }

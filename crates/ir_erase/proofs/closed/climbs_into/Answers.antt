@@ -1,7 +1,6 @@
-use Rattle.std.proofs.Common.{◌≡◌, ◌↔◌, ◌∙◌, ◌<◌, suc, true, false, Option, Some, refl, sym, ap, subst, arith}
+use Rattle.std.proofs.Common.{◌≡◌, ◌↔◌, ◌∙◌, ◌<◌, Option, Some, refl, sym, ap, subst}
 use Rattle.std.specs.Option.{option_map}
 use Rattle.ir_model.specs.ContextIds.{context_ids}
-use Rattle.ir_model.specs.Forest.{Entity}
 use Rattle.ir_model.specs.Nesting.{itself, Inside}
 use Rattle.ir_model.proofs.KeepsErase.{same_tells}
 use Rattle.ir_model.proofs.TwoRuns.{lawful}
@@ -25,7 +24,7 @@ pub returns-then-are_one-2 : goal.returns-then-are_one-2
 returns-then-are_one-2 g c =
     let f = forest_of c.args.records.now in
     let root = entity_of c.args.root in
-    let here : entity_of c.in-Some.entity ≡ entity_of c.args.home = same_tells context_ids lawful (entity_of c.in-Some.entity) (entity_of c.args.home) (sym c.are_one-2.ensures ∙ c.if-are_one-2.true) in
+    let here : entity_of c.in-Some.entity ≡ entity_of c.args.home = same_tells context_ids lawful (entity_of c.in-Some.entity) (entity_of c.args.home) (sym c.are_one-in-Some.ensures ∙ c.if-are_one-2.true) in
     let i : Inside f root (entity_of c.args.inner) ↔ Inside f root (entity_of c.in-Some.entity)
     = subst (λ (o : Option EntityIndex). Inside f root (entity_of c.args.inner) ↔ Reaches f root (option_map entity_of o)) c.in-Some.is c.loop-current.invariant in
     (λ _. i.1 (subst (Inside f root) (sym here) c.requires.home), λ _. refl)

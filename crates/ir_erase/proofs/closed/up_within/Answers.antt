@@ -1,7 +1,4 @@
 use Rattle.std.proofs.Common.{◌∙◌, sym, Some}
-use Rattle.ir_model.specs.Nesting.{Inside}
-use Rattle.ir_model.specs.ContextIds.{context_ids}
-use Rattle.ir_model.specs.Forest.{Entity}
 use Rattle.ir_records.specs.Meaning.{entity_of, forest_of}
 use Rattle.ir_erase.proofs.Climbing.{climb-up}
 use Rattle.ir_erase.proofs.Steps.{differ}

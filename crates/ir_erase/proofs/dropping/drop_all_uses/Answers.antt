@@ -1,10 +1,6 @@
-use Rattle.std.proofs.Common.{◌≡◌, ◌<◌, ◌∙◌, Some, None, Option, refl, sym, ap, subst}
+use Rattle.std.proofs.Common.{◌≡◌, ◌<◌, Some, None, Option, sym, ap, subst}
 use Rattle.std.specs.Option.{option_map}
-use Rattle.ir_model.specs.ContextIds.{context_ids}
-use Rattle.ir_model.specs.Forest.{Entity}
-use Rattle.ir_model.specs.Nesting.{In, Inside, IsLive}
 use Rattle.ir_records.specs.declared.record.EntityIndex.{EntityIndex}
-use Rattle.ir_records.specs.Frames.{KeepsTree}
 use Rattle.ir_records.specs.Meaning.{entity_of, forest_of}
 use Rattle.ir_erase.specs.Walks.{subtree}
 use Rattle.ir_erase.proofs.Drops.{DropsListed, drops-start}

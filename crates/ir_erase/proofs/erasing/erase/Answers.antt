@@ -1,4 +1,4 @@
-use Rattle.std.proofs.Common.{◌≡◌, ◌∙◌, ◌+◌, ℕ, refl, sym, ap, subst, arith}
+use Rattle.std.proofs.Common.{◌≡◌, ◌∙◌, ◌+◌, ap, arith}
 use Rattle.ir_arena.specs.Arena.{Arena}
 use Rattle.ir_records.specs.declared.record.Region.{Region}
 use Rattle.ir_records.specs.Meaning.{entity_of, forest_of}

@@ -1,15 +1,12 @@
-use Rattle.std.proofs.Common.{◌≡◌, ◌∙◌, ◌<◌, ◌+◌, true, false, Option, Some, None, sym, ap, subst, arith}
+use Rattle.std.proofs.Common.{◌∙◌, Option, sym, subst}
 use Rattle.std.specs.Option.{option_map}
 use Rattle.ir_model.specs.ContextIds.{context_ids}
-use Rattle.ir_model.specs.Forest.{Entity}
-use Rattle.ir_model.specs.Nesting.{Inside}
 use Rattle.ir_model.proofs.KeepsErase.{same_tells}
 use Rattle.ir_model.proofs.TwoRuns.{lawful}
 use Rattle.ir_records.specs.declared.record.EntityIndex.{EntityIndex}
-use Rattle.ir_records.specs.Chains.{AreLinked}
-use Rattle.ir_records.specs.Meaning.{entity_of, forest_of}
+use Rattle.ir_records.specs.Meaning.{entity_of}
 use Rattle.ir_erase.proofs.Steps.{differ}
-use Rattle.ir_erase.proofs.Teardown.{Tearing, Tears, Torn, start, leaf-live, leaf-bare, leaf-unnamed, next-step, last-step}
+use Rattle.ir_erase.proofs.Teardown.{Tearing, Tears, start, leaf-live, leaf-bare, leaf-unnamed, next-step, last-step}
 use Rattle.ir_erase.proofs.erasing.tear_down.Goals as goal
 use Rattle.ir_erase.proofs.erasing.tear_down.Goals.{then-are_one, else-are_one}
 

@@ -1,4 +1,4 @@
-use Rattle.std.proofs.Common.{◌≡◌, ap, ◌∙◌, subst, sym}
+use Rattle.std.proofs.Common.{ap, ◌∙◌, subst}
 use Rattle.ir_model.specs.ContextIds.{same_id}
 use Rattle.ir_model.specs.Forest.{a_block, an_op}
 use Rattle.ir_model.specs.Changes.{in_regions, without}

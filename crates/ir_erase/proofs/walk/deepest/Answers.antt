@@ -1,13 +1,11 @@
-use Rattle.std.proofs.Common.{◌≡◌, ◌∷◌, [], ◌-◌, ◌<◌, ◌≤◌, suc, Some, None, inl, refl, sym, ap, ◌∙◌, subst, arith}
+use Rattle.std.proofs.Common.{◌≡◌, ◌∷◌, [], ◌-◌, ◌<◌, ◌≤◌, suc, Some, inl, refl, sym, ap, ◌∙◌, subst, arith}
 use Rattle.std.specs.Option.{option_map}
-use Rattle.ir_model.specs.ContextIds.{context_ids}
-use Rattle.ir_model.specs.Forest.{Entity}
 use Rattle.ir_model.specs.Nesting.{In, itself, below, children}
 use Rattle.ir_model.specs.Parent.{first_of}
 use Rattle.ir_model.proofs.Nests.{In-right}
 use Rattle.ir_records.specs.Meaning.{entity_of, forest_of}
 use Rattle.ir_tree.specs.Climbs.{depth, size}
-use Rattle.ir_erase.specs.Walks.{subtree, EndsWith, StartsWith}
+use Rattle.ir_erase.specs.Walks.{subtree, EndsWith}
 use Rattle.ir_erase.proofs.Posts.{starts-down, starts-leaf}
 use Rattle.ir_erase.proofs.Siblings.{last-is, last-ends, last-none}
 use Rattle.ir_erase.proofs.Subtrees.{subtree-is}

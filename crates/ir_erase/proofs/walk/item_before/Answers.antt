@@ -1,4 +1,4 @@
-use Rattle.std.proofs.Common.{◌≡◌, ◌+◌, ◌∙◌, suc, drop, slice_index_or, Some, None, sym, ap, subst, arith}
+use Rattle.std.proofs.Common.{◌≡◌, ◌+◌, ◌∙◌, suc, drop, slice_index_or, Some, None, sym, subst, arith}
 use Rattle.ir_erase.specs.Walks.{before_from}
 use Rattle.ir_erase.proofs.Siblings.{scan-here, scan-on, scan-end}
 use Rattle.ir_erase.proofs.walk.item_before.Goals as goal

@@ -1,8 +1,7 @@
-use Rattle.std.proofs.Common.{◌≡◌, ◌∙◌, true, false, Some, None, sym, ap, subst}
+use Rattle.std.proofs.Common.{◌≡◌, ◌∙◌, Some, None, sym}
 use Rattle.std.specs.Option.{option_map}
 use Rattle.ir_model.specs.ContextIds.{context_ids}
-use Rattle.ir_model.specs.Forest.{Entity, same_entity}
-use Rattle.ir_model.proofs.KeepsErase.{same_self, same_tells}
+use Rattle.ir_model.proofs.KeepsErase.{same_tells}
 use Rattle.ir_model.proofs.Relinks.{first_in}
 use Rattle.ir_model.proofs.TwoRuns.{lawful}
 use Rattle.ir_records.specs.Meaning.{entity_of}

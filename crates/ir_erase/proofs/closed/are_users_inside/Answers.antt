@@ -1,0 +1,16 @@
+use Rattle.std.proofs.Common.{slice_index_or, below_more, subst}
+use Rattle.ir_model.specs.Forest.{an_op}
+use Rattle.ir_model.specs.Nesting.{Inside}
+use Rattle.ir_records.specs.declared.record.UseIndex.{UseIndex}
+use Rattle.ir_records.specs.Meaning.{entity_of, forest_of}
+use Rattle.ir_erase.proofs.Users.{or-same}
+use Rattle.ir_erase.proofs.closed.are_users_inside.Goals as goal
+
+pub loop-used-preserved : goal.loop-used-preserved
+loop-used-preserved g c =
+    let f = forest_of c.args.records.now in
+    let root = entity_of c.args.root in
+    let uses = c.args.uses.now in
+    let none : UseIndex = record { user = record { slot = 0; version = 0 }; number = 0 } in
+    below_more (λ k. (d : UseIndex) → Inside f root (an_op (slice_index_or uses k d).user)) c.loop-used.used-index c.loop-used.invariant
+    (λ d. subst (λ (u : UseIndex). Inside f root (an_op u.user)) (or-same uses c.loop-used.used-index none d c.loop-used-test.true) (c.climbs_into.ensures.0 c.if-not-climbs_into.false))
