@@ -1,5 +1,5 @@
 -- What is told of an operand or successor that is taken out, and what taking it out leaves.
-use Rattle.std.proofs.Common.{◌≡◌, ℕ, List, [], length, map, Some, slice_get, refl, sym, ap, subst, ◌∙◌}
+use Rattle.std.proofs.Common.{◌≡◌, ℕ, ◌-◌, List, [], length, map, Some, slice_get, refl, sym, ap, subst, ◌∙◌}
 use Rattle.std.specs.List.{remove}
 use Rattle.std.specs.Option.{option_map}
 use Rattle.std.proofs.lemmas.List.{length-map}
@@ -96,3 +96,15 @@ module _ {D A K B S X L : Type 0} {s : State D A K B S X L} {t : Records D A K B
         (Sub-append (Sub-all _) (Sub-map (λ (p : Successor context_ids). p.use_number) (Sub-remove r.successors (at r.successors))))
         (Sub-append (Sub-all _) (Sub-map (λ (p : Successor context_ids). the_block p.block) (Sub-remove r.successors (at r.successors)))))
         is
+
+-- the last one
+module _ {D A K B S X L : Type 0} (t : Records D A K B S X L) (o : ArenaIndex) where
+  pub last-operand-named : (v : ValueIndex) → option_map (λ (a : UsePlace ValueIndex). a.names) (slice_get (operands_at t o) (length (operands_at t o) - 1)) ≡ Some v
+      → option_map (λ (p : Operand context_ids). p.value) (slice_get (operands_of (forest_in t) o) (length (operands_of (forest_in t) o) - 1)) ≡ Some (value_of v)
+  last-operand-named v is = operand-named t o (length (operands_of (forest_in t) o) - 1) v
+      (subst (λ n. option_map (λ (a : UsePlace ValueIndex). a.names) (slice_get (operands_at t o) (n - 1)) ≡ Some v) (sym (operand-count t o)) is)
+
+  pub last-successor-named : (b : BlockIndex) → option_map (λ (a : UsePlace BlockIndex). a.names) (slice_get (successors_at t o) (length (successors_at t o) - 1)) ≡ Some b
+      → option_map (λ (p : Successor context_ids). p.block) (slice_get (successors_of (forest_in t) o) (length (successors_of (forest_in t) o) - 1)) ≡ Some b.index
+  last-successor-named b is = successor-named t o (length (successors_of (forest_in t) o) - 1) b
+      (subst (λ n. option_map (λ (a : UsePlace BlockIndex). a.names) (slice_get (successors_at t o) (n - 1)) ≡ Some b) (sym (successor-count t o)) is)

@@ -16,3 +16,6 @@ returns-clause-rest g c =
     let i = c.ctx.inside in
     let s : State _ _ _ _ _ _ _ = record { records = i.records; types = i.types; next_value = i.next_value; next_use = i.next_use; limits = i.limits } in
     rw (sym c.ctx.view_is) (kept-rest s c.ctx.invariant c.erase.new.records c.erase.ensures.ids)
+
+pub erase-requires-clause-closed : goal.erase-requires-clause-closed
+erase-requires-clause-closed g c = rw (sym c.ctx.view_is) at c.requires.closed

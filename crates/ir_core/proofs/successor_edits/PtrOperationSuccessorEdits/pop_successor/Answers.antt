@@ -1,9 +1,8 @@
-use Rattle.std.proofs.Common.{refl, sym, subst, ap, ◌≡◌, ◌-◌, length, slice_get, arith}
-use Rattle.std.specs.Option.{option_map}
+use Rattle.std.proofs.Common.{sym, ◌-◌, length}
 use Rattle.ir_model.specs.Nesting.{successors_of}
 use Rattle.ir_records.specs.Meaning.{value_of as value_in}
 use Rattle.ir_core.specs.State.{State, forest_of}
-use Rattle.ir_core.proofs.TakenUses.{successor-count, successor-named, successor-still, successor-taken}
+use Rattle.ir_core.proofs.TakenUses.{last-successor-named, successor-still, successor-taken}
 use Rattle.ir_core.proofs.successor_edits.PtrOperationSuccessorEdits.pop_successor.Goals as goal
 
 pub invariant_of-ctx : goal.invariant_of-ctx
@@ -18,14 +17,14 @@ returns-clause-named g c =
     let i = c.ctx.inside in
     let s : State _ _ _ _ _ _ _ = record { records = i.records; types = i.types; next_value = i.next_value; next_use = i.next_use; limits = i.limits } in
     let e = c.pop_successor-block.ensures in
-    rw (sym c.ctx.view_is, c.from_index.ensures) (successor-named i.records c.args.self.index (length (successors_of (forest_of s) c.args.self.index) - 1) c.pop_successor-block.result (subst (λ n. option_map _ (slice_get _ (n - 1)) ≡ _) (sym (successor-count i.records c.args.self.index)) e.value))
+    rw (sym c.ctx.view_is, c.from_index.ensures) (last-successor-named i.records c.args.self.index c.pop_successor-block.result e.value)
 
 pub returns-clause-still_live : goal.returns-clause-still_live
 returns-clause-still_live g c =
     let i = c.ctx.inside in
     let s : State _ _ _ _ _ _ _ = record { records = i.records; types = i.types; next_value = i.next_value; next_use = i.next_use; limits = i.limits } in
     let e = c.pop_successor-block.ensures in
-    rw (sym c.ctx.view_is, c.from_index.ensures) (successor-still {s = s} c.ctx.invariant e.keeps e.linked c.args.self.index _ e.forest (length (successors_of (forest_of s) c.args.self.index) - 1) c.pop_successor-block.result.index (successor-named i.records c.args.self.index (length (successors_of (forest_of s) c.args.self.index) - 1) c.pop_successor-block.result (subst (λ n. option_map _ (slice_get _ (n - 1)) ≡ _) (sym (successor-count i.records c.args.self.index)) e.value)))
+    rw c.from_index.ensures (successor-still {s = s} c.ctx.invariant e.keeps e.linked c.args.self.index _ e.forest (length (successors_of (forest_of s) c.args.self.index) - 1) c.pop_successor-block.result.index (last-successor-named i.records c.args.self.index c.pop_successor-block.result e.value))
 
 pub returns-clause-rest : goal.returns-clause-rest
 returns-clause-rest g c =

@@ -1,7 +1,7 @@
-use Rattle.std.proofs.Common.{refl, sym, subst, ap, arith}
+use Rattle.std.proofs.Common.{sym}
 use Rattle.ir_records.specs.Meaning.{value_of as value_in}
 use Rattle.ir_core.specs.State.{State, forest_of}
-use Rattle.ir_core.proofs.TakenUses.{successor-count, successor-named, successor-still, successor-taken}
+use Rattle.ir_core.proofs.TakenUses.{successor-named, successor-still, successor-taken}
 use Rattle.ir_core.proofs.successor_edits.PtrOperationSuccessorEdits.remove_successor.Goals as goal
 
 pub invariant_of-ctx : goal.invariant_of-ctx
@@ -23,7 +23,7 @@ returns-clause-still_live g c =
     let i = c.ctx.inside in
     let s : State _ _ _ _ _ _ _ = record { records = i.records; types = i.types; next_value = i.next_value; next_use = i.next_use; limits = i.limits } in
     let e = c.remove_successor-block.ensures in
-    rw (sym c.ctx.view_is, c.from_index.ensures) (successor-still {s = s} c.ctx.invariant e.keeps e.linked c.args.self.index _ e.forest c.args.index c.remove_successor-block.result.index (successor-named i.records c.args.self.index c.args.index c.remove_successor-block.result e.value))
+    rw c.from_index.ensures (successor-still {s = s} c.ctx.invariant e.keeps e.linked c.args.self.index _ e.forest c.args.index c.remove_successor-block.result.index (successor-named i.records c.args.self.index c.args.index c.remove_successor-block.result e.value))
 
 pub returns-clause-rest : goal.returns-clause-rest
 returns-clause-rest g c =
