@@ -30,7 +30,7 @@ module _ {D A K B S X L : Type 0} where
     pub entities_stay_live : EntitiesStayLive (forest_of s) (forest_in t)
 
   -- an arena with the same ids keeps to the limits
-  keeps-same : {T : Type 0} (s : State D A K B S X L) (a b : Arena T) → SameIds a b → Keeps s.limits a → Keeps s.limits b
+  pub keeps-same : {T : Type 0} (s : State D A K B S X L) (a b : Arena T) → SameIds a b → Keeps s.limits a → Keeps s.limits b
   keeps-same s a b same keeps = record { limit = same.limit ∙ keeps.limit; last_version = same.last_version ∙ keeps.last_version }
 
   module _ {s : State D A K B S X L} {t : Records D A K B S X L} (sound : IsSound s) (keeps : KeepsChains s.records t) (nested : AreNested (tree_of t)) where

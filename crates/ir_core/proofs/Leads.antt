@@ -46,7 +46,7 @@ module _ {A K B S X L : Type 0} (f : Forest context_ids (closed A K B S X L)) (k
     successors-here : successors_of f o ≡ (op_record op).successors
     successors-here = ap (list_of (λ (r : OpRecord context_ids (closed A K B S X L)). r.successors)) is.found
 
-    regions-here : regions_of f o ≡ op.regions
+    pub regions-here : regions_of f o ≡ op.regions
     regions-here = ap (list_of (λ (r : OpRecord context_ids (closed A K B S X L)). r.regions)) is.found
 
     operand-live : (v : ValueIndex) (k : ℕ) → option_map (λ (a : Operand context_ids). a.value) (slice_get (op_record op).operands k) ≡ Some (value_of v) → IsLiveNamed f (a_value (value_of v))

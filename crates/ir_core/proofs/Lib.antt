@@ -32,3 +32,6 @@ pub mod CreatedOperations
 pub mod EditedLists
 pub mod Edited
 pub mod GoingBack
+pub mod PlacedUses
+pub mod TakenUses
+pub mod Erased

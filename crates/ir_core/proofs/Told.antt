@@ -1,5 +1,5 @@
 -- Which refusal a call answers that asks first what is left.
-use Rattle.std.proofs.Common.{◌≡◌, ◌↔◌, ◌-◌, ◌≤◌, nat_lt, IsTrue, Result, Ok, Err, sym, ap, subst, ◌∙◌, inl, inr, arith}
+use Rattle.std.proofs.Common.{◌≡◌, ◌⊎◌, ◌↔◌, ◌-◌, ◌≤◌, IfErr, nat_lt, IsTrue, Result, Ok, Err, sym, ap, subst, ◌∙◌, inl, inr, arith}
 use Rattle.std.specs.Result.{IsErrAnd}
 use Rattle.ir_model.specs.declared.error.CoreError.{CoreError}
 use Rattle.ir_model.specs.declared.error.CoreError.TheVariants.{OutOfMemory, CounterSpent, SlotsSpent}
@@ -73,3 +73,9 @@ module _ {D A K B S X L : Type 0} (s : State D A K B S X L) (values : s.next_val
   pub lacks-no-numbers : LacksNumbers (bare s) region_needs → ⊥
   lacks-no-numbers (inl h) = absurd (omega (arith, lacks-left s.limits.values (λ m. IsTrue (nat_lt m s.next_value)) (s.limits.values - s.next_value) 0 values_left h))
   lacks-no-numbers (inr h) = absurd (omega (arith, lacks-left s.limits.uses (λ m. IsTrue (nat_lt m s.next_use)) (s.limits.uses - s.next_use) 0 uses_left h))
+
+-- a refusal that is for numbers or slots, and not for slots, is for numbers
+pub only-counter : {T : Type 0} (r : Result T CoreError) → IfErr r (λ e. (e ≡ CounterSpent) ⊎ (e ≡ SlotsSpent)) → (r ≡ Err SlotsSpent → ⊥) → IfErr r (λ e. e ≡ CounterSpent)
+only-counter (Ok v) h never = tt
+only-counter (Err e) (inl k) never = k
+only-counter (Err e) (inr k) never = absurd (never (ap Err k))

@@ -5,3 +5,4 @@ pub mod Calls
 pub mod Creation
 pub mod GoingBack
 pub mod Lending
+pub mod Places

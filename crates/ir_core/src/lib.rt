@@ -7,18 +7,22 @@ mod block;
 mod block_list;
 mod context;
 mod creation;
+mod erasing;
 mod error;
 mod lending;
 mod needs;
 mod new_entities;
+mod operand_edits;
 mod operation;
 mod operation_list;
 mod region;
+mod successor_edits;
 mod types;
 
 pub use block::BlockPtr;
 pub use block_list::{BlockContainer, BlockList, RegionMoves};
 pub use context::Context;
+pub use erasing::{DropUses, Erase, EraseRegion};
 pub use error::DanglingPtrDerefError;
 pub use ir_base::{
     AttrId, AttrName, CoreError, DialectName, Dialects, Identifier, Iter, Legaliser, Limits, OpId,
@@ -32,7 +36,9 @@ pub use ir_records::{
 pub use lending::{BlockPtrMut, OperationPtrMut};
 pub use needs::Needs;
 pub use new_entities::{AddRegion, NewBlock, NewOperation};
+pub use operand_edits::OperandEdits;
 pub use operation::OperationPtr;
 pub use operation_list::{OperationContainer, OperationList};
 pub use region::RegionPtr;
+pub use successor_edits::SuccessorEdits;
 pub use types::TypeQueries;

@@ -19,7 +19,9 @@ pub use ir_values::{
     BlockUseQueries, BlockUses, IndexErr, OperationUses, ResultUses, UseError, UseQueries, ValueError,
     ValueQueries,
 };
-pub use ir_walk::{BlockPlace, Entity, OperationPlace, RegionPlace, ValuePlace, is_inside};
+pub use ir_walk::{
+    BlockPlace, Entity, OperationPlace, RegionPlace, ValuePlace, can_erase, is_inside,
+};
 pub use op_queries::OperationKind;
 pub use operation_parts::{
     OperandTypes, OperandTypesOf, OperandUses, OperandUsesOf, Operands, OperandsOf, OperationParts,

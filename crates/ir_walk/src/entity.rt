@@ -1,7 +1,7 @@
 //! Operations, blocks and regions alike: what each stands in, and whether it stands inside another.
 
 ghost use Rattle.std.specs.Prelude.{◌≡◌, ◌↔◌, [], IsTrue};
-ghost use Rattle.ir_model.specs.Nesting.{children, Inside, IsLinked};
+ghost use Rattle.ir_model.specs.Nesting.{children, Inside, IsClosed, IsLinked, IsLive};
 ghost use Rattle.ir_records.specs.Meaning.{entity_of, forest_of as forest_in};
 ghost use Rattle.ir_records.specs.Nested.{AreNested};
 ghost use Rattle.ir_records.specs.Tree.{tree_of};
@@ -83,4 +83,14 @@ pub fn is_inside<D: Dialects>(ctx: &Context<D>, inner: Entity<D>, outer: Entity<
         return inner == outer;
     }
     ir_tree::is_inside(records, outer, inner)
+}
+
+/// Whether a live entity can be erased: exactly where each operand or successor that names a definition of its subtree belongs to an operation of the subtree. It takes no memory, and asks each use of what is inside once.
+pub fn can_erase<D: Dialects>(ctx: &Context<D>, entity: Entity<D>) -> bool
+    requires { IsLive (forest_of ctx.now) (meant entity) }
+    ensures { IsTrue result ↔ IsClosed (forest_of ctx.now) (meant entity) }
+{
+    ctx.is_well_formed();
+    ctx.holds_together();
+    ir_erase::can_erase(ctx.records(), entity.index())
 }

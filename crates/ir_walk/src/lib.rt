@@ -11,7 +11,7 @@ mod region;
 mod value;
 
 pub use block::BlockPlace;
-pub use entity::{Entity, is_inside};
+pub use entity::{Entity, can_erase, is_inside};
 pub use ir_base::Iter;
 pub use operation::OperationPlace;
 pub use region::RegionPlace;
