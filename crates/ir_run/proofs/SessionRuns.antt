@@ -1,10 +1,11 @@
 -- Runs, joined step by step, and what they keep.
-use Rattle.std.proofs.Common.{◌≡◌, refl, ap, subst, ◌∙◌, cond, Bool, true, false, ℕ, List, [], ◌∷◌, ◌++◌, map, Some}
+use Rattle.std.proofs.Common.{◌≡◌, refl, ap, subst, ◌∙◌, cond, Bool, true, false, ℕ, List, [], ◌∷◌, ◌++◌, map, Some, Ok, Err, IfOk, Result}
 use Rattle.std.specs.Prelude.{slice_get}
 use Rattle.std.specs.List.{list_any}
 use Rattle.ir_model.specs.declared.answer.Answer.{Answer}
 use Rattle.ir_model.specs.ContextIds.{context_ids}
 use Rattle.ir_model.specs.Forest.{Behaviour, Dialect, Forest}
+use Rattle.ir_model.specs.Changes.{move_region}
 use Rattle.ir_model.specs.Edits.{Edit as PlainEdit, over, with_type}
 use Rattle.ir_model.specs.Sessions.{Session, Step, Run, condition, counter, slots, memory, made}
 use Rattle.ir_model.specs.Soundness.{Sound}
@@ -39,10 +40,16 @@ module _ {W : Dialect} (B : Behaviour W) where
 
 module _ {W : Dialect} (B : Behaviour W) where
   -- at each cut of a run of a sound session
-  pub gone_at_cuts : (old : Session W) (edits : List (PlainEdit W)) (answers : List Answer) (new : Session W) → Sound old → GoneAtCuts B old edits answers new
-  gone_at_cuts old edits answers new k before between behind first middle last cut later e f p q r =
+  pub gone_at_cuts : (old : Session W) (edits : List (PlainEdit W)) (answers : List Answer) (new : Session W) → Sound old → Run B old edits answers new → GoneAtCuts B old edits answers new
+  gone_at_cuts old edits answers new k run before between behind first middle last cut later e f p q r =
       let sound = runs_sound B before old cut first k p in
       (gone_for_good B between cut later middle sound q, erased_are_gone B between cut later middle sound q)
+
+  -- and so where the answers were given
+  pub answered_at_cuts : {V E : Type 0} (old : Session W) (edits : List (PlainEdit W)) (new : Session W) (answered : Result V E) (answers : V → List Answer)
+      → IfOk answered (λ _. Sound old) → IfOk answered (λ a. Run B old edits (answers a) new) → IfOk answered (λ a. GoneAtCuts B old edits (answers a) new)
+  answered_at_cuts old edits new (Ok a) answers k run = gone_at_cuts old edits (answers a) new k run
+  answered_at_cuts old edits new (Err e) answers k run = tt
 
 module _ {W : Dialect} where
   same_store : (s t : Session W) → t.state.store ≡ s.state.store → KeepsKeys s t
@@ -86,7 +93,7 @@ module _ {D A K B S X L : Type 0} (behave : Behaviour (closed A K B S X L)) wher
   step_keys (UnlinkBlock block) s t a (made c n m e k) = same_store s t (ap (λ x. x.store) k.change.holds)
   step_keys (AppendOps donee donor) s t a (made c n m e k) = same_store s t (ap (λ x. x.store) k.change.holds.holds.holds)
   step_keys (AppendBlocks donee donor) s t a (made c n m e k) = same_store s t (ap (λ x. x.store) k.change.holds.holds.holds)
-  step_keys (MoveRegion region op) s t a (made c n m e k) = same_either s t _ _ k.change.holds.holds.holds
+  step_keys (MoveRegion region op) s t a (made c n m e k) = same_either s t (move_region s.state.forest k.change.value k.change.holds.value) _ k.change.holds.holds.holds
 
   pub run_keys : (edits : List (Edit D A K B S X L)) (s t : Session (closed A K B S X L)) (answers : List Answer) → Run behave s (map edit_of edits) answers t → KeepsKeys s t
   run_keys [] s t answers r = same_store s t (ap (λ x. x.state.store) r.1)

@@ -9,6 +9,7 @@ ghost use Rattle.ir_model.specs.Forest.{a_value, the_block};
 ghost use Rattle.ir_model.specs.Nesting.{IsLiveNamed, WellFormed};
 ghost use Rattle.ir_model.specs.Gone.{StaysGone};
 ghost use Rattle.ir_model.specs.Sessions.{IsNewSession, Run, Step};
+ghost use Rattle.ir_model.specs.Soundness.{Sound};
 ghost use Rattle.ir_model.specs.Uses.{AreUses};
 ghost use Rattle.ir_records.specs.declared.record.ValueIndex.{ValueIndex as PlainIndex};
 ghost use Rattle.ir_records.specs.Meaning.{value_of};
@@ -35,7 +36,6 @@ pub struct Session<D: Dialects> {
 }
 
 impl<D: Dialects> Model for Session<D> {
-    ghost use Rattle.ir_model.specs.Soundness.{Sound};
     ghost use Rattle.ir_run.specs.SessionState.{plain, SessionState};
     ghost use Rattle.ir_run.specs.SessionTables.{entries_of};
 
@@ -132,7 +132,7 @@ impl<D: Dialects> Session<D> {
     fn carry_out(&mut self, edits: Vec<Edit<D>>) -> Result<Vec<Answer>, CoreError>
         ensures headline { IfOk result (λ answers. Run (behaviour D.TypeKey.eq D.first_body D.unknown D.op_impls_of) (plain self.old) (map edit_of edits.items) answers.items (plain self.new)) }
         ensures stays_gone { StaysGone (plain self.old) (plain self.new) }
-        ensures gone_at_cuts { IfOk result (λ answers. GoneAtCuts (behaviour D.TypeKey.eq D.first_body D.unknown D.op_impls_of) (plain self.old) (map edit_of edits.items) answers.items (plain self.new)) }
+        ensures was_sound { IfOk result (λ _. Sound (plain self.old)) }
         ensures keys_stay { KeepsKeys (plain self.old) (plain self.new) }
         ensures memory { IfErr result (λ e. e ≡ CoreError.OutOfMemory) }
         ensures err { OnErr result (self.new ≡ self.old) }
@@ -149,10 +149,8 @@ impl<D: Dialects> Session<D> {
     fn step(&mut self, edit: Edit<D>) -> Answer
         ensures { Step (behaviour D.TypeKey.eq D.first_body D.unknown D.op_impls_of) (plain self.old) (edit_of edit) result (plain self.new) }
     {
-        let ctx = &mut self.ctx;
-        let tables = &mut self.tables;
         match edit {
-            Edit::NewType(key) => steps::new_type(ctx, tables, key),
+            Edit::NewType(key) => steps::new_type(&mut self.ctx, &mut self.tables, key),
             Edit::NewOp {
                 kind,
                 types,
@@ -167,27 +165,49 @@ impl<D: Dialects> Session<D> {
                     successors: &successors,
                     regions,
                 };
-                steps::new_op(ctx, tables, &parts)
+                steps::new_op(&mut self.ctx, &mut self.tables, &parts)
             }
-            Edit::NewBlock { label, types } => steps::new_block(ctx, tables, label, &types),
-            Edit::AddRegion { op } => steps::add_region(ctx, tables, op),
-            Edit::OpFront { op, block } => list_steps::op_front(ctx, tables, op, block),
-            Edit::OpBack { op, block } => list_steps::op_back(ctx, tables, op, block),
-            Edit::OpBefore { op, mark } => list_steps::op_before(ctx, tables, op, mark),
-            Edit::OpAfter { op, mark } => list_steps::op_after(ctx, tables, op, mark),
-            Edit::UnlinkOp { op } => list_steps::unlink_op(ctx, tables, op),
+            Edit::NewBlock { label, types } => {
+                steps::new_block(&mut self.ctx, &mut self.tables, label, &types)
+            }
+            Edit::AddRegion { op } => steps::add_region(&mut self.ctx, &mut self.tables, op),
+            Edit::OpFront { op, block } => {
+                list_steps::op_front(&mut self.ctx, &self.tables, op, block)
+            }
+            Edit::OpBack { op, block } => {
+                list_steps::op_back(&mut self.ctx, &self.tables, op, block)
+            }
+            Edit::OpBefore { op, mark } => {
+                list_steps::op_before(&mut self.ctx, &self.tables, op, mark)
+            }
+            Edit::OpAfter { op, mark } => {
+                list_steps::op_after(&mut self.ctx, &self.tables, op, mark)
+            }
+            Edit::UnlinkOp { op } => list_steps::unlink_op(&mut self.ctx, &self.tables, op),
             Edit::BlockFront { block, region } => {
-                list_steps::block_front(ctx, tables, block, region)
+                list_steps::block_front(&mut self.ctx, &self.tables, block, region)
             }
-            Edit::BlockBack { block, region } => list_steps::block_back(ctx, tables, block, region),
-            Edit::BlockBefore { block, mark } => list_steps::block_before(ctx, tables, block, mark),
-            Edit::BlockAfter { block, mark } => list_steps::block_after(ctx, tables, block, mark),
-            Edit::UnlinkBlock { block } => list_steps::unlink_block(ctx, tables, block),
-            Edit::AppendOps { donee, donor } => list_steps::append_ops(ctx, tables, donee, donor),
+            Edit::BlockBack { block, region } => {
+                list_steps::block_back(&mut self.ctx, &self.tables, block, region)
+            }
+            Edit::BlockBefore { block, mark } => {
+                list_steps::block_before(&mut self.ctx, &self.tables, block, mark)
+            }
+            Edit::BlockAfter { block, mark } => {
+                list_steps::block_after(&mut self.ctx, &self.tables, block, mark)
+            }
+            Edit::UnlinkBlock { block } => {
+                list_steps::unlink_block(&mut self.ctx, &self.tables, block)
+            }
+            Edit::AppendOps { donee, donor } => {
+                list_steps::append_ops(&mut self.ctx, &self.tables, donee, donor)
+            }
             Edit::AppendBlocks { donee, donor } => {
-                list_steps::append_blocks(ctx, tables, donee, donor)
+                list_steps::append_blocks(&mut self.ctx, &self.tables, donee, donor)
             }
-            Edit::MoveRegion { region, op } => list_steps::move_region(ctx, tables, region, op),
+            Edit::MoveRegion { region, op } => {
+                list_steps::move_region(&mut self.ctx, &self.tables, region, op)
+            }
         }
     }
 }

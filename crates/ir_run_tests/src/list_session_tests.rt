@@ -72,11 +72,12 @@ fn structure(alloc: Global, session: &Session<Toy>) -> Result<String, AllocError
 }
 
 fn write_ops(text: &mut String, session: &Session<Toy>) -> Result<(), AllocError> {
+    let ctx = session.ctx();
     for number in 0..usize::MAX {
         let Some(op) = session.op(number) else {
             break;
         };
-        let Ok(op) = op.try_deref(session.ctx()) else {
+        let Ok(op) = op.try_deref(ctx) else {
             continue;
         };
         if op.num_regions() > 0 {
@@ -92,13 +93,14 @@ fn write_ops(text: &mut String, session: &Session<Toy>) -> Result<(), AllocError
 }
 
 fn write_blocks(text: &mut String, session: &Session<Toy>) -> Result<(), AllocError> {
+    let ctx = session.ctx();
     for number in 0..usize::MAX {
         let Some(block) = session.block(number) else {
             break;
         };
-        if block.is_live(session.ctx()) {
+        if block.is_live(ctx) {
             write!(text, "b{number}:")?;
-            for op in block.iter(session.ctx()) {
+            for op in block.iter(ctx) {
                 let op = op_number(session, op);
                 write!(text, " o{op}")?;
             }
@@ -109,13 +111,14 @@ fn write_blocks(text: &mut String, session: &Session<Toy>) -> Result<(), AllocEr
 }
 
 fn write_regions(text: &mut String, session: &Session<Toy>) -> Result<(), AllocError> {
+    let ctx = session.ctx();
     for number in 0..usize::MAX {
         let Some(region) = session.region(number) else {
             break;
         };
-        if region.is_live(session.ctx()) {
+        if region.is_live(ctx) {
             write!(text, "r{number}:")?;
-            for block in region.iter(session.ctx()) {
+            for block in region.iter(ctx) {
                 let block = block_number(session, block);
                 write!(text, " b{block}")?;
             }
@@ -261,9 +264,10 @@ fn region_moves(rt: HostRuntime) -> Result<(), Fail> {
     expect_one(&rt, alloc, &mut session, edit, DONE, moved)?;
     let edit = Edit::MoveRegion { region: 0, op: 1 };
     expect_one(&rt, alloc, &mut session, edit, DONE, moved)?;
+    let ctx = session.ctx();
     if let Some(last) = session.region(2) {
-        assert!(rt; last.is_live(session.ctx()));
-        assert_eq!(rt; last.find_index_in_parent(session.ctx()), 1);
+        assert!(rt; last.is_live(ctx));
+        assert_eq!(rt; last.find_index_in_parent(ctx), 1);
     }
     let mut session = with_parts(&rt, alloc, 0, [4, 1].as_slice())?;
     let edit = Edit::MoveRegion { region: 1, op: 1 };

@@ -5,7 +5,7 @@ use Rattle.ir_model.proofs.RefusedForGood.{gone_for_good}
 use Rattle.ir_run.specs.SessionEdits.{edit_of}
 use Rattle.ir_run.specs.SessionState.{SessionState, plain}
 use Rattle.ir_run.proofs.Entering.{map-push}
-use Rattle.ir_run.proofs.SessionRuns.{gone_at_cuts, run-more, run_keys}
+use Rattle.ir_run.proofs.SessionRuns.{run-more, run_keys}
 use Rattle.ir_run.proofs.session.Session.carry_out.Goals as goal
 
 pub loop-edit-preserved : goal.loop-edit-preserved
@@ -22,10 +22,9 @@ returns-clause-stays_gone g c =
     (subst (λ (x : SessionState g.row.D.Denot g.row.D-Attr.Denot g.row.D-TypeKey.Denot g.row.D-TypeBody.Denot g.row.D-Saved.Denot g.row.D-Aux.Denot g.row.D-Loc.Denot). Sound (plain x)) c.self.view_is c.self.invariant)
     c.loop-edit.invariant.0
 
-pub returns-clause-gone_at_cuts : goal.returns-clause-gone_at_cuts
-returns-clause-gone_at_cuts g c =
-    gone_at_cuts _ _ (map edit_of c.loop-edit.yielded) c.loop-edit.answers.items _
-    (subst (λ (x : SessionState g.row.D.Denot g.row.D-Attr.Denot g.row.D-TypeKey.Denot g.row.D-TypeBody.Denot g.row.D-Saved.Denot g.row.D-Aux.Denot g.row.D-Loc.Denot). Sound (plain x)) c.self.view_is c.self.invariant)
+pub returns-clause-was_sound : goal.returns-clause-was_sound
+returns-clause-was_sound g c =
+    subst (λ (x : SessionState g.row.D.Denot g.row.D-Attr.Denot g.row.D-TypeKey.Denot g.row.D-TypeBody.Denot g.row.D-Saved.Denot g.row.D-Aux.Denot g.row.D-Loc.Denot). Sound (plain x)) c.self.view_is c.self.invariant
 
 pub returns-clause-keys_stay : goal.returns-clause-keys_stay
 returns-clause-keys_stay g c = run_keys _ c.loop-edit.yielded _ _ c.loop-edit.answers.items c.loop-edit.invariant.0
