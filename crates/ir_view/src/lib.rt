@@ -16,8 +16,8 @@ pub use block_parts::{ArgumentTypes, ArgumentTypesOf, Arguments, ArgumentsOf, Bl
 pub use forward_edges::BlockSuccessors;
 pub use indexed::{HasParts, Parts};
 pub use ir_values::{
-    BlockUseQueries, BlockUses, IndexErr, OperationUses, ResultUses, UseError, UseQueries, ValueError,
-    ValueQueries,
+    BlockUseQueries, BlockUses, IndexErr, OperationUses, ResultUses, UseError, UseQueries,
+    ValueError, ValueQueries,
 };
 pub use ir_walk::{
     BlockPlace, Entity, OperationPlace, RegionPlace, ValuePlace, can_erase, is_inside,
