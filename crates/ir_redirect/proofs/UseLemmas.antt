@@ -18,7 +18,7 @@ use Rattle.ir_chains.specs.Chain.{IsUseChain}
 use Rattle.ir_chains.specs.LinkLemmas.{OperandsChange}
 use Rattle.ir_chains.specs.ListReads.{slice_get-push_at, slice_get-push_before, slice_get-push_cases, swap_remove-at, swap_remove-other, swap_remove-within, length-swap_remove, moved_from_last, none_past}
 use Rattle.ir_redirect.specs.Chosen.{same_use}
-use Rattle.ir_redirect.specs.Renamed.{put_name, Renamed, renamed}
+use Rattle.ir_redirect.specs.Renamed.{put_name, IsPlaceOf, Renamed, renamed}
 use Rattle.ir_redirect.proofs.RenamedLemmas.{sent, sent-here, sent-away, renamed-none, renamed-goes, renamed-more, numbers-stay, still_has, UsesMove, renamed-linked, renamed-names}
 
 -- where the uses of a list go when one is taken out by moving the last into its place
@@ -155,6 +155,12 @@ module _ {S N : Type 0} {Live : S → ArenaIndex → Type 0} {ps : S → ArenaIn
   -- the numbers of places in a linked state
   pub linked_numbers : (t : S) → Linked t → (p : ArenaIndex) → HaveDistinctUses (ps t p)
   linked_numbers t L p = distinct_by_place (λ (b : UsePlace N). b.number) (ps t p) (λ j k b c at_b at_c e. (L.distinct p p j k b c at_b at_c e).1)
+
+  -- a use has one place
+  pub one_place_of : (t : S) (u : UseIndex) (a b : UsePlace N) → Linked t → IsPlaceOf (ps t) u a → IsPlaceOf (ps t) u b → a ≡ b
+  one_place_of t u a b L x y =
+      let same = L.distinct u.user u.user x.0 y.0 a b x.1 y.1 (x.2 ∙ sym y.2) in
+      same_Some a b (sym x.1 ∙ ap (slice_get (ps t u.user)) same.1 ∙ y.1)
 
   -- one use, and its place
   module _ (t : S) (u : UseIndex) (to : N) (i : ℕ) (a : UsePlace N) (L : Linked t) (at : slice_get (ps t u.user) i ≡ Some a) (number : a.number ≡ u.number) where

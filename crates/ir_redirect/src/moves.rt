@@ -2,14 +2,15 @@
 //!
 //! Uses that move together are put into the list that receives them before the first place is renamed: then nothing can fail any more.
 
-ghost use Rattle.std.specs.Prelude.{◌≡◌, ◌↔◌, Bool, true, [], length, map, OnOk, OnErr};
+ghost use Rattle.std.specs.Prelude.{◌≡◌, ◌↔◌, Bool, true, [], length, map, IsOk, OnOk, OnErr};
 ghost use Rattle.ir_model.specs.declared.ids.ArenaIndex.{ArenaIndex};
+ghost use Rattle.ir_records.specs.declared.record.UsePlace.{UsePlace as PlainPlace};
 ghost use Rattle.ir_records.specs.Chains.{names_in};
 ghost use Rattle.ir_records.specs.Links.{LinkedBut, NoHole, HasPlace};
 ghost use Rattle.ir_records.specs.Meaning.{use_of};
 ghost use Rattle.ir_chains.specs.Chain.{Rewrites};
 ghost use Rattle.ir_redirect.specs.Chosen.{is_chosen, same_use};
-ghost use Rattle.ir_redirect.specs.Renamed.{named_by, renamed};
+ghost use Rattle.ir_redirect.specs.Renamed.{named_by, renamed, IsPlaceOf};
 
 use crate::renames::Renames;
 use crate::use_lists::{append, append_chosen, keep_others};
@@ -30,6 +31,7 @@ pub(crate) fn redirect_use<D: Dialects, N: Renames<D>>(
     ensures names { OnOk result ((o : ArenaIndex) → names_in (N.places_at records.new o) ≡ map (renamed (same_use (use_of used)) to o) (names_in (N.places_at records.old o))) }
     ensures rest { Rewrites N.with_places N.with_uses records.old records.new }
     ensures err { OnErr result (records.new ≡ records.old) }
+    ensures itself { (a : PlainPlace N) → IsPlaceOf (N.places_at records.old) used a → a.names ≡ to → IsOk result }
 {
     let old = N::place_of(records, used);
     if old.names.is_same(to) {
@@ -93,6 +95,7 @@ pub(crate) fn redirect_all<D: Dialects, N: Renames<D>>(
     ensures names { OnOk result ((is_old : N → Bool) → ((v : N) → (is_old v ≡ true) ↔ (v ≡ from)) → (o : ArenaIndex) → names_in (N.places_at records.new o) ≡ map (named_by is_old to) (names_in (N.places_at records.old o))) }
     ensures rest { Rewrites N.with_places N.with_uses records.old records.new }
     ensures err { OnErr result (records.new ≡ records.old) }
+    ensures itself { from ≡ to → IsOk result }
 {
     if from.is_same(to) {
         return Ok(());
@@ -126,6 +129,7 @@ pub(crate) fn redirect_some<D: Dialects, N: Renames<D>>(
     ensures names { OnOk result ((o : ArenaIndex) → names_in (N.places_at records.new o) ≡ map (renamed (is_chosen (N.uses_at records.old from) answers.now) to o) (names_in (N.places_at records.old o))) }
     ensures rest { Rewrites N.with_places N.with_uses records.old records.new }
     ensures err { OnErr result (records.new ≡ records.old) }
+    ensures itself { from ≡ to → IsOk result }
 {
     if from.is_same(to) {
         return Ok(());

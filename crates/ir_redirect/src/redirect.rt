@@ -2,15 +2,19 @@
 //!
 //! A use keeps its number and its place among the operands or successors of its user. Where the definition is the one that was named before, nothing changes, and no memory is taken. Where the list that receives the uses can't grow, nothing has changed.
 
-ghost use Rattle.std.specs.Prelude.{◌≡◌, length, OnOk, OnErr};
+ghost use Rattle.std.specs.Prelude.{◌≡◌, length, IsOk, OnOk, OnErr};
 ghost use Rattle.ir_model.specs.Changes.{redirect, retarget};
 ghost use Rattle.ir_model.specs.Redirect.{redirect_uses, retarget_uses};
+ghost use Rattle.ir_records.specs.declared.record.BlockIndex.{BlockIndex as PlainBlock};
+ghost use Rattle.ir_records.specs.declared.record.UsePlace.{UsePlace as PlainPlace};
+ghost use Rattle.ir_records.specs.declared.record.ValueIndex.{ValueIndex as PlainValue};
 ghost use Rattle.ir_records.specs.Meaning.{forest_of, use_of, value_of};
 ghost use Rattle.ir_records.specs.Links.{HasPlace};
 ghost use Rattle.ir_records.specs.Table.{operands_at, successors_at, uses_at, block_uses_at, IsValue, IsBlock};
 ghost use Rattle.ir_records.specs.Chains.{chains_of, AreLinked};
 ghost use Rattle.ir_records.specs.Frames.{KeepsTree};
 ghost use Rattle.ir_redirect.specs.Chosen.{is_chosen, same_use};
+ghost use Rattle.ir_redirect.specs.Renamed.{IsPlaceOf};
 
 use crate::moves;
 use ir_base::Dialects;
@@ -33,6 +37,7 @@ pub fn replace_use<D: Dialects>(
     ensures keeps { KeepsTree records.old records.new }
     ensures forest { OnOk result (forest_of records.new ≡ redirect_uses (forest_of records.old) (same_use (use_of used)) (value_of to)) }
     ensures err { OnErr result (records.new ≡ records.old) }
+    ensures itself { (a : PlainPlace PlainValue) → IsPlaceOf (operands_at records.old) used a → a.names ≡ to → IsOk result }
 {
     moves::redirect_use::<D, ValueIndex>(records, used, to)
 }
@@ -53,6 +58,7 @@ pub fn retarget_pred<D: Dialects>(
     ensures keeps { KeepsTree records.old records.new }
     ensures forest { OnOk result (forest_of records.new ≡ retarget_uses (forest_of records.old) (same_use (use_of used)) to.index) }
     ensures err { OnErr result (records.new ≡ records.old) }
+    ensures itself { (a : PlainPlace PlainBlock) → IsPlaceOf (successors_at records.old) used a → a.names ≡ to → IsOk result }
 {
     moves::redirect_use::<D, BlockIndex>(records, used, to)
 }
@@ -74,6 +80,7 @@ pub fn replace_all_uses<D: Dialects>(
     ensures keeps { KeepsTree records.old records.new }
     ensures forest { OnOk result (forest_of records.new ≡ redirect (forest_of records.old) (value_of from) (value_of to)) }
     ensures err { OnErr result (records.new ≡ records.old) }
+    ensures itself { from ≡ to → IsOk result }
 {
     moves::redirect_all::<D, ValueIndex>(records, alloc, from, to)
 }
@@ -95,6 +102,7 @@ pub fn retarget_all_preds<D: Dialects>(
     ensures keeps { KeepsTree records.old records.new }
     ensures forest { OnOk result (forest_of records.new ≡ retarget (forest_of records.old) from.index to.index) }
     ensures err { OnErr result (records.new ≡ records.old) }
+    ensures itself { from ≡ to → IsOk result }
 {
     moves::redirect_all::<D, BlockIndex>(records, alloc, from, to)
 }
@@ -118,6 +126,7 @@ pub fn replace_some_uses<D: Dialects>(
     ensures keeps { KeepsTree records.old records.new }
     ensures forest { OnOk result (forest_of records.new ≡ redirect_uses (forest_of records.old) (is_chosen (uses_at records.old from) answers.now) (value_of to)) }
     ensures err { OnErr result (records.new ≡ records.old) }
+    ensures itself { from ≡ to → IsOk result }
 {
     moves::redirect_some::<D, ValueIndex>(records, alloc, from, to, answers)
 }
@@ -141,6 +150,7 @@ pub fn retarget_some_preds<D: Dialects>(
     ensures keeps { KeepsTree records.old records.new }
     ensures forest { OnOk result (forest_of records.new ≡ retarget_uses (forest_of records.old) (is_chosen (block_uses_at records.old from) answers.now) to.index) }
     ensures err { OnErr result (records.new ≡ records.old) }
+    ensures itself { from ≡ to → IsOk result }
 {
     moves::redirect_some::<D, BlockIndex>(records, alloc, from, to, answers)
 }

@@ -101,3 +101,6 @@ returns-clause-names g c =
 
 pub returns-clause-rest : goal.returns-clause-rest
 returns-clause-rest g c = by_uses _ _ _ _ (by_uses _ _ _ _ c.loop-index.invariant.rest refl) c.keep_both-2.ensures
+
+pub returns-in-Err-clause-itself : goal.returns-in-Err-clause-itself
+returns-in-Err-clause-itself g c e = absurd (false≢true (sym c.if-is_same.false ∙ c.is_same.ensures.1 e))

@@ -1,8 +1,9 @@
-use Rattle.std.proofs.Common.{◌≡◌, sym, ◌∙◌}
+use Rattle.std.proofs.Common.{◌≡◌, sym, ap, ◌∙◌}
+use Rattle.ir_records.specs.declared.record.UsePlace.{UsePlace}
 use Rattle.std.proofs.lemmas.Bool.{false≢true}
 use Rattle.ir_chains.specs.Chain.{unchanged, by_places, by_uses}
 use Rattle.ir_chains.specs.ChainEdits.{rewrites-same}
-use Rattle.ir_redirect.proofs.UseLemmas.{place_live, linked_numbers, use_same, pushed_has, pushed_live, pushed_numbers, from_has, from_within, last_linked, last_names, moved_has, moved_live, moved_numbers, moved_linked, moved_names}
+use Rattle.ir_redirect.proofs.UseLemmas.{place_live, linked_numbers, one_place_of, use_same, pushed_has, pushed_live, pushed_numbers, from_has, from_within, last_linked, last_names, moved_has, moved_live, moved_numbers, moved_linked, moved_names}
 use Rattle.ir_redirect.proofs.moves.redirect_use.Goals as goal
 
 pub place_of-old-requires-clause-live : goal.place_of-old-requires-clause-live
@@ -114,3 +115,9 @@ pub returns-clause-rest : goal.returns-clause-rest
 returns-clause-rest g c =
     let pushed = rw c.in_ok-place.was at c.push_use.ensures.records in
     by_places _ _ _ _ (by_uses _ _ _ _ (by_places _ _ _ _ (by_uses _ _ _ _ unchanged pushed) c.rename_place.ensures) (c.take_use.ensures.records c.args.used)) c.rename_place-2.ensures
+
+pub returns-in_err-place-clause-itself : goal.returns-in_err-place-clause-itself
+returns-in_err-place-clause-itself g c a at e =
+    let same = one_place_of g.met.N.Named.chain c.args.records.now c.args.used a c.place_of-old.result c.requires.linked at c.place_of-old.ensures in
+    let old : c.place_of-old.result.names ≡ c.args.to = ap (λ (x : UsePlace g.row.N.Denot). x.names) (sym same) ∙ e in
+    absurd (false≢true (sym c.if-is_same.false ∙ c.is_same.ensures.1 old))
