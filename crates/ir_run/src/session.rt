@@ -36,6 +36,7 @@ pub struct Session<D: Dialects> {
 }
 
 impl<D: Dialects> Model for Session<D> {
+    ghost use Rattle.ir_model.specs.Soundness.{Sound};
     ghost use Rattle.ir_run.specs.SessionState.{plain, SessionState};
     ghost use Rattle.ir_run.specs.SessionTables.{entries_of};
 
