@@ -17,7 +17,7 @@ use ir_view::{
 use std::process::Abort;
 use std::test::Fail;
 
-const GONE: Result<usize, IndexErr> = Err(IndexErr::Use(UseError::OperandNotInUserOp));
+const GONE: Result<usize, IndexErr> = Err(IndexErr::UseError(UseError::OperandNotInUserOp));
 
 // Whether the operation could be put at the back of the block.
 fn put_op<D: Dialects>(

@@ -66,7 +66,7 @@ pub(crate) fn expect_operands<D: Dialects>(
     }
 }
 
-const GONE: Result<usize, IndexErr> = Err(IndexErr::Use(UseError::OperandNotInUserOp));
+const GONE: Result<usize, IndexErr> = Err(IndexErr::UseError(UseError::OperandNotInUserOp));
 
 // Each of the five edits once, with ample memory.
 fn edit_each<D: Dialects>(

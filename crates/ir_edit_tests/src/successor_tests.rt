@@ -6,7 +6,7 @@ use crate::checked::{
 use ir_base::{CoreError, Dialects, Limits, Ptr};
 use ir_core::{BasicBlock, BlockPtr, Context, NewBlock, NewOperation, Operation, OperationPtr};
 use ir_toy::Toy;
-use ir_view::{BlockUseQueries, UseQueries};
+use ir_view::{BlockUseQueries, BlockUses, UseQueries};
 use std::process::Abort;
 use std::test::Fail;
 
