@@ -37,11 +37,7 @@ pub trait OperandEdits<D: Dialects> {
     ///
     /// # Errors
     /// `CounterSpent` where no use number is left, else `OutOfMemory` where a growth was refused. Then nothing has changed.
-    fn push_operand(
-        self,
-        ctx: &mut Context<D>,
-        value: Self::Value,
-    ) -> Result<usize, CoreError>
+    fn push_operand(self, ctx: &mut Context<D>, value: Self::Value) -> Result<usize, CoreError>
         requires live { IsLive (forest_of ctx.old) (an_op (index_of self)) }
         requires value_live { IsLiveNamed (forest_of ctx.old) (a_value (value_of value)) }
         ensures index { IfOk result (λ at. at ≡ length (operands_of (forest_of ctx.old) (index_of self))) }
@@ -142,7 +138,13 @@ impl<D: Dialects> OperandEdits<D> for Ptr<Operation<D>> {
         value: Value<D>,
     ) -> Result<(), CoreError> {
         has_use_number(ctx)?;
-        insert_operand(&mut ctx.records, self.index, index, ctx.next_use, value.index)?;
+        insert_operand(
+            &mut ctx.records,
+            self.index,
+            index,
+            ctx.next_use,
+            value.index,
+        )?;
         ctx.next_use += 1;
         Ok(())
     }
@@ -154,7 +156,13 @@ impl<D: Dialects> OperandEdits<D> for Ptr<Operation<D>> {
         value: Value<D>,
     ) -> Result<(), CoreError> {
         has_use_number(ctx)?;
-        replace_operand(&mut ctx.records, self.index, index, ctx.next_use, value.index)?;
+        replace_operand(
+            &mut ctx.records,
+            self.index,
+            index,
+            ctx.next_use,
+            value.index,
+        )?;
         ctx.next_use += 1;
         Ok(())
     }

@@ -17,7 +17,9 @@ ghost use Rattle.ir_core.specs.State.{bare, forest_of, types_of};
 use crate::context::Context;
 use crate::needs::has_use_number;
 use ir_base::{CoreError, Dialects, Ptr};
-use ir_chains::{insert_successor, pop_successor, push_successor, remove_successor, replace_successor};
+use ir_chains::{
+    insert_successor, pop_successor, push_successor, remove_successor, replace_successor,
+};
 use ir_records::{BasicBlock, BlockIndex, Operation};
 
 /// How the successors of a live operation are changed one at a time. A place is the successor's index.
@@ -35,11 +37,7 @@ pub trait SuccessorEdits<D: Dialects> {
     ///
     /// # Errors
     /// `CounterSpent` where no use number is left, else `OutOfMemory` where a growth was refused. Then nothing has changed.
-    fn push_successor(
-        self,
-        ctx: &mut Context<D>,
-        block: Self::Block,
-    ) -> Result<usize, CoreError>
+    fn push_successor(self, ctx: &mut Context<D>, block: Self::Block) -> Result<usize, CoreError>
         requires live { IsLive (forest_of ctx.old) (an_op (index_of self)) }
         requires block_live { IsLive (forest_of ctx.old) (a_block (block_of block)) }
         ensures index { IfOk result (λ at. at ≡ length (successors_of (forest_of ctx.old) (index_of self))) }
@@ -123,10 +121,19 @@ impl<D: Dialects> SuccessorEdits<D> for Ptr<Operation<D>> {
 
     ghost block_of = { λ p. p.index };
 
-    fn push_successor(self, ctx: &mut Context<D>, block: Ptr<BasicBlock<D>>) -> Result<usize, CoreError> {
+    fn push_successor(
+        self,
+        ctx: &mut Context<D>,
+        block: Ptr<BasicBlock<D>>,
+    ) -> Result<usize, CoreError> {
         has_use_number(ctx)?;
         let index = ctx.records.ops.at(self).get_num_successors();
-        push_successor(&mut ctx.records, self.index, ctx.next_use, BlockIndex { index: block.index })?;
+        push_successor(
+            &mut ctx.records,
+            self.index,
+            ctx.next_use,
+            BlockIndex { index: block.index },
+        )?;
         ctx.next_use += 1;
         Ok(index)
     }
@@ -138,7 +145,13 @@ impl<D: Dialects> SuccessorEdits<D> for Ptr<Operation<D>> {
         block: Ptr<BasicBlock<D>>,
     ) -> Result<(), CoreError> {
         has_use_number(ctx)?;
-        insert_successor(&mut ctx.records, self.index, index, ctx.next_use, BlockIndex { index: block.index })?;
+        insert_successor(
+            &mut ctx.records,
+            self.index,
+            index,
+            ctx.next_use,
+            BlockIndex { index: block.index },
+        )?;
         ctx.next_use += 1;
         Ok(())
     }
@@ -150,7 +163,13 @@ impl<D: Dialects> SuccessorEdits<D> for Ptr<Operation<D>> {
         block: Ptr<BasicBlock<D>>,
     ) -> Result<(), CoreError> {
         has_use_number(ctx)?;
-        replace_successor(&mut ctx.records, self.index, index, ctx.next_use, BlockIndex { index: block.index })?;
+        replace_successor(
+            &mut ctx.records,
+            self.index,
+            index,
+            ctx.next_use,
+            BlockIndex { index: block.index },
+        )?;
         ctx.next_use += 1;
         Ok(())
     }

@@ -7,8 +7,8 @@ use crate::checked::{
 use crate::operand_tests::{expect_operands, new_value, result_of_another, with_type};
 use ir_base::{CoreError, Dialects, Limits, Ptr};
 use ir_core::{
-    AddRegion, BasicBlock, BlockList, BlockPtr, Context, DanglingPtrDerefError, DropUses,
-    NewBlock, NewOperation, Operation, OperationList, OperationPtr, Region, RegionPtr, Value,
+    AddRegion, BasicBlock, BlockList, BlockPtr, Context, DanglingPtrDerefError, DropUses, NewBlock,
+    NewOperation, Operation, OperationList, OperationPtr, Region, RegionPtr, Value,
 };
 use ir_toy::Toy;
 use ir_view::{
@@ -86,7 +86,10 @@ fn use_own_result<D: Dialects>(
     assert!(rt; old.is_some_and(|used| used.try_find_index(ctx) == GONE));
     assert!(rt; replace_operand(ctx, op, 0, x)?);
     assert!(rt; erase_op(ctx, op));
-    assert!(rt; op.try_deref(ctx).is_err_and(|error| error == DanglingPtrDerefError));
+    assert!(rt;
+        op.try_deref(ctx)
+            .is_err_and(|error| error == DanglingPtrDerefError)
+    );
     assert!(rt; use_count(ctx, y) == Some(0));
     Ok(())
 }
@@ -166,7 +169,11 @@ fn erase_inner_successor(rt: HostRuntime) -> Result<(), Fail> {
 fn erase_the_second<D: Dialects>(rt: &impl Abort, ctx: &mut Context<D>) -> Result<(), CoreError> {
     let op = Operation::new(ctx, 5, &[], &[], &[], 3)?;
     let record = op.deref(ctx);
-    let regions = [record.get_region(0), record.get_region(1), record.get_region(2)];
+    let regions = [
+        record.get_region(0),
+        record.get_region(1),
+        record.get_region(2),
+    ];
     assert!(rt; erase_region(ctx, op, 1));
     assert!(rt; !erase_region(ctx, op, 2));
     assert!(rt; regions[0].is_live(ctx) && !regions[1].is_live(ctx) && regions[2].is_live(ctx));

@@ -1,5 +1,12 @@
 //! Operands put in, taken out and replaced one at a time.
 
+ghost use Rattle.std.specs.Prelude.{◌<◌, ◌≤◌, length, IfOk};
+ghost use Rattle.ir_model.specs.Forest.{a_value, an_op};
+ghost use Rattle.ir_model.specs.Nesting.{IsLive, IsLiveNamed};
+ghost use Rattle.ir_records.specs.Meaning.{value_of};
+ghost use Rattle.ir_core.specs.Calls.{StayLive};
+ghost use Rattle.ir_core.specs.State.{forest_of, types_of};
+
 use crate::checked::{
     insert_operand, operand_use, pop_operand, push_operand, remove_operand, replace_operand,
     result_at, use_count,
@@ -11,13 +18,6 @@ use ir_view::{IndexErr, UseError, UseQueries};
 use std::alloc::Global;
 use std::process::Abort;
 use std::test::Fail;
-
-ghost use Rattle.std.specs.Prelude.{◌<◌, ◌≤◌, length, IfOk};
-ghost use Rattle.ir_model.specs.Forest.{a_value, an_op};
-ghost use Rattle.ir_model.specs.Nesting.{IsLive, IsLiveNamed};
-ghost use Rattle.ir_records.specs.Meaning.{value_of};
-ghost use Rattle.ir_core.specs.Calls.{StayLive};
-ghost use Rattle.ir_core.specs.State.{forest_of, types_of};
 
 // A context over the dialect Toy with a type.
 pub(crate) fn with_type(
@@ -61,7 +61,10 @@ pub(crate) fn expect_operands<D: Dialects>(
     for (index, value) in expected.iter().enumerate() {
         if index < record.get_num_operands() {
             assert!(rt; record.get_operand(index) == *value);
-            assert_eq!(rt; record.get_operand_as_use(index).try_find_index(ctx), Ok(index));
+            assert_eq!(rt;
+                record.get_operand_as_use(index).try_find_index(ctx),
+                Ok(index)
+            );
         }
     }
 }

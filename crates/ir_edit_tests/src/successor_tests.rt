@@ -24,7 +24,10 @@ fn expect_successors<D: Dialects>(
     for (index, block) in expected.iter().enumerate() {
         if index < record.get_num_successors() {
             assert!(rt; record.get_successor(index) == *block);
-            assert_eq!(rt; record.get_successor_as_use(index).try_find_index(ctx), Ok(index));
+            assert_eq!(rt;
+                record.get_successor_as_use(index).try_find_index(ctx),
+                Ok(index)
+            );
         }
     }
 }

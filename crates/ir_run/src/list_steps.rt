@@ -93,11 +93,7 @@ pub(crate) fn op_after<D: Dialects>(
 }
 
 /// Takes the operation out of its block.
-pub(crate) fn unlink_op<D: Dialects>(
-    ctx: &mut Context<D>,
-    tables: &Tables<D>,
-    op: usize,
-) -> Answer
+pub(crate) fn unlink_op<D: Dialects>(ctx: &mut Context<D>, tables: &Tables<D>, op: usize) -> Answer
     ensures { Step (behaviour D.TypeKey.eq D.first_body D.unknown D.op_impls_of) (session_of ctx.old (entries_of tables.now)) (PlainUnlinkOp op) result (session_of ctx.new (entries_of tables.now)) }
 {
     needs_nothing(ctx);

@@ -183,20 +183,68 @@ fn each_edit_of_lists(rt: HostRuntime) -> Result<(), Fail> {
     let alloc = rt.alloc();
     let mut session = with_parts(&rt, alloc, 3, [2, 0, 0, 0, 0].as_slice())?;
     let steps = vec![in alloc;
-        (Edit::BlockFront { block: 0, region: 0 }, "o0: r0 r1; b0:; b1:; b2:; r0: b0; r1:; "),
-        (Edit::BlockBack { block: 1, region: 0 }, "o0: r0 r1; b0:; b1:; b2:; r0: b0 b1; r1:; "),
-        (Edit::OpFront { op: 1, block: 0 }, "o0: r0 r1; b0: o1; b1:; b2:; r0: b0 b1; r1:; "),
-        (Edit::OpBack { op: 2, block: 0 }, "o0: r0 r1; b0: o1 o2; b1:; b2:; r0: b0 b1; r1:; "),
-        (Edit::OpBefore { op: 3, mark: 2 }, "o0: r0 r1; b0: o1 o3 o2; b1:; b2:; r0: b0 b1; r1:; "),
-        (Edit::OpAfter { op: 4, mark: 1 }, "o0: r0 r1; b0: o1 o4 o3 o2; b1:; b2:; r0: b0 b1; r1:; "),
-        (Edit::UnlinkOp { op: 3 }, "o0: r0 r1; b0: o1 o4 o2; b1:; b2:; r0: b0 b1; r1:; "),
-        (Edit::BlockBefore { block: 2, mark: 1 }, "o0: r0 r1; b0: o1 o4 o2; b1:; b2:; r0: b0 b2 b1; r1:; "),
-        (Edit::UnlinkBlock { block: 2 }, "o0: r0 r1; b0: o1 o4 o2; b1:; b2:; r0: b0 b1; r1:; "),
-        (Edit::BlockAfter { block: 2, mark: 0 }, "o0: r0 r1; b0: o1 o4 o2; b1:; b2:; r0: b0 b2 b1; r1:; "),
-        (Edit::OpFront { op: 3, block: 1 }, "o0: r0 r1; b0: o1 o4 o2; b1: o3; b2:; r0: b0 b2 b1; r1:; "),
-        (Edit::AppendOps { donee: 1, donor: 0 }, "o0: r0 r1; b0:; b1: o3 o1 o4 o2; b2:; r0: b0 b2 b1; r1:; "),
-        (Edit::AppendBlocks { donee: 1, donor: 0 }, "o0: r0 r1; b0:; b1: o3 o1 o4 o2; b2:; r0:; r1: b0 b2 b1; "),
-        (Edit::MoveRegion { region: 0, op: 1 }, "o0: r1; o1: r0; b0:; b1: o3 o1 o4 o2; b2:; r0:; r1: b0 b2 b1; "),
+        (
+            Edit::BlockFront {
+                block: 0,
+                region: 0
+            },
+            "o0: r0 r1; b0:; b1:; b2:; r0: b0; r1:; "
+        ),
+        (
+            Edit::BlockBack {
+                block: 1,
+                region: 0
+            },
+            "o0: r0 r1; b0:; b1:; b2:; r0: b0 b1; r1:; "
+        ),
+        (
+            Edit::OpFront { op: 1, block: 0 },
+            "o0: r0 r1; b0: o1; b1:; b2:; r0: b0 b1; r1:; "
+        ),
+        (
+            Edit::OpBack { op: 2, block: 0 },
+            "o0: r0 r1; b0: o1 o2; b1:; b2:; r0: b0 b1; r1:; "
+        ),
+        (
+            Edit::OpBefore { op: 3, mark: 2 },
+            "o0: r0 r1; b0: o1 o3 o2; b1:; b2:; r0: b0 b1; r1:; "
+        ),
+        (
+            Edit::OpAfter { op: 4, mark: 1 },
+            "o0: r0 r1; b0: o1 o4 o3 o2; b1:; b2:; r0: b0 b1; r1:; "
+        ),
+        (
+            Edit::UnlinkOp { op: 3 },
+            "o0: r0 r1; b0: o1 o4 o2; b1:; b2:; r0: b0 b1; r1:; "
+        ),
+        (
+            Edit::BlockBefore { block: 2, mark: 1 },
+            "o0: r0 r1; b0: o1 o4 o2; b1:; b2:; r0: b0 b2 b1; r1:; "
+        ),
+        (
+            Edit::UnlinkBlock { block: 2 },
+            "o0: r0 r1; b0: o1 o4 o2; b1:; b2:; r0: b0 b1; r1:; "
+        ),
+        (
+            Edit::BlockAfter { block: 2, mark: 0 },
+            "o0: r0 r1; b0: o1 o4 o2; b1:; b2:; r0: b0 b2 b1; r1:; "
+        ),
+        (
+            Edit::OpFront { op: 3, block: 1 },
+            "o0: r0 r1; b0: o1 o4 o2; b1: o3; b2:; r0: b0 b2 b1; r1:; "
+        ),
+        (
+            Edit::AppendOps { donee: 1, donor: 0 },
+            "o0: r0 r1; b0:; b1: o3 o1 o4 o2; b2:; r0: b0 b2 b1; r1:; "
+        ),
+        (
+            Edit::AppendBlocks { donee: 1, donor: 0 },
+            "o0: r0 r1; b0:; b1: o3 o1 o4 o2; b2:; r0:; r1: b0 b2 b1; "
+        ),
+        (
+            Edit::MoveRegion { region: 0, op: 1 },
+            "o0: r1; o1: r0; b0:; b1: o3 o1 o4 o2; b2:; r0:; r1: b0 b2 b1; "
+        ),
     ]?;
     for (edit, wanted) in steps {
         expect_one(&rt, alloc, &mut session, edit, DONE, wanted)?;
@@ -216,16 +264,44 @@ fn list_append(rt: HostRuntime) -> Result<(), Fail> {
     ]?;
     expect(&rt, &mut session, edits, [DONE; 4].as_slice())?;
     let steps = vec![in alloc;
-        (Edit::AppendOps { donee: 0, donor: 0 }, REFUSED, "b0: o0 o1; b1: o2 o3; b2:; "),
-        (Edit::AppendOps { donee: 0, donor: 1 }, DONE, "b0: o0 o1 o2 o3; b1:; b2:; "),
-        (Edit::AppendOps { donee: 1, donor: 2 }, DONE, "b0: o0 o1 o2 o3; b1:; b2:; "),
+        (
+            Edit::AppendOps { donee: 0, donor: 0 },
+            REFUSED,
+            "b0: o0 o1; b1: o2 o3; b2:; "
+        ),
+        (
+            Edit::AppendOps { donee: 0, donor: 1 },
+            DONE,
+            "b0: o0 o1 o2 o3; b1:; b2:; "
+        ),
+        (
+            Edit::AppendOps { donee: 1, donor: 2 },
+            DONE,
+            "b0: o0 o1 o2 o3; b1:; b2:; "
+        ),
         (Edit::UnlinkOp { op: 3 }, DONE, "b0: o0 o1 o2; b1:; b2:; "),
-        (Edit::OpBack { op: 3, block: 1 }, DONE, "b0: o0 o1 o2; b1: o3; b2:; "),
-        (Edit::AppendOps { donee: 0, donor: 1 }, DONE, "b0: o0 o1 o2 o3; b1:; b2:; "),
+        (
+            Edit::OpBack { op: 3, block: 1 },
+            DONE,
+            "b0: o0 o1 o2; b1: o3; b2:; "
+        ),
+        (
+            Edit::AppendOps { donee: 0, donor: 1 },
+            DONE,
+            "b0: o0 o1 o2 o3; b1:; b2:; "
+        ),
         (Edit::UnlinkOp { op: 2 }, DONE, "b0: o0 o1 o3; b1:; b2:; "),
         (Edit::UnlinkOp { op: 3 }, DONE, "b0: o0 o1; b1:; b2:; "),
-        (Edit::AppendOps { donee: 2, donor: 0 }, DONE, "b0:; b1:; b2: o0 o1; "),
-        (Edit::AppendOps { donee: 1, donor: 1 }, REFUSED, "b0:; b1:; b2: o0 o1; "),
+        (
+            Edit::AppendOps { donee: 2, donor: 0 },
+            DONE,
+            "b0:; b1:; b2: o0 o1; "
+        ),
+        (
+            Edit::AppendOps { donee: 1, donor: 1 },
+            REFUSED,
+            "b0:; b1:; b2: o0 o1; "
+        ),
     ]?;
     for (edit, answer, wanted) in steps {
         expect_one(&rt, alloc, &mut session, edit, answer, wanted)?;
@@ -239,15 +315,47 @@ fn insert_into_itself(rt: HostRuntime) -> Result<(), Fail> {
     let mut session = with_parts(&rt, alloc, 1, [1].as_slice())?;
     let nested = "o0: r0; b0:; r0: b0; ";
     let steps = vec![in alloc;
-        (Edit::BlockBack { block: 0, region: 0 }, DONE, nested),
+        (
+            Edit::BlockBack {
+                block: 0,
+                region: 0
+            },
+            DONE,
+            nested
+        ),
         (Edit::OpBack { op: 0, block: 0 }, REFUSED, nested),
         (Edit::OpFront { op: 0, block: 0 }, REFUSED, nested),
         (Edit::UnlinkBlock { block: 0 }, DONE, "o0: r0; b0:; r0:; "),
-        (Edit::OpBack { op: 0, block: 0 }, DONE, "o0: r0; b0: o0; r0:; "),
-        (Edit::BlockBack { block: 0, region: 0 }, REFUSED, "o0: r0; b0: o0; r0:; "),
-        (Edit::BlockFront { block: 0, region: 0 }, REFUSED, "o0: r0; b0: o0; r0:; "),
+        (
+            Edit::OpBack { op: 0, block: 0 },
+            DONE,
+            "o0: r0; b0: o0; r0:; "
+        ),
+        (
+            Edit::BlockBack {
+                block: 0,
+                region: 0
+            },
+            REFUSED,
+            "o0: r0; b0: o0; r0:; "
+        ),
+        (
+            Edit::BlockFront {
+                block: 0,
+                region: 0
+            },
+            REFUSED,
+            "o0: r0; b0: o0; r0:; "
+        ),
         (Edit::UnlinkOp { op: 0 }, DONE, "o0: r0; b0:; r0:; "),
-        (Edit::BlockFront { block: 0, region: 0 }, DONE, nested),
+        (
+            Edit::BlockFront {
+                block: 0,
+                region: 0
+            },
+            DONE,
+            nested
+        ),
     ]?;
     for (edit, answer, wanted) in steps {
         expect_one(&rt, alloc, &mut session, edit, answer, wanted)?;
@@ -284,9 +392,15 @@ fn hostile_edits(rt: HostRuntime) -> Result<(), Fail> {
     let alloc = rt.alloc();
     let mut session = with_parts(&rt, alloc, 2, [1, 1, 0].as_slice())?;
     let edits = vec![in alloc;
-        Edit::BlockBack { block: 0, region: 0 },
+        Edit::BlockBack {
+            block: 0,
+            region: 0
+        },
         Edit::OpBack { op: 1, block: 0 },
-        Edit::BlockBack { block: 1, region: 1 },
+        Edit::BlockBack {
+            block: 1,
+            region: 1
+        },
     ]?;
     expect(&rt, &mut session, edits, [DONE; 3].as_slice())?;
     let nested = "o0: r0; o1: r1; b0: o1; b1:; r0: b0; r1: b1; ";
@@ -327,24 +441,60 @@ fn refused_then_done(rt: HostRuntime) -> Result<(), Fail> {
         (Edit::OpAfter { op: 2, mark: 1 }, REFUSED),
         (Edit::UnlinkOp { op: 2 }, DONE),
         (Edit::OpAfter { op: 2, mark: 1 }, DONE),
-        (Edit::BlockFront { block: 1, region: 2 }, REFUSED),
+        (
+            Edit::BlockFront {
+                block: 1,
+                region: 2
+            },
+            REFUSED
+        ),
         (Edit::AddRegion { op: 0 }, Answer::Made(2)),
-        (Edit::BlockFront { block: 1, region: 2 }, DONE),
-        (Edit::BlockBack { block: 1, region: 0 }, REFUSED),
+        (
+            Edit::BlockFront {
+                block: 1,
+                region: 2
+            },
+            DONE
+        ),
+        (
+            Edit::BlockBack {
+                block: 1,
+                region: 0
+            },
+            REFUSED
+        ),
         (Edit::UnlinkBlock { block: 1 }, DONE),
         (Edit::UnlinkBlock { block: 1 }, REFUSED),
-        (Edit::BlockBack { block: 1, region: 0 }, DONE),
+        (
+            Edit::BlockBack {
+                block: 1,
+                region: 0
+            },
+            DONE
+        ),
         (Edit::UnlinkBlock { block: 1 }, DONE),
         (Edit::BlockBefore { block: 1, mark: 2 }, REFUSED),
         (Edit::BlockAfter { block: 1, mark: 2 }, REFUSED),
-        (Edit::BlockBack { block: 2, region: 1 }, DONE),
+        (
+            Edit::BlockBack {
+                block: 2,
+                region: 1
+            },
+            DONE
+        ),
         (Edit::BlockBefore { block: 1, mark: 2 }, DONE),
         (Edit::UnlinkBlock { block: 1 }, DONE),
         (Edit::BlockAfter { block: 1, mark: 2 }, DONE),
         (Edit::AppendOps { donee: 1, donor: 0 }, REFUSED),
         (Edit::UnlinkBlock { block: 1 }, DONE),
         (Edit::AppendOps { donee: 1, donor: 0 }, DONE),
-        (Edit::BlockBack { block: 1, region: 0 }, DONE),
+        (
+            Edit::BlockBack {
+                block: 1,
+                region: 0
+            },
+            DONE
+        ),
         (Edit::AppendBlocks { donee: 1, donor: 0 }, REFUSED),
         (Edit::MoveRegion { region: 0, op: 1 }, REFUSED),
         (Edit::UnlinkOp { op: 1 }, DONE),

@@ -101,9 +101,9 @@ fn script_refused_then_made(rt: HostRuntime) -> Result<(), Fail> {
 
 #[test]
 fn script_successors(rt: HostRuntime) -> Result<(), Fail> {
-    let script = b"op 5 - - - 1\nblock -\nblock -\nbackb b0 r0\nbackb b1 r0\nop 3 - - b1,b1 0\nback o1 b0";
-    let output =
-        "made o0\nmade b0\nmade b1\nok\nok\nmade o1\nok\nb0:\nb1: o1.0 o1.1\n";
+    let script =
+        b"op 5 - - - 1\nblock -\nblock -\nbackb b0 r0\nbackb b1 r0\nop 3 - - b1,b1 0\nback o1 b0";
+    let output = "made o0\nmade b0\nmade b1\nok\nok\nmade o1\nok\nb0:\nb1: o1.0 o1.1\n";
     expect(&rt, rt.alloc(), script, 0, output, "")?;
     Ok(())
 }
@@ -118,9 +118,9 @@ fn script_op_into_itself(rt: HostRuntime) -> Result<(), Fail> {
 
 #[test]
 fn script_link_twice(rt: HostRuntime) -> Result<(), Fail> {
-    let script = b"op 5 - - - 1\nblock -\nop 4 - - - 0\nback o1 b0\nback o1 b0\nunlink o1\nunlink o1";
-    let output =
-        "made o0\nmade b0\nmade o1\nok\nrefused condition\nok\nrefused condition\nb0:\n";
+    let script =
+        b"op 5 - - - 1\nblock -\nop 4 - - - 0\nback o1 b0\nback o1 b0\nunlink o1\nunlink o1";
+    let output = "made o0\nmade b0\nmade o1\nok\nrefused condition\nok\nrefused condition\nb0:\n";
     expect(&rt, rt.alloc(), script, 0, output, "")?;
     Ok(())
 }
@@ -136,8 +136,10 @@ fn script_move_into_itself(rt: HostRuntime) -> Result<(), Fail> {
 // A region moves, and stays where it is when it is moved there again. What was never made is refused.
 #[test]
 fn lists_and_moves(rt: HostRuntime) -> Result<(), Fail> {
-    let script = b"back o0 b0\nop 5 - - - 1\nop 5 - - - 0\nmove r0 o1\nmove r0 o1\nmove r1 o1\nmove r0 o2\nbackb b0 r0\nunlink o9";
-    let output = "refused condition\nmade o0\nmade o1\nok\nok\nrefused condition\nrefused condition\nrefused condition\nrefused condition\n";
+    let script =
+        b"back o0 b0\nop 5 - - - 1\nop 5 - - - 0\nmove r0 o1\nmove r0 o1\nmove r1 o1\nmove r0 o2\nbackb b0 r0\nunlink o9";
+    let output =
+        "refused condition\nmade o0\nmade o1\nok\nok\nrefused condition\nrefused condition\nrefused condition\nrefused condition\n";
     expect(&rt, rt.alloc(), script, 0, output, "")?;
     Ok(())
 }
