@@ -6,6 +6,4 @@ mod block_tests;
 #[cfg(test)]
 mod core_tests;
 #[cfg(test)]
-mod list_session_tests;
-#[cfg(test)]
 mod session_tests;
