@@ -20,11 +20,11 @@ ghost use Rattle.ir_run.specs.Headline.{GoneAtCuts, KeepsKeys};
 ghost use Rattle.ir_run.specs.SessionState.{plain};
 
 use crate::edit::Edit;
-use crate::list_steps;
-use crate::session_tables::Tables;
-use crate::steps::{self, OpParts};
 use ir_base::{Answer, CoreError, Dialects, Limits, Ptr, TypeHandle};
 use ir_core::{BasicBlock, Context, Operation, Region, Value};
+use ir_steps::list_steps;
+use ir_steps::steps::{self, OpParts};
+use ir_tables::Tables;
 use std::alloc::Global;
 use std::marker::Model;
 
@@ -38,7 +38,7 @@ pub struct Session<D: Dialects> {
 impl<D: Dialects> Model for Session<D> {
     ghost use Rattle.ir_model.specs.Soundness.{Sound};
     ghost use Rattle.ir_run.specs.SessionState.{plain, SessionState};
-    ghost use Rattle.ir_run.specs.SessionTables.{entries_of};
+    ghost use Rattle.ir_tables.specs.SessionTables.{entries_of};
 
     ghost Value = { SessionState D D.Attr D.TypeKey D.TypeBody D.Saved D.Aux D.Loc };
 

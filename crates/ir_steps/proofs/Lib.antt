@@ -1,0 +1,4 @@
+pub mod Conditions
+pub mod SessionSteps
+pub mod NewEntities
+pub mod ListSteps
