@@ -2,7 +2,8 @@
 
 use ir_base::{Answer, Limits, Refused};
 use ir_run::{Edit, Session};
-use ir_toy::{Toy, ToyType, run_script, run_script_with_limits};
+use ir_script::{run_script, run_script_with_limits};
+use ir_toy::{Toy, ToyType};
 use std::alloc::Global;
 use std::io;
 use std::io::{ErrorKind, Read, Write};

@@ -1,6 +1,6 @@
 //! What the program reads and writes around a session: the bytes of a script, the lines of the answers, and the status.
 ghost use Rattle.std.specs.Prelude.{◌≡◌, ◌≤◌, ◌↔◌, IsOk};
-ghost use Rattle.ir_toy.specs.Lines.{refusal_line as line_of};
+ghost use Rattle.ir_script.specs.Lines.{refusal_line as line_of};
 
 use crate::script_parse::{Letter, ScriptError};
 use ir_base::{Answer, Refused};

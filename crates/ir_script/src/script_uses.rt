@@ -3,10 +3,10 @@
 //! It walks the operands and successors of the live operations once, and no list of uses.
 
 use crate::script_parse::ScriptError;
-use crate::toy::Toy;
 use ir_base::Ptr;
 use ir_core::{BasicBlock, BlockPtr, Operation, OperationPtr, Value};
 use ir_run::Session;
+use ir_toy::Toy;
 use ir_values::ValueQueries;
 use std::alloc::Global;
 use std::collections::HashMap;

@@ -4,9 +4,9 @@
 
 ghost use Rattle.std.specs.Prelude.{◌≤◌, IfOk};
 
-use crate::toy::{Toy, ToyType};
 use ir_base::CoreError;
 use ir_run::Edit;
+use ir_toy::{Toy, ToyType};
 use std::alloc::{AllocError, AllocFailed, Global};
 use std::fmt;
 use thiserror::Error;
