@@ -38,3 +38,4 @@ pub mod Erased
 pub mod Definitions
 pub mod PlacedValues
 pub mod TakenValues
+pub mod Redirected

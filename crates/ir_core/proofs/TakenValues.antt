@@ -43,7 +43,7 @@ module _ {D A K B S X L : Type 0} (s : State D A K B S X L) (linked : AreLinked 
   pub unused-at : (d : Defines) (at : ℕ) → UnusedAt (forest_of s) (definer_of d) at → (r : Kept) → slice_get (definitions_at s.records d) at ≡ Some r → uses_at s.records (record { definer = d; number = r.number }) ≡ []
   unused-at d at unused r found =
       let here : slice_get (numbers_of (forest_of s) (definer_of d)) at ≡ Some r.number =
-          ap (λ (ns : List ℕ). slice_get ns at) (numbers-meant s.records d) ∙ slice_get-map (λ (x : Kept). x.number) (definitions_at s.records d) at ∙ ap (option_map (λ (x : Kept). x.number)) found in
+      ap (λ (ns : List ℕ). slice_get ns at) (numbers-meant s.records d) ∙ slice_get-map (λ (x : Kept). x.number) (definitions_at s.records d) at ∙ ap (option_map (λ (x : Kept). x.number)) found in
       let same : unused.value ≡ r.number = same_Some _ _ (sym unused.found ∙ here) in
       no-uses (record { definer = d; number = r.number }) (subst (λ n. Unused (forest_of s) (a_value (record { definer = definer_of d; number = n }))) same unused.holds)
 
