@@ -6,3 +6,4 @@ pub mod Creation
 pub mod GoingBack
 pub mod Lending
 pub mod Places
+pub mod Definitions
