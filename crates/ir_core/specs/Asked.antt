@@ -8,12 +8,12 @@ use Rattle.ir_model.specs.Uses.{IsUse, Use}
 use Rattle.ir_records.specs.declared.record.UseIndex.{UseIndex}
 use Rattle.ir_records.specs.Meaning.{use_of}
 
--- the answer is one that f may give for a handle of the use, in a context that is shown
-pub record MayAnswer {F C U : Type 0} (g : Shared F (Bor C × (Bor U × Unit {0})) Bool) (shown : C → Type 0) (handle_of : U → Use context_ids) (f : F) (u : Use context_ids) (answer : Bool) : Type 0 where
+-- the answer is one that f may give for what it is handed for the use, in a context that is shown
+pub record MayAnswer {F C H : Type 0} (g : Shared F (Bor C × (H × Unit {0})) Bool) (shown : C → Type 0) (is_for : H → Use context_ids → Type 0) (f : F) (u : Use context_ids) (answer : Bool) : Type 0 where
   pub context : Bor C
-  pub handle : Bor U
+  pub handle : H
   pub is_shown : shown context.now
-  pub is : handle_of handle.now ≡ u
+  pub is : is_for handle u
   pub says : g.post f (context, (handle, tt)) answer
 
 -- there is one answer for each use, in their order, which may be given for it

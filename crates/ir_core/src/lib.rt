@@ -4,6 +4,7 @@
 #![tactic(auto)]
 
 mod argument_edits;
+mod asking;
 mod block;
 mod block_list;
 mod context;
@@ -20,12 +21,12 @@ mod operation_list;
 mod region;
 mod result_edits;
 mod retargeting;
-mod shown;
 mod successor_edits;
 mod types;
 mod value_edits;
 
 pub use argument_edits::ArgumentEdits;
+pub use asking::Shown;
 pub use block::BlockPtr;
 pub use block_list::{BlockContainer, BlockList, RegionMoves};
 pub use context::Context;
@@ -49,7 +50,6 @@ pub use operation_list::{OperationContainer, OperationList};
 pub use region::RegionPtr;
 pub use result_edits::ResultEdits;
 pub use retargeting::Retarget;
-pub use shown::Shown;
 pub use successor_edits::SuccessorEdits;
 pub use types::TypeQueries;
 pub use value_edits::ValueEdits;

@@ -16,40 +16,22 @@ ghost use Rattle.ir_core.specs.Asked.{AreAnswers, IsChosenBy, MayAnswer};
 ghost use Rattle.ir_core.specs.Calls.{EntitiesStayLive, SameButForest, StayLive};
 ghost use Rattle.ir_core.specs.State.{bare, forest_of, types_of, uses_of};
 
+use crate::asking::{Shown, answers};
 use crate::context::Context;
-use crate::shown::Shown;
 use ir_base::{CoreError, Dialects, TypeHandle};
 use ir_definitions::set_type;
 use ir_records::{Use, UseIndex, Value, ValueIndex, uses};
 use ir_redirect::{replace_all_uses, replace_some_uses, replace_use};
 
-// What the predicate answers for each of these uses, in their order.
-fn answers<D: Dialects, C: Shown<D>, P: Fn(&C, &Use<Value<D>>) -> bool>(
-    ctx: &Context<D>,
-    kept: &[UseIndex],
-    pred: &P,
-) -> Result<Vec<bool>, CoreError>
-    requires { (context : _) (used : _) → C.shows context.now ctx.now → In used.now.index kept.now → P.pre pred.now context used }
-    ensures answers { IfOk result (λ answers. AreAnswers (MayAnswer P.Fn (λ c. C.shows c ctx.now) (λ u. use_in u.index) pred.now) kept.now answers.items) }
-    ensures memory { IfErr result (λ e. e ≡ CoreError.OutOfMemory) }
-{
-    let mut answers = Vec::with_capacity(ctx.alloc(), kept.len())?;
-    for index in kept {
-        let used = Use::from_index(*index);
-        answers.push(pred(C::of(ctx), &used))?;
-    }
-    Ok(answers)
-}
-
 // What the predicate answers for each kept use of a live value, in their order.
-fn answers_for_uses<D: Dialects, C: Shown<D>, P: Fn(&C, &Use<Value<D>>) -> bool>(
+fn answers_for_uses<D: Dialects, C: Shown<D>, P: Fn(&C, Use<Value<D>>) -> bool>(
     ctx: &Context<D>,
     value: ValueIndex,
     pred: &P,
 ) -> Result<Vec<bool>, CoreError>
     requires live { IsLiveNamed (forest_of ctx.now) (a_value (value_in value)) }
-    requires callable { (context : _) (used : _) → C.shows context.now ctx.now → IsUse (forest_of ctx.now) (a_value (value_in value)) (use_in used.now.index) → P.pre pred.now context used }
-    ensures answers { IfOk result (λ answers. AreAnswers (MayAnswer P.Fn (λ c. C.shows c ctx.now) (λ u. use_in u.index) pred.now) (uses_at ctx.now.records value) answers.items) }
+    requires callable { (context : _) (used : _) → C.shows context.now ctx.now → IsUse (forest_of ctx.now) (a_value (value_in value)) (use_in used.index) → P.pre pred.now context used }
+    ensures answers { IfOk result (λ answers. AreAnswers (MayAnswer P.Fn (λ c. C.shows c ctx.now) (λ h u. use_in h.index ≡ u) pred.now) (uses_at ctx.now.records value) answers.items) }
     ensures exact { AreUses (forest_of ctx.now) (a_value (value_in value)) (uses_of ctx.now value) }
     ensures memory { IfErr result (λ e. e ≡ CoreError.OutOfMemory) }
 {
@@ -98,7 +80,7 @@ pub trait ValueEdits<D: Dialects> {
     ///
     /// # Errors
     /// `OutOfMemory` where there was no place for the answers, or the list of the other value's uses had to grow and couldn't. Then nothing has changed.
-    fn replace_some_uses_with<C: Shown<D>, P: Fn(&C, &Use<Value<D>>) -> bool>(
+    fn replace_some_uses_with<C: Shown<D>, P: Fn(&C, Use<Value<D>>) -> bool>(
         self,
         ctx: &mut Context<D>,
         pred: P,
@@ -106,8 +88,8 @@ pub trait ValueEdits<D: Dialects> {
     ) -> Result<(), CoreError>
         requires live { IsLiveNamed (forest_of ctx.old) (a_value (value_of self)) }
         requires other_live { IsLiveNamed (forest_of ctx.old) (a_value (value_of other)) }
-        requires callable { (context : _) (used : _) → C.shows context.now ctx.old → IsUse (forest_of ctx.old) (a_value (value_of self)) (use_in used.now.index) → P.pre pred context used }
-        ensures forest { OnOk result ((set : PlainUse context_ids → Bool) × IsChosenBy (forest_of ctx.old) (a_value (value_of self)) (MayAnswer P.Fn (λ c. C.shows c ctx.old) (λ u. use_in u.index) pred) set × (forest_of ctx.new ≡ redirect_uses (forest_of ctx.old) set (value_of other))) }
+        requires callable { (context : _) (used : _) → C.shows context.now ctx.old → IsUse (forest_of ctx.old) (a_value (value_of self)) (use_in used.index) → P.pre pred context used }
+        ensures forest { OnOk result ((set : PlainUse context_ids → Bool) × IsChosenBy (forest_of ctx.old) (a_value (value_of self)) (MayAnswer P.Fn (λ c. C.shows c ctx.old) (λ h u. use_in h.index ≡ u) pred) set × (forest_of ctx.new ≡ redirect_uses (forest_of ctx.old) set (value_of other))) }
         ensures rest { SameButForest (bare ctx.old) (bare ctx.new) }
         ensures stay_live { StayLive (forest_of ctx.old) (forest_of ctx.new) }
         ensures entities_stay_live { EntitiesStayLive (forest_of ctx.old) (forest_of ctx.new) }
@@ -151,7 +133,7 @@ impl<D: Dialects> ValueEdits<D> for Value<D> {
         Ok(())
     }
 
-    fn replace_some_uses_with<C: Shown<D>, P: Fn(&C, &Use<Value<D>>) -> bool>(
+    fn replace_some_uses_with<C: Shown<D>, P: Fn(&C, Use<Value<D>>) -> bool>(
         self,
         ctx: &mut Context<D>,
         pred: P,
