@@ -39,3 +39,4 @@ pub mod Definitions
 pub mod PlacedValues
 pub mod TakenValues
 pub mod Redirected
+pub mod Asked

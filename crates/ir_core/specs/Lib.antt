@@ -7,3 +7,4 @@ pub mod GoingBack
 pub mod Lending
 pub mod Places
 pub mod Definitions
+pub mod Asked

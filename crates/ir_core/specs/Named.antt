@@ -52,5 +52,8 @@ unused-value f v none o h = elim (In-append (a_value v) (map (λ (p : Operand co
 pub use-live : {W : Dialect} (f : Forest context_ids W) (keys : ℕ) (v : Value context_ids) (u : Use context_ids) → WellFormed f keys → IsUse f (a_value v) u → IsLiveNamed f (a_value v)
 use-live f keys v u w h = w.named u.user (a_value v) (use-names f v u h)
 
+pub block-use-names : {W : Dialect} (f : Forest context_ids W) (b : ArenaIndex) (u : Use context_ids) → IsUse f (the_block b) u → In (the_block b) (names_of f u.user)
+block-use-names f b u h = In-right (the_block b) (map (λ (p : Operand context_ids). a_value p.value) (operands_of f u.user)) _ (In-map (λ (p : Successor context_ids). the_block p.block) (record { use_number = u.number; block = b }) (successors_of f u.user) h)
+
 pub block-use-live : {W : Dialect} (f : Forest context_ids W) (keys : ℕ) (b : ArenaIndex) (u : Use context_ids) → WellFormed f keys → IsUse f (the_block b) u → IsLiveNamed f (the_block b)
-block-use-live f keys b u w h = w.named u.user (the_block b) (In-right (the_block b) (map (λ (p : Operand context_ids). a_value p.value) (operands_of f u.user)) _ (In-map (λ (p : Successor context_ids). the_block p.block) (record { use_number = u.number; block = b }) (successors_of f u.user) h))
+block-use-live f keys b u w h = w.named u.user (the_block b) (block-use-names f b u h)

@@ -4,6 +4,7 @@
 #![tactic(auto)]
 
 mod argument_edits;
+mod asking;
 mod block;
 mod block_list;
 mod context;
@@ -25,6 +26,7 @@ mod types;
 mod value_edits;
 
 pub use argument_edits::ArgumentEdits;
+pub use asking::Shown;
 pub use block::BlockPtr;
 pub use block_list::{BlockContainer, BlockList, RegionMoves};
 pub use context::Context;

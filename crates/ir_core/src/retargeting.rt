@@ -78,12 +78,9 @@ impl<D: Dialects> Retarget<D> for Ptr<BasicBlock<D>> {
     ghost use_of = { λ u. use_in u.index };
 
     fn retarget_all_preds_to(self, ctx: &mut Context<D>, other: Self) -> Result<(), CoreError> {
-        retarget_all_preds(
-            &mut ctx.records,
-            ctx.alloc,
-            BlockIndex { index: self.index },
-            BlockIndex { index: other.index },
-        )?;
+        let from = BlockIndex { index: self.index };
+        let to = BlockIndex { index: other.index };
+        retarget_all_preds(&mut ctx.records, ctx.alloc, from, to)?;
         Ok(())
     }
 
@@ -93,11 +90,8 @@ impl<D: Dialects> Retarget<D> for Ptr<BasicBlock<D>> {
         used: Use<Ptr<BasicBlock<D>>>,
         other: Self,
     ) -> Result<(), CoreError> {
-        retarget_pred(
-            &mut ctx.records,
-            used.index,
-            BlockIndex { index: other.index },
-        )?;
+        let block = BlockIndex { index: other.index };
+        retarget_pred(&mut ctx.records, used.index, block)?;
         Ok(())
     }
 }
