@@ -1,23 +1,23 @@
 -- Edits that are answered with done, or refused: those that need nothing, and those that make one use number.
-use Rattle.std.proofs.Common.{◌≡◌, refl, sym, ap, subst, ◌∙◌, inl, inr, ℕ, ◌+◌, [], ◌∷◌, ◌↔◌, arith, Ok, Err, Result}
+use Rattle.std.proofs.Common.{◌≡◌, refl, sym, ap, subst, ◌∙◌, inl, inr, ℕ, ◌+◌, [], ◌∷◌, ◌↔◌, Ok, Err, Result}
 use Rattle.std.specs.Prelude.{OnErr, OnOk}
 use Rattle.ir_model.specs.declared.answer.Answer.{Answer}
 use Rattle.ir_model.specs.declared.answer.Answer.TheVariants.{Done, Refused}
 use Rattle.ir_model.specs.declared.answer.Refused.TheVariants.{Condition as ForCondition}
 use Rattle.ir_model.specs.declared.error.CoreError.{CoreError}
-use Rattle.ir_model.specs.declared.error.CoreError.TheVariants.{OutOfMemory, CounterSpent, SlotsSpent}
+use Rattle.ir_model.specs.declared.error.CoreError.TheVariants.{CounterSpent, SlotsSpent}
 use Rattle.ir_model.specs.ContextIds.{context_ids}
 use Rattle.ir_model.specs.Ids.{Counts, Fresh}
 use Rattle.ir_model.specs.Forest.{Behaviour, Dialect, Forest}
 use Rattle.ir_model.specs.Edits.{Change, Condition, Edit, MayRunOut, Tables, needs, no_needs, one_use, over, answer as reply}
-use Rattle.ir_model.specs.Sessions.{HasNumbers, HasSlots, LacksNumbers, Passed, Passes, Session, Step, condition}
+use Rattle.ir_model.specs.Sessions.{HasNumbers, LacksNumbers, Passed, Passes, Session, Step, condition}
 use Rattle.ir_model.proofs.Decided.{at_most}
 use Rattle.ir_model.proofs.Supply.{above}
 use Rattle.ir_records.specs.Meaning.{closed}
 use Rattle.ir_core.specs.Calls.{HandsOut, SameButForest, SkipsAtMost}
 use Rattle.ir_core.specs.Places.{MakesUse}
 use Rattle.ir_core.specs.State.{State, bare, forest_of, session_of}
-use Rattle.ir_tables.specs.SessionTables.{answer_of, done_of}
+use Rattle.ir_tables.specs.SessionTables.{done_of}
 use Rattle.ir_steps.proofs.SessionSteps.{HasRoom, made_so, no_fresh, passes_none, refused, same-state, skips_none}
 
 -- where there is room for nothing and numbers aren't lacking, there are numbers

@@ -14,7 +14,7 @@ use Rattle.ir_core.specs.Calls.{SameButForest}
 use Rattle.ir_core.specs.State.{State, bare, forest_of, session_of}
 use Rattle.ir_tables.specs.Named.{NamesLive}
 use Rattle.ir_steps.proofs.SessionSteps.{HasRoom}
-use Rattle.ir_steps.proofs.EntryKinds.{One, blocks, listed, not_one, one, ops, regions, unlisted}
+use Rattle.ir_steps.proofs.EntryKinds.{blocks, listed, not_one, one, ops, regions, unlisted}
 use Rattle.ir_steps.proofs.DoneSteps.{done, left}
 
 module _ {D A K B S X L : Type 0} (c : State D A K B S X L) (tb : Tables context_ids) where

@@ -1,19 +1,18 @@
 -- The edits of lists and nesting as steps, from what the calls of the context promise.
-use Rattle.std.proofs.Common.{◌≡◌, refl, sym, ap, subst, ◌∙◌, true, false, Bool, cond, ℕ, List, [], ◌∷◌, ◌++◌, Option, Some, None, IsSome, arith}
-use Rattle.std.specs.Prelude.{slice_get}
+use Rattle.std.proofs.Common.{◌≡◌, refl, ap, subst, ◌∙◌, true, false, Bool, cond, ℕ, List, [], ◌∷◌, ◌++◌, arith}
 use Rattle.std.specs.List.{list_any}
 use Rattle.ir_model.specs.declared.answer.Answer.TheVariants.{Done, Refused}
 use Rattle.ir_model.specs.declared.error.CoreError.TheVariants.{OutOfMemory}
-use Rattle.ir_model.specs.declared.answer.Refused.TheVariants.{Condition as ForCondition, Memory}
+use Rattle.ir_model.specs.declared.answer.Refused.TheVariants.{Memory}
 use Rattle.ir_model.specs.declared.ids.ArenaIndex.{ArenaIndex}
 use Rattle.ir_model.specs.ContextIds.{context_ids, same_id}
-use Rattle.ir_model.specs.Forest.{Behaviour, BlockRecord, Dialect, Entity, Forest, OpRecord, a_block, a_region, an_op}
-use Rattle.ir_model.specs.Nesting.{In, Inside, IsLinked, IsLive, blocks_of, list_of, ops_of, regions_of}
+use Rattle.ir_model.specs.Forest.{Behaviour, BlockRecord, Forest, OpRecord, a_block, a_region, an_op}
+use Rattle.ir_model.specs.Nesting.{In, Inside, IsLinked, blocks_of, list_of, ops_of, regions_of}
 use Rattle.ir_model.specs.Changes.{append_blocks, append_ops, in_blocks, in_regions, move_region, on_block, on_ops, on_region, put_after, put_before, without}
-use Rattle.ir_model.specs.Edits.{AppendBlocks, AppendOps, BlockAfter, BlockBack, BlockBefore, BlockFront, Change, Condition, Edit, MayGoBeside, MayGoInto, MayJoin, MoveRegion, OpAfter, OpBack, OpBefore, OpFront, Tables, The, UnlinkBlock, UnlinkOp, needs, no_needs, over, answer as reply}
-use Rattle.ir_model.specs.Sessions.{Passed, Passes, Session, Step, condition}
+use Rattle.ir_model.specs.Edits.{AppendBlocks, AppendOps, BlockAfter, BlockBack, BlockBefore, BlockFront, Condition, MayGoBeside, MayGoInto, MayJoin, MoveRegion, OpAfter, OpBack, OpBefore, OpFront, Tables, UnlinkBlock, UnlinkOp, no_needs, over}
+use Rattle.ir_model.specs.Sessions.{Session, Step}
 use Rattle.ir_records.specs.Meaning.{closed}
-use Rattle.ir_core.specs.Calls.{HandsOut, SameButForest, SkipsAtMost}
+use Rattle.ir_core.specs.Calls.{SameButForest}
 use Rattle.ir_core.specs.State.{State, bare, forest_of, session_of}
 use Rattle.ir_tables.specs.Named.{NamesLive}
 use Rattle.ir_steps.proofs.SessionSteps.{HasRoom, no_fresh, refused, tells_memory}

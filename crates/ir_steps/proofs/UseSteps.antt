@@ -1,5 +1,5 @@
 -- The edits of operands and successors as steps, from what the calls of the context promise.
-use Rattle.std.proofs.Common.{◌≡◌, refl, sym, ap, subst, ◌∙◌, ℕ, ◌<◌, ◌≤◌, ◌↔◌, List, length, Err, Result}
+use Rattle.std.proofs.Common.{◌≡◌, refl, ap, ℕ, ◌<◌, ◌≤◌, ◌↔◌, List, length, Err, Result}
 use Rattle.std.specs.Prelude.{OnErr, OnOk}
 use Rattle.std.specs.List.{remove}
 use Rattle.ir_model.specs.declared.answer.Answer.{Answer}

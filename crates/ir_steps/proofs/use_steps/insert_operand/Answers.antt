@@ -1,12 +1,9 @@
-use Rattle.std.proofs.Common.{refl, ◌<◌, ◌≤◌, length, arith}
-use Rattle.ir_model.specs.Edits.{InsertOperand}
+use Rattle.std.proofs.Common.{◌≤◌, length, arith}
 use Rattle.ir_model.specs.Nesting.{operands_of}
 use Rattle.ir_records.specs.Meaning.{value_of}
 use Rattle.ir_core.specs.State.{forest_of}
-use Rattle.ir_tables.specs.Named.{not_these}
 use Rattle.ir_tables.specs.SessionTables.{entries_of}
-use Rattle.ir_steps.proofs.DoneSteps.{refused_so}
-use Rattle.ir_steps.proofs.UseSteps.{insert_operand_made, not_insert_operand, operand_count}
+use Rattle.ir_steps.proofs.UseSteps.{insert_operand_made, operand_count}
 use Rattle.ir_steps.proofs.use_steps.insert_operand.Goals as goal
 
 pub returns-in-Some : goal.returns-in-Some

@@ -1,12 +1,8 @@
-use Rattle.std.proofs.Common.{refl, ◌<◌, ◌≤◌, length, arith}
-use Rattle.ir_model.specs.Edits.{RemoveOperand}
+use Rattle.std.proofs.Common.{◌<◌, length, arith}
 use Rattle.ir_model.specs.Nesting.{operands_of}
-use Rattle.ir_records.specs.Meaning.{value_of}
 use Rattle.ir_core.specs.State.{forest_of}
-use Rattle.ir_tables.specs.Named.{not_this}
 use Rattle.ir_tables.specs.SessionTables.{entries_of}
-use Rattle.ir_steps.proofs.DoneSteps.{refused_so}
-use Rattle.ir_steps.proofs.UseSteps.{not_remove_operand, operand_count, remove_operand_done}
+use Rattle.ir_steps.proofs.UseSteps.{operand_count, remove_operand_done}
 use Rattle.ir_steps.proofs.use_steps.remove_operand.Goals as goal
 
 pub returns-in-Some : goal.returns-in-Some

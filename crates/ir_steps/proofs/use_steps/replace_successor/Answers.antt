@@ -1,11 +1,8 @@
-use Rattle.std.proofs.Common.{refl, ◌<◌, ◌≤◌, length, arith}
-use Rattle.ir_model.specs.Edits.{ReplaceSuccessor}
+use Rattle.std.proofs.Common.{◌<◌, length, arith}
 use Rattle.ir_model.specs.Nesting.{successors_of}
 use Rattle.ir_core.specs.State.{forest_of}
-use Rattle.ir_tables.specs.Named.{not_these}
 use Rattle.ir_tables.specs.SessionTables.{entries_of}
-use Rattle.ir_steps.proofs.DoneSteps.{refused_so}
-use Rattle.ir_steps.proofs.UseSteps.{not_replace_successor, replace_successor_made, successor_count}
+use Rattle.ir_steps.proofs.UseSteps.{replace_successor_made, successor_count}
 use Rattle.ir_steps.proofs.use_steps.replace_successor.Goals as goal
 
 pub returns-in-Some : goal.returns-in-Some
