@@ -1,5 +1,5 @@
 -- The conditions of edits, as they are tested: on the entries of the tables.
-use Rattle.std.proofs.Common.{◌≡◌, sym, subst, ℕ, ◌<◌, ◌↔◌, List, map, length, Some, IsSome, Option, None, arith, refl}
+use Rattle.std.proofs.Common.{◌≡◌, sym, subst, ℕ, ◌<◌, ◌↔◌, List, length, Some, IsSome, Option, None, arith, refl}
 use Rattle.std.specs.Prelude.{slice_get}
 use Rattle.std.proofs.lemmas.List.{length-map}
 use Rattle.ir_model.specs.Forest.{a_value, a_block, an_op}

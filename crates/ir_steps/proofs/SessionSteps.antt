@@ -1,5 +1,5 @@
 -- A step of a session, from what the calls of its context promise.
-use Rattle.std.proofs.Common.{◌≡◌, refl, sym, ap, subst, ◌∙◌, inl, inr, ℕ, ◌+◌, ◌<◌, ◌≤◌, ◌⊎◌, ◌↔◌, List, [], ◌∷◌, ◌++◌, length, arith, Ok, Err, Result}
+use Rattle.std.proofs.Common.{◌≡◌, refl, ap, subst, ◌∙◌, inl, inr, ℕ, ◌+◌, ◌↔◌, List, [], arith, Ok, Err, Result}
 use Rattle.ir_model.specs.declared.answer.Answer.{Answer}
 use Rattle.ir_model.specs.declared.error.CoreError.{CoreError}
 use Rattle.ir_model.specs.declared.error.CoreError.TheVariants.{OutOfMemory, CounterSpent, SlotsSpent}

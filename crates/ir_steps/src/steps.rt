@@ -10,7 +10,7 @@ ghost use Rattle.ir_model.specs.Sessions.{HasNumbers, HasSlots, LacksNumbers, La
 ghost use Rattle.ir_model.specs.Soundness.{Sound};
 ghost use Rattle.ir_core.specs.Calls.{HasAll, counts_of};
 ghost use Rattle.ir_core.specs.State.{bare, behaviour, forest_of, session_of};
-ghost use Rattle.ir_tables.specs.SessionTables.{HasPlace, answer_of, entries_of};
+ghost use Rattle.ir_tables.specs.SessionTables.{HasPlace, answer_of, done_of, entries_of};
 
 use ir_base::{Answer, CoreError, Dialects, Identifier, Ptr, Refused, TypeHandle};
 use ir_core::{
@@ -115,6 +115,16 @@ fn answer(made: Result<usize, CoreError>) -> Answer
     }
 }
 
+/// How an edit is answered that was done, or was refused.
+pub(crate) fn done<T: Drop>(made: Result<T, CoreError>) -> Answer
+    ensures { result ≡ done_of made }
+{
+    match made {
+        Ok(_) => Answer::Done,
+        Err(error) => answer(Err(error)),
+    }
+}
+
 // Whether the types are known, and the values and blocks live.
 fn may_be_made<D: Dialects>(ctx: &Context<D>, tables: &Tables<D>, parts: &OpParts<'_>) -> bool
     ensures { IsTrue result ↔ Condition (session_of ctx.now (entries_of tables.now)).state (PlainNewOp parts.now.kind parts.now.types.now parts.now.operands.now parts.now.successors.now parts.now.regions) }
@@ -125,7 +135,7 @@ fn may_be_made<D: Dialects>(ctx: &Context<D>, tables: &Tables<D>, parts: &OpPart
 }
 
 /// What holds of every context: there is room for nothing.
-pub fn needs_nothing<D: Dialects>(ctx: &Context<D>)
+pub(crate) fn needs_nothing<D: Dialects>(ctx: &Context<D>)
     ensures numbers { HasNumbers (bare ctx.now) no_needs }
     ensures slots { HasSlots (bare ctx.now) no_needs }
 {

@@ -3,14 +3,12 @@ use Rattle.std.proofs.Common.{◌≡◌, refl, sym, ap, subst, ◌∙◌, inl, i
 use Rattle.std.specs.Prelude.{slice_get}
 use Rattle.std.specs.Option.{option_map}
 use Rattle.std.proofs.lemmas.Option.{slice_get-map}
-use Rattle.ir_model.specs.declared.ids.ArenaIndex.{ArenaIndex}
-use Rattle.ir_model.specs.ContextIds.{context_ids}
 use Rattle.ir_model.specs.Ids.{Ids}
 use Rattle.ir_model.specs.Forest.{Dialect, Entity, Forest}
-use Rattle.ir_model.specs.Nesting.{In, Inside, IsLive, Nested, Within, below, children, itself}
+use Rattle.ir_model.specs.Nesting.{In, Inside, Nested, Within, below, children, itself}
 use Rattle.ir_model.specs.Edits.{MayGoBeside, MayGoInto, MayJoin, The}
 use Rattle.ir_model.specs.Parent.{IsIn}
-use Rattle.ir_tables.specs.Named.{NamesLive}
+use Rattle.ir_tables.specs.Named.{Names}
 use Rattle.ir_tables.specs.SessionLists.{the-map}
 
 -- what fails exactly where P holds
@@ -54,29 +52,11 @@ module _ {N : Ids} {W : Dialect} (f : Forest N W) (nested : Nested f) where
     ],
   )
 
-some_same : {A : Type 0} {x y : A} → Some x ≡ Some y → x ≡ y
-some_same e = cc
-
 -- what is looked up in a table by its number is what the number names
-module _ {W : Dialect} (f : Forest context_ids W) (entity : ArenaIndex → Entity context_ids) {S : Type 0} (index : S → ArenaIndex) (LiveIn : S → Type 0)
-    (lives : (x : S) → LiveIn x ↔ IsLive f (entity (index x))) (table : List S) (column : List ArenaIndex) (is : map index table ≡ column) (n : ℕ) where
+module _ {I S : Type 0} (Live : I → Type 0) (index : S → I) (LiveIn : S → Type 0) (lives : (x : S) → LiveIn x ↔ Live (index x))
+    (table : List S) (column : List I) (is : map index table ≡ column) (n : ℕ) where
   pub looked_up : (found : Option S) → IfSome found (λ x. slice_get table n ≡ Some x) → IfSome found LiveIn → (IsNone found → The (slice_get table n) LiveIn → ⊥)
-      → MatchOption found ((i : ArenaIndex) → NamesLive f entity column n i → ⊥) (λ x. NamesLive f entity column n (index x))
+      → MatchOption found ((i : I) → Names Live column n i → ⊥) (λ x. Names Live column n (index x))
   looked_up None at live missing = λ i x.
-      missing refl ((the-map index table LiveIn (λ i. IsLive f (entity i)) lives n).1 (record { value = i; found = ap (λ t. slice_get t n) is ∙ x.found; holds = x.live }))
+      missing refl ((the-map index table LiveIn Live lives n).1 (record { value = i; found = ap (λ t. slice_get t n) is ∙ x.found; holds = x.live }))
   looked_up (Some x) at live missing = record { found = ap (λ t. slice_get t n) (sym is) ∙ slice_get-map index table n ∙ ap (option_map index) at; live = (lives x).0 live }
-
--- a number names one entity at most
-module _ {W : Dialect} (f : Forest context_ids W) {entity : ArenaIndex → Entity context_ids} {table : List ArenaIndex} {n : ℕ} {i : ArenaIndex} (x : NamesLive f entity table n i) where
-  the_one : (k : ArenaIndex) → NamesLive f entity table n k → k ≡ i
-  the_one k y = some_same (sym y.found ∙ x.found)
-
-  -- what fails of that one fails of all that the number names
-  pub not_this : (R : ArenaIndex → Type 0) → (R i → ⊥) → (k : ArenaIndex) → NamesLive f entity table n k → R k → ⊥
-  not_this R fails k y r = fails (subst R (the_one k y) r)
-
--- and so for two numbers
-pub not_these : {W : Dialect} (f : Forest context_ids W) {entity other : ArenaIndex → Entity context_ids} {table others : List ArenaIndex} {n m : ℕ} {i j : ArenaIndex}
-    → NamesLive f entity table n i → NamesLive f other others m j → (R : ArenaIndex → ArenaIndex → Type 0) → (R i j → ⊥)
-    → (k l : ArenaIndex) → NamesLive f entity table n k → NamesLive f other others m l → R k l → ⊥
-not_these f {j = j} x y R fails k l v w r = not_this f x (λ z. R z j) fails k v (subst (λ z. R k z) (the_one f y l w) r)

@@ -5,7 +5,6 @@ use Rattle.std.specs.Bool.{MatchBool}
 use Rattle.std.specs.List.{cons_option, AllWithin, HoldsAt}
 use Rattle.std.specs.Option.{option_map}
 use Rattle.std.proofs.lemmas.Option.{slice_get_cases, slice_get_within, slice_get-map}
-use Rattle.std.proofs.lemmas.List.{length-map}
 use Rattle.ir_model.proofs.Fresh.{these-in, these-each}
 use Rattle.ir_model.proofs.Nests.{In-map}
 use Rattle.ir_model.specs.Nesting.{In}

@@ -2,7 +2,7 @@
 use Rattle.std.specs.Prelude.{ℕ, ◌+◌, ◌≤◌, [], ◌∷◌, ◌++◌, map, Result, Ok, Err, vec_len, vec_capacity}
 use Rattle.ir_model.specs.declared.ids.ArenaIndex.{ArenaIndex}
 use Rattle.ir_model.specs.declared.answer.Answer.{Answer}
-use Rattle.ir_model.specs.declared.answer.Answer.TheVariants.{Made, Refused}
+use Rattle.ir_model.specs.declared.answer.Answer.TheVariants.{Done, Made, Refused}
 use Rattle.ir_model.specs.declared.answer.Refused.TheVariants.{Memory, Counter, Slots}
 use Rattle.ir_model.specs.declared.error.CoreError.{CoreError}
 use Rattle.ir_model.specs.declared.error.CoreError.TheVariants.{OutOfMemory, CounterSpent, SlotsSpent}
@@ -21,6 +21,11 @@ answer_of (Ok n) = Made n
 answer_of (Err OutOfMemory) = Refused Memory
 answer_of (Err CounterSpent) = Refused Counter
 answer_of (Err SlotsSpent) = Refused Slots
+
+-- how an edit is answered that was done, or refused for this
+abbrev pub done_of : {T : Type 0} → Result T CoreError → Answer
+done_of (Ok _) = Done
+done_of (Err e) = answer_of (Err e)
 
 -- the tables with the type behind the others
 abbrev pub with_type : PlainTables context_ids → ℕ → PlainTables context_ids

@@ -1,7 +1,8 @@
 use Rattle.std.proofs.Common.{refl}
 use Rattle.ir_model.specs.Edits.{AppendBlocks}
 use Rattle.ir_tables.specs.SessionTables.{entries_of}
-use Rattle.ir_steps.proofs.ListSteps.{append_blocks_done, not_append_blocks, refused_so}
+use Rattle.ir_steps.proofs.DoneSteps.{refused_so}
+use Rattle.ir_steps.proofs.ListSteps.{append_blocks_done, not_append_blocks}
 use Rattle.ir_steps.proofs.list_steps.append_blocks.Goals as goal
 
 pub returns-in-Some : goal.returns-in-Some

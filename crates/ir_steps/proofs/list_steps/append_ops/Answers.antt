@@ -1,7 +1,8 @@
 use Rattle.std.proofs.Common.{refl}
 use Rattle.ir_model.specs.Edits.{AppendOps}
 use Rattle.ir_tables.specs.SessionTables.{entries_of}
-use Rattle.ir_steps.proofs.ListSteps.{append_ops_done, not_append_ops, refused_so}
+use Rattle.ir_steps.proofs.DoneSteps.{refused_so}
+use Rattle.ir_steps.proofs.ListSteps.{append_ops_done, not_append_ops}
 use Rattle.ir_steps.proofs.list_steps.append_ops.Goals as goal
 
 pub returns-in-Some : goal.returns-in-Some

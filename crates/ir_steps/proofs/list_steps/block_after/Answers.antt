@@ -1,7 +1,8 @@
 use Rattle.std.proofs.Common.{refl}
 use Rattle.ir_model.specs.Edits.{BlockAfter}
 use Rattle.ir_tables.specs.SessionTables.{entries_of}
-use Rattle.ir_steps.proofs.ListSteps.{block_after_done, not_block_before, refused_so}
+use Rattle.ir_steps.proofs.DoneSteps.{refused_so}
+use Rattle.ir_steps.proofs.ListSteps.{block_after_done, not_block_before}
 use Rattle.ir_steps.proofs.list_steps.block_after.Goals as goal
 
 pub returns-in-Some : goal.returns-in-Some

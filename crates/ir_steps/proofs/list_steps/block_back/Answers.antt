@@ -1,7 +1,8 @@
 use Rattle.std.proofs.Common.{refl}
 use Rattle.ir_model.specs.Edits.{BlockBack}
 use Rattle.ir_tables.specs.SessionTables.{entries_of}
-use Rattle.ir_steps.proofs.ListSteps.{block_back_done, not_block_front, refused_so}
+use Rattle.ir_steps.proofs.DoneSteps.{refused_so}
+use Rattle.ir_steps.proofs.ListSteps.{block_back_done, not_block_front}
 use Rattle.ir_steps.proofs.list_steps.block_back.Goals as goal
 
 pub returns-in-Some : goal.returns-in-Some

@@ -1,7 +1,8 @@
 use Rattle.std.proofs.Common.{refl}
 use Rattle.ir_model.specs.Edits.{MoveRegion}
 use Rattle.ir_tables.specs.SessionTables.{entries_of}
-use Rattle.ir_steps.proofs.ListSteps.{move_region_done, move_region_refused, not_move_region, refused_so}
+use Rattle.ir_steps.proofs.DoneSteps.{refused_so}
+use Rattle.ir_steps.proofs.ListSteps.{move_region_done, move_region_refused, not_move_region}
 use Rattle.ir_steps.proofs.list_steps.move_region.Goals as goal
 
 pub returns-in-Ok : goal.returns-in-Ok

@@ -1,7 +1,8 @@
 use Rattle.std.proofs.Common.{refl}
 use Rattle.ir_model.specs.Edits.{UnlinkBlock}
 use Rattle.ir_tables.specs.SessionTables.{entries_of}
-use Rattle.ir_steps.proofs.ListSteps.{unlink_block_done, not_unlink_block, refused_so}
+use Rattle.ir_steps.proofs.DoneSteps.{refused_so}
+use Rattle.ir_steps.proofs.ListSteps.{unlink_block_done, not_unlink_block}
 use Rattle.ir_steps.proofs.list_steps.unlink_block.Goals as goal
 
 pub returns-in-Some : goal.returns-in-Some

@@ -1,7 +1,8 @@
 use Rattle.std.proofs.Common.{refl}
 use Rattle.ir_model.specs.Edits.{UnlinkOp}
 use Rattle.ir_tables.specs.SessionTables.{entries_of}
-use Rattle.ir_steps.proofs.ListSteps.{unlink_op_done, not_unlink_op, refused_so}
+use Rattle.ir_steps.proofs.DoneSteps.{refused_so}
+use Rattle.ir_steps.proofs.ListSteps.{unlink_op_done, not_unlink_op}
 use Rattle.ir_steps.proofs.list_steps.unlink_op.Goals as goal
 
 pub returns-in-Some : goal.returns-in-Some

@@ -1,5 +1,5 @@
 -- The region is made and entered, or what was refused is told.
-use Rattle.std.proofs.Common.{◌≡◌, ◌∙◌, ◌++◌, ◌∷◌, [], refl, sym, ap, subst, length, Err, arith}
+use Rattle.std.proofs.Common.{◌∙◌, refl, ap, subst, length, Err, arith}
 use Rattle.std.proofs.lemmas.List.{length-map}
 use Rattle.std.proofs.lemmas.Result.{err_from_is_err_and}
 use Rattle.ir_model.specs.Edits.{AddRegion}

@@ -1,4 +1,4 @@
-use Rattle.std.proofs.Common.{◌∙◌, ◌<◌, true, length}
+use Rattle.std.proofs.Common.{◌∙◌, ◌<◌, length}
 use Rattle.std.specs.Prelude.{slice_get}
 use Rattle.ir_model.specs.Forest.{a_value}
 use Rattle.ir_model.specs.Nesting.{IsLiveNamed}

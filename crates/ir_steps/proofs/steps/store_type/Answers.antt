@@ -1,4 +1,4 @@
-use Rattle.std.proofs.Common.{◌∙◌, refl, ap, length, map, arith}
+use Rattle.std.proofs.Common.{◌∙◌, refl, ap, length, arith}
 use Rattle.std.proofs.lemmas.List.{length-map}
 use Rattle.std.proofs.lemmas.Result.{err_from_is_err_and}
 use Rattle.ir_model.specs.declared.error.CoreError.TheVariants.{OutOfMemory}

@@ -1,6 +1,6 @@
 use Rattle.ir_model.specs.Edits.{MayGoBeside}
 use Rattle.ir_core.specs.State.{forest_of}
-use Rattle.ir_tables.proofs.Placing.{not_these}
+use Rattle.ir_tables.specs.Named.{not_these}
 use Rattle.ir_tables.specs.SessionLists.{clash}
 use Rattle.ir_tables.proofs.list_conditions.find_beside.Goals as goal
 
@@ -11,4 +11,4 @@ pub returns-else-may_go_beside-clause-missing : goal.returns-else-may_go_beside-
 returns-else-may_go_beside-clause-missing g c =
     let f = forest_of c.args.ctx.now in
     let told = rw (c.entity.ensures, c.entity-2.ensures) at c.may_go_beside.ensures in
-    λ _. not_these f c.in_ok-node.ensures c.in_ok-mark.ensures (λ i j. MayGoBeside f (g.N.EntityEntry.entity_at i) (g.N.EntityEntry.entity_at j)) (λ may. clash c.may_go_beside.result (told.1 may) c.if-may_go_beside.false)
+    λ _. not_these c.in_ok-node.ensures c.in_ok-mark.ensures (λ i j. MayGoBeside f (g.N.EntityEntry.entity_at i) (g.N.EntityEntry.entity_at j)) (λ may. clash c.may_go_beside.result (told.1 may) c.if-may_go_beside.false)
