@@ -2,8 +2,8 @@
 
 use ir_base::{CoreError, Dialects, Ptr};
 use ir_core::{
-    BasicBlock, BlockContainer, BlockList, BlockPtr, Context, NewBlock, NewOperation, Operation,
-    OperationContainer, OperationList, OperationPtr, Region, RegionMoves, RegionPtr,
+    BasicBlock, BlockList, BlockPtr, Context, NewBlock, NewOperation, Operation, OperationList,
+    OperationPtr, Region, RegionMoves, RegionPtr,
 };
 use ir_view::{BlockPlace, Entity, OperationPlace, is_inside};
 use std::process::Abort;
@@ -50,34 +50,6 @@ pub(crate) fn unlink_block<D: Dialects>(
 ) {
     assert!(rt; block.is_linked(ctx));
     block.unlink(ctx);
-}
-
-/// Moves the operations of the donor behind those of the donee.
-pub(crate) fn append_ops<D: Dialects>(
-    rt: &impl Abort,
-    ctx: &mut Context<D>,
-    donee: Ptr<BasicBlock<D>>,
-    donor: Ptr<BasicBlock<D>>,
-) {
-    assert!(rt; donee.is_live(ctx));
-    assert!(rt; donor.is_live(ctx));
-    ctx.is_well_formed();
-    assert!(rt; !is_inside(ctx, Entity::Block(donee), Entity::Block(donor)));
-    donee.append_linked_list(ctx, donor);
-}
-
-/// Moves the blocks of the donor behind those of the donee.
-pub(crate) fn append_blocks<D: Dialects>(
-    rt: &impl Abort,
-    ctx: &mut Context<D>,
-    donee: Ptr<Region>,
-    donor: Ptr<Region>,
-) {
-    assert!(rt; donee.is_live(ctx));
-    assert!(rt; donor.is_live(ctx));
-    ctx.is_well_formed();
-    assert!(rt; !is_inside(ctx, Entity::Region(donee), Entity::Region(donor)));
-    donee.append_linked_list(ctx, donor);
 }
 
 /// Moves the region to the operation.

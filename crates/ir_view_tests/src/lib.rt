@@ -1,4 +1,4 @@
-//! Tests of what is read of a context: where things stand, the parts of operations and blocks, edges between blocks, and wrapped operations, over the dialect Toy.
+//! Tests of what is read of a context: where things stand, the parts of operations and blocks, and edges between blocks, over the dialect Toy.
 #![tactic(auto)]
 
 #[cfg(test)]
@@ -15,5 +15,3 @@ mod place_tests;
 mod region_tests;
 #[cfg(test)]
 mod use_tests;
-#[cfg(test)]
-mod wrapper_tests;

@@ -1,8 +1,6 @@
 //! Lists of operations and of blocks, read from both ends and from each node.
 
-use crate::checked::{
-    append_blocks, append_ops, new_block, new_op, put_op, region_at, unlink_block, unlink_op,
-};
+use crate::checked::{new_op, put_op, unlink_op};
 use ir_base::{CoreError, Dialects, Ptr};
 use ir_core::{
     BasicBlock, BlockPtr, Context, NewBlock, Operation, OperationPtr, Region, RegionPtr,
@@ -165,68 +163,5 @@ fn insert_and_unlink<D: Dialects>(rt: &impl Abort, ctx: &mut Context<D>) -> Resu
 fn operations_in_a_block(rt: HostRuntime) -> Result<(), Fail> {
     let mut ctx: Context<Toy> = Context::new(rt.alloc());
     insert_and_unlink(&rt, &mut ctx)?;
-    Ok(())
-}
-
-// The operations 1, 2, 3 are joined by 4, and then 3 and 4 are taken out.
-fn join_ops<D: Dialects>(rt: &impl Abort, ctx: &mut Context<D>) -> Result<(), CoreError> {
-    let donee = BasicBlock::new(ctx, None, &[])?;
-    let donor = BasicBlock::new(ctx, None, &[])?;
-    append_ops(rt, ctx, donee, donor);
-    expect_ops(rt, ctx, donee, &[]);
-    let n1 = new_op(ctx, 0, 0)?;
-    let n2 = new_op(ctx, 0, 0)?;
-    let n3 = new_op(ctx, 0, 0)?;
-    let n4 = new_op(ctx, 0, 0)?;
-    for op in [n1, n2, n3] {
-        put_op(rt, ctx, op, donee);
-    }
-    put_op(rt, ctx, n4, donor);
-    append_ops(rt, ctx, donee, donor);
-    expect_ops(rt, ctx, donee, &[n1, n2, n3, n4]);
-    expect_ops(rt, ctx, donor, &[]);
-    unlink_op(rt, ctx, n3);
-    unlink_op(rt, ctx, n4);
-    expect_ops(rt, ctx, donee, &[n1, n2]);
-    Ok(())
-}
-
-#[test]
-fn operations_of_joined_blocks(rt: HostRuntime) -> Result<(), Fail> {
-    let mut ctx: Context<Toy> = Context::new(rt.alloc());
-    join_ops(&rt, &mut ctx)?;
-    Ok(())
-}
-
-// The blocks 1, 2 are joined by 3, 4; then 2, 1, 4 are taken out.
-fn join_blocks<D: Dialects>(rt: &impl Abort, ctx: &mut Context<D>) -> Result<(), CoreError> {
-    let module = new_op(ctx, 5, 2)?;
-    let donee = region_at(rt, ctx, module, 0);
-    let donor = region_at(rt, ctx, module, 1);
-    expect_blocks(rt, ctx, donee, &[]);
-    let b1 = new_block(rt, ctx, donee)?;
-    let b2 = new_block(rt, ctx, donee)?;
-    let b3 = new_block(rt, ctx, donor)?;
-    let b4 = new_block(rt, ctx, donor)?;
-    expect_blocks(rt, ctx, donee, &[b1, b2]);
-    append_blocks(rt, ctx, donee, donor);
-    expect_blocks(rt, ctx, donee, &[b1, b2, b3, b4]);
-    expect_blocks(rt, ctx, donor, &[]);
-    unlink_block(rt, ctx, b2);
-    unlink_block(rt, ctx, b1);
-    unlink_block(rt, ctx, b4);
-    expect_blocks(rt, ctx, donee, &[b3]);
-    assert!(rt; b4.is_live(ctx));
-    assert!(rt; !b4.is_linked(ctx));
-    assert!(rt; b4.get_parent_region(ctx).is_none());
-    assert!(rt; b4.get_parent_op(ctx).is_none());
-    assert!(rt; b4.get_prev(ctx).is_none());
-    Ok(())
-}
-
-#[test]
-fn blocks_of_joined_regions(rt: HostRuntime) -> Result<(), Fail> {
-    let mut ctx: Context<Toy> = Context::new(rt.alloc());
-    join_blocks(&rt, &mut ctx)?;
     Ok(())
 }
