@@ -12,12 +12,14 @@ use Rattle.ir_model.specs.Names.{IsBlockName, block_id, unique_name}
 use Rattle.ir_model.specs.Forest.{Text}
 use Rattle.ir_model.specs.Nesting.{In, IsLinked, IsLive, WellFormed, blocks_of, children, list_of, names_of, operands_of, ops_of, regions_of, successors_of}
 use Rattle.ir_model.specs.Parent.{IsIn, IsParent, first_of}
-use Rattle.ir_model.specs.Uses.{IsUse, Use}
+use Rattle.ir_model.specs.Uses.{AreUses, IsUse, Use}
 use Rattle.ir_model.proofs.Edges.{got_in}
 use Rattle.ir_model.proofs.Nests.{In-append, In-map, In-map_back, In-right}
 use Rattle.ir_model.proofs.Relinks.{one_block}
 use Rattle.ir_model.proofs.TwoRuns.{lawful}
+use Rattle.ir_records.specs.declared.record.UseIndex.{UseIndex}
 use Rattle.ir_records.specs.Found.{record-there}
+use Rattle.ir_records.specs.Meaning.{use_of}
 use Rattle.ir_verify.specs.Parts.{IsAside}
 
 module _ {W : Dialect} (f : Forest context_ids W) where
@@ -107,6 +109,26 @@ module _ {W : Dialect} (f : Forest context_ids W) where
       pub aside-by : (o a b : ArenaIndex) → In o (ops_of f a) → IsAside B f store o b → In b (succs B f a) → ⊥
       aside-by o a b i (inl k) s = k (a_block a, In-map an_op o (ops_of f a) i)
       aside-by o a b i (inr k) s = k.2 (subst (λ c. In b (succs B f c)) (one_block lawful f keys formed o a k.0 i k.1) s)
+
+-- a test and its opposite
+pub not-true : (x : Bool) → not x ≡ true → x ≡ false
+not-true true e = absurd cc
+not-true false e = refl
+
+pub true-not : (x : Bool) → x ≡ false → not x ≡ true
+true-not true e = absurd cc
+true-not false e = refl
+
+module _ {W : Dialect} (f : Forest context_ids W) (b : ArenaIndex) (kept : List UseIndex) (are : AreUses f (the_block b) (map use_of kept)) where
+  -- the user of each kept use names the block, and what names it is such a user
+  pub kept-named : (u : UseIndex) → In u kept → In (the_block b) (names_of f u.user)
+  kept-named u h = used-named f b (use_of u) ((are.exact (use_of u)).0 (In-map use_of u kept h))
+
+  pub named-kept : (o : ArenaIndex) → In (the_block b) (names_of f o) → (u : UseIndex) × In u kept × (u.user ≡ o)
+  named-kept o h =
+      let u = named-used f b o h in
+      let at = In-map_back use_of u.0 kept ((are.exact u.0).1 u.1) in
+      (at.0, at.1, ap (λ (x : Use context_ids). x.user) (sym at.2) ∙ u.2)
 
 -- what is and what is not told by a test
 pub not-told : (x : Bool) (P Q : Type 0) → IsTrue x ↔ P → (Q → P → ⊥) → ((P → ⊥) → Q) → IsTrue (not x) ↔ Q

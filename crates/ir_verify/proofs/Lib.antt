@@ -6,3 +6,5 @@ pub mod Walked
 pub mod Loops
 pub mod Passed
 pub mod Handles
+pub mod Ends
+pub mod Alone

@@ -23,7 +23,7 @@ module _ {W : Dialect} (B : Behaviour W) (f : Forest context_ids W) (store : Lis
     stands-there OperandNotUseOfDef h = h
     stands-there (Verifier code) h = h
 
-    there-stands : (x : Fault) → There x → FaultStands B f store checks root x
+    pub there-stands : (x : Fault) → There x → FaultStands B f store checks root x
     there-stands (NoParent name) h = h
     there-stands (MissingTerminator name) h = h
     there-stands (TerminatorNotLast name) h = h

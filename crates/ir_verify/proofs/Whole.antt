@@ -6,7 +6,8 @@ use Rattle.ir_model.specs.Edits.{StoredType, The}
 use Rattle.ir_model.specs.Faults.{Fault, NoParent, MissingTerminator, TerminatorNotLast, EntryHasPred, OperandNotUseOfDef, Verifier, NamesBlock, Check, op_list, op_own, attr_list, attr_own, type_list, type_own, Checks, the_entity, the_attribute, the_type, IsRun, FaultStands, Carries, HasKey}
 use Rattle.ir_model.specs.Forest.{Text, Dialect, Behaviour, Forest, Entity, an_op, a_block, a_region, Definer, of_op, of_block, Definition, definer_entity}
 use Rattle.ir_model.specs.Nesting.{In, Inside, definitions_of, list_of}
-use Rattle.ir_verify.specs.Parts.{FaultAt, IsThere, RunAt, RunsOnAttributes, RunsOnOp, RunsOnTypes}
+use Rattle.ir_verify.proofs.Roots.{there-stands}
+use Rattle.ir_verify.specs.Parts.{FaultAt, IsThere, RootFault, RunAt, RunsOnAttributes, RunsOnOp, RunsOnTypes}
 
 module _ {W : Dialect} (B : Behaviour W) (f : Forest context_ids W) (store : List (StoredType W)) (checks : Checks W) (e : Entity context_ids) where
   abbrev Run : Check W → Type 0
@@ -91,3 +92,18 @@ module _ {W : Dialect} (B : Behaviour W) (f : Forest context_ids W) (store : Lis
   at-fault (an_op o) (TerminatorNotLast name) i h = (o, h.1.0, i, h.0, h.1.1, h.1.2)
   at-fault (an_op o) (Verifier code) i h = absurd h
   at-fault (a_region g) fault i h = absurd h
+
+  -- and so it stands at the root, where it is none of a check
+  pub at-root : (x : Entity context_ids) (fault : Fault) → Inside f e x → FaultAt B f store x fault → RootFault B f store checks (the_entity e) fault
+  at-root x (NoParent name) i h = at-fault x (NoParent name) i h
+  at-root x (MissingTerminator name) i h = at-fault x (MissingTerminator name) i h
+  at-root x (TerminatorNotLast name) i h = at-fault x (TerminatorNotLast name) i h
+  at-root x (EntryHasPred name) i h = at-fault x (EntryHasPred name) i h
+  at-root x OperandNotUseOfDef i h = at-fault x OperandNotUseOfDef i h
+  at-root (an_op o) (Verifier code) i h = h
+  at-root (a_block b) (Verifier code) i h = h
+  at-root (a_region g) (Verifier code) i h = h
+
+  -- where nothing is there at any entity inside, nothing is at the root
+  pub none-inside : ((x : Entity context_ids) → Inside f e x → (fault : Fault) → IsThere checks (FaultAt B f store x) (At x) fault → ⊥) → (fault : Fault) → IsThere checks (RootFault B f store checks (the_entity e)) Run fault → ⊥
+  none-inside each fault h = let at = fault-at fault (there-stands B f store checks (the_entity e) fault h) in each at.0 at.1 fault at.2

@@ -1,7 +1,7 @@
 //! The faults of one block, whatever stands in it.
 
 ghost use Rattle.std.specs.Prelude.{◌≡◌, ◌↔◌, IsTrue, IfOk, IfErr};
-ghost use Rattle.ir_model.specs.Faults.{IsEntry, IsNamedAside, LacksTerminator};
+ghost use Rattle.ir_model.specs.Faults.{IsEntry, IsNamed, IsNamedAside, LacksTerminator};
 ghost use Rattle.ir_model.specs.Forest.{a_block, an_op, the_block};
 ghost use Rattle.ir_model.specs.Names.{IsBlockName};
 ghost use Rattle.ir_model.specs.Nesting.{In, IsLive, names_of};
@@ -62,6 +62,14 @@ fn is_entry<D: Dialects>(block: Ptr<BasicBlock<D>>, ctx: &Context<D>) -> bool
     }
 }
 
+// Whether a live block is the first of a region, and an operation names it, inside the region or not.
+fn is_entered<D: Dialects>(block: Ptr<BasicBlock<D>>, ctx: &Context<D>) -> bool
+    requires { IsLive (forest_of ctx.now) (a_block block.index) }
+    ensures { IsTrue result ↔ (IsEntry (behaviour D.TypeKey.eq D.first_body D.unknown D.op_impls_of) (forest_of ctx.now) (types_of ctx.now) block.index × IsNamed (behaviour D.TypeKey.eq D.first_body D.unknown D.op_impls_of) (forest_of ctx.now) (types_of ctx.now) block.index) }
+{
+    is_entry(block, ctx) && block.has_pred(ctx)
+}
+
 // Whether a live operation that names a block is unlinked, or the terminator of its block doesn't name it. Where the operation is that terminator, its successors aren't searched.
 fn is_aside<D: Dialects>(op: Ptr<Operation<D>>, block: Ptr<BasicBlock<D>>, ctx: &Context<D>) -> bool
     requires live { IsLive (forest_of ctx.now) (an_op op.index) }
@@ -115,7 +123,7 @@ pub(crate) fn verify_block<D: Dialects>(
         let name = name_of(block, ctx)?;
         return Err(VerifyErr::BasicBlockVerifyErr(BasicBlockVerifyErr::MissingTerminator(name)));
     }
-    if is_entry(block, ctx) && block.has_pred(ctx) {
+    if is_entered(block, ctx) {
         let name = name_of(block, ctx)?;
         return Err(VerifyErr::BasicBlockVerifyErr(BasicBlockVerifyErr::EntryHasPred(name)));
     }

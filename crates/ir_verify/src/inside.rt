@@ -62,8 +62,14 @@ fn verify_alone<D: Dialects, V: Verifiers<D>>(
     ensures { Finds (checks_in (kinds D.attr_kind_of D.type_kind_of D.type_impls_of D.saved_kind_of D.Saved.eq D.region_ssa_dominance_of) (V.handed_in verifiers.now) ctx.now) (FaultAt (behaviour D.TypeKey.eq D.first_body D.unknown D.op_impls_of) (forest_of ctx.now) (types_of ctx.now) (entity_of entity)) (RunAt (behaviour D.TypeKey.eq D.first_body D.unknown D.op_impls_of) (forest_of ctx.now) (types_of ctx.now) (checks_in (kinds D.attr_kind_of D.type_kind_of D.type_impls_of D.saved_kind_of D.Saved.eq D.region_ssa_dominance_of) (V.handed_in verifiers.now) ctx.now) (entity_of entity)) result }
 {
     match entity {
-        EntityIndex::Op(op) => verify_operation_alone(Ptr::from_index(op), ctx, verifiers),
-        EntityIndex::Block(block) => verify_block_alone(Ptr::from_index(block), ctx, verifiers),
+        EntityIndex::Op(op) => {
+            let op = Ptr::from_index(op);
+            verify_operation_alone(op, ctx, verifiers)
+        }
+        EntityIndex::Block(block) => {
+            let block = Ptr::from_index(block);
+            verify_block_alone(block, ctx, verifiers)
+        }
         EntityIndex::Region(_) => Ok(()),
     }
 }

@@ -1,0 +1,23 @@
+use Rattle.std.proofs.Common.{subst}
+use Rattle.ir_model.specs.Forest.{an_op, a_block}
+use Rattle.ir_core.specs.State.{behaviour, forest_of, types_of}
+use Rattle.ir_walk.specs.Dominance.{kinds}
+use Rattle.ir_verify.specs.Shown.{checks_in}
+use Rattle.ir_verify.specs.Parts.{FaultAt, Finds, RunAt}
+use Rattle.ir_verify.proofs.inside.verify_alone.Goals as goal
+
+pub returns-in-Op : goal.returns-in-Op
+returns-in-Op g c =
+    let B = behaviour g.D.TypeKey.PartialEq.eq g.D.Dialects.first_body g.D.Dialects.unknown g.D.Dialects.op_impls_of in
+    let K = kinds g.D.Dialects.attr_kind_of g.D.Dialects.type_kind_of g.D.Dialects.type_impls_of g.D.Dialects.saved_kind_of g.D.Saved.PartialEq.eq g.D.Dialects.region_ssa_dominance_of in
+    let s = c.args.ctx.now in
+    let ks = checks_in K (g.V.Verifiers.handed_in c.args.verifiers.now) s in
+    subst (λ o. Finds ks (FaultAt B (forest_of s) (types_of s) (an_op o)) (RunAt B (forest_of s) (types_of s) ks (an_op o)) c.verify_operation_alone.result) c.from_index-op.ensures c.verify_operation_alone.ensures
+
+pub returns-in-Block : goal.returns-in-Block
+returns-in-Block g c =
+    let B = behaviour g.D.TypeKey.PartialEq.eq g.D.Dialects.first_body g.D.Dialects.unknown g.D.Dialects.op_impls_of in
+    let K = kinds g.D.Dialects.attr_kind_of g.D.Dialects.type_kind_of g.D.Dialects.type_impls_of g.D.Dialects.saved_kind_of g.D.Saved.PartialEq.eq g.D.Dialects.region_ssa_dominance_of in
+    let s = c.args.ctx.now in
+    let ks = checks_in K (g.V.Verifiers.handed_in c.args.verifiers.now) s in
+    subst (λ b. Finds ks (FaultAt B (forest_of s) (types_of s) (a_block b)) (RunAt B (forest_of s) (types_of s) ks (a_block b)) c.verify_block_alone.result) c.from_index-block.ensures c.verify_block_alone.ensures
