@@ -1,0 +1,3 @@
+pub mod NewOnes
+pub mod Moving
+pub mod Operands
