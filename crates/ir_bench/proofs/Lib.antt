@@ -1,3 +1,3 @@
 pub mod NewOnes
 pub mod Moving
-pub mod Operands
+pub mod OperandCounts
