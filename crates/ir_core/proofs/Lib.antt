@@ -35,3 +35,8 @@ pub mod GoingBack
 pub mod PlacedUses
 pub mod TakenUses
 pub mod Erased
+pub mod Definitions
+pub mod PlacedValues
+pub mod TakenValues
+pub mod Redirected
+pub mod Asked

@@ -21,7 +21,7 @@ use Rattle.ir_records.specs.Growth.{Grows}
 use Rattle.ir_records.specs.Links.{IsFreshUse}
 use Rattle.ir_records.specs.Table.{operands_at, successors_at}
 use Rattle.ir_records.specs.Meaning.{closed, forest_of as forest_in}
-use Rattle.ir_core.specs.Calls.{EntitiesStayLive, HandsOut, HasAll, StayLive}
+use Rattle.ir_core.specs.Calls.{EntitiesStayLive, HandsOut, HasAll, SameButForest, StayLive}
 use Rattle.ir_core.specs.Creation.{AreFresh, Extends, HoldTogether}
 use Rattle.ir_core.specs.Places.{MakesUse}
 use Rattle.ir_core.specs.Sound.{IsSound, Keeps}
@@ -78,10 +78,10 @@ module _ {D A K B S X L : Type 0} (s : State D A K B S X L) (t : Records D A K B
     pub entities_stay_live : EntitiesStayLive (forest_of s) (forest_in t)
 
 module _ {D A K B S X L : Type 0} {s : State D A K B S X L} {t : Records D A K B S X L} (sound : IsSound s) (keeps : KeepsTree s.records t) (linked : AreLinked (chains_of t)) where
-  together : HoldTogether t
+  pub together : HoldTogether t
   together = together-kept s.records t (record { linked = sound.linked; nested = sound.nested; own = sound.own }) keeps linked
 
-  extends : Extends s.records t [] [] []
+  pub extends : Extends s.records t [] [] []
   extends = record {
     ops = Grows-ids s.records.ops s.records.ops t.ops [] (Grows-none s.records.ops) keeps.op_ids;
     blocks = Grows-ids s.records.blocks s.records.blocks t.blocks [] (Grows-none s.records.blocks) keeps.block_ids;
@@ -136,31 +136,38 @@ module _ {D A K B S X L : Type 0} {s : State D A K B S X L} {t : Records D A K B
           (subst (StayLive (forest_of s)) (sym same) (names-live (forest_of s) o (on_successors edit) (λ r. refl)))
           (subst (EntitiesStayLive (forest_of s)) (sym same) (entities-live (forest_of s) o (on_successors edit) (λ r. refl)))
 
-  -- uses were edited under no new number
+  -- nothing was handed out, and the forest has nothing that wasn't there
+  pub kept-sound : (g : Forest context_ids (closed A K B S X L)) → forest_in t ≡ g → Kept (forest_of s) g (length s.types) [] → IsSound (record s { records = t })
+  kept-sound g is kept = record {
+    linked = linked;
+    nested = together.nested;
+    own = together.own;
+    formed = subst (λ f. WellFormed f (length s.types)) (sym is) kept.forest;
+    counted = record {
+      values = λ d n h. sound.counted.values d n (kept.values (record { definer = d; number = n }) (subst (λ f. In n (numbers_of f d)) is h));
+      uses = λ p n h. elim (kept.uses p n (subst (λ f. In n (uses_of f p)) is h)) [ inl k ↦ sound.counted.uses p n k | inr k ↦ absurd k ];
+      value_limit = sound.counted.value_limit;
+      use_limit = sound.counted.use_limit;
+      limits = sound.counted.limits;
+      op_slots = keeps-same s s.records.ops t.ops keeps.op_ids sound.counted.op_slots;
+      block_slots = keeps-same s s.records.blocks t.blocks keeps.block_ids sound.counted.block_slots;
+      region_slots = subst (Keeps s.limits) (sym keeps.regions) sound.counted.region_slots;
+    };
+  }
+
+  pub kept-rest : SameButForest (bare s) (bare (record s { records = t }))
+  kept-rest = record {
+    store = refl;
+    beside = refl;
+    passed = λ i. record (passed_of s) { ops = λ id. keeps.op_ids.passed id i; blocks = λ id. keeps.block_ids.passed id i; regions = is_passed (keeps.regions i) };
+    limits = refl;
+  }
+
+  -- and what was live is live
   pub kept-edited : (g : Forest context_ids (closed A K B S X L)) → forest_in t ≡ g → Kept (forest_of s) g (length s.types) [] → StayLive (forest_of s) g → EntitiesStayLive (forest_of s) g → Edited s t
   kept-edited g is kept stay entities_stay = record {
-    sound = record {
-      linked = linked;
-      nested = together.nested;
-      own = together.own;
-      formed = subst (λ f. WellFormed f (length s.types)) (sym is) kept.forest;
-      counted = record {
-        values = λ d n h. sound.counted.values d n (kept.values (record { definer = d; number = n }) (subst (λ f. In n (numbers_of f d)) is h));
-        uses = λ p n h. elim (kept.uses p n (subst (λ f. In n (uses_of f p)) is h)) [ inl k ↦ sound.counted.uses p n k | inr k ↦ absurd k ];
-        value_limit = sound.counted.value_limit;
-        use_limit = sound.counted.use_limit;
-        limits = sound.counted.limits;
-        op_slots = keeps-same s s.records.ops t.ops keeps.op_ids sound.counted.op_slots;
-        block_slots = keeps-same s s.records.blocks t.blocks keeps.block_ids sound.counted.block_slots;
-        region_slots = subst (Keeps s.limits) (sym keeps.regions) sound.counted.region_slots;
-      };
-    };
-    rest = record {
-      store = refl;
-      beside = refl;
-      passed = λ i. record (passed_of s) { ops = λ id. keeps.op_ids.passed id i; blocks = λ id. keeps.block_ids.passed id i; regions = is_passed (keeps.regions i) };
-      limits = refl;
-    };
+    sound = kept-sound g is kept;
+    rest = kept-rest;
     stay_live = subst (StayLive (forest_of s)) (sym is) stay;
     entities_stay_live = subst (EntitiesStayLive (forest_of s)) (sym is) entities_stay;
   }

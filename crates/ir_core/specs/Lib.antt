@@ -6,3 +6,5 @@ pub mod Creation
 pub mod GoingBack
 pub mod Lending
 pub mod Places
+pub mod Definitions
+pub mod Asked

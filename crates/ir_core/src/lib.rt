@@ -3,10 +3,13 @@
 //! It gives out what its callers need of the crates below.
 #![tactic(auto)]
 
+mod argument_edits;
+mod asking;
 mod block;
 mod block_list;
 mod context;
 mod creation;
+mod definition_edits;
 mod erasing;
 mod error;
 mod lending;
@@ -16,9 +19,14 @@ mod operand_edits;
 mod operation;
 mod operation_list;
 mod region;
+mod result_edits;
+mod retargeting;
 mod successor_edits;
 mod types;
+mod value_edits;
 
+pub use argument_edits::ArgumentEdits;
+pub use asking::Shown;
 pub use block::BlockPtr;
 pub use block_list::{BlockContainer, BlockList, RegionMoves};
 pub use context::Context;
@@ -40,5 +48,8 @@ pub use operand_edits::OperandEdits;
 pub use operation::OperationPtr;
 pub use operation_list::{OperationContainer, OperationList};
 pub use region::RegionPtr;
+pub use result_edits::ResultEdits;
+pub use retargeting::Retarget;
 pub use successor_edits::SuccessorEdits;
 pub use types::TypeQueries;
+pub use value_edits::ValueEdits;

@@ -3,7 +3,7 @@
 ghost use Rattle.std.specs.Prelude.{◌≡◌, ◌⊎◌, ◌↔◌, Err, IfErr, OnOk};
 ghost use Rattle.ir_model.specs.Sessions.{HasNumbers, LacksNumbers, LacksSlots};
 ghost use Rattle.ir_core.specs.State.{bare};
-ghost use Rattle.ir_model.specs.Edits.{no_needs, one_use};
+ghost use Rattle.ir_model.specs.Edits.{no_needs, one_number, one_use};
 ghost use Rattle.ir_core.specs.Calls.{HasAll, counts_of};
 
 use crate::context::Context;
@@ -69,6 +69,22 @@ impl<D: Dialects> Context<D> {
         }
         Ok(())
     }
+}
+
+/// Whether the number of one more result or argument is left.
+///
+/// # Errors
+/// `CounterSpent` where none is.
+pub(crate) fn has_value_number<D: Dialects>(ctx: &Context<D>) -> Result<(), CoreError>
+    ensures enough { OnOk result (HasAll ctx.now one_number) }
+    ensures counter { (result ≡ Err CoreError.CounterSpent) ↔ LacksNumbers (bare ctx.now) one_number }
+    ensures only { IfErr result (λ e. e ≡ CoreError.CounterSpent) }
+{
+    let _room = ctx.room();
+    ctx.covers(Needs {
+        values: 1,
+        ..Needs::none()
+    })
 }
 
 /// Whether the number of one more use is left.

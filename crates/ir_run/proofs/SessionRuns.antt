@@ -13,7 +13,7 @@ use Rattle.ir_model.proofs.RefusedForGood.{erased_are_gone, gone_for_good}
 use Rattle.ir_model.proofs.StepSound.{runs_sound}
 use Rattle.ir_model.proofs.Uniquing.{still_at}
 use Rattle.ir_run.specs.declared.edit.Edit.{Edit}
-use Rattle.ir_run.specs.declared.edit.Edit.TheVariants.{AddRegion, AppendBlocks, AppendOps, BlockAfter, BlockBack, BlockBefore, BlockFront, MoveRegion, NewBlock, NewOp, NewType, OpAfter, OpBack, OpBefore, OpFront, UnlinkBlock, UnlinkOp}
+use Rattle.ir_run.specs.declared.edit.Edit.TheVariants.{AddRegion, AppendBlocks, AppendOps, BlockAfter, BlockBack, BlockBefore, BlockFront, DropBlockUses, DropOpUses, DropRegionUses, EraseBlock, EraseOp, EraseRegion, InsertOperand, InsertSuccessor, MoveRegion, NewBlock, NewOp, NewType, OpAfter, OpBack, OpBefore, OpFront, PushOperand, PushSuccessor, RemoveOperand, RemoveSuccessor, ReplaceOperand, ReplaceSuccessor, UnlinkBlock, UnlinkOp}
 use Rattle.ir_records.specs.Meaning.{closed}
 use Rattle.ir_run.specs.SessionEdits.{edit_of}
 use Rattle.ir_run.specs.Headline.{GoneAtCuts, KeepsKeys}
@@ -94,6 +94,20 @@ module _ {D A K B S X L : Type 0} (behave : Behaviour (closed A K B S X L)) wher
   step_keys (AppendOps donee donor) s t a (made c n m e k) = same_store s t (ap (λ x. x.store) k.change.holds.holds.holds)
   step_keys (AppendBlocks donee donor) s t a (made c n m e k) = same_store s t (ap (λ x. x.store) k.change.holds.holds.holds)
   step_keys (MoveRegion region op) s t a (made c n m e k) = same_either s t (move_region s.state.forest k.change.value k.change.holds.value) _ k.change.holds.holds.holds
+  step_keys (PushOperand op value) s t a (made c n m e k) = same_store s t (ap (λ x. x.store) k.change.holds.holds.holds)
+  step_keys (InsertOperand op at value) s t a (made c n m e k) = same_store s t (ap (λ x. x.store) k.change.holds.holds.holds)
+  step_keys (RemoveOperand op at) s t a (made c n m e k) = same_store s t (ap (λ x. x.store) k.change.holds)
+  step_keys (ReplaceOperand op at value) s t a (made c n m e k) = same_store s t (ap (λ x. x.store) k.change.holds.holds.holds)
+  step_keys (PushSuccessor op block) s t a (made c n m e k) = same_store s t (ap (λ x. x.store) k.change.holds.holds.holds)
+  step_keys (InsertSuccessor op at block) s t a (made c n m e k) = same_store s t (ap (λ x. x.store) k.change.holds.holds.holds)
+  step_keys (RemoveSuccessor op at) s t a (made c n m e k) = same_store s t (ap (λ x. x.store) k.change.holds)
+  step_keys (ReplaceSuccessor op at block) s t a (made c n m e k) = same_store s t (ap (λ x. x.store) k.change.holds.holds.holds)
+  step_keys (DropOpUses op) s t a (made c n m e k) = same_store s t (ap (λ x. x.store) k.change.holds.1)
+  step_keys (DropBlockUses block) s t a (made c n m e k) = same_store s t (ap (λ x. x.store) k.change.holds.1)
+  step_keys (DropRegionUses region) s t a (made c n m e k) = same_store s t (ap (λ x. x.store) k.change.holds.1)
+  step_keys (EraseOp op) s t a (made c n m e k) = same_store s t (ap (λ x. x.store) k.change.holds.1)
+  step_keys (EraseBlock block) s t a (made c n m e k) = same_store s t (ap (λ x. x.store) k.change.holds.1)
+  step_keys (EraseRegion op at) s t a (made c n m e k) = same_store s t (ap (λ x. x.store) k.change.holds.holds.holds.1)
 
   pub run_keys : (edits : List (Edit D A K B S X L)) (s t : Session (closed A K B S X L)) (answers : List Answer) → Run behave s (map edit_of edits) answers t → KeepsKeys s t
   run_keys [] s t answers r = same_store s t (ap (λ x. x.state.store) r.1)

@@ -32,6 +32,70 @@ pub enum Edit<D: Dialects> {
         /// The operation.
         op: usize,
     },
+    /// Gives an operation another operand, the last, which names a value.
+    PushOperand {
+        /// The operation.
+        op: usize,
+        /// The value.
+        value: usize,
+    },
+    /// Gives an operation another operand that names a value, at a place up to their number; what stood there and behind it moves one place on.
+    InsertOperand {
+        /// The operation.
+        op: usize,
+        /// The place.
+        at: usize,
+        /// The value.
+        value: usize,
+    },
+    /// Takes the operand at a place below their number out; those behind it move up.
+    RemoveOperand {
+        /// The operation.
+        op: usize,
+        /// The place.
+        at: usize,
+    },
+    /// Puts an operand that names a value in the place of the one at a place below their number.
+    ReplaceOperand {
+        /// The operation.
+        op: usize,
+        /// The place.
+        at: usize,
+        /// The value.
+        value: usize,
+    },
+    /// Gives an operation another successor, the last, which names a block.
+    PushSuccessor {
+        /// The operation.
+        op: usize,
+        /// The block.
+        block: usize,
+    },
+    /// Gives an operation another successor that names a block, at a place up to their number; what stood there and behind it moves one place on.
+    InsertSuccessor {
+        /// The operation.
+        op: usize,
+        /// The place.
+        at: usize,
+        /// The block.
+        block: usize,
+    },
+    /// Takes the successor at a place below their number out; those behind it move up.
+    RemoveSuccessor {
+        /// The operation.
+        op: usize,
+        /// The place.
+        at: usize,
+    },
+    /// Puts a successor that names a block in the place of the one at a place below their number.
+    ReplaceSuccessor {
+        /// The operation.
+        op: usize,
+        /// The place.
+        at: usize,
+        /// The block.
+        block: usize,
+    },
     /// Puts an unlinked operation at the front of a block, which isn't inside it.
     OpFront {
         /// The operation.
@@ -118,5 +182,37 @@ pub enum Edit<D: Dialects> {
         region: usize,
         /// The operation.
         op: usize,
+    },
+    /// Takes the operands and successors of all operations inside an operation out, also its own.
+    DropOpUses {
+        /// The operation.
+        op: usize,
+    },
+    /// Takes the operands and successors of all operations inside a block out.
+    DropBlockUses {
+        /// The block.
+        block: usize,
+    },
+    /// Takes the operands and successors of all operations inside a region out.
+    DropRegionUses {
+        /// The region.
+        region: usize,
+    },
+    /// Erases an operation with all that stands inside it, where no operation outside names what is defined inside.
+    EraseOp {
+        /// The operation.
+        op: usize,
+    },
+    /// Erases a block with all that stands inside it, where no operation outside names what is defined inside.
+    EraseBlock {
+        /// The block.
+        block: usize,
+    },
+    /// Erases the region at a place below their number of an operation with all that stands inside it, where no operation outside names what is defined inside; those behind it move up.
+    EraseRegion {
+        /// The operation.
+        op: usize,
+        /// The place.
+        at: usize,
     },
 }

@@ -3,12 +3,7 @@
 
 mod edit;
 mod laws;
-mod list_conditions;
-mod list_steps;
-mod lookups;
 mod session;
-mod session_tables;
-mod steps;
 
 pub use edit::Edit;
 pub use ir_base::{Answer, Refused};

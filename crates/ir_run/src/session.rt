@@ -20,11 +20,11 @@ ghost use Rattle.ir_run.specs.Headline.{GoneAtCuts, KeepsKeys};
 ghost use Rattle.ir_run.specs.SessionState.{plain};
 
 use crate::edit::Edit;
-use crate::list_steps;
-use crate::session_tables::Tables;
-use crate::steps::{self, OpParts};
 use ir_base::{Answer, CoreError, Dialects, Limits, Ptr, TypeHandle};
 use ir_core::{BasicBlock, Context, Operation, Region, Value};
+use ir_steps::steps::{self, OpParts};
+use ir_steps::{erase_steps, list_steps, use_steps};
+use ir_tables::Tables;
 use std::alloc::Global;
 use std::marker::Model;
 
@@ -38,7 +38,7 @@ pub struct Session<D: Dialects> {
 impl<D: Dialects> Model for Session<D> {
     ghost use Rattle.ir_model.specs.Soundness.{Sound};
     ghost use Rattle.ir_run.specs.SessionState.{plain, SessionState};
-    ghost use Rattle.ir_run.specs.SessionTables.{entries_of};
+    ghost use Rattle.ir_tables.specs.SessionTables.{entries_of};
 
     ghost Value = { SessionState D D.Attr D.TypeKey D.TypeBody D.Saved D.Aux D.Loc };
 
@@ -172,6 +172,30 @@ impl<D: Dialects> Session<D> {
                 steps::new_block(&mut self.ctx, &mut self.tables, label, &types)
             }
             Edit::AddRegion { op } => steps::add_region(&mut self.ctx, &mut self.tables, op),
+            Edit::PushOperand { op, value } => {
+                use_steps::push_operand(&mut self.ctx, &self.tables, op, value)
+            }
+            Edit::InsertOperand { op, at, value } => {
+                use_steps::insert_operand(&mut self.ctx, &self.tables, op, at, value)
+            }
+            Edit::RemoveOperand { op, at } => {
+                use_steps::remove_operand(&mut self.ctx, &self.tables, op, at)
+            }
+            Edit::ReplaceOperand { op, at, value } => {
+                use_steps::replace_operand(&mut self.ctx, &self.tables, op, at, value)
+            }
+            Edit::PushSuccessor { op, block } => {
+                use_steps::push_successor(&mut self.ctx, &self.tables, op, block)
+            }
+            Edit::InsertSuccessor { op, at, block } => {
+                use_steps::insert_successor(&mut self.ctx, &self.tables, op, at, block)
+            }
+            Edit::RemoveSuccessor { op, at } => {
+                use_steps::remove_successor(&mut self.ctx, &self.tables, op, at)
+            }
+            Edit::ReplaceSuccessor { op, at, block } => {
+                use_steps::replace_successor(&mut self.ctx, &self.tables, op, at, block)
+            }
             Edit::OpFront { op, block } => {
                 list_steps::op_front(&mut self.ctx, &self.tables, op, block)
             }
@@ -208,6 +232,22 @@ impl<D: Dialects> Session<D> {
             }
             Edit::MoveRegion { region, op } => {
                 list_steps::move_region(&mut self.ctx, &self.tables, region, op)
+            }
+            Edit::DropOpUses { op } => {
+                erase_steps::drop_op_uses(&mut self.ctx, &self.tables, op)
+            }
+            Edit::DropBlockUses { block } => {
+                erase_steps::drop_block_uses(&mut self.ctx, &self.tables, block)
+            }
+            Edit::DropRegionUses { region } => {
+                erase_steps::drop_region_uses(&mut self.ctx, &self.tables, region)
+            }
+            Edit::EraseOp { op } => { erase_steps::erase_op(&mut self.ctx, &self.tables, op) }
+            Edit::EraseBlock { block } => {
+                erase_steps::erase_block(&mut self.ctx, &self.tables, block)
+            }
+            Edit::EraseRegion { op, at } => {
+                erase_steps::erase_region(&mut self.ctx, &self.tables, op, at)
             }
         }
     }

@@ -1,2 +1,1 @@
 pub mod Toy
-pub mod Lines

@@ -1,11 +1,6 @@
-//! The dialect `Toy`, and scripts: their reading, their answers, and the program's work over any reader and writer.
+//! The dialect `Toy`, over which programs and tests run.
 #![tactic(auto)]
 
-mod script_parse;
-mod script_print;
-mod script_run;
-mod script_uses;
 mod toy;
 
-pub use script_run::{run_script, run_script_with_limits};
 pub use toy::{SIZED_TYPE, Toy, ToyAttr, ToyLoc, ToySaved, ToyType};

@@ -1,7 +1,5 @@
-//! Tests of the dialect Toy and of scripts.
+//! Tests of the dialect Toy.
 #![tactic(auto)]
 
-#[cfg(test)]
-mod script_tests;
 #[cfg(test)]
 mod toy_tests;

@@ -33,6 +33,8 @@ pub trait Op<D: Dialects> {
         ensures { result.index ≡ op_of self.now };
 
     /// What wraps this operation. It doesn't ask whether the operation is of the kind.
+    ///
+    /// A type that implements it states the clause again in the words of its own field, as `ensures { result.op.index ≡ op.index }`: the check holds that against this one.
     fn from_operation(op: Ptr<Operation<D>>) -> Self
         ensures { op_of result ≡ op.index };
 

@@ -1,4 +1,4 @@
-use Rattle.ir_model.specs.Edits.{AddRegion, AppendBlocks, AppendOps, BlockAfter, BlockBack, BlockBefore, BlockFront, MoveRegion, NewBlock, NewOp, NewType, OpAfter, OpBack, OpBefore, OpFront, UnlinkBlock, UnlinkOp}
+use Rattle.ir_model.specs.Edits.{AddRegion, AppendBlocks, AppendOps, BlockAfter, BlockBack, BlockBefore, BlockFront, DropBlockUses, DropOpUses, DropRegionUses, EraseBlock, EraseOp, EraseRegion, InsertOperand, InsertSuccessor, MoveRegion, NewBlock, NewOp, NewType, OpAfter, OpBack, OpBefore, OpFront, PushOperand, PushSuccessor, RemoveOperand, RemoveSuccessor, ReplaceOperand, ReplaceSuccessor, UnlinkBlock, UnlinkOp}
 use Rattle.ir_model.proofs.StepSound.{steps_sound}
 use Rattle.ir_run.proofs.session.Session.step.Goals as goal
 
@@ -53,3 +53,45 @@ invariant_of-self-in-AppendBlocks g c = steps_sound _ (AppendBlocks c.in-AppendB
 
 pub invariant_of-self-in-MoveRegion : goal.invariant_of-self-in-MoveRegion
 invariant_of-self-in-MoveRegion g c = steps_sound _ (MoveRegion c.in-MoveRegion.region c.in-MoveRegion.op) _ _ c.move_region.result c.self.invariant c.move_region.ensures
+
+pub invariant_of-self-in-PushOperand : goal.invariant_of-self-in-PushOperand
+invariant_of-self-in-PushOperand g c = steps_sound _ (PushOperand c.in-PushOperand.op c.in-PushOperand.value) _ _ c.push_operand.result c.self.invariant c.push_operand.ensures
+
+pub invariant_of-self-in-InsertOperand : goal.invariant_of-self-in-InsertOperand
+invariant_of-self-in-InsertOperand g c = steps_sound _ (InsertOperand c.in-InsertOperand.op c.in-InsertOperand.at c.in-InsertOperand.value) _ _ c.insert_operand.result c.self.invariant c.insert_operand.ensures
+
+pub invariant_of-self-in-RemoveOperand : goal.invariant_of-self-in-RemoveOperand
+invariant_of-self-in-RemoveOperand g c = steps_sound _ (RemoveOperand c.in-RemoveOperand.op c.in-RemoveOperand.at) _ _ c.remove_operand.result c.self.invariant c.remove_operand.ensures
+
+pub invariant_of-self-in-ReplaceOperand : goal.invariant_of-self-in-ReplaceOperand
+invariant_of-self-in-ReplaceOperand g c = steps_sound _ (ReplaceOperand c.in-ReplaceOperand.op c.in-ReplaceOperand.at c.in-ReplaceOperand.value) _ _ c.replace_operand.result c.self.invariant c.replace_operand.ensures
+
+pub invariant_of-self-in-PushSuccessor : goal.invariant_of-self-in-PushSuccessor
+invariant_of-self-in-PushSuccessor g c = steps_sound _ (PushSuccessor c.in-PushSuccessor.op c.in-PushSuccessor.block) _ _ c.push_successor.result c.self.invariant c.push_successor.ensures
+
+pub invariant_of-self-in-InsertSuccessor : goal.invariant_of-self-in-InsertSuccessor
+invariant_of-self-in-InsertSuccessor g c = steps_sound _ (InsertSuccessor c.in-InsertSuccessor.op c.in-InsertSuccessor.at c.in-InsertSuccessor.block) _ _ c.insert_successor.result c.self.invariant c.insert_successor.ensures
+
+pub invariant_of-self-in-RemoveSuccessor : goal.invariant_of-self-in-RemoveSuccessor
+invariant_of-self-in-RemoveSuccessor g c = steps_sound _ (RemoveSuccessor c.in-RemoveSuccessor.op c.in-RemoveSuccessor.at) _ _ c.remove_successor.result c.self.invariant c.remove_successor.ensures
+
+pub invariant_of-self-in-ReplaceSuccessor : goal.invariant_of-self-in-ReplaceSuccessor
+invariant_of-self-in-ReplaceSuccessor g c = steps_sound _ (ReplaceSuccessor c.in-ReplaceSuccessor.op c.in-ReplaceSuccessor.at c.in-ReplaceSuccessor.block) _ _ c.replace_successor.result c.self.invariant c.replace_successor.ensures
+
+pub invariant_of-self-in-DropOpUses : goal.invariant_of-self-in-DropOpUses
+invariant_of-self-in-DropOpUses g c = steps_sound _ (DropOpUses c.in-DropOpUses.op) _ _ c.drop_op_uses.result c.self.invariant c.drop_op_uses.ensures
+
+pub invariant_of-self-in-DropBlockUses : goal.invariant_of-self-in-DropBlockUses
+invariant_of-self-in-DropBlockUses g c = steps_sound _ (DropBlockUses c.in-DropBlockUses.block) _ _ c.drop_block_uses.result c.self.invariant c.drop_block_uses.ensures
+
+pub invariant_of-self-in-DropRegionUses : goal.invariant_of-self-in-DropRegionUses
+invariant_of-self-in-DropRegionUses g c = steps_sound _ (DropRegionUses c.in-DropRegionUses.region) _ _ c.drop_region_uses.result c.self.invariant c.drop_region_uses.ensures
+
+pub invariant_of-self-in-EraseOp : goal.invariant_of-self-in-EraseOp
+invariant_of-self-in-EraseOp g c = steps_sound _ (EraseOp c.in-EraseOp.op) _ _ c.erase_op.result c.self.invariant c.erase_op.ensures
+
+pub invariant_of-self-in-EraseBlock : goal.invariant_of-self-in-EraseBlock
+invariant_of-self-in-EraseBlock g c = steps_sound _ (EraseBlock c.in-EraseBlock.block) _ _ c.erase_block.result c.self.invariant c.erase_block.ensures
+
+pub invariant_of-self-in-EraseRegion : goal.invariant_of-self-in-EraseRegion
+invariant_of-self-in-EraseRegion g c = steps_sound _ (EraseRegion c.in-EraseRegion.op c.in-EraseRegion.at) _ _ c.erase_region.result c.self.invariant c.erase_region.ensures

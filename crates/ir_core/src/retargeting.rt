@@ -1,0 +1,97 @@
+//! Uses of a live block as a successor that come to name another block.
+//!
+//! A use keeps its number and its place among the successors of its user. Where the other block is this one, nothing changes.
+
+ghost use Rattle.std.specs.Prelude.{◌≡◌, IfErr, IsOk, OnErr, OnOk};
+ghost use Rattle.ir_model.specs.Changes.{retarget};
+ghost use Rattle.ir_model.specs.Edits.{UsersLinked};
+ghost use Rattle.ir_model.specs.Forest.{a_block, the_block};
+ghost use Rattle.ir_model.specs.Nesting.{IsLive};
+ghost use Rattle.ir_model.specs.Redirect.{retarget_uses};
+ghost use Rattle.ir_model.specs.Uses.{IsUse};
+ghost use Rattle.ir_redirect.specs.Chosen.{same_use};
+ghost use Rattle.ir_core.specs.Calls.{EntitiesStayLive, SameButForest, StayLive};
+ghost use Rattle.ir_core.specs.State.{bare, forest_of};
+
+use crate::context::Context;
+use ir_base::{CoreError, Dialects, Ptr};
+use ir_records::{BasicBlock, BlockIndex, Use};
+use ir_redirect::{retarget_all_preds, retarget_pred};
+
+/// How what names a live block comes to name another.
+pub trait Retarget<D: Dialects> {
+    ghost use Rattle.ir_model.specs.declared.ids.ArenaIndex.{ArenaIndex};
+    ghost use Rattle.ir_model.specs.ContextIds.{context_ids};
+    ghost use Rattle.ir_model.specs.Uses.{Use as PlainUse};
+
+    /// A use of a block as a successor.
+    type Use;
+
+    ghost index_of: { Self → ArenaIndex };
+
+    ghost use_of: { Self.Use → PlainUse context_ids };
+
+    /// Lets each successor that names the live block name the other live one. Each operation that names the block stands in a block, as `preds_are_linked` tells. It stands for pliron's `retarget_all_preds_to`.
+    ///
+    /// # Errors
+    /// `OutOfMemory` where the list of the other block's uses had to grow and couldn't. Then nothing has changed. It doesn't come where both are one block.
+    fn retarget_all_preds_to(self, ctx: &mut Context<D>, other: Self) -> Result<(), CoreError>
+        requires live { IsLive (forest_of ctx.old) (a_block (index_of self)) }
+        requires other_live { IsLive (forest_of ctx.old) (a_block (index_of other)) }
+        requires linked { UsersLinked (forest_of ctx.old) (index_of self) }
+        ensures forest { OnOk result (forest_of ctx.new ≡ retarget (forest_of ctx.old) (index_of self) (index_of other)) }
+        ensures rest { SameButForest (bare ctx.old) (bare ctx.new) }
+        ensures stay_live { StayLive (forest_of ctx.old) (forest_of ctx.new) }
+        ensures entities_stay_live { EntitiesStayLive (forest_of ctx.old) (forest_of ctx.new) }
+        ensures itself { index_of self ≡ index_of other → IsOk result }
+        ensures memory { IfErr result (λ e. e ≡ CoreError.OutOfMemory) }
+        ensures err { OnErr result (ctx.new ≡ ctx.old) };
+
+    /// Lets the successor of a use of the live block name the other live one. It stands for pliron's `retarget_pred_to`.
+    ///
+    /// # Errors
+    /// `OutOfMemory` where the list of the other block's uses had to grow and couldn't. Then nothing has changed. It doesn't come where both are one block.
+    fn retarget_pred_to(
+        self,
+        ctx: &mut Context<D>,
+        used: Self::Use,
+        other: Self,
+    ) -> Result<(), CoreError>
+        requires names { IsUse (forest_of ctx.old) (the_block (index_of self)) (use_of used) }
+        requires other_live { IsLive (forest_of ctx.old) (a_block (index_of other)) }
+        ensures forest { OnOk result (forest_of ctx.new ≡ retarget_uses (forest_of ctx.old) (same_use (use_of used)) (index_of other)) }
+        ensures rest { SameButForest (bare ctx.old) (bare ctx.new) }
+        ensures stay_live { StayLive (forest_of ctx.old) (forest_of ctx.new) }
+        ensures entities_stay_live { EntitiesStayLive (forest_of ctx.old) (forest_of ctx.new) }
+        ensures itself { index_of self ≡ index_of other → IsOk result }
+        ensures memory { IfErr result (λ e. e ≡ CoreError.OutOfMemory) }
+        ensures err { OnErr result (ctx.new ≡ ctx.old) };
+}
+
+impl<D: Dialects> Retarget<D> for Ptr<BasicBlock<D>> {
+    ghost use Rattle.ir_records.specs.Meaning.{use_of as use_in};
+
+    type Use = Use<Ptr<BasicBlock<D>>>;
+
+    ghost index_of = { λ p. p.index };
+
+    ghost use_of = { λ u. use_in u.index };
+
+    fn retarget_all_preds_to(self, ctx: &mut Context<D>, other: Self) -> Result<(), CoreError> {
+        let from = BlockIndex { index: self.index };
+        let to = BlockIndex { index: other.index };
+        retarget_all_preds(&mut ctx.records, ctx.alloc, from, to)?;
+        Ok(())
+    }
+
+    fn retarget_pred_to(
+        self,
+        ctx: &mut Context<D>,
+        used: Use<Ptr<BasicBlock<D>>>,
+        other: Self,
+    ) -> Result<(), CoreError> {
+        let block = BlockIndex { index: other.index };
+        retarget_pred(&mut ctx.records, used.index, block)?;
+        Ok(())
+    }
+}

@@ -1,0 +1,9 @@
+//! Scripts over the dialect Toy: their reading, their answers, and the program's work over any reader and writer.
+#![tactic(auto)]
+
+mod script_parse;
+mod script_print;
+mod script_run;
+mod script_uses;
+
+pub use script_run::{run_script, run_script_with_limits};

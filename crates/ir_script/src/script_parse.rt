@@ -1,0 +1,277 @@
+//! Reading of scripts: from their text to the edits that they ask for.
+//!
+//! A script is lines that are ended by LF, which the last may lack; a CR before an LF is dropped. A line that is empty, that has spaces alone, or whose first character is `#` is skipped and counted. Other lines are fields with spaces between them.
+
+ghost use Rattle.std.specs.Prelude.{◌≤◌, IfOk};
+
+use ir_base::CoreError;
+use ir_run::Edit;
+use ir_toy::{Toy, ToyType};
+use std::alloc::{AllocError, AllocFailed, Global};
+use std::fmt;
+use thiserror::Error;
+
+// The greatest kind of operations that a script may name.
+const GREATEST_KIND: u32 = 7;
+
+/// Why a script isn't done.
+#[derive(Clone, Copy, Debug, Drop, PartialEq, Eq, Error)]
+pub(crate) enum ScriptError {
+    /// There was no memory to read it.
+    #[error("out of memory")]
+    OutOfMemory,
+    /// The input can't be read, or isn't UTF-8.
+    #[error("unreadable input")]
+    Unreadable,
+    /// The output can't be written.
+    #[error("unwritable output")]
+    Unwritable,
+    /// This line, from 1, is the first that has no form of a script's line.
+    #[error("line {line}: malformed")]
+    Malformed {
+        /// The line's number.
+        line: u64,
+    },
+}
+
+impl From<AllocError> for ScriptError {
+    fn from(_error: AllocError) -> ScriptError {
+        ScriptError::OutOfMemory
+    }
+}
+
+impl From<CoreError> for ScriptError {
+    // A session that answers no edits at all had no memory for the answers.
+    fn from(_error: CoreError) -> ScriptError {
+        ScriptError::OutOfMemory
+    }
+}
+
+impl<T: Drop> From<AllocFailed<T>> for ScriptError {
+    fn from(_error: AllocFailed<T>) -> ScriptError {
+        ScriptError::OutOfMemory
+    }
+}
+
+/// What an edit makes, or, where it makes nothing, what it moves, as the letter of its name.
+#[derive(Clone, Copy, Debug, Drop, PartialEq, Eq)]
+pub(crate) enum Letter {
+    /// A type.
+    Type,
+    /// An operation.
+    Operation,
+    /// A block.
+    Block,
+    /// A region.
+    Region,
+}
+
+impl fmt::Display for Letter {
+    fn fmt<W: fmt::Write>(&self, f: &mut fmt::Formatter<W>) -> fmt::Result {
+        f.write_str(match self {
+            Letter::Type => "t",
+            Letter::Operation => "o",
+            Letter::Block => "b",
+            Letter::Region => "r",
+        })
+    }
+}
+
+/// The edits of a script, and for each of them what it makes or moves.
+#[derive(Drop)]
+pub(crate) struct Script {
+    /// The edits, in the order of their lines.
+    pub edits: Vec<Edit<Toy>>,
+    /// The letter for each edit.
+    pub letters: Vec<Letter>,
+}
+
+// Why a line gives no edit.
+#[derive(Drop)]
+enum LineError {
+    Malformed,
+    OutOfMemory,
+}
+
+impl From<AllocFailed<usize>> for LineError {
+    fn from(_error: AllocFailed<usize>) -> LineError {
+        LineError::OutOfMemory
+    }
+}
+
+/// The edits that a script asks for.
+///
+/// # Errors
+/// `Malformed` with the first malformed line, and `OutOfMemory` where a growth was refused before one was found.
+pub(crate) fn parse_script(alloc: Global, text: &str) -> Result<Script, ScriptError> {
+    let mut edits = Vec::new(alloc);
+    let mut letters = Vec::new(alloc);
+    for (number, line) in (1..u64::MAX).zip(text.split_inclusive('\n')) {
+        let line = without_end(line);
+        if is_skipped(line) {
+            continue;
+        }
+        match parse_line(alloc, line) {
+            Ok((letter, edit)) => {
+                letters.push(letter)?;
+                edits.push(edit)?;
+            }
+            Err(LineError::Malformed) => return Err(ScriptError::Malformed { line: number }),
+            Err(LineError::OutOfMemory) => return Err(ScriptError::OutOfMemory),
+        }
+    }
+    Ok(Script { edits, letters })
+}
+
+// The line without the LF that ends it and the CR before that.
+fn without_end(line: &str) -> &str {
+    match line.strip_suffix('\n') {
+        Some(ended) => ended.strip_suffix('\r').unwrap_or(ended),
+        None => line,
+    }
+}
+
+// Whether the line is empty, has spaces alone, or begins with `#`.
+fn is_skipped(line: &str) -> bool {
+    line.starts_with('#') || line.trim_start_matches(' ').is_empty()
+}
+
+// The edit that a line asks for, and what it makes or moves.
+fn parse_line(alloc: Global, line: &str) -> Result<(Letter, Edit<Toy>), LineError> {
+    let (first, rest) = take_field(line)?;
+    if first == "type" {
+        Ok((Letter::Type, parse_type(rest)?))
+    } else if first == "op" {
+        Ok((Letter::Operation, parse_op(alloc, rest)?))
+    } else if first == "block" {
+        Ok((Letter::Block, parse_block(alloc, rest)?))
+    } else if first == "back" {
+        let (op, block) = parse_two_names('o', 'b', rest)?;
+        Ok((Letter::Operation, Edit::OpBack { op, block }))
+    } else if first == "backb" {
+        let (block, region) = parse_two_names('b', 'r', rest)?;
+        Ok((Letter::Block, Edit::BlockBack { block, region }))
+    } else if first == "unlink" {
+        let op = parse_one_name('o', rest)?;
+        Ok((Letter::Operation, Edit::UnlinkOp { op }))
+    } else if first == "move" {
+        let (region, op) = parse_two_names('r', 'o', rest)?;
+        Ok((Letter::Region, Edit::MoveRegion { region, op }))
+    } else {
+        Err(LineError::Malformed)
+    }
+}
+
+// The fields of `type N`.
+fn parse_type(text: &str) -> Result<Edit<Toy>, LineError> {
+    let (width, rest) = take_field(text)?;
+    let width = parse_number(width)?;
+    end_fields(rest)?;
+    Ok(Edit::NewType(ToyType::Int { width }))
+}
+
+// The fields of `op K types values blocks N`.
+fn parse_op(alloc: Global, text: &str) -> Result<Edit<Toy>, LineError> {
+    let (kind, rest) = take_field(text)?;
+    let (types, rest) = take_field(rest)?;
+    let (values, rest) = take_field(rest)?;
+    let (blocks, rest) = take_field(rest)?;
+    let (regions, rest) = take_field(rest)?;
+    end_fields(rest)?;
+    Ok(Edit::NewOp {
+        kind: parse_kind(kind)?,
+        types: parse_names(alloc, 't', types)?,
+        operands: parse_names(alloc, 'v', values)?,
+        successors: parse_names(alloc, 'b', blocks)?,
+        regions: parse_number(regions)? as usize,
+    })
+}
+
+// The fields of `block types`.
+fn parse_block(alloc: Global, text: &str) -> Result<Edit<Toy>, LineError> {
+    let (types, rest) = take_field(text)?;
+    end_fields(rest)?;
+    Ok(Edit::NewBlock {
+        label: None,
+        types: parse_names(alloc, 't', types)?,
+    })
+}
+
+// The only field, a name with this letter.
+fn parse_one_name(letter: char, text: &str) -> Result<usize, LineError> {
+    let (name, rest) = take_field(text)?;
+    end_fields(rest)?;
+    parse_name(letter, name)
+}
+
+// The only two fields, names with these letters.
+fn parse_two_names(
+    letter: char,
+    other_letter: char,
+    text: &str,
+) -> Result<(usize, usize), LineError> {
+    let (name, rest) = take_field(text)?;
+    let name = parse_name(letter, name)?;
+    let other = parse_one_name(other_letter, rest)?;
+    Ok((name, other))
+}
+
+// The first field, and the text after it.
+fn take_field(text: &str) -> Result<(&str, &str), LineError> {
+    let text = text.trim_start_matches(' ');
+    if text.is_empty() {
+        return Err(LineError::Malformed);
+    }
+    Ok(text.split_once(' ').unwrap_or((text, "")))
+}
+
+// Tells whether there is no further field.
+fn end_fields(text: &str) -> Result<(), LineError> {
+    if text.trim_start_matches(' ').is_empty() {
+        Ok(())
+    } else {
+        Err(LineError::Malformed)
+    }
+}
+
+// One or more digits, with a value of at most 4294967295.
+fn parse_number(text: &str) -> Result<u32, LineError> {
+    if !text.bytes().all(|byte| byte.is_ascii_digit()) {
+        return Err(LineError::Malformed);
+    }
+    match text.parse() {
+        Ok(number) => Ok(number),
+        Err(_) => Err(LineError::Malformed),
+    }
+}
+
+// The number of a kind of operations.
+fn parse_kind(text: &str) -> Result<u32, LineError>
+    ensures { IfOk result (λ kind. kind ≤ 7) }
+{
+    let kind = parse_number(text)?;
+    if kind > GREATEST_KIND {
+        return Err(LineError::Malformed);
+    }
+    Ok(kind)
+}
+
+// A list of names with this letter: `-`, or names with single commas between them.
+fn parse_names(alloc: Global, letter: char, text: &str) -> Result<Vec<usize>, LineError> {
+    let mut numbers = Vec::new(alloc);
+    if text == "-" {
+        return Ok(numbers);
+    }
+    for name in text.split(',') {
+        numbers.push(parse_name(letter, name)?)?;
+    }
+    Ok(numbers)
+}
+
+// The number of a name with this letter.
+fn parse_name(letter: char, text: &str) -> Result<usize, LineError> {
+    match text.strip_prefix(letter) {
+        Some(number) => Ok(parse_number(number)? as usize),
+        None => Err(LineError::Malformed),
+    }
+}

@@ -1,0 +1,140 @@
+//! The listing at the end of a script: each live value and each live block, with the places that name it.
+//!
+//! It walks the operands and successors of the live operations once, and no list of uses.
+
+use crate::script_parse::ScriptError;
+use ir_base::Ptr;
+use ir_core::{BasicBlock, BlockPtr, Operation, OperationPtr, Value};
+use ir_run::Session;
+use ir_toy::Toy;
+use ir_values::ValueQueries;
+use std::alloc::Global;
+use std::collections::HashMap;
+
+// A place that names a value or a block: the number of what it names, the number of the operation, and its index there.
+type Naming = (usize, usize, usize);
+
+/// The live values by number, and then the live blocks by number, one a line, each with its uses by operation and index.
+pub(crate) fn uses_text(alloc: Global, session: &Session<Toy>) -> Result<String, ScriptError> {
+    let ctx = session.ctx();
+    let (operands, successors) = namings(alloc, session)?;
+    let mut text = String::new(alloc);
+    let mut left = operands.as_slice();
+    for number in 0..usize::MAX {
+        let Some(value) = session.value(number) else {
+            break;
+        };
+        if value.is_live(ctx) {
+            left = write_uses(&mut text, 'v', number, left)?;
+        }
+    }
+    let mut left = successors.as_slice();
+    for number in 0..usize::MAX {
+        let Some(block) = session.block(number) else {
+            break;
+        };
+        if block.is_live(ctx) {
+            left = write_uses(&mut text, 'b', number, left)?;
+        }
+    }
+    Ok(text)
+}
+
+// Writes the line of a value or block, whose uses come first among those that are left, and answers the others.
+fn write_uses<'a>(
+    text: &mut String,
+    letter: char,
+    number: usize,
+    left: &'a [Naming],
+) -> Result<&'a [Naming], ScriptError> {
+    let (uses, left) = left.split_at(left.partition_point(|naming| naming.0 <= number));
+    write!(text, "{letter}{number}:")?;
+    for (_, op, index) in uses {
+        write!(text, " o{op}.{index}")?;
+    }
+    text.push_str("\n")?;
+    Ok(left)
+}
+
+// The operands of the live operations, and their successors, each sorted.
+fn namings(
+    alloc: Global,
+    session: &Session<Toy>,
+) -> Result<(Vec<Naming>, Vec<Naming>), ScriptError> {
+    let values = value_numbers(alloc, session)?;
+    let blocks = block_numbers(alloc, session)?;
+    let mut operands = Vec::new(alloc);
+    let mut successors = Vec::new(alloc);
+    for number in 0..usize::MAX {
+        let Some(op) = session.op(number) else {
+            break;
+        };
+        if let Ok(op) = op.try_deref(session.ctx()) {
+            push_operands(&mut operands, &values, number, op)?;
+            push_successors(&mut successors, &blocks, number, op)?;
+        }
+    }
+    operands.sort()?;
+    successors.sort()?;
+    Ok((operands, successors))
+}
+
+// Puts an operation's operands behind the others.
+fn push_operands(
+    namings: &mut Vec<Naming>,
+    values: &HashMap<Value<Toy>, usize>,
+    number: usize,
+    op: &Operation<Toy>,
+) -> Result<(), ScriptError> {
+    for index in 0..op.get_num_operands() {
+        if let Some(value) = values.get(&op.get_operand(index)) {
+            namings.push((*value, number, index))?;
+        }
+    }
+    Ok(())
+}
+
+// Puts an operation's successors behind the others.
+fn push_successors(
+    namings: &mut Vec<Naming>,
+    blocks: &HashMap<Ptr<BasicBlock<Toy>>, usize>,
+    number: usize,
+    op: &Operation<Toy>,
+) -> Result<(), ScriptError> {
+    for index in 0..op.get_num_successors() {
+        if let Some(block) = blocks.get(&op.get_successor(index)) {
+            namings.push((*block, number, index))?;
+        }
+    }
+    Ok(())
+}
+
+// The number of each value of the session.
+fn value_numbers(
+    alloc: Global,
+    session: &Session<Toy>,
+) -> Result<HashMap<Value<Toy>, usize>, ScriptError> {
+    let mut numbers = HashMap::new(alloc);
+    for number in 0..usize::MAX {
+        let Some(value) = session.value(number) else {
+            break;
+        };
+        numbers.insert(value, number)?;
+    }
+    Ok(numbers)
+}
+
+// The number of each block of the session.
+fn block_numbers(
+    alloc: Global,
+    session: &Session<Toy>,
+) -> Result<HashMap<Ptr<BasicBlock<Toy>>, usize>, ScriptError> {
+    let mut numbers = HashMap::new(alloc);
+    for number in 0..usize::MAX {
+        let Some(block) = session.block(number) else {
+            break;
+        };
+        numbers.insert(block, number)?;
+    }
+    Ok(numbers)
+}

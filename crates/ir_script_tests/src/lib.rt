@@ -1,0 +1,5 @@
+//! Tests of scripts: what the program prints for them, and its status.
+#![tactic(auto)]
+
+#[cfg(test)]
+mod script_tests;

@@ -1,0 +1,3 @@
+pub mod SessionTables
+pub mod Named
+pub mod SessionLists
