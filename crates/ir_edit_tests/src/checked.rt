@@ -2,10 +2,10 @@
 
 use ir_base::{CoreError, Dialects, Ptr};
 use ir_core::{
-    BasicBlock, BlockPtr, Context, OperandEdits, Operation, OperationPtr, SuccessorEdits, Use,
-    Value,
+    BasicBlock, BlockPtr, Context, DropUses, Erase, EraseRegion, OperandEdits, Operation,
+    OperationPtr, SuccessorEdits, Use, Value,
 };
-use ir_view::ValueQueries;
+use ir_view::{Entity, UseQueries, ValueQueries, can_erase};
 
 /// The index of a new operand that names the value.
 pub(crate) fn push_operand<D: Dialects>(
@@ -147,6 +147,44 @@ pub(crate) fn pop_successor<D: Dialects>(
         return None;
     }
     Some(op.pop_successor(ctx))
+}
+
+/// Whether the operation could be erased.
+pub(crate) fn erase_op<D: Dialects>(ctx: &mut Context<D>, op: Ptr<Operation<D>>) -> bool {
+    if !op.is_live(ctx) || !can_erase(ctx, Entity::Op(op)) {
+        return false;
+    }
+    op.erase(ctx);
+    true
+}
+
+/// Whether the block could be erased.
+pub(crate) fn erase_block<D: Dialects>(ctx: &mut Context<D>, block: Ptr<BasicBlock<D>>) -> bool {
+    if !block.is_live(ctx) || !can_erase(ctx, Entity::Block(block)) {
+        return false;
+    }
+    block.erase(ctx);
+    true
+}
+
+/// Whether the region of the operation at the index could be erased.
+pub(crate) fn erase_region<D: Dialects>(
+    ctx: &mut Context<D>,
+    op: Ptr<Operation<D>>,
+    index: usize,
+) -> bool {
+    let Ok(record) = op.try_deref(ctx) else {
+        return false;
+    };
+    if index >= record.num_regions() {
+        return false;
+    }
+    let region = record.get_region(index);
+    if !can_erase(ctx, Entity::Region(region)) {
+        return false;
+    }
+    op.erase_region(ctx, index);
+    true
 }
 
 /// How many uses a live value has.
