@@ -40,3 +40,4 @@ pub mod PlacedValues
 pub mod TakenValues
 pub mod Redirected
 pub mod Asked
+pub mod Stands

@@ -1,16 +1,16 @@
--- What uses that come to name another definition, and a value that gets another type, leave of a context.
-use Rattle.std.proofs.Common.{◌≡◌, ◌++◌, ℕ, ◌<◌, List, [], length, map, slice_get, if◌then◌else◌, Bool, inl, refl, sym, ap, ap₂, subst, ◌∙◌, arith}
+-- What uses that come to name another definition, and a value that gets another type or name, leave of a context.
+use Rattle.std.proofs.Common.{◌≡◌, ◌++◌, ℕ, ◌<◌, List, [], length, map, slice_get, if◌then◌else◌, Bool, Option, inl, refl, sym, ap, ap₂, subst, ◌∙◌, arith}
 use Rattle.std.specs.Option.{option_map}
 use Rattle.ir_model.specs.declared.ids.ArenaIndex.{ArenaIndex}
 use Rattle.ir_model.specs.ContextIds.{context_ids}
 use Rattle.ir_model.specs.CallLaws.{CallsKeepForm}
-use Rattle.ir_model.specs.Calls.{SameStructure, set_type}
+use Rattle.ir_model.specs.Calls.{SameStructure, set_name, set_type}
 use Rattle.ir_model.specs.Changes.{on_operands, on_successors, redirect, redirected, retarget, retargeted}
-use Rattle.ir_model.specs.Forest.{Dialect, Definer, of_op, of_block, Definition, Forest, OpRecord, Operand, Successor, Value, a_block, a_region, a_value, an_op, the_block}
+use Rattle.ir_model.specs.Forest.{Dialect, Definer, of_op, of_block, Definition, Forest, OpRecord, Operand, Successor, Text, Value, a_block, a_region, a_value, an_op, the_block}
 use Rattle.ir_model.specs.Nesting.{In, IsLiveNamed, WellFormed, definitions_of, uses_of}
 use Rattle.ir_model.specs.Redirect.{redirect_uses, retarget_uses}
 use Rattle.ir_model.specs.Uses.{IsUse, Use}
-use Rattle.ir_model.proofs.Calls.{alone_type}
+use Rattle.ir_model.proofs.Calls.{alone_name, alone_type}
 use Rattle.ir_model.proofs.Keeps.{is_some-map, list_of-map}
 use Rattle.ir_model.proofs.KeepsUses.{ReplaceAllUses-kept, RetargetAll-kept}
 use Rattle.ir_model.proofs.Nests.{In-map_back}
@@ -110,6 +110,14 @@ module _ {D A K B S X L : Type 0} {s : State D A K B S X L} {t : Records D A K B
       let form : CallsKeepForm f (length s.types) = calls_keep_well_formed (closed A K B S X L) f (length s.types) sound.formed in
       kept-edited sound keeps linked _ is (same-kept f (set_type f v ty) same (length s.types) (form.types v ty (let many = types-count s in omega (arith, known, many))))
       (same-names f (set_type f v ty) same) (λ e h. (same.live e).1 h)
+
+  -- a value has another name, or none
+  pub value-renamed : (v : Value context_ids) (name : Option Text) → forest_in t ≡ set_name f v name → Edited s t
+  value-renamed v name is =
+      let same : SameStructure f (set_name f v name) = (alone_name f v name).structure in
+      let form : CallsKeepForm f (length s.types) = calls_keep_well_formed (closed A K B S X L) f (length s.types) sound.formed in
+      kept-edited sound keeps linked _ is (same-kept f (set_name f v name) same (length s.types) (form.names v name))
+      (same-names f (set_name f v name) same) (λ e h. (same.live e).1 h)
 
 module _ {D A K B S X L : Type 0} (t : Records D A K B S X L) (u : UseIndex) where
   -- the place of a use, and what stands there

@@ -87,6 +87,7 @@ impl<D: Dialects> Context<D> {
     /// How many numbers and slots are left. There is no room for auxiliary data.
     pub fn room(&self) -> Room
         ensures exact { IsRoom (bare self.now) result }
+        ensures no_aux { result.aux ≡ 0 }
         ensures ops { result.ops ≡ room self.now.records.ops }
         ensures blocks { result.blocks ≡ room self.now.records.blocks }
         ensures regions { result.regions ≡ room self.now.records.regions }

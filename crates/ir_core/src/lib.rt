@@ -26,7 +26,7 @@ mod types;
 mod value_edits;
 
 pub use argument_edits::ArgumentEdits;
-pub use asking::Shown;
+pub use asking::{Shown, ShownBlock};
 pub use block::BlockPtr;
 pub use block_list::{BlockContainer, BlockList, RegionMoves};
 pub use context::Context;

@@ -1,9 +1,9 @@
-//! The edits of a live value: another type, and uses that come to name another value.
+//! The edits of a live value: another type, another name, and uses that come to name another value.
 //!
 //! A use keeps its number and its place among the operands of its user. Where the other value is this one, nothing changes.
 
-ghost use Rattle.std.specs.Prelude.{◌≡◌, ◌<◌, length, Bool, IfErr, IfOk, IsOk, OnErr, OnOk};
-ghost use Rattle.ir_model.specs.Calls.{set_type as with_value_type};
+ghost use Rattle.std.specs.Prelude.{◌≡◌, ◌<◌, length, option_map, Bool, IfErr, IfOk, IsOk, OnErr, OnOk};
+ghost use Rattle.ir_model.specs.Calls.{set_name as with_value_name, set_type as with_value_type};
 ghost use Rattle.ir_model.specs.Changes.{redirect};
 ghost use Rattle.ir_model.specs.Forest.{a_value};
 ghost use Rattle.ir_model.specs.Nesting.{In, IsLiveNamed};
@@ -18,8 +18,8 @@ ghost use Rattle.ir_core.specs.State.{bare, forest_of, types_of, uses_of};
 
 use crate::asking::{Shown, answers};
 use crate::context::Context;
-use ir_base::{CoreError, Dialects, TypeHandle};
-use ir_definitions::set_type;
+use ir_base::{CoreError, Dialects, Identifier, TypeHandle};
+use ir_definitions::{set_name, set_type};
 use ir_records::{Use, UseIndex, Value, ValueIndex, uses};
 use ir_redirect::{replace_all_uses, replace_some_uses, replace_use};
 
@@ -57,6 +57,14 @@ pub trait ValueEdits<D: Dialects> {
         requires live { IsLiveNamed (forest_of ctx.old) (a_value (value_of self)) }
         requires known { ty.place < length (types_of ctx.old) }
         ensures forest { forest_of ctx.new ≡ with_value_type (forest_of ctx.old) (value_of self) ty.place }
+        ensures rest { SameButForest (bare ctx.old) (bare ctx.new) }
+        ensures stay_live { StayLive (forest_of ctx.old) (forest_of ctx.new) }
+        ensures entities_stay_live { EntitiesStayLive (forest_of ctx.old) (forest_of ctx.new) };
+
+    /// Gives the live value this name, or none. Its number, its type and its uses stay. A name lies outside the record of what defines the value, so the caller boxes it, and this takes no memory. It stands for pliron's `Value::set_name`.
+    fn set_name(self, ctx: &mut Context<D>, name: Option<Box<Identifier>>)
+        requires { IsLiveNamed (forest_of ctx.old) (a_value (value_of self)) }
+        ensures forest { forest_of ctx.new ≡ with_value_name (forest_of ctx.old) (value_of self) (option_map (λ b. b.value) name) }
         ensures rest { SameButForest (bare ctx.old) (bare ctx.new) }
         ensures stay_live { StayLive (forest_of ctx.old) (forest_of ctx.new) }
         ensures entities_stay_live { EntitiesStayLive (forest_of ctx.old) (forest_of ctx.new) };
@@ -126,6 +134,10 @@ impl<D: Dialects> ValueEdits<D> for Value<D> {
 
     fn set_type(self, ctx: &mut Context<D>, ty: TypeHandle) {
         set_type(&mut ctx.records, self.index, ty);
+    }
+
+    fn set_name(self, ctx: &mut Context<D>, name: Option<Box<Identifier>>) {
+        set_name(&mut ctx.records, self.index, name);
     }
 
     fn replace_all_uses_with(self, ctx: &mut Context<D>, other: Value<D>) -> Result<(), CoreError> {

@@ -1,6 +1,8 @@
 -- Each edit of the definitions of one operation or block: what it leaves, and what it makes of the forest.
 use Rattle.std.proofs.Common.{◌≡◌, ℕ, ◌-◌, ◌≤◌, ◌==◌, Bool, true, false, cond, List, [], ◌∷◌, ◌++◌, length, map, Option, Some, None, IsSome, Result, Ok, Err, OnOk, OnErr, is_ok, slice_get, refl, sym, ap, subst, ◌∙◌}
+use Rattle.std.specs.Global.{Box}
 use Rattle.std.specs.List.{insert, remove}
+use Rattle.std.specs.Option.{option_map}
 use Rattle.std.proofs.lemmas.List.{length-map, map-append}
 use Rattle.ir_model.specs.ContextIds.{context_ids}
 use Rattle.ir_model.specs.Forest.{Definition as PlainDefinition}
@@ -13,7 +15,7 @@ use Rattle.ir_records.specs.declared.record.Operation.{Operation}
 use Rattle.ir_records.specs.declared.record.BasicBlock.{BasicBlock}
 use Rattle.ir_records.specs.declared.records.Records.{Records}
 use Rattle.ir_records.specs.Chains.{chains_of}
-use Rattle.ir_records.specs.DefinitionEdits.{unused, retyped, uses-insert, uses-remove, uses-retyped}
+use Rattle.ir_records.specs.DefinitionEdits.{rewritten, unused, uses-insert, uses-remove, uses-rewritten, with_name, with_type}
 use Rattle.ir_records.specs.Lists.{in_record, uses_with, HasNumber, HaveDistinctNumbers}
 use Rattle.ir_records.specs.Mapped.{map-insert, map-remove, slice_get-insert_at}
 use Rattle.ir_records.specs.Meaning.{closed, definer_of, definition_of, forest_of}
@@ -39,13 +41,14 @@ numbered-live read None n h = absurd (cc (h.2))
 numbered-live read (Some x) n h = refl
 
 module _ {A K B S X L : Type 0} where
-  -- what definitions mean, one of which has another type
-  pub retyped-meaning : (rs : List Definition) (n ty : ℕ) → map (definition_of {A = A} {K = K} {B = B} {S = S} {X = X} {L = L}) (map (retyped n ty) rs) ≡ map (λ (x : PlainDefinition context_ids (closed A K B S X L)). cond (x.number == n) (record x { ty = ty }) x) (map definition_of rs)
-  retyped-meaning [] n ty = refl
-  retyped-meaning (r ∷ rs) n ty = λ i. by (r.number == n) i ∷ retyped-meaning rs n ty i
+  -- what definitions mean, one of which is rewritten, where h is the rewriting of what it means
+  rewritten-meaning : (n : ℕ) (g : Definition → Definition) (h : PlainDefinition context_ids (closed A K B S X L) → PlainDefinition context_ids (closed A K B S X L)) → ((r : Definition) → definition_of (g r) ≡ h (definition_of r))
+      → (rs : List Definition) → map (definition_of {A = A} {K = K} {B = B} {S = S} {X = X} {L = L}) (map (rewritten n g) rs) ≡ map (λ (x : PlainDefinition context_ids (closed A K B S X L)). cond (x.number == n) (h x) x) (map definition_of rs)
+  rewritten-meaning n g h means [] = refl
+  rewritten-meaning n g h means (r ∷ rs) = λ i. by (r.number == n) i ∷ rewritten-meaning n g h means rs i
     where
-      by : (b : Bool) → definition_of {A = A} {K = K} {B = B} {S = S} {X = X} {L = L} (cond b (record r { ty = ty }) r) ≡ cond b (record (definition_of r) { ty = ty }) (definition_of r)
-      by true = refl
+      by : (b : Bool) → definition_of {A = A} {K = K} {B = B} {S = S} {X = X} {L = L} (cond b (g r) r) ≡ cond b (h (definition_of r)) (definition_of r)
+      by true = means r
       by false = refl
 
 module _ {D A K B S X L : Type 0} (t : Records D A K B S X L) where
@@ -99,9 +102,19 @@ module _ {D A K B S X L : Type 0} (t : Records D A K B S X L) where
         (ap (map definition_of) is ∙ map-remove definition_of there i ∙ ap (remove (map definition_of there)) (last ∙ ap (λ (k : ℕ). k - 1) (sym (length-map there definition_of))))
 
     -- one has another type
-    module _ (n ty : ℕ) (ys : List Definition) (is : ys ≡ map (retyped n ty) there) where
+    module _ (n ty : ℕ) (ys : List Definition) (is : ys ≡ map (rewritten n (with_type ty)) there) where
       pub retyped-chains : chains_of (with_definitions t d ys) ≡ chains_of t
-      retyped-chains = chains-written t d ys live (λ m. ap (λ (rs : List Definition). uses_with rs m) is ∙ uses-retyped there n ty m)
+      retyped-chains = chains-written t d ys live (λ m. ap (λ (rs : List Definition). uses_with rs m) is ∙ uses-rewritten n (with_type ty) (λ r. refl) (λ r. refl) there m)
 
       pub retyped-forest : forest_of (with_definitions t d ys) ≡ on_definitions (forest_of t) (definer_of d) (map (λ x. cond (x.number == n) (record x { ty = ty }) x))
-      retyped-forest = forest-written t d ys (map (λ x. cond (x.number == n) (record x { ty = ty }) x)) (ap (map definition_of) is ∙ retyped-meaning there n ty)
+      retyped-forest = forest-written t d ys (map (λ x. cond (x.number == n) (record x { ty = ty }) x)) (ap (map definition_of) is ∙ rewritten-meaning n (with_type ty) (λ x. record x { ty = ty }) (λ r. refl) there)
+
+    -- one has another name
+    module _ (n : ℕ) (name : Option (Box (List ℕ))) (ys : List Definition) (is : ys ≡ map (rewritten n (with_name name)) there) where
+      pub renamed-chains : chains_of (with_definitions t d ys) ≡ chains_of t
+      renamed-chains = chains-written t d ys live (λ m. ap (λ (rs : List Definition). uses_with rs m) is ∙ uses-rewritten n (with_name name) (λ r. refl) (λ r. refl) there m)
+
+      pub renamed-forest : forest_of (with_definitions t d ys) ≡ on_definitions (forest_of t) (definer_of d) (map (λ x. cond (x.number == n) (record x { name = option_map (λ b. b.value) name }) x))
+      renamed-forest =
+          forest-written t d ys (map (λ x. cond (x.number == n) (record x { name = option_map (λ b. b.value) name }) x))
+          (ap (map definition_of) is ∙ rewritten-meaning n (with_name name) (λ x. record x { name = option_map (λ b. b.value) name }) (λ r. refl) there)

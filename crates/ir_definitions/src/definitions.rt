@@ -1,8 +1,8 @@
 //! The results of an operation and the arguments of a block, edited alike: each call takes what defines them.
 
-ghost use Rattle.std.specs.Prelude.{◌≡◌, ◌-◌, ◌<◌, ◌≤◌, ◌++◌, ◌∷◌, [], length, insert, remove, IfOk, OnOk, OnErr, slice_get, Some};
+ghost use Rattle.std.specs.Prelude.{◌≡◌, ◌-◌, ◌<◌, ◌≤◌, ◌++◌, ◌∷◌, [], length, insert, option_map, remove, IfOk, OnOk, OnErr, slice_get, Some};
 ghost use Rattle.std.specs.Borrow.{sem};
-ghost use Rattle.ir_model.specs.Calls.{on_definitions, set_type as with_value_type};
+ghost use Rattle.ir_model.specs.Calls.{on_definitions, set_name as with_value_name, set_type as with_value_type};
 ghost use Rattle.ir_model.specs.Changes.{definition};
 ghost use Rattle.ir_records.specs.declared.record.Definition.{Definition};
 ghost use Rattle.ir_records.specs.Chains.{chains_of, AreLinked};
@@ -12,7 +12,7 @@ ghost use Rattle.ir_records.specs.Table.{definitions_at, uses_at, IsValue};
 ghost use Rattle.ir_definitions.specs.Definers.{IsDefiner};
 ghost use Rattle.ir_definitions.specs.Lends.{lends_definitions};
 
-use ir_base::{Dialects, Ptr, TypeHandle};
+use ir_base::{Dialects, Identifier, Ptr, TypeHandle};
 use ir_records::{Definer, Definitions, Records, ValueIndex};
 use std::alloc::{AllocError, Global};
 
@@ -117,4 +117,19 @@ pub fn set_type<D: Dialects>(records: &mut Records<D>, value: ValueIndex, ty: Ty
     ensures forest { forest_of records.new ≡ with_value_type (forest_of records.old) (value_of value) ty.place }
 {
     definitions_mut(records, value.definer).set_type(value.number, ty);
+}
+
+/// Gives a live value this name, or none. Its number, its type and its uses stay. It takes no memory.
+pub fn set_name<D: Dialects>(
+    records: &mut Records<D>,
+    value: ValueIndex,
+    name: Option<Box<Identifier>>,
+)
+    requires { IsValue records.old value }
+    ensures chains { chains_of records.new ≡ chains_of records.old }
+    ensures linked { AreLinked (chains_of records.old) → AreLinked (chains_of records.new) }
+    ensures keeps { KeepsTree records.old records.new }
+    ensures forest { forest_of records.new ≡ with_value_name (forest_of records.old) (value_of value) (option_map (λ b. b.value) name) }
+{
+    definitions_mut(records, value.definer).set_name(value.number, name);
 }

@@ -1,5 +1,6 @@
--- Lists of definitions with one more, one fewer, or one of another type, and the uses that they have.
-use Rattle.std.proofs.Common.{◌≡◌, ℕ, zero, suc, ◌==◌, Bool, true, false, cond, if◌then◌else◌, List, [], ◌∷◌, set, map, Some, None, slice_get, refl, sym, ap, subst, ◌∙◌, inl, inr}
+-- Lists of definitions with one more, one fewer, or one of another type or name, and the uses that they have.
+use Rattle.std.proofs.Common.{◌≡◌, ℕ, zero, suc, ◌==◌, Bool, true, false, cond, if◌then◌else◌, List, [], ◌∷◌, set, map, Option, Some, None, slice_get, refl, sym, ap, subst, ◌∙◌, inl, inr}
+use Rattle.std.specs.Global.{Box}
 use Rattle.std.specs.List.{insert, remove}
 use Rattle.std.proofs.lemmas.Bool.{cases_eq, eq-eqb, ne_eqb}
 use Rattle.std.proofs.lemmas.Option.{same_Some}
@@ -17,9 +18,17 @@ use Rattle.ir_records.specs.Found.{place-In}
 abbrev pub unused : ℕ → ℕ → Definition
 unused n ty = record { number = n; ty = ty; name = None; uses = [] }
 
--- the definition has this type, where it has this number
-abbrev pub retyped : ℕ → ℕ → Definition → Definition
-retyped n ty r = if r.number == n then record r { ty = ty } else r
+-- the definition is rewritten, where it has this number
+abbrev pub rewritten : ℕ → (Definition → Definition) → Definition → Definition
+rewritten n g r = if r.number == n then g r else r
+
+-- with this type, and all else as it was
+abbrev pub with_type : ℕ → Definition → Definition
+with_type ty r = record r { ty = ty }
+
+-- with this name, or none, and all else as it was
+abbrev pub with_name : Option (Box (List ℕ)) → Definition → Definition
+with_name name r = record r { name = name }
 
 -- no definition has the number
 none_in : (rs : List Definition) (n : ℕ) → ¬ (HasNumber rs n) → In n (map (λ (r : Definition). r.number) rs) → ⊥
@@ -80,53 +89,54 @@ uses-remove (x ∷ rs) (suc i) r m d at none =
     let miss : x.number == r.number ≡ false = ne_eqb x.number r.number other in
     ap (λ us. cond (x.number == m) x.uses us) (uses-remove rs i r m d.1 at (rw miss at none))
 
--- a definition has another type
-retyped-number : (n ty : ℕ) (r : Definition) → (retyped n ty r).number ≡ r.number
-retyped-number n ty r = by (r.number == n)
-  where
-    by : (b : Bool) → (cond b (record r { ty = ty }) r).number ≡ r.number
-    by true = refl
-    by false = refl
+-- a definition is rewritten, and keeps its number and its uses
+module _ (n : ℕ) (g : Definition → Definition) (number : (r : Definition) → (g r).number ≡ r.number) (uses : (r : Definition) → (g r).uses ≡ r.uses) where
+  rewritten-number : (r : Definition) → (rewritten n g r).number ≡ r.number
+  rewritten-number r = by (r.number == n)
+    where
+      by : (b : Bool) → (cond b (g r) r).number ≡ r.number
+      by true = number r
+      by false = refl
 
-retyped-uses : (n ty : ℕ) (r : Definition) → (retyped n ty r).uses ≡ r.uses
-retyped-uses n ty r = by (r.number == n)
-  where
-    by : (b : Bool) → (cond b (record r { ty = ty }) r).uses ≡ r.uses
-    by true = refl
-    by false = refl
+  rewritten-uses : (r : Definition) → (rewritten n g r).uses ≡ r.uses
+  rewritten-uses r = by (r.number == n)
+    where
+      by : (b : Bool) → (cond b (g r) r).uses ≡ r.uses
+      by true = uses r
+      by false = refl
 
-pub uses-retyped : (rs : List Definition) (n ty m : ℕ) → uses_with (map (retyped n ty) rs) m ≡ uses_with rs m
-uses-retyped [] n ty m = refl
-uses-retyped (r ∷ rs) n ty m =
-    let now : uses_with (map (retyped n ty) (r ∷ rs)) m ≡ cond (r.number == m) r.uses (uses_with (map (retyped n ty) rs) m) = λ i. cond (retyped-number n ty r i == m) (retyped-uses n ty r i) (uses_with (map (retyped n ty) rs) m) in
-    now ∙ ap (λ us. cond (r.number == m) r.uses us) (uses-retyped rs n ty m)
+  pub uses-rewritten : (rs : List Definition) (m : ℕ) → uses_with (map (rewritten n g) rs) m ≡ uses_with rs m
+  uses-rewritten [] m = refl
+  uses-rewritten (r ∷ rs) m =
+      let now : uses_with (map (rewritten n g) (r ∷ rs)) m ≡ cond (r.number == m) r.uses (uses_with (map (rewritten n g) rs) m) = λ i. cond (rewritten-number r i == m) (rewritten-uses r i) (uses_with (map (rewritten n g) rs) m) in
+      now ∙ ap (λ us. cond (r.number == m) r.uses us) (uses-rewritten rs m)
 
-retyped-none : (rs : List Definition) (n ty : ℕ) → Absent n (map (λ (r : Definition). r.number) rs) → map (retyped n ty) rs ≡ rs
-retyped-none [] n ty out = refl
-retyped-none (r ∷ rs) n ty out =
-    let miss : r.number == n ≡ false = ne_eqb r.number n (λ e. out.0 (sym e)) in
-    let first : retyped n ty r ≡ r = ap (λ (b : Bool). cond b (record r { ty = ty }) r) miss in
-    λ i. first i ∷ retyped-none rs n ty out.1 i
+  rewritten-none : (rs : List Definition) → Absent n (map (λ (r : Definition). r.number) rs) → map (rewritten n g) rs ≡ rs
+  rewritten-none [] out = refl
+  rewritten-none (r ∷ rs) out =
+      let miss : r.number == n ≡ false = ne_eqb r.number n (λ e. out.0 (sym e)) in
+      let first : rewritten n g r ≡ r = ap (λ (b : Bool). cond b (g r) r) miss in
+      λ i. first i ∷ rewritten-none rs out.1 i
 
-pub numbers-retyped : (rs : List Definition) (n ty : ℕ) → map (λ (r : Definition). r.number) (map (retyped n ty) rs) ≡ map (λ (r : Definition). r.number) rs
-numbers-retyped [] n ty = refl
-numbers-retyped (r ∷ rs) n ty = λ i. retyped-number n ty r i ∷ numbers-retyped rs n ty i
+  numbers-rewritten : (rs : List Definition) → map (λ (r : Definition). r.number) (map (rewritten n g) rs) ≡ map (λ (r : Definition). r.number) rs
+  numbers-rewritten [] = refl
+  numbers-rewritten (r ∷ rs) = λ i. rewritten-number r i ∷ numbers-rewritten rs i
 
--- the write of a type, by place and by number
-pub retyped-at : (rs : List Definition) (n ty i : ℕ) (r : Definition) → HaveDistinctNumbers rs → slice_get rs i ≡ Some r → r.number ≡ n → set rs i (record r { ty = ty }) ≡ map (retyped n ty) rs
-retyped-at [] n ty i r d at is = absurd (cc)
-retyped-at (x ∷ rs) n ty zero r d at is =
-    let same = same_Some x r at in
-    let hit : x.number == n ≡ true = eq-eqb x.number n (ap (λ (y : Definition). y.number) same ∙ is) in
-    let rest : map (retyped n ty) rs ≡ rs = retyped-none rs n ty (subst (λ (k : ℕ). Absent k (map (λ (y : Definition). y.number) rs)) (ap (λ (y : Definition). y.number) same ∙ is) d.0) in
-    let first : record r { ty = ty } ≡ retyped n ty x = ap (λ (y : Definition). record y { ty = ty }) (sym same) ∙ ap (λ (b : Bool). cond b (record x { ty = ty }) x) (sym hit) in
-    λ j. first j ∷ sym rest j
-retyped-at (x ∷ rs) n ty (suc i) r d at is =
-    let there : In r.number (map (λ (y : Definition). y.number) rs) = In-map (λ (y : Definition). y.number) r rs (slice_get-in rs i r at) in
-    let other : ¬ (x.number ≡ n) = λ e. not_in-Absent x.number (map (λ (y : Definition). y.number) rs) d.0 (subst (λ (k : ℕ). In k (map (λ (y : Definition). y.number) rs)) (is ∙ sym e) there) in
-    let miss : x.number == n ≡ false = ne_eqb x.number n other in
-    let first : x ≡ retyped n ty x = ap (λ (b : Bool). cond b (record x { ty = ty }) x) (sym miss) in
-    λ j. first j ∷ retyped-at rs n ty i r d.1 at is j
+  -- the write, by place and by number
+  pub rewritten-at : (rs : List Definition) (i : ℕ) (r : Definition) → HaveDistinctNumbers rs → slice_get rs i ≡ Some r → r.number ≡ n → set rs i (g r) ≡ map (rewritten n g) rs
+  rewritten-at [] i r d at is = absurd (cc)
+  rewritten-at (x ∷ rs) zero r d at is =
+      let same = same_Some x r at in
+      let hit : x.number == n ≡ true = eq-eqb x.number n (ap (λ (y : Definition). y.number) same ∙ is) in
+      let rest : map (rewritten n g) rs ≡ rs = rewritten-none rs (subst (λ (k : ℕ). Absent k (map (λ (y : Definition). y.number) rs)) (ap (λ (y : Definition). y.number) same ∙ is) d.0) in
+      let first : g r ≡ rewritten n g x = ap g (sym same) ∙ ap (λ (b : Bool). cond b (g x) x) (sym hit) in
+      λ j. first j ∷ sym rest j
+  rewritten-at (x ∷ rs) (suc i) r d at is =
+      let there : In r.number (map (λ (y : Definition). y.number) rs) = In-map (λ (y : Definition). y.number) r rs (slice_get-in rs i r at) in
+      let other : ¬ (x.number ≡ n) = λ e. not_in-Absent x.number (map (λ (y : Definition). y.number) rs) d.0 (subst (λ (k : ℕ). In k (map (λ (y : Definition). y.number) rs)) (is ∙ sym e) there) in
+      let miss : x.number == n ≡ false = ne_eqb x.number n other in
+      let first : x ≡ rewritten n g x = ap (λ (b : Bool). cond b (g x) x) (sym miss) in
+      λ j. first j ∷ rewritten-at rs i r d.1 at is j
 
-pub distinct-retyped : (rs : List Definition) (n ty i : ℕ) (r : Definition) → HaveDistinctNumbers rs → slice_get rs i ≡ Some r → r.number ≡ n → HaveDistinctNumbers (set rs i (record r { ty = ty }))
-distinct-retyped rs n ty i r d at is = subst (λ (ns : List ℕ). Distinct ns) (sym (ap (map (λ (x : Definition). x.number)) (retyped-at rs n ty i r d at is) ∙ numbers-retyped rs n ty)) d
+  pub distinct-rewritten : (rs : List Definition) (i : ℕ) (r : Definition) → HaveDistinctNumbers rs → slice_get rs i ≡ Some r → r.number ≡ n → HaveDistinctNumbers (set rs i (g r))
+  distinct-rewritten rs i r d at is = subst (λ (ns : List ℕ). Distinct ns) (sym (ap (map (λ (x : Definition). x.number)) (rewritten-at rs i r d at is) ∙ numbers-rewritten rs)) d

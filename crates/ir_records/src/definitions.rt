@@ -3,12 +3,12 @@
 ghost use Rattle.std.specs.Prelude.{◌≡◌, ◌+◌, ◌<◌, ◌≤◌, ◌^◌, ◌==◌, [], length, map, insert, remove, is_ok, if◌then◌else◌, IfOk, Some, slice_get, position};
 ghost use Rattle.std.specs.Borrow.{sem};
 ghost use Rattle.ir_records.specs.Lists.{uses_with, HasNumber, HaveDistinctNumbers, IsDefinition, definitions_from};
-ghost use Rattle.ir_records.specs.DefinitionEdits.{unused, retyped};
+ghost use Rattle.ir_records.specs.DefinitionEdits.{unused, rewritten, with_name, with_type};
 ghost use Rattle.ir_records.specs.Lends.{lends_definition_uses};
 
 use crate::numbered::find_numbered;
 use crate::record::{Definition, Uses};
-use ir_base::{ShortSeq, TypeHandle};
+use ir_base::{Identifier, ShortSeq, TypeHandle};
 use std::alloc::{AllocError, Global};
 use std::marker::Model;
 
@@ -59,6 +59,13 @@ fn new_definitions(
         number += 1;
     }
     Ok(definitions)
+}
+
+// Gives a definition this name, or none.
+fn put_name(definition: &mut Definition, name: Option<Box<Identifier>>)
+    ensures { definition.new ≡ with_name name definition.old }
+{
+    definition.name = name;
 }
 
 impl Definitions {
@@ -171,10 +178,21 @@ impl Definitions {
     /// Gives the definition with this number this type.
     pub fn set_type(&mut self, number: u64, ty: TypeHandle)
         requires { HasNumber self.old number }
-        ensures { self.new ≡ map (retyped number ty.place) self.old }
+        ensures { self.new ≡ map (rewritten number (with_type ty.place)) self.old }
     {
         match self.find(number) {
             Some(index) => self.items.at_mut(index).ty = ty.place,
+            None => unreachable!(),
+        }
+    }
+
+    /// Gives the definition with this number this name, or none.
+    pub fn set_name(&mut self, number: u64, name: Option<Box<Identifier>>)
+        requires { HasNumber self.old number }
+        ensures { self.new ≡ map (rewritten number (with_name name)) self.old }
+    {
+        match self.find(number) {
+            Some(index) => put_name(self.items.at_mut(index), name),
             None => unreachable!(),
         }
     }

@@ -13,7 +13,7 @@ use Rattle.ir_model.proofs.RefusedForGood.{erased_are_gone, gone_for_good}
 use Rattle.ir_model.proofs.StepSound.{runs_sound}
 use Rattle.ir_model.proofs.Uniquing.{still_at}
 use Rattle.ir_run.specs.declared.edit.Edit.{Edit}
-use Rattle.ir_run.specs.declared.edit.Edit.TheVariants.{AddRegion, AppendBlocks, AppendOps, BlockAfter, BlockBack, BlockBefore, BlockFront, DropBlockUses, DropOpUses, DropRegionUses, EraseBlock, EraseOp, EraseRegion, InsertOperand, InsertSuccessor, MoveRegion, NewBlock, NewOp, NewType, OpAfter, OpBack, OpBefore, OpFront, PushOperand, PushSuccessor, RemoveOperand, RemoveSuccessor, ReplaceOperand, ReplaceSuccessor, UnlinkBlock, UnlinkOp}
+use Rattle.ir_run.specs.declared.edit.Edit.TheVariants.{AddRegion, AppendBlocks, AppendOps, BlockAfter, BlockBack, BlockBefore, BlockFront, DropBlockUses, DropOpUses, DropRegionUses, EraseBlock, EraseOp, EraseRegion, InsertArgument, InsertOperand, InsertResult, InsertSuccessor, MoveRegion, NewBlock, NewOp, NewType, OpAfter, OpBack, OpBefore, OpFront, PushArgument, PushOperand, PushResult, PushSuccessor, RemoveArgument, RemoveOperand, RemoveResult, RemoveSuccessor, ReplaceAllUses, ReplaceOperand, ReplaceSuccessor, RetargetAll, UnlinkBlock, UnlinkOp}
 use Rattle.ir_records.specs.Meaning.{closed}
 use Rattle.ir_run.specs.SessionEdits.{edit_of}
 use Rattle.ir_run.specs.Headline.{GoneAtCuts, KeepsKeys}
@@ -94,6 +94,12 @@ module _ {D A K B S X L : Type 0} (behave : Behaviour (closed A K B S X L)) wher
   step_keys (AppendOps donee donor) s t a (made c n m e k) = same_store s t (ap (λ x. x.store) k.change.holds.holds.holds)
   step_keys (AppendBlocks donee donor) s t a (made c n m e k) = same_store s t (ap (λ x. x.store) k.change.holds.holds.holds)
   step_keys (MoveRegion region op) s t a (made c n m e k) = same_either s t (move_region s.state.forest k.change.value k.change.holds.value) _ k.change.holds.holds.holds
+  step_keys (PushResult op ty) s t a (made c n m e k) = same_store s t (ap (λ x. x.store) k.change.holds.holds.holds)
+  step_keys (InsertResult op at ty) s t a (made c n m e k) = same_store s t (ap (λ x. x.store) k.change.holds.holds.holds)
+  step_keys (RemoveResult op at) s t a (made c n m e k) = same_store s t (ap (λ x. x.store) k.change.holds)
+  step_keys (PushArgument block ty) s t a (made c n m e k) = same_store s t (ap (λ x. x.store) k.change.holds.holds.holds)
+  step_keys (InsertArgument block at ty) s t a (made c n m e k) = same_store s t (ap (λ x. x.store) k.change.holds.holds.holds)
+  step_keys (RemoveArgument block at) s t a (made c n m e k) = same_store s t (ap (λ x. x.store) k.change.holds)
   step_keys (PushOperand op value) s t a (made c n m e k) = same_store s t (ap (λ x. x.store) k.change.holds.holds.holds)
   step_keys (InsertOperand op at value) s t a (made c n m e k) = same_store s t (ap (λ x. x.store) k.change.holds.holds.holds)
   step_keys (RemoveOperand op at) s t a (made c n m e k) = same_store s t (ap (λ x. x.store) k.change.holds)
@@ -102,6 +108,8 @@ module _ {D A K B S X L : Type 0} (behave : Behaviour (closed A K B S X L)) wher
   step_keys (InsertSuccessor op at block) s t a (made c n m e k) = same_store s t (ap (λ x. x.store) k.change.holds.holds.holds)
   step_keys (RemoveSuccessor op at) s t a (made c n m e k) = same_store s t (ap (λ x. x.store) k.change.holds)
   step_keys (ReplaceSuccessor op at block) s t a (made c n m e k) = same_store s t (ap (λ x. x.store) k.change.holds.holds.holds)
+  step_keys (ReplaceAllUses old new) s t a (made c n m e k) = same_store s t (ap (λ x. x.store) k.change.holds.holds)
+  step_keys (RetargetAll old new) s t a (made c n m e k) = same_store s t (ap (λ x. x.store) k.change.holds.holds)
   step_keys (DropOpUses op) s t a (made c n m e k) = same_store s t (ap (λ x. x.store) k.change.holds.1)
   step_keys (DropBlockUses block) s t a (made c n m e k) = same_store s t (ap (λ x. x.store) k.change.holds.1)
   step_keys (DropRegionUses region) s t a (made c n m e k) = same_store s t (ap (λ x. x.store) k.change.holds.1)

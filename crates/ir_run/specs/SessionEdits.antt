@@ -1,8 +1,8 @@
 -- What the edits of a program mean.
-use Rattle.ir_model.specs.Edits.{Edit as PlainEdit, NewType as PlainNewType, NewOp as PlainNewOp, NewBlock as PlainNewBlock, AddRegion as PlainAddRegion, OpFront as PlainOpFront, OpBack as PlainOpBack, OpBefore as PlainOpBefore, OpAfter as PlainOpAfter, UnlinkOp as PlainUnlinkOp, BlockFront as PlainBlockFront, BlockBack as PlainBlockBack, BlockBefore as PlainBlockBefore, BlockAfter as PlainBlockAfter, UnlinkBlock as PlainUnlinkBlock, AppendOps as PlainAppendOps, AppendBlocks as PlainAppendBlocks, MoveRegion as PlainMoveRegion, PushOperand as PlainPushOperand, InsertOperand as PlainInsertOperand, RemoveOperand as PlainRemoveOperand, ReplaceOperand as PlainReplaceOperand, PushSuccessor as PlainPushSuccessor, InsertSuccessor as PlainInsertSuccessor, RemoveSuccessor as PlainRemoveSuccessor, ReplaceSuccessor as PlainReplaceSuccessor, DropOpUses as PlainDropOpUses, DropBlockUses as PlainDropBlockUses, DropRegionUses as PlainDropRegionUses, EraseOp as PlainEraseOp, EraseBlock as PlainEraseBlock, EraseRegion as PlainEraseRegion}
+use Rattle.ir_model.specs.Edits.{Edit as PlainEdit, NewType as PlainNewType, NewOp as PlainNewOp, NewBlock as PlainNewBlock, AddRegion as PlainAddRegion, OpFront as PlainOpFront, OpBack as PlainOpBack, OpBefore as PlainOpBefore, OpAfter as PlainOpAfter, UnlinkOp as PlainUnlinkOp, BlockFront as PlainBlockFront, BlockBack as PlainBlockBack, BlockBefore as PlainBlockBefore, BlockAfter as PlainBlockAfter, UnlinkBlock as PlainUnlinkBlock, AppendOps as PlainAppendOps, AppendBlocks as PlainAppendBlocks, MoveRegion as PlainMoveRegion, PushResult as PlainPushResult, InsertResult as PlainInsertResult, RemoveResult as PlainRemoveResult, PushArgument as PlainPushArgument, InsertArgument as PlainInsertArgument, RemoveArgument as PlainRemoveArgument, PushOperand as PlainPushOperand, InsertOperand as PlainInsertOperand, RemoveOperand as PlainRemoveOperand, ReplaceOperand as PlainReplaceOperand, PushSuccessor as PlainPushSuccessor, InsertSuccessor as PlainInsertSuccessor, RemoveSuccessor as PlainRemoveSuccessor, ReplaceSuccessor as PlainReplaceSuccessor, ReplaceAllUses as PlainReplaceAllUses, RetargetAll as PlainRetargetAll, DropOpUses as PlainDropOpUses, DropBlockUses as PlainDropBlockUses, DropRegionUses as PlainDropRegionUses, EraseOp as PlainEraseOp, EraseBlock as PlainEraseBlock, EraseRegion as PlainEraseRegion}
 use Rattle.ir_records.specs.Meaning.{closed}
 use Rattle.ir_run.specs.declared.edit.Edit.{Edit}
-use Rattle.ir_run.specs.declared.edit.Edit.TheVariants.{NewType, NewOp, NewBlock, AddRegion, OpFront, OpBack, OpBefore, OpAfter, UnlinkOp, BlockFront, BlockBack, BlockBefore, BlockAfter, UnlinkBlock, AppendOps, AppendBlocks, MoveRegion, PushOperand, InsertOperand, RemoveOperand, ReplaceOperand, PushSuccessor, InsertSuccessor, RemoveSuccessor, ReplaceSuccessor, DropOpUses, DropBlockUses, DropRegionUses, EraseOp, EraseBlock, EraseRegion}
+use Rattle.ir_run.specs.declared.edit.Edit.TheVariants.{NewType, NewOp, NewBlock, AddRegion, OpFront, OpBack, OpBefore, OpAfter, UnlinkOp, BlockFront, BlockBack, BlockBefore, BlockAfter, UnlinkBlock, AppendOps, AppendBlocks, MoveRegion, PushResult, InsertResult, RemoveResult, PushArgument, InsertArgument, RemoveArgument, PushOperand, InsertOperand, RemoveOperand, ReplaceOperand, PushSuccessor, InsertSuccessor, RemoveSuccessor, ReplaceSuccessor, ReplaceAllUses, RetargetAll, DropOpUses, DropBlockUses, DropRegionUses, EraseOp, EraseBlock, EraseRegion}
 
 module _ {D A K B S X L : Type 0} where
   -- the edit, its lists of numbers as plain lists
@@ -24,6 +24,12 @@ module _ {D A K B S X L : Type 0} where
   edit_of (AppendOps donee donor) = PlainAppendOps donee donor
   edit_of (AppendBlocks donee donor) = PlainAppendBlocks donee donor
   edit_of (MoveRegion region op) = PlainMoveRegion region op
+  edit_of (PushResult op ty) = PlainPushResult op ty
+  edit_of (InsertResult op at ty) = PlainInsertResult op at ty
+  edit_of (RemoveResult op at) = PlainRemoveResult op at
+  edit_of (PushArgument block ty) = PlainPushArgument block ty
+  edit_of (InsertArgument block at ty) = PlainInsertArgument block at ty
+  edit_of (RemoveArgument block at) = PlainRemoveArgument block at
   edit_of (PushOperand op value) = PlainPushOperand op value
   edit_of (InsertOperand op at value) = PlainInsertOperand op at value
   edit_of (RemoveOperand op at) = PlainRemoveOperand op at
@@ -32,6 +38,8 @@ module _ {D A K B S X L : Type 0} where
   edit_of (InsertSuccessor op at block) = PlainInsertSuccessor op at block
   edit_of (RemoveSuccessor op at) = PlainRemoveSuccessor op at
   edit_of (ReplaceSuccessor op at block) = PlainReplaceSuccessor op at block
+  edit_of (ReplaceAllUses old new) = PlainReplaceAllUses old new
+  edit_of (RetargetAll old new) = PlainRetargetAll old new
   edit_of (DropOpUses op) = PlainDropOpUses op
   edit_of (DropBlockUses block) = PlainDropBlockUses block
   edit_of (DropRegionUses region) = PlainDropRegionUses region

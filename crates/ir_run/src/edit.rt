@@ -32,6 +32,52 @@ pub enum Edit<D: Dialects> {
         /// The operation.
         op: usize,
     },
+    /// Gives an operation another result, the last, of a type, and puts it into the table of values. Answers its number there.
+    PushResult {
+        /// The operation.
+        op: usize,
+        /// The type.
+        ty: usize,
+    },
+    /// Gives an operation another result of a type, at a place up to their number, and puts it into the table of values; what stood there and behind it moves one place on. Answers its number in the table.
+    InsertResult {
+        /// The operation.
+        op: usize,
+        /// The place.
+        at: usize,
+        /// The type.
+        ty: usize,
+    },
+    /// Takes the result at a place below their number out, which no operation names; those behind it move up.
+    RemoveResult {
+        /// The operation.
+        op: usize,
+        /// The place.
+        at: usize,
+    },
+    /// Gives a block another argument, the last, of a type, and puts it into the table of values. Answers its number there.
+    PushArgument {
+        /// The block.
+        block: usize,
+        /// The type.
+        ty: usize,
+    },
+    /// Gives a block another argument of a type, at a place up to their number, and puts it into the table of values; what stood there and behind it moves one place on. Answers its number in the table.
+    InsertArgument {
+        /// The block.
+        block: usize,
+        /// The place.
+        at: usize,
+        /// The type.
+        ty: usize,
+    },
+    /// Takes the argument at a place below their number out, which no operation names; those behind it move up.
+    RemoveArgument {
+        /// The block.
+        block: usize,
+        /// The place.
+        at: usize,
+    },
     /// Gives an operation another operand, the last, which names a value.
     PushOperand {
         /// The operation.
@@ -95,6 +141,20 @@ pub enum Edit<D: Dialects> {
         at: usize,
         /// The block.
         block: usize,
+    },
+    /// Lets each operand that names a value name another one, under its use number. Where both are one value, nothing changes.
+    ReplaceAllUses {
+        /// The value that is named.
+        old: usize,
+        /// The value that is named from then on.
+        new: usize,
+    },
+    /// Lets each successor that names a block name another one, under its use number. Each operation that names the first stands in a block. Where both are one block, nothing changes.
+    RetargetAll {
+        /// The block that is named.
+        old: usize,
+        /// The block that is named from then on.
+        new: usize,
     },
     /// Puts an unlinked operation at the front of a block, which isn't inside it.
     OpFront {

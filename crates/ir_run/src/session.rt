@@ -23,7 +23,7 @@ use crate::edit::Edit;
 use ir_base::{Answer, CoreError, Dialects, Limits, Ptr, TypeHandle};
 use ir_core::{BasicBlock, Context, Operation, Region, Value};
 use ir_steps::steps::{self, OpParts};
-use ir_steps::{erase_steps, list_steps, use_steps};
+use ir_steps::{definition_steps, erase_steps, list_steps, redirect_steps, use_steps};
 use ir_tables::Tables;
 use std::alloc::Global;
 use std::marker::Model;
@@ -172,6 +172,24 @@ impl<D: Dialects> Session<D> {
                 steps::new_block(&mut self.ctx, &mut self.tables, label, &types)
             }
             Edit::AddRegion { op } => steps::add_region(&mut self.ctx, &mut self.tables, op),
+            Edit::PushResult { op, ty } => {
+                definition_steps::push_result(&mut self.ctx, &mut self.tables, op, ty)
+            }
+            Edit::InsertResult { op, at, ty } => {
+                definition_steps::insert_result(&mut self.ctx, &mut self.tables, op, at, ty)
+            }
+            Edit::RemoveResult { op, at } => {
+                definition_steps::remove_result(&mut self.ctx, &self.tables, op, at)
+            }
+            Edit::PushArgument { block, ty } => {
+                definition_steps::push_argument(&mut self.ctx, &mut self.tables, block, ty)
+            }
+            Edit::InsertArgument { block, at, ty } => {
+                definition_steps::insert_argument(&mut self.ctx, &mut self.tables, block, at, ty)
+            }
+            Edit::RemoveArgument { block, at } => {
+                definition_steps::remove_argument(&mut self.ctx, &self.tables, block, at)
+            }
             Edit::PushOperand { op, value } => {
                 use_steps::push_operand(&mut self.ctx, &self.tables, op, value)
             }
@@ -195,6 +213,12 @@ impl<D: Dialects> Session<D> {
             }
             Edit::ReplaceSuccessor { op, at, block } => {
                 use_steps::replace_successor(&mut self.ctx, &self.tables, op, at, block)
+            }
+            Edit::ReplaceAllUses { old, new } => {
+                redirect_steps::replace_all_uses(&mut self.ctx, &self.tables, old, new)
+            }
+            Edit::RetargetAll { old, new } => {
+                redirect_steps::retarget_all(&mut self.ctx, &self.tables, old, new)
             }
             Edit::OpFront { op, block } => {
                 list_steps::op_front(&mut self.ctx, &self.tables, op, block)

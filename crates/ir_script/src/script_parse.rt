@@ -53,7 +53,7 @@ impl<T: Drop> From<AllocFailed<T>> for ScriptError {
     }
 }
 
-/// What an edit makes, or, where it makes nothing, what it moves, as the letter of its name.
+/// What an edit makes, or, where it makes nothing, what it changes, as the letter of its name.
 #[derive(Clone, Copy, Debug, Drop, PartialEq, Eq)]
 pub(crate) enum Letter {
     /// A type.
@@ -77,7 +77,7 @@ impl fmt::Display for Letter {
     }
 }
 
-/// The edits of a script, and for each of them what it makes or moves.
+/// The edits of a script, and for each of them what it makes or changes.
 #[derive(Drop)]
 pub(crate) struct Script {
     /// The edits, in the order of their lines.
@@ -136,7 +136,7 @@ fn is_skipped(line: &str) -> bool {
     line.starts_with('#') || line.trim_start_matches(' ').is_empty()
 }
 
-// The edit that a line asks for, and what it makes or moves.
+// The edit that a line asks for, and what it makes or changes.
 fn parse_line(alloc: Global, line: &str) -> Result<(Letter, Edit<Toy>), LineError> {
     let (first, rest) = take_field(line)?;
     if first == "type" {
@@ -145,18 +145,36 @@ fn parse_line(alloc: Global, line: &str) -> Result<(Letter, Edit<Toy>), LineErro
         Ok((Letter::Operation, parse_op(alloc, rest)?))
     } else if first == "block" {
         Ok((Letter::Block, parse_block(alloc, rest)?))
-    } else if first == "back" {
-        let (op, block) = parse_two_names('o', 'b', rest)?;
-        Ok((Letter::Operation, Edit::OpBack { op, block }))
     } else if first == "backb" {
         let (block, region) = parse_two_names('b', 'r', rest)?;
         Ok((Letter::Block, Edit::BlockBack { block, region }))
-    } else if first == "unlink" {
-        let op = parse_one_name('o', rest)?;
-        Ok((Letter::Operation, Edit::UnlinkOp { op }))
     } else if first == "move" {
         let (region, op) = parse_two_names('r', 'o', rest)?;
         Ok((Letter::Region, Edit::MoveRegion { region, op }))
+    } else {
+        Ok((Letter::Operation, parse_change(first, rest)?))
+    }
+}
+
+// The edit of a line that changes the operation that it names first.
+fn parse_change(first: &str, rest: &str) -> Result<Edit<Toy>, LineError> {
+    if first == "push" {
+        let (op, value) = parse_two_names('o', 'v', rest)?;
+        Ok(Edit::PushOperand { op, value })
+    } else if first == "set" {
+        parse_set(rest)
+    } else if first == "succ" {
+        let (op, block) = parse_two_names('o', 'b', rest)?;
+        Ok(Edit::PushSuccessor { op, block })
+    } else if first == "back" {
+        let (op, block) = parse_two_names('o', 'b', rest)?;
+        Ok(Edit::OpBack { op, block })
+    } else if first == "unlink" {
+        let op = parse_one_name('o', rest)?;
+        Ok(Edit::UnlinkOp { op })
+    } else if first == "erase" {
+        let op = parse_one_name('o', rest)?;
+        Ok(Edit::EraseOp { op })
     } else {
         Err(LineError::Malformed)
     }
@@ -194,6 +212,17 @@ fn parse_block(alloc: Global, text: &str) -> Result<Edit<Toy>, LineError> {
     Ok(Edit::NewBlock {
         label: None,
         types: parse_names(alloc, 't', types)?,
+    })
+}
+
+// The fields of `set o I v`.
+fn parse_set(text: &str) -> Result<Edit<Toy>, LineError> {
+    let (op, rest) = take_field(text)?;
+    let (at, rest) = take_field(rest)?;
+    Ok(Edit::ReplaceOperand {
+        op: parse_name('o', op)?,
+        at: parse_number(at)? as usize,
+        value: parse_one_name('v', rest)?,
     })
 }
 

@@ -1,11 +1,11 @@
 -- Edits that are answered with done, or refused: those that need nothing, and those that make one use number.
 use Rattle.std.proofs.Common.{◌≡◌, refl, sym, ap, subst, ◌∙◌, inl, inr, ℕ, ◌+◌, [], ◌∷◌, ◌↔◌, Ok, Err, Result}
-use Rattle.std.specs.Prelude.{OnErr, OnOk}
+use Rattle.std.specs.Prelude.{IfErr, OnErr, OnOk}
 use Rattle.ir_model.specs.declared.answer.Answer.{Answer}
 use Rattle.ir_model.specs.declared.answer.Answer.TheVariants.{Done, Refused}
 use Rattle.ir_model.specs.declared.answer.Refused.TheVariants.{Condition as ForCondition}
 use Rattle.ir_model.specs.declared.error.CoreError.{CoreError}
-use Rattle.ir_model.specs.declared.error.CoreError.TheVariants.{CounterSpent, SlotsSpent}
+use Rattle.ir_model.specs.declared.error.CoreError.TheVariants.{CounterSpent, OutOfMemory, SlotsSpent}
 use Rattle.ir_model.specs.ContextIds.{context_ids}
 use Rattle.ir_model.specs.Ids.{Counts, Fresh}
 use Rattle.ir_model.specs.Forest.{Behaviour, Dialect, Forest}
@@ -18,7 +18,7 @@ use Rattle.ir_core.specs.Calls.{HandsOut, SameButForest, SkipsAtMost}
 use Rattle.ir_core.specs.Places.{MakesUse}
 use Rattle.ir_core.specs.State.{State, bare, forest_of, session_of}
 use Rattle.ir_tables.specs.SessionTables.{done_of}
-use Rattle.ir_steps.proofs.SessionSteps.{HasRoom, made_so, no_fresh, passes_none, refused, same-state, skips_none}
+use Rattle.ir_steps.proofs.SessionSteps.{HasRoom, Tells, made_so, no_fresh, passes_none, refused, same-state, skips_none, tells_memory}
 
 -- where there is room for nothing and numbers aren't lacking, there are numbers
 numbers_unless : {W : Dialect} (s : Session W) (n : Counts) → HasNumbers s no_needs → (LacksNumbers s n → ⊥) → HasNumbers s n
@@ -67,6 +67,20 @@ module _ {D A K B S X L : Type 0} (c : State D A K B S X L) (tb : Tables context
     pub done : SameButForest (bare c) (bare d) → (edit : Edit (closed A K B S X L)) → Condition (session_of c tb).state edit → no_needs ≡ needs edit → Done ≡ reply (session_of c tb).state edit
         → Change behave (session_of c tb).state edit no_fresh (session_of d tb).state → Step behave (session_of c tb) edit Done (session_of d tb)
     done same edit may is says change = made_so behave c tb edit may no_needs is room d tb no_fresh no_needs is (handed c d same) change Done says
+
+    -- an edit that needs nothing is done, or refused for memory as its call is
+    pub done_unless : SameButForest (bare c) (bare d) → (edit : Edit (closed A K B S X L)) → Condition (session_of c tb).state edit → no_needs ≡ needs edit → Done ≡ reply (session_of c tb).state edit
+        → (g : Forest context_ids (closed A K B S X L)) → (forest_of d ≡ g → Change behave (session_of c tb).state edit no_fresh (session_of d tb).state)
+        → {T : Type 0} (result : Result T CoreError) → OnOk result (forest_of d ≡ g) → ((e : CoreError) → result ≡ Err e → MayRunOut (session_of c tb).state edit) → IfErr result (λ e. e ≡ OutOfMemory) → OnErr result (d ≡ c)
+        → (a : Answer) → a ≡ done_of result → Step behave (session_of c tb) edit a (session_of d tb)
+    done_unless same edit may asks says g change (Ok x) made runs_out memory err a is =
+        let Q : Answer → Type 0 = λ x. Step behave (session_of c tb) edit x (session_of d tb) in
+        subst Q (sym is) (done same edit may asks says (change made))
+    done_unless same edit may asks says g change (Err e) made runs_out memory err a is =
+        let P : State D A K B S X L → Type 0 = λ x. SkipsAtMost (bare c) (bare x) no_needs in
+        let Q : Answer → Type 0 = λ x. Step behave (session_of c tb) edit x (session_of d tb) in
+        let R : CoreError → Type 0 = λ x. Tells (bare c) no_needs x in
+        subst Q (sym is) (refused behave c tb edit may no_needs asks e (runs_out e refl) (subst R (sym memory) (tells_memory (bare c) no_needs room)) d tb refl (subst P (sym err) (skips_none (bare c) no_needs)))
 
     -- an edit that makes one use number is done, or refused as its call is
     module _ (edit : Edit (closed A K B S X L)) (may : Condition (session_of c tb).state edit) (asks : one_use ≡ needs edit) (says : Done ≡ reply (session_of c tb).state edit) (runs_out : MayRunOut (session_of c tb).state edit)

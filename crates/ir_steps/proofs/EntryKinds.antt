@@ -3,7 +3,7 @@ use Rattle.std.proofs.Common.{◌≡◌, refl, sym, ap, subst, ℕ, List, Option
 use Rattle.std.specs.Prelude.{slice_get}
 use Rattle.ir_model.specs.declared.ids.ArenaIndex.{ArenaIndex}
 use Rattle.ir_model.specs.ContextIds.{context_ids}
-use Rattle.ir_model.specs.Forest.{Dialect, Forest, OpRecord, Value, a_block, a_region, a_value, an_op}
+use Rattle.ir_model.specs.Forest.{Dialect, Forest, Value, a_block, a_region, a_value, an_op}
 use Rattle.ir_model.specs.Nesting.{IsLive, IsLiveNamed, list_of}
 use Rattle.ir_model.specs.Edits.{Tables, The}
 use Rattle.ir_tables.specs.Named.{Names}
@@ -91,10 +91,10 @@ module _ (a b : Kind) (n m : ℕ) (R : a.Entry → b.Entry → Type 0) where
   pub not_two : ((i : a.Entry) (j : b.Entry) → Names a.IsLiveAs a.table n i → Names b.IsLiveAs b.table m j → R i j → ⊥) → Two → ⊥
   not_two fails = not_one a n (λ k. One b m (R k)) (λ i x. not_one b m (R i) (λ j y r. fails i j x y r))
 
--- what holds of a list of the operation holds of that list of its record
-module _ {W : Dialect} (f : Forest context_ids W) (tb : Tables context_ids) {X : Type 0} (of : OpRecord context_ids W → List X) (P : ArenaIndex → List X → Type 0) (n : ℕ) where
-  pub listed : One (ops f tb) n (λ o. P o (list_of of (f.ops o))) → The (slice_get tb.ops n) (λ o. The (f.ops o) (λ r. P o (of r)))
+-- what holds of a list of an entry that is found holds of that list of its record
+module _ {I R X : Type 0} (table : List I) (records : I → Option R) (of : R → List X) (P : I → List X → Type 0) (n : ℕ) where
+  pub listed : The (slice_get table n) (λ i. The (records i) (λ _. P i (list_of of (records i)))) → The (slice_get table n) (λ i. The (records i) (λ r. P i (of r)))
   listed t = record { value = t.value; found = t.found; holds = record { value = t.holds.value; found = t.holds.found; holds = subst (P t.value) (ap (list_of of) t.holds.found) t.holds.holds } }
 
-  pub unlisted : The (slice_get tb.ops n) (λ o. The (f.ops o) (λ r. P o (of r))) → One (ops f tb) n (λ o. P o (list_of of (f.ops o)))
+  pub unlisted : The (slice_get table n) (λ i. The (records i) (λ r. P i (of r))) → The (slice_get table n) (λ i. The (records i) (λ _. P i (list_of of (records i))))
   unlisted t = record { value = t.value; found = t.found; holds = record { value = t.holds.value; found = t.holds.found; holds = subst (P t.value) (sym (ap (list_of of) t.holds.found)) t.holds.holds } }

@@ -47,7 +47,7 @@ module _ {D A K B S X L : Type 0} (c : State D A K B S X L) (tb : Tables context
 
     pub not_erase_region : (at : ℕ) → ((i : ArenaIndex) → NamesLive f an_op tb.ops n i → The (slice_get (regions_of f i) at) (λ g. IsClosed f (a_region g)) → ⊥) → Condition s.state (EraseRegion n at) → ⊥
     not_erase_region at fails t =
-        not_one (ops f tb) n (λ i. closed_at at i (regions_of f i)) fails (unlisted f tb (λ (r : OpRecord context_ids (closed A K B S X L)). r.regions) (closed_at at) n t)
+        not_one (ops f tb) n (λ i. closed_at at i (regions_of f i)) fails (unlisted tb.ops f.ops (λ (r : OpRecord context_ids (closed A K B S X L)). r.regions) (closed_at at) n t)
 
   module _ (behave : Behaviour (closed A K B S X L)) (room : HasRoom (bare c) no_needs) (d : State D A K B S X L) (same : SameButForest (bare c) (bare d)) (n : ℕ) (i : ArenaIndex) where
     pub drop_op_uses_done : NamesLive f an_op tb.ops n i → DropsUses f (an_op i) (forest_of d) → Step behave s (DropOpUses n) Done (session_of d tb)
@@ -73,6 +73,6 @@ module _ {D A K B S X L : Type 0} (c : State D A K B S X L) (tb : Tables context
       pub erase_region_done : The (slice_get (regions_of f i) at) (λ g. IsClosed f (a_region g)) → The (slice_get (regions_of f i) at) (λ g. Removes f (a_region g) (forest_of d)) → Step behave s (EraseRegion n at) Done (session_of d tb)
       erase_region_done free removes =
           done c tb behave room d same (EraseRegion n at)
-          (listed f tb (λ (r : OpRecord context_ids (closed A K B S X L)). r.regions) (closed_at at) n (one (ops f tb) n (λ i. closed_at at i (regions_of f i)) i x free)) refl refl
-          (listed f tb (λ (r : OpRecord context_ids (closed A K B S X L)). r.regions) erased_at n
+          (listed tb.ops f.ops (λ (r : OpRecord context_ids (closed A K B S X L)). r.regions) (closed_at at) n (one (ops f tb) n (λ i. closed_at at i (regions_of f i)) i x free)) refl refl
+          (listed tb.ops f.ops (λ (r : OpRecord context_ids (closed A K B S X L)). r.regions) erased_at n
           (one (ops f tb) n (λ i. erased_at i (regions_of f i)) i x (record { value = removes.value; found = removes.found; holds = (removes.holds, left c tb d same _ refl) })))

@@ -6,3 +6,5 @@ pub mod DoneSteps
 pub mod ListSteps
 pub mod UseSteps
 pub mod EraseSteps
+pub mod DefinitionSteps
+pub mod RedirectSteps

@@ -59,34 +59,34 @@ module _ {D A K B S X L : Type 0} (c : State D A K B S X L) (tb : Tables context
 
   module _ (n at m : ℕ) where
     pub not_insert_operand : ((i : ArenaIndex) (v : Value context_ids) → NamesLive f an_op tb.ops n i → NamesLiveValue f tb.values m v → at ≤ length (operands_of f i) → ⊥) → Condition s.state (InsertOperand n at m) → ⊥
-    not_insert_operand fails t = not_two (ops f tb) (values f tb) n m (λ i v. at ≤ length (operands_of f i)) fails (unlisted f tb (λ (r : Record). r.operands) (value_at m (λ k. at ≤ k)) n t)
+    not_insert_operand fails t = not_two (ops f tb) (values f tb) n m (λ i v. at ≤ length (operands_of f i)) fails (unlisted tb.ops f.ops (λ (r : Record). r.operands) (value_at m (λ k. at ≤ k)) n t)
 
     pub not_replace_operand : ((i : ArenaIndex) (v : Value context_ids) → NamesLive f an_op tb.ops n i → NamesLiveValue f tb.values m v → at < length (operands_of f i) → ⊥) → Condition s.state (ReplaceOperand n at m) → ⊥
-    not_replace_operand fails t = not_two (ops f tb) (values f tb) n m (λ i v. at < length (operands_of f i)) fails (unlisted f tb (λ (r : Record). r.operands) (value_at m (λ k. at < k)) n t)
+    not_replace_operand fails t = not_two (ops f tb) (values f tb) n m (λ i v. at < length (operands_of f i)) fails (unlisted tb.ops f.ops (λ (r : Record). r.operands) (value_at m (λ k. at < k)) n t)
 
     pub not_insert_successor : ((i j : ArenaIndex) → NamesLive f an_op tb.ops n i → NamesLive f a_block tb.blocks m j → at ≤ length (successors_of f i) → ⊥) → Condition s.state (InsertSuccessor n at m) → ⊥
-    not_insert_successor fails t = not_two (ops f tb) (blocks f tb) n m (λ i j. at ≤ length (successors_of f i)) fails (unlisted f tb (λ (r : Record). r.successors) (block_at m (λ k. at ≤ k)) n t)
+    not_insert_successor fails t = not_two (ops f tb) (blocks f tb) n m (λ i j. at ≤ length (successors_of f i)) fails (unlisted tb.ops f.ops (λ (r : Record). r.successors) (block_at m (λ k. at ≤ k)) n t)
 
     pub not_replace_successor : ((i j : ArenaIndex) → NamesLive f an_op tb.ops n i → NamesLive f a_block tb.blocks m j → at < length (successors_of f i) → ⊥) → Condition s.state (ReplaceSuccessor n at m) → ⊥
-    not_replace_successor fails t = not_two (ops f tb) (blocks f tb) n m (λ i j. at < length (successors_of f i)) fails (unlisted f tb (λ (r : Record). r.successors) (block_at m (λ k. at < k)) n t)
+    not_replace_successor fails t = not_two (ops f tb) (blocks f tb) n m (λ i j. at < length (successors_of f i)) fails (unlisted tb.ops f.ops (λ (r : Record). r.successors) (block_at m (λ k. at < k)) n t)
 
   module _ (n at : ℕ) where
     -- and so for one number and a place
     pub not_remove_operand : ((i : ArenaIndex) → NamesLive f an_op tb.ops n i → at < length (operands_of f i) → ⊥) → Condition s.state (RemoveOperand n at) → ⊥
-    not_remove_operand fails t = not_one (ops f tb) n (λ i. at < length (operands_of f i)) fails (unlisted f tb (λ (r : Record). r.operands) (λ o ps. at < length ps) n t)
+    not_remove_operand fails t = not_one (ops f tb) n (λ i. at < length (operands_of f i)) fails (unlisted tb.ops f.ops (λ (r : Record). r.operands) (λ o ps. at < length ps) n t)
 
     pub not_remove_successor : ((i : ArenaIndex) → NamesLive f an_op tb.ops n i → at < length (successors_of f i) → ⊥) → Condition s.state (RemoveSuccessor n at) → ⊥
-    not_remove_successor fails t = not_one (ops f tb) n (λ i. at < length (successors_of f i)) fails (unlisted f tb (λ (r : Record). r.successors) (λ o ps. at < length ps) n t)
+    not_remove_successor fails t = not_one (ops f tb) n (λ i. at < length (successors_of f i)) fails (unlisted tb.ops f.ops (λ (r : Record). r.successors) (λ o ps. at < length ps) n t)
 
   module _ (behave : Behaviour (closed A K B S X L)) (room : HasRoom (bare c) no_needs) (d : State D A K B S X L) where
     module _ (same : SameButForest (bare c) (bare d)) (n at : ℕ) (i : ArenaIndex) (x : NamesLive f an_op tb.ops n i) where
       pub remove_operand_done : at < length (operands_of f i) → forest_of d ≡ on_op f i (on_operands (λ ps. remove ps at)) → Step behave s (RemoveOperand n at) Done (session_of d tb)
       remove_operand_done there e =
-          done c tb behave room d same (RemoveOperand n at) (listed f tb (λ (r : Record). r.operands) (λ o ps. at < length ps) n (one (ops f tb) n (λ i. at < length (operands_of f i)) i x there)) refl refl (record { value = i; found = x.found; holds = left c tb d same _ e })
+          done c tb behave room d same (RemoveOperand n at) (listed tb.ops f.ops (λ (r : Record). r.operands) (λ o ps. at < length ps) n (one (ops f tb) n (λ i. at < length (operands_of f i)) i x there)) refl refl (record { value = i; found = x.found; holds = left c tb d same _ e })
 
       pub remove_successor_done : at < length (successors_of f i) → forest_of d ≡ on_op f i (on_successors (λ ps. remove ps at)) → Step behave s (RemoveSuccessor n at) Done (session_of d tb)
       remove_successor_done there e =
-          done c tb behave room d same (RemoveSuccessor n at) (listed f tb (λ (r : Record). r.successors) (λ o ps. at < length ps) n (one (ops f tb) n (λ i. at < length (successors_of f i)) i x there)) refl refl (record { value = i; found = x.found; holds = left c tb d same _ e })
+          done c tb behave room d same (RemoveSuccessor n at) (listed tb.ops f.ops (λ (r : Record). r.successors) (λ o ps. at < length ps) n (one (ops f tb) n (λ i. at < length (successors_of f i)) i x there)) refl refl (record { value = i; found = x.found; holds = left c tb d same _ e })
 
     -- a call that made one use number, or was refused, and how that is answered
     module _ {T : Type 0} (result : Result T CoreError) (counter : (result ≡ Err CounterSpent) ↔ LacksNumbers (bare c) one_use) (slots : result ≡ Err SlotsSpent → ⊥) (err : OnErr result (d ≡ c)) (a : Answer) (is : a ≡ done_of result) (n : ℕ) (i : ArenaIndex) (x : NamesLive f an_op tb.ops n i) (m : ℕ) where
@@ -101,14 +101,14 @@ module _ {D A K B S X L : Type 0} (c : State D A K B S X L) (tb : Tables context
           pub insert_operand_made : at ≤ length (operands_of f i) → OnOk result (MakesUse (bare c) (bare d) (operand_inserted f i at v)) → Step behave s (InsertOperand n at m) a (session_of d tb)
           insert_operand_made there made =
               use_made c tb behave room d (InsertOperand n at m)
-              (listed f tb (λ (r : Record). r.operands) (value_at m (λ k. at ≤ k)) n (two (ops f tb) (values f tb) n m (λ i v. at ≤ length (operands_of f i)) i v x y there)) refl refl tt (operand_inserted f i at v)
+              (listed tb.ops f.ops (λ (r : Record). r.operands) (value_at m (λ k. at ≤ k)) n (two (ops f tb) (values f tb) n m (λ i v. at ≤ length (operands_of f i)) i v x y there)) refl refl tt (operand_inserted f i at v)
               (λ u e. record { value = i; found = x.found; holds = record { value = v; found = y.found; holds = record { value = u; found = refl; holds = e } } })
               result made counter slots err a is
 
           pub replace_operand_made : at < length (operands_of f i) → OnOk result (MakesUse (bare c) (bare d) (operand_replaced f i at v)) → Step behave s (ReplaceOperand n at m) a (session_of d tb)
           replace_operand_made there made =
               use_made c tb behave room d (ReplaceOperand n at m)
-              (listed f tb (λ (r : Record). r.operands) (value_at m (λ k. at < k)) n (two (ops f tb) (values f tb) n m (λ i v. at < length (operands_of f i)) i v x y there)) refl refl tt (operand_replaced f i at v)
+              (listed tb.ops f.ops (λ (r : Record). r.operands) (value_at m (λ k. at < k)) n (two (ops f tb) (values f tb) n m (λ i v. at < length (operands_of f i)) i v x y there)) refl refl tt (operand_replaced f i at v)
               (λ u e. record { value = i; found = x.found; holds = record { value = v; found = y.found; holds = record { value = u; found = refl; holds = e } } })
               result made counter slots err a is
 
@@ -123,13 +123,13 @@ module _ {D A K B S X L : Type 0} (c : State D A K B S X L) (tb : Tables context
           pub insert_successor_made : at ≤ length (successors_of f i) → OnOk result (MakesUse (bare c) (bare d) (successor_inserted f i at j)) → Step behave s (InsertSuccessor n at m) a (session_of d tb)
           insert_successor_made there made =
               use_made c tb behave room d (InsertSuccessor n at m)
-              (listed f tb (λ (r : Record). r.successors) (block_at m (λ k. at ≤ k)) n (two (ops f tb) (blocks f tb) n m (λ i j. at ≤ length (successors_of f i)) i j x y there)) refl refl tt (successor_inserted f i at j)
+              (listed tb.ops f.ops (λ (r : Record). r.successors) (block_at m (λ k. at ≤ k)) n (two (ops f tb) (blocks f tb) n m (λ i j. at ≤ length (successors_of f i)) i j x y there)) refl refl tt (successor_inserted f i at j)
               (λ u e. record { value = i; found = x.found; holds = record { value = j; found = y.found; holds = record { value = u; found = refl; holds = e } } })
               result made counter slots err a is
 
           pub replace_successor_made : at < length (successors_of f i) → OnOk result (MakesUse (bare c) (bare d) (successor_replaced f i at j)) → Step behave s (ReplaceSuccessor n at m) a (session_of d tb)
           replace_successor_made there made =
               use_made c tb behave room d (ReplaceSuccessor n at m)
-              (listed f tb (λ (r : Record). r.successors) (block_at m (λ k. at < k)) n (two (ops f tb) (blocks f tb) n m (λ i j. at < length (successors_of f i)) i j x y there)) refl refl tt (successor_replaced f i at j)
+              (listed tb.ops f.ops (λ (r : Record). r.successors) (block_at m (λ k. at < k)) n (two (ops f tb) (blocks f tb) n m (λ i j. at < length (successors_of f i)) i j x y there)) refl refl tt (successor_replaced f i at j)
               (λ u e. record { value = i; found = x.found; holds = record { value = j; found = y.found; holds = record { value = u; found = refl; holds = e } } })
               result made counter slots err a is

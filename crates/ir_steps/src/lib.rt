@@ -3,7 +3,9 @@
 //! Each call is one step: the contract names the edit, and what was answered.
 #![tactic(auto)]
 
+pub mod definition_steps;
 pub mod erase_steps;
 pub mod list_steps;
+pub mod redirect_steps;
 pub mod steps;
 pub mod use_steps;

@@ -103,8 +103,8 @@ pub fn add_region<D: Dialects>(
     }
 }
 
-// How an edit is answered that made an entry with this number, or was refused.
-fn answer(made: Result<usize, CoreError>) -> Answer
+/// How an edit is answered that made an entry with this number, or was refused.
+pub(crate) fn answer(made: Result<usize, CoreError>) -> Answer
     ensures { result ≡ answer_of made }
 {
     match made {
@@ -142,11 +142,11 @@ pub(crate) fn needs_nothing<D: Dialects>(ctx: &Context<D>)
     let _room = ctx.room();
 }
 
-// Asks whether the context has numbers and slots enough, and makes place in the tables.
-//
-// # Errors
-// As `Context::covers`, and then `OutOfMemory`.
-fn make_room<D: Dialects>(
+/// Asks whether the context has numbers and slots enough, and makes place in the tables.
+///
+/// # Errors
+/// As `Context::covers`, and then `OutOfMemory`.
+pub(crate) fn make_room<D: Dialects>(
     ctx: &Context<D>,
     tables: &mut Tables<D>,
     needs: Needs,

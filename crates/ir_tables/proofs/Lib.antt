@@ -1,3 +1,4 @@
 pub mod Entering
 pub mod Placing
 pub mod Regions
+pub mod Unused

@@ -1,3 +1,4 @@
 pub mod SessionTables
 pub mod Named
 pub mod SessionLists
+pub mod Definitions

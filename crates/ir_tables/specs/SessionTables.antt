@@ -8,7 +8,7 @@ use Rattle.ir_model.specs.declared.error.CoreError.{CoreError}
 use Rattle.ir_model.specs.declared.error.CoreError.TheVariants.{OutOfMemory, CounterSpent, SlotsSpent}
 use Rattle.ir_model.specs.ContextIds.{context_ids}
 use Rattle.ir_model.specs.Ids.{Counts}
-use Rattle.ir_model.specs.Forest.{of_op, of_block}
+use Rattle.ir_model.specs.Forest.{Value, of_op, of_block}
 use Rattle.ir_model.specs.Edits.{Tables as PlainTables, numbered}
 use Rattle.ir_records.specs.declared.record.Operation.{Operation}
 use Rattle.ir_records.specs.declared.record.BasicBlock.{BasicBlock}
@@ -34,6 +34,10 @@ with_type t ty = record t { types = t.types ++ ty ∷ [] }
 -- the tables with the region behind the others
 abbrev pub with_region : PlainTables context_ids → ArenaIndex → PlainTables context_ids
 with_region t region = record t { regions = t.regions ++ region ∷ [] }
+
+-- the tables with the value behind the others
+abbrev pub with_value : PlainTables context_ids → Value context_ids → PlainTables context_ids
+with_value t v = record t { values = t.values ++ v ∷ [] }
 
 module _ {D A K B S X L : Type 0} where
   -- the entries, as plain ids and numbers

@@ -5,7 +5,7 @@ ghost use Rattle.ir_model.specs.Forest.{of_block, of_op};
 ghost use Rattle.ir_model.specs.Edits.{numbered};
 ghost use Rattle.ir_records.specs.Meaning.{block_index, block_record, op_index, op_record, value_of};
 ghost use Rattle.ir_core.specs.Calls.{counts_of};
-ghost use Rattle.ir_tables.specs.SessionTables.{entries_of, with_block, with_op, with_region, with_type, HasPlace};
+ghost use Rattle.ir_tables.specs.SessionTables.{entries_of, with_block, with_op, with_region, with_type, with_value, HasPlace};
 
 use ir_base::{Dialects, Ptr, TypeHandle};
 use ir_core::{BasicBlock, Needs, Operation, Region, Value};
@@ -101,6 +101,14 @@ impl<D: Dialects> Tables<D> {
         ensures { entries_of self.new ≡ with_region (entries_of self.old) region.index }
     {
         self.regions.push_reserved(region);
+    }
+
+    /// Puts the value behind the others.
+    pub fn enter_value(&mut self, value: Value<D>)
+        requires { vec_len self.old.values + 1 ≤ vec_capacity self.old.values }
+        ensures { entries_of self.new ≡ with_value (entries_of self.old) (value_of value.index) }
+    {
+        self.values.push_reserved(value);
     }
 }
 

@@ -1,9 +1,10 @@
-//! What the edits of operands and successors name: an operation, and a value or a block.
+//! What the edits of operands and successors name: an operation, and a value or a block; and what those name by which uses come to name something else: two values or two blocks.
 
 ghost use Rattle.std.specs.Prelude.{IfSome, IsNone, MatchOption};
 ghost use Rattle.ir_model.specs.declared.ids.ArenaIndex.{ArenaIndex};
 ghost use Rattle.ir_model.specs.ContextIds.{context_ids};
-ghost use Rattle.ir_model.specs.Forest.{Value as PlainValue, an_op};
+ghost use Rattle.ir_model.specs.Edits.{UsersLinked};
+ghost use Rattle.ir_model.specs.Forest.{Value as PlainValue, a_block, an_op};
 ghost use Rattle.ir_records.specs.Meaning.{value_of};
 ghost use Rattle.ir_core.specs.State.{forest_of};
 ghost use Rattle.ir_tables.specs.Named.{NamesLive, NamesLiveValue};
@@ -13,7 +14,8 @@ use crate::entities::{EntityEntry, find};
 use crate::lookups::live_entry;
 use crate::session_tables::Tables;
 use ir_base::{Dialects, Ptr};
-use ir_core::{Context, Operation, Value};
+use ir_core::{BasicBlock, Context, Operation, Value};
+use ir_view::BlockPredecessors;
 
 /// The live value with this number; none where no live one has it.
 pub fn find_value<D: Dialects>(
@@ -56,4 +58,41 @@ pub fn find_both<D: Dialects, N: EntityEntry<D>, M: EntityEntry<D>>(
     let first: N = find(ctx, tables, first)?;
     let second: M = find(ctx, tables, second)?;
     Some((first, second))
+}
+
+/// The live values with these numbers.
+pub fn find_values<D: Dialects>(
+    ctx: &Context<D>,
+    tables: &Tables<D>,
+    first: usize,
+    second: usize,
+) -> Option<(Value<D>, Value<D>)>
+    ensures first { IfSome result (λ pair. NamesLiveValue (forest_of ctx.now) (entries_of tables.now).values first (value_of pair.0.index)) }
+    ensures second { IfSome result (λ pair. NamesLiveValue (forest_of ctx.now) (entries_of tables.now).values second (value_of pair.1.index)) }
+    ensures missing { IsNone result → (v w : PlainValue context_ids) → NamesLiveValue (forest_of ctx.now) (entries_of tables.now).values first v → NamesLiveValue (forest_of ctx.now) (entries_of tables.now).values second w → ⊥ }
+{
+    let first = find_value(ctx, tables, first)?;
+    let second = find_value(ctx, tables, second)?;
+    Some((first, second))
+}
+
+/// The live blocks with these numbers, where each operation that names the first as a successor stands in a block.
+pub fn find_retargeted<D: Dialects>(
+    ctx: &Context<D>,
+    tables: &Tables<D>,
+    block: usize,
+    other: usize,
+) -> Option<(Ptr<BasicBlock<D>>, Ptr<BasicBlock<D>>)>
+    ensures block { IfSome result (λ pair. NamesLive (forest_of ctx.now) a_block (entries_of tables.now).blocks block pair.0.index) }
+    ensures other { IfSome result (λ pair. NamesLive (forest_of ctx.now) a_block (entries_of tables.now).blocks other pair.1.index) }
+    ensures linked { IfSome result (λ pair. UsersLinked (forest_of ctx.now) pair.0.index) }
+    ensures missing { IsNone result → (i j : ArenaIndex) → NamesLive (forest_of ctx.now) a_block (entries_of tables.now).blocks block i → NamesLive (forest_of ctx.now) a_block (entries_of tables.now).blocks other j → UsersLinked (forest_of ctx.now) i → ⊥ }
+{
+    let block: Ptr<BasicBlock<D>> = find(ctx, tables, block)?;
+    let other: Ptr<BasicBlock<D>> = find(ctx, tables, other)?;
+    if block.preds_are_linked(ctx) {
+        Some((block, other))
+    } else {
+        None
+    }
 }

@@ -1,4 +1,4 @@
-use Rattle.ir_model.specs.Edits.{AddRegion, AppendBlocks, AppendOps, BlockAfter, BlockBack, BlockBefore, BlockFront, DropBlockUses, DropOpUses, DropRegionUses, EraseBlock, EraseOp, EraseRegion, InsertOperand, InsertSuccessor, MoveRegion, NewBlock, NewOp, NewType, OpAfter, OpBack, OpBefore, OpFront, PushOperand, PushSuccessor, RemoveOperand, RemoveSuccessor, ReplaceOperand, ReplaceSuccessor, UnlinkBlock, UnlinkOp}
+use Rattle.ir_model.specs.Edits.{AddRegion, AppendBlocks, AppendOps, BlockAfter, BlockBack, BlockBefore, BlockFront, DropBlockUses, DropOpUses, DropRegionUses, EraseBlock, EraseOp, EraseRegion, InsertArgument, InsertOperand, InsertResult, InsertSuccessor, MoveRegion, NewBlock, NewOp, NewType, OpAfter, OpBack, OpBefore, OpFront, PushArgument, PushOperand, PushResult, PushSuccessor, RemoveArgument, RemoveOperand, RemoveResult, RemoveSuccessor, ReplaceAllUses, ReplaceOperand, ReplaceSuccessor, RetargetAll, UnlinkBlock, UnlinkOp}
 use Rattle.ir_model.proofs.StepSound.{steps_sound}
 use Rattle.ir_run.proofs.session.Session.step.Goals as goal
 
@@ -54,6 +54,24 @@ invariant_of-self-in-AppendBlocks g c = steps_sound _ (AppendBlocks c.in-AppendB
 pub invariant_of-self-in-MoveRegion : goal.invariant_of-self-in-MoveRegion
 invariant_of-self-in-MoveRegion g c = steps_sound _ (MoveRegion c.in-MoveRegion.region c.in-MoveRegion.op) _ _ c.move_region.result c.self.invariant c.move_region.ensures
 
+pub invariant_of-self-in-PushResult : goal.invariant_of-self-in-PushResult
+invariant_of-self-in-PushResult g c = steps_sound _ (PushResult c.in-PushResult.op c.in-PushResult.ty) _ _ c.push_result.result c.self.invariant c.push_result.ensures
+
+pub invariant_of-self-in-InsertResult : goal.invariant_of-self-in-InsertResult
+invariant_of-self-in-InsertResult g c = steps_sound _ (InsertResult c.in-InsertResult.op c.in-InsertResult.at c.in-InsertResult.ty) _ _ c.insert_result.result c.self.invariant c.insert_result.ensures
+
+pub invariant_of-self-in-RemoveResult : goal.invariant_of-self-in-RemoveResult
+invariant_of-self-in-RemoveResult g c = steps_sound _ (RemoveResult c.in-RemoveResult.op c.in-RemoveResult.at) _ _ c.remove_result.result c.self.invariant c.remove_result.ensures
+
+pub invariant_of-self-in-PushArgument : goal.invariant_of-self-in-PushArgument
+invariant_of-self-in-PushArgument g c = steps_sound _ (PushArgument c.in-PushArgument.block c.in-PushArgument.ty) _ _ c.push_argument.result c.self.invariant c.push_argument.ensures
+
+pub invariant_of-self-in-InsertArgument : goal.invariant_of-self-in-InsertArgument
+invariant_of-self-in-InsertArgument g c = steps_sound _ (InsertArgument c.in-InsertArgument.block c.in-InsertArgument.at c.in-InsertArgument.ty) _ _ c.insert_argument.result c.self.invariant c.insert_argument.ensures
+
+pub invariant_of-self-in-RemoveArgument : goal.invariant_of-self-in-RemoveArgument
+invariant_of-self-in-RemoveArgument g c = steps_sound _ (RemoveArgument c.in-RemoveArgument.block c.in-RemoveArgument.at) _ _ c.remove_argument.result c.self.invariant c.remove_argument.ensures
+
 pub invariant_of-self-in-PushOperand : goal.invariant_of-self-in-PushOperand
 invariant_of-self-in-PushOperand g c = steps_sound _ (PushOperand c.in-PushOperand.op c.in-PushOperand.value) _ _ c.push_operand.result c.self.invariant c.push_operand.ensures
 
@@ -77,6 +95,12 @@ invariant_of-self-in-RemoveSuccessor g c = steps_sound _ (RemoveSuccessor c.in-R
 
 pub invariant_of-self-in-ReplaceSuccessor : goal.invariant_of-self-in-ReplaceSuccessor
 invariant_of-self-in-ReplaceSuccessor g c = steps_sound _ (ReplaceSuccessor c.in-ReplaceSuccessor.op c.in-ReplaceSuccessor.at c.in-ReplaceSuccessor.block) _ _ c.replace_successor.result c.self.invariant c.replace_successor.ensures
+
+pub invariant_of-self-in-ReplaceAllUses : goal.invariant_of-self-in-ReplaceAllUses
+invariant_of-self-in-ReplaceAllUses g c = steps_sound _ (ReplaceAllUses c.in-ReplaceAllUses.old c.in-ReplaceAllUses.new) _ _ c.replace_all_uses.result c.self.invariant c.replace_all_uses.ensures
+
+pub invariant_of-self-in-RetargetAll : goal.invariant_of-self-in-RetargetAll
+invariant_of-self-in-RetargetAll g c = steps_sound _ (RetargetAll c.in-RetargetAll.old c.in-RetargetAll.new) _ _ c.retarget_all.result c.self.invariant c.retarget_all.ensures
 
 pub invariant_of-self-in-DropOpUses : goal.invariant_of-self-in-DropOpUses
 invariant_of-self-in-DropOpUses g c = steps_sound _ (DropOpUses c.in-DropOpUses.op) _ _ c.drop_op_uses.result c.self.invariant c.drop_op_uses.ensures

@@ -1,0 +1,5 @@
+//! Tests of the names of values and blocks, over the dialect Toy.
+#![tactic(auto)]
+
+#[cfg(test)]
+mod names_tests;

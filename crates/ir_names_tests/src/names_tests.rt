@@ -1,0 +1,122 @@
+// Given names, ids and unique names, of values and of blocks, by their handles and by their records.
+use ir_base::{CoreError, Dialects, Identifier, Ptr};
+use ir_core::{
+    BasicBlock, BlockPtr, Context, NewBlock, NewOperation, Operation, OperationPtr, Value,
+    ValueEdits,
+};
+use ir_names::Named;
+use ir_text::ident;
+use ir_toy::{Toy, ToyType};
+use ir_view::ValueQueries;
+use std::process::Abort;
+use std::test::Fail;
+
+// Asserts that it is this text, or that both are none.
+fn expect_given(rt: &impl Abort, given: Option<Identifier>, expected: Option<&str>) {
+    match given {
+        Some(name) => assert!(rt; expected.is_some_and(|text| name.as_str() == text)),
+        None => assert!(rt; expected.is_none()),
+    }
+}
+
+// Asserts that the live value has this name, this id and this unique name.
+fn expect_value<D: Dialects>(
+    rt: &impl Abort,
+    ctx: &Context<D>,
+    value: Value<D>,
+    given: Option<&str>,
+    id: &str,
+    unique: &str,
+) -> Result<(), CoreError> {
+    assert!(rt; value.is_live(ctx));
+    expect_given(rt, value.given_name(ctx)?, given);
+    assert!(rt; value.id(ctx)?.as_str() == id);
+    assert!(rt; value.unique_name(ctx)?.as_str() == unique);
+    Ok(())
+}
+
+// Asserts that the live block has this label, this id and this unique name, by its handle and by its record.
+fn expect_block<D: Dialects>(
+    rt: &impl Abort,
+    ctx: &Context<D>,
+    block: Ptr<BasicBlock<D>>,
+    label: Option<&str>,
+    id: &str,
+    unique: &str,
+) -> Result<(), CoreError> {
+    assert!(rt; block.is_live(ctx));
+    expect_given(rt, block.given_name(ctx)?, label);
+    assert!(rt; block.id(ctx)?.as_str() == id);
+    assert!(rt; block.unique_name(ctx)?.as_str() == unique);
+    let record = block.deref(ctx);
+    expect_given(rt, record.given_name(ctx)?, label);
+    assert!(rt; record.id(ctx)?.as_str() == id);
+    assert!(rt; record.unique_name(ctx)?.as_str() == unique);
+    Ok(())
+}
+
+// Gives the value a name, or takes it away.
+fn set_name<D: Dialects>(
+    rt: &impl Abort,
+    ctx: &mut Context<D>,
+    value: Value<D>,
+    name: Option<Identifier>,
+) -> Result<(), CoreError> {
+    assert!(rt; value.is_live(ctx));
+    let name = match name {
+        Some(name) => Some(Box::new(ctx.alloc(), name)?),
+        None => None,
+    };
+    value.set_name(ctx, name);
+    Ok(())
+}
+
+// A block without a label, one with a label, and a value that is named.
+fn name_each<D: Dialects>(
+    rt: &impl Abort,
+    ctx: &mut Context<D>,
+    value: Value<D>,
+) -> Result<(), CoreError> {
+    let plain = BasicBlock::new(ctx, None, &[])?;
+    let entry = BasicBlock::new(ctx, Some(ident!("entry")), &[])?;
+    expect_block(rt, ctx, plain, None, "block1v1", "block1v1")?;
+    expect_block(rt, ctx, entry, Some("entry"), "block2v1", "entry_block2v1")?;
+    expect_value(rt, ctx, value, None, "v0", "v0")?;
+    set_name(rt, ctx, value, Some(ident!("c0")))?;
+    expect_value(rt, ctx, value, Some("c0"), "v0", "c0_v0")?;
+    set_name(rt, ctx, value, None)?;
+    expect_value(rt, ctx, value, None, "v0", "v0")
+}
+
+#[test]
+fn unique_names(rt: HostRuntime) -> Result<(), Fail> {
+    let mut ctx: Context<Toy> = Context::new(rt.alloc());
+    let ty = ctx.instantiate_key(ToyType::Int { width: 32 })?;
+    let op = Operation::new(&mut ctx, 0, &[ty], &[], &[], 0)?;
+    let value = op.deref(&ctx).get_result(0);
+    name_each(&rt, &mut ctx, value)?;
+    Ok(())
+}
+
+// A value with the name of a block, beside another that has none.
+fn name_as_a_block<D: Dialects>(
+    rt: &impl Abort,
+    ctx: &mut Context<D>,
+    values: [Value<D>; 2],
+) -> Result<(), CoreError> {
+    let [value, other] = values;
+    set_name(rt, ctx, value, Some(ident!("block1")))?;
+    expect_value(rt, ctx, value, Some("block1"), "v0", "block1_v0")?;
+    expect_value(rt, ctx, other, None, "v1", "v1")
+}
+
+#[test]
+fn name_like_a_block(rt: HostRuntime) -> Result<(), Fail> {
+    let mut ctx: Context<Toy> = Context::new(rt.alloc());
+    let ty = ctx.instantiate_key(ToyType::Int { width: 32 })?;
+    let block = BasicBlock::new(&mut ctx, None, &[ty, ty])?;
+    let record = block.deref(&ctx);
+    let values = [record.get_argument(0), record.get_argument(1)];
+    name_as_a_block(&rt, &mut ctx, values)?;
+    Ok(())
+}

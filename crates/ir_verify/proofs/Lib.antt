@@ -1,0 +1,10 @@
+pub mod Whole
+pub mod Pieces
+pub mod Roots
+pub mod Blocks
+pub mod Walked
+pub mod Loops
+pub mod Passed
+pub mod Handles
+pub mod Ends
+pub mod Alone
