@@ -3,7 +3,7 @@
 ghost use Rattle.std.specs.Prelude.{◌<◌, ◌≤◌};
 
 use crate::sample::{expect_answers, expect_refused, new_block, new_op, run_all};
-use ir_base::{Answer, CoreError, Limits, Refused, Room};
+use ir_base::{Answer, CoreError, Limits, Refused};
 use ir_run::{Edit, Session};
 use ir_toy::{Toy, ToyType};
 use std::alloc::Global;
@@ -33,15 +33,9 @@ fn spent(rt: &impl Abort, alloc: Global) -> Result<Session<Toy>, CoreError> {
 #[test]
 fn no_room(rt: HostRuntime) -> Result<(), Fail> {
     let session = spent(&rt, rt.alloc())?;
-    let left = Room {
-        values: 0,
-        uses: 0,
-        ops: 0,
-        blocks: 0,
-        regions: 0,
-        aux: 2,
-    };
-    assert_eq!(rt; session.ctx().room(), left);
+    let room = session.ctx().room();
+    assert_eq!(rt; (room.values, room.uses), (0, 0));
+    assert_eq!(rt; (room.ops, room.blocks, room.regions), (0, 0, 0));
     Ok(())
 }
 

@@ -91,13 +91,21 @@ fn versions_of_one_slot(rt: HostRuntime) -> Result<(), Fail> {
         slots: 1,
         ..Limits::default()
     };
-    for (last_version, times) in [(1, 1), (2, 1), (4, 2), (5, 3)] {
-        let limits = Limits {
-            last_version,
-            ..limits
-        };
-        expect_slots_spent(&rt, rt.alloc(), limits, times)?;
-    }
+    let first = Limits {
+        last_version: 1,
+        ..limits
+    };
+    expect_slots_spent(&rt, rt.alloc(), first, 1)?;
+    let fourth = Limits {
+        last_version: 4,
+        ..limits
+    };
+    expect_slots_spent(&rt, rt.alloc(), fourth, 2)?;
+    let fifth = Limits {
+        last_version: 5,
+        ..limits
+    };
+    expect_slots_spent(&rt, rt.alloc(), fifth, 3)?;
     let limits = Limits { slots: 0, ..limits };
     expect_slots_spent(&rt, rt.alloc(), limits, 0)?;
     Ok(())
