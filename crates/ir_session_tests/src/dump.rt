@@ -3,15 +3,12 @@
 //! A line names what the entry means by the numbers of the tables, so that two sessions have one text exactly where their tables mean the same, whatever ids and numbers stand behind them.
 
 use ir_base::{CoreError, Ptr, TypeHandle};
-use ir_core::{
-    BasicBlock, BlockPtr, Context, DefiningEntity, Operation, OperationPtr, Region, RegionPtr,
-    TypeQueries, Value,
-};
 use ir_run::Session;
 use ir_toy::{Toy, ToyType};
 use ir_view::{
-    BlockParts, BlockPlace, BlockUseQueries, BlockUses, OperationParts, OperationPlace,
-    RegionPlace, UseQueries, ValueQueries,
+    BasicBlock, BlockParts, BlockPlace, BlockPtr, BlockUseQueries, BlockUses, Context,
+    DefiningEntity, Operation, OperationParts, OperationPlace, OperationPtr, Region, RegionPlace,
+    RegionPtr, TypeQueries, UseQueries, Value, ValueQueries,
 };
 use std::alloc::{AllocError, Global};
 

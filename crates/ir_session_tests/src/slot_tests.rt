@@ -5,11 +5,13 @@ ghost use Rattle.std.specs.Prelude.{◌<◌, ◌≤◌};
 use crate::dump::dump;
 use crate::sample::{expect_answers, new_block, new_op, run_all};
 use ir_base::{Answer, CoreError, Limits, Refused};
-use ir_core::{BlockPtr, DanglingPtrDerefError, OperationPtr, Use, Value};
 use ir_names::Named;
 use ir_run::{Edit, Session};
 use ir_toy::{Toy, ToyType};
-use ir_view::{IndexErr, UseError, UseQueries, ValueError, ValueQueries};
+use ir_view::{
+    BlockPtr, DanglingPtrDerefError, IndexErr, OperationPtr, Use, UseError, UseQueries, Value,
+    ValueError, ValueQueries,
+};
 use std::alloc::Global;
 use std::process::Abort;
 use std::test::Fail;
