@@ -64,6 +64,8 @@ pub(crate) enum Letter {
     Block,
     /// A region.
     Region,
+    /// A value.
+    Value,
 }
 
 impl fmt::Display for Letter {
@@ -73,6 +75,7 @@ impl fmt::Display for Letter {
             Letter::Operation => "o",
             Letter::Block => "b",
             Letter::Region => "r",
+            Letter::Value => "v",
         })
     }
 }
@@ -151,6 +154,9 @@ fn parse_line(alloc: Global, line: &str) -> Result<(Letter, Edit<Toy>), LineErro
     } else if first == "move" {
         let (region, op) = parse_two_names('r', 'o', rest)?;
         Ok((Letter::Region, Edit::MoveRegion { region, op }))
+    } else if first == "rauw" {
+        let (old, new) = parse_two_names('v', 'v', rest)?;
+        Ok((Letter::Value, Edit::ReplaceAllUses { old, new }))
     } else {
         Ok((Letter::Operation, parse_change(first, rest)?))
     }

@@ -2,4 +2,10 @@
 #![tactic(auto)]
 
 #[cfg(test)]
+mod change_tests;
+#[cfg(test)]
+mod memory_tests;
+#[cfg(test)]
+mod outcome;
+#[cfg(test)]
 mod script_tests;

@@ -1,13 +1,11 @@
 //! Scripts over memory, with what the program prints for them and its status.
 
+use crate::outcome::{expect, is_refused_memory};
 use ir_script::{
     Answer, Edit, Limits, Refused, Session, Toy, ToyType, run_script, run_script_with_limits,
 };
-use std::alloc::Global;
 use std::io;
 use std::io::{ErrorKind, Read, Write};
-use std::process::Abort;
-use std::str::from_utf8;
 use std::test::Fail;
 
 /// Reads and writes that fail.
@@ -27,37 +25,6 @@ impl Write for Broken {
 
     fn flush(&mut self) -> io::Result<()> {
         Ok(())
-    }
-}
-
-// Runs a script, and asserts the status and what stands on the output and on the fault's writer. Where memory was refused, that is the error.
-fn expect(
-    rt: &impl Abort,
-    alloc: Global,
-    script: &[u8],
-    status: u8,
-    output: &str,
-    fault: &str,
-) -> Result<(), Fail> {
-    let mut input = script;
-    let mut printed = Vec::new(alloc);
-    let mut told = Vec::new(alloc);
-    let answered = run_script(alloc, &mut input, &mut printed, &mut told);
-    let is_cut = told.len() < fault.len() && fault.as_bytes().starts_with(told.as_slice());
-    if answered == 1 || is_cut || is_refused_memory(printed.as_slice()) {
-        return Err("out of memory")?;
-    }
-    assert_eq!(rt; answered, status);
-    assert_eq!(rt; printed.as_slice(), output.as_bytes());
-    assert_eq!(rt; told.as_slice(), fault.as_bytes());
-    Ok(())
-}
-
-// Whether an answer tells that a growth was refused.
-fn is_refused_memory(printed: &[u8]) -> bool {
-    match from_utf8(printed) {
-        Ok(text) => text.contains("refused memory"),
-        Err(_) => false,
     }
 }
 
@@ -262,6 +229,12 @@ fn malformed_names(rt: HostRuntime) -> Result<(), Fail> {
     expect(&rt, rt.alloc(), b"unlink", 2, "", fault)?;
     expect(&rt, rt.alloc(), b"move o0 r0", 2, "", fault)?;
     expect(&rt, rt.alloc(), b"move r0 o0,o1", 2, "", fault)?;
+    expect(&rt, rt.alloc(), b"rauw v0", 2, "", fault)?;
+    expect(&rt, rt.alloc(), b"rauw v0 b0", 2, "", fault)?;
+    expect(&rt, rt.alloc(), b"rauw v0 v1 v2", 2, "", fault)?;
+    expect(&rt, rt.alloc(), b"rauw v0,v1 v2", 2, "", fault)?;
+    expect(&rt, rt.alloc(), b"set o0 v0", 2, "", fault)?;
+    expect(&rt, rt.alloc(), b"succ o0 v0", 2, "", fault)?;
     Ok(())
 }
 

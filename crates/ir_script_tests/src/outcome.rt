@@ -1,0 +1,38 @@
+//! What a run of a script comes to.
+
+use ir_script::run_script;
+use std::alloc::Global;
+use std::process::Abort;
+use std::str::from_utf8;
+use std::test::Fail;
+
+/// Runs a script, and asserts the status and what stands on the output and on the fault's writer. Where memory was refused, that is the error.
+pub(crate) fn expect(
+    rt: &impl Abort,
+    alloc: Global,
+    script: &[u8],
+    status: u8,
+    output: &str,
+    fault: &str,
+) -> Result<(), Fail> {
+    let mut input = script;
+    let mut printed = Vec::new(alloc);
+    let mut told = Vec::new(alloc);
+    let answered = run_script(alloc, &mut input, &mut printed, &mut told);
+    let is_cut = told.len() < fault.len() && fault.as_bytes().starts_with(told.as_slice());
+    if answered == 1 || is_cut || is_refused_memory(printed.as_slice()) {
+        return Err("out of memory")?;
+    }
+    assert_eq!(rt; answered, status);
+    assert_eq!(rt; printed.as_slice(), output.as_bytes());
+    assert_eq!(rt; told.as_slice(), fault.as_bytes());
+    Ok(())
+}
+
+/// Whether an answer tells that a growth was refused.
+pub(crate) fn is_refused_memory(printed: &[u8]) -> bool {
+    match from_utf8(printed) {
+        Ok(text) => text.contains("refused memory"),
+        Err(_) => false,
+    }
+}
