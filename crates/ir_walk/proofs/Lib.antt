@@ -3,6 +3,6 @@ pub mod Live
 pub mod Listed
 pub mod Neighbours
 pub mod Handles
-pub mod Childless
+pub mod Shallow
 pub mod Dominance
 pub mod Places

@@ -1,17 +1,19 @@
 //! Operations, blocks and regions alike: what each stands in, and whether it stands inside another.
 
-ghost use Rattle.std.specs.Prelude.{◌≡◌, ◌↔◌, [], IsTrue};
-ghost use Rattle.ir_model.specs.Nesting.{children, Inside, IsClosed, IsLinked, IsLive};
+ghost use Rattle.std.specs.Prelude.{◌≡◌, ◌↔◌, [], All, IsTrue};
+ghost use Rattle.ir_model.specs.Forest.{a_region};
+ghost use Rattle.ir_model.specs.Nesting.{children, Inside, IsClosed, IsLinked, IsLive, Nested};
 ghost use Rattle.ir_records.specs.Meaning.{entity_of, forest_of as forest_in};
 ghost use Rattle.ir_records.specs.Nested.{AreNested};
 ghost use Rattle.ir_records.specs.Tree.{tree_of};
 ghost use Rattle.ir_core.specs.State.{forest_of};
 ghost use Rattle.ir_walk.specs.Entities.{meant};
+ghost use Rattle.ir_walk.specs.Shallow.{IsAt, IsShallow};
 
-use ir_base::{Dialects, Ptr};
+use ir_base::{ArenaIndex, Dialects, Ptr};
 use ir_core::Context;
 use ir_records::{BasicBlock, EntityIndex, Operation, Records, Region};
-use ir_tree::parent_of;
+use ir_tree::{are_one, parent_of};
 
 /// An operation, a block or a region, as a handle.
 #[derive_where(Clone, Copy, PartialEq, Eq, Hash)]
@@ -68,9 +70,46 @@ fn is_childless<D: Dialects>(records: &Records<D>, entity: EntityIndex) -> bool
     }
 }
 
+// Whether nothing stands in any of these regions.
+fn are_childless<D: Dialects>(records: &Records<D>, regions: &[ArenaIndex]) -> bool
+    requires { AreNested (tree_of records.now) }
+    ensures { IsTrue result → All (λ g. children (forest_in records.now) (a_region g) ≡ []) regions.now }
+{
+    regions.iter().all(|region| is_childless(records, EntityIndex::Region(*region)))
+}
+
+// Whether nothing stands in what stands in an entity: an operation has no region with a block, a block no operation, a region no block.
+fn is_shallow<D: Dialects>(records: &Records<D>, entity: EntityIndex) -> bool
+    requires { AreNested (tree_of records.now) }
+    ensures { IsTrue result → IsShallow (children (forest_in records.now)) (entity_of entity) }
+{
+    match entity {
+        EntityIndex::Op(op) => match records.ops.get(Ptr::from_index(op)) {
+            Some(op) => are_childless(records, op.regions.as_slice()),
+            None => true,
+        },
+        _ => is_childless(records, entity),
+    }
+}
+
+// Whether `inner` is `outer` or stands in its list.
+fn is_at<D: Dialects>(records: &Records<D>, inner: EntityIndex, outer: EntityIndex) -> bool
+    requires nested { AreNested (tree_of records.now) }
+    requires formed { Nested (forest_in records.now) }
+    ensures { IsTrue result ↔ IsAt (children (forest_in records.now)) (entity_of outer) (entity_of inner) }
+{
+    if are_one(inner, outer) {
+        return true;
+    }
+    match parent_of(records, inner) {
+        Some(parent) => are_one(parent, outer),
+        None => false,
+    }
+}
+
 /// Whether `inner` is `outer` or stands inside it, however deep. It asks for no live handles: in a dead one nothing stands but itself.
 ///
-/// It climbs from `inner`, a step a level, and not at all where nothing stands in `outer`.
+/// It climbs from `inner`, a step a level, and one step at most where nothing but empty regions stands in `outer`.
 pub fn is_inside<D: Dialects>(ctx: &Context<D>, inner: Entity<D>, outer: Entity<D>) -> bool
     ensures { IsTrue result ↔ Inside (forest_of ctx.now) (meant outer) (meant inner) }
 {
@@ -79,8 +118,8 @@ pub fn is_inside<D: Dialects>(ctx: &Context<D>, inner: Entity<D>, outer: Entity<
     let records = ctx.records();
     let outer = outer.index();
     let inner = inner.index();
-    if is_childless(records, outer) {
-        return inner == outer;
+    if is_shallow(records, outer) {
+        return is_at(records, inner, outer);
     }
     ir_tree::is_inside(records, outer, inner)
 }
