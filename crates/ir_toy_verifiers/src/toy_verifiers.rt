@@ -1,0 +1,91 @@
+//! The own checks of the dialect Toy: an integer type has a width, and an addition has two operands.
+
+ghost use Rattle.std.specs.Prelude.{◌≡◌, Some, IfErr, OnOk};
+ghost use Rattle.ir_model.specs.Calls.{kind_of};
+ghost use Rattle.ir_model.specs.Forest.{an_op};
+ghost use Rattle.ir_model.specs.Nesting.{IsLive};
+ghost use Rattle.ir_core.specs.State.{forest_of};
+ghost use Rattle.ir_view.specs.Wrapped.{kind_in, operation_in};
+ghost use Rattle.ir_verify.specs.Shown.{shown};
+ghost use Rattle.ir_verify.specs.Told.{MayFail, MayPass};
+ghost use Rattle.ir_toy_verifiers.specs.ToyVerifiers.{silent, toy_verifiers};
+
+use ir_core::{Context, OperationPtr};
+use ir_toy::{Toy, ToyAttr, ToyType};
+use ir_verify::{CheckErr, Verifiers};
+use ir_view::OpObj;
+
+/// The code of an integer type whose width is 0.
+pub const EMPTY_INTEGER: u32 = 1;
+
+/// The code of an addition that hasn't two operands.
+pub const OPERAND_COUNT: u32 = 2;
+
+// The kind of additions.
+const ADDITION: u32 = 1;
+
+/// The checks of the dialect Toy. None is listed for any kind, and none takes memory.
+#[derive(Clone, Copy, Debug, Default, Drop, PartialEq, Eq)]
+pub struct ToyVerifiers;
+
+impl Verifiers<Toy> for ToyVerifiers {
+    ghost handed_in = { λ _. toy_verifiers };
+
+    fn op_verifiers(&self, _kind: u32) -> &[u32] {
+        &[]
+    }
+
+    fn attr_verifiers(&self, _kind: u32) -> &[u32] {
+        &[]
+    }
+
+    fn type_verifiers(&self, _kind: u32) -> &[u32] {
+        &[]
+    }
+
+    fn check_op_interface(
+        &self,
+        _number: u32,
+        _op: OpObj<Toy>,
+        _ctx: &Context<Toy>,
+    ) -> Result<(), CheckErr> {
+        Ok(())
+    }
+
+    fn check_attr_interface(
+        &self,
+        _number: u32,
+        _attr: &ToyAttr,
+        _ctx: &Context<Toy>,
+    ) -> Result<(), CheckErr> {
+        Ok(())
+    }
+
+    fn check_type_interface(
+        &self,
+        _number: u32,
+        _ty: &ToyType,
+        _ctx: &Context<Toy>,
+    ) -> Result<(), CheckErr> {
+        Ok(())
+    }
+
+    fn check_op(&self, op: OpObj<Toy>, ctx: &Context<Toy>) -> Result<(), CheckErr> {
+        let operands = op.get_operation().deref(ctx).get_num_operands();
+        if op.kind() == ADDITION && operands != 2 {
+            return Err(CheckErr::Code(OPERAND_COUNT));
+        }
+        Ok(())
+    }
+
+    fn check_attr(&self, _attr: &ToyAttr, _ctx: &Context<Toy>) -> Result<(), CheckErr> {
+        Ok(())
+    }
+
+    fn check_type(&self, ty: &ToyType, _ctx: &Context<Toy>) -> Result<(), CheckErr> {
+        match ty {
+            ToyType::Int { width: 0 } => Err(CheckErr::Code(EMPTY_INTEGER)),
+            ToyType::Int { .. } | ToyType::Named(_) => Ok(()),
+        }
+    }
+}
