@@ -6,6 +6,22 @@ mod checked;
 #[cfg(test)]
 mod deep_tests;
 #[cfg(test)]
+mod judge;
+#[cfg(test)]
+mod judge_tests;
+#[cfg(test)]
+mod plain;
+#[cfg(test)]
+mod plain_faults;
+#[cfg(test)]
+mod random_edits;
+#[cfg(test)]
+mod random_tests;
+#[cfg(test)]
+mod reading;
+#[cfg(test)]
 mod row_tests;
+#[cfg(test)]
+mod small_dialect;
 #[cfg(test)]
 mod toy_tests;
