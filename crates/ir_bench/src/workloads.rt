@@ -4,12 +4,11 @@ ghost use Rattle.std.specs.Prelude.{◌<◌, length};
 ghost use Rattle.ir_model.specs.Forest.{a_value};
 ghost use Rattle.ir_model.specs.Nesting.{IsLiveNamed};
 ghost use Rattle.ir_records.specs.Meaning.{value_of};
-ghost use Rattle.ir_core.specs.State.{forest_of, types_of};
+ghost use Rattle.ir_view.specs.State.{forest_of, types_of};
 
 use ir_base::{CoreError, Dialects, Ptr, TypeHandle};
-use ir_core::{Context, NewOperation, Operation, OperationPtr, TypeQueries, Value};
 use ir_toy::{Toy, ToyType};
-use ir_view::ValueQueries;
+use ir_view::{Context, NewOperation, Operation, OperationPtr, TypeQueries, Value, ValueQueries};
 use std::alloc::Global;
 use std::collections::HashSet;
 use std::time::CpuClock;

@@ -1,11 +1,10 @@
 //! The edits that the tests do, each with its condition tested first.
 
 use ir_base::{CoreError, Dialects, Ptr};
-use ir_core::{
-    BasicBlock, BlockPtr, Context, DropUses, Erase, EraseRegion, OperandEdits, Operation,
-    OperationPtr, SuccessorEdits, Use, Value,
+use ir_view::{
+    BasicBlock, BlockPtr, Context, DropUses, Entity, Erase, EraseRegion, OperandEdits, Operation,
+    OperationPtr, SuccessorEdits, Use, UseQueries, Value, ValueQueries, can_erase,
 };
-use ir_view::{Entity, UseQueries, ValueQueries, can_erase};
 
 /// The index of a new operand that names the value.
 pub(crate) fn push_operand<D: Dialects>(

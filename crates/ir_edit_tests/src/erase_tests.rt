@@ -6,13 +6,11 @@ use crate::checked::{
 };
 use crate::operand_tests::{expect_operands, new_value, result_of_another, with_type};
 use ir_base::{CoreError, Dialects, Limits, Ptr};
-use ir_core::{
-    AddRegion, BasicBlock, BlockList, BlockPtr, Context, DanglingPtrDerefError, DropUses, NewBlock,
-    NewOperation, Operation, OperationList, OperationPtr, Region, RegionPtr, Value,
-};
 use ir_toy::Toy;
 use ir_view::{
-    BlockPlace, Entity, IndexErr, OperationPlace, UseError, UseQueries, can_erase, is_inside,
+    AddRegion, BasicBlock, BlockList, BlockPlace, BlockPtr, Context, DanglingPtrDerefError,
+    DropUses, Entity, IndexErr, NewBlock, NewOperation, Operation, OperationList, OperationPlace,
+    OperationPtr, Region, RegionPtr, UseError, UseQueries, Value, can_erase, is_inside,
 };
 use std::process::Abort;
 use std::test::Fail;

@@ -4,17 +4,18 @@ ghost use Rattle.std.specs.Prelude.{◌<◌, ◌≤◌, length, IfOk};
 ghost use Rattle.ir_model.specs.Forest.{a_value, an_op};
 ghost use Rattle.ir_model.specs.Nesting.{IsLive, IsLiveNamed};
 ghost use Rattle.ir_records.specs.Meaning.{value_of};
-ghost use Rattle.ir_core.specs.Calls.{StayLive};
-ghost use Rattle.ir_core.specs.State.{forest_of, types_of};
+ghost use Rattle.ir_view.specs.Calls.{StayLive};
+ghost use Rattle.ir_view.specs.State.{forest_of, types_of};
 
 use crate::checked::{
     insert_operand, operand_use, pop_operand, push_operand, remove_operand, replace_operand,
     result_at, use_count,
 };
 use ir_base::{CoreError, Dialects, Limits, Ptr, TypeHandle};
-use ir_core::{Context, NewOperation, Operation, OperationPtr, Value};
 use ir_toy::{Toy, ToyType};
-use ir_view::{IndexErr, UseError, UseQueries};
+use ir_view::{
+    Context, IndexErr, NewOperation, Operation, OperationPtr, UseError, UseQueries, Value,
+};
 use std::alloc::Global;
 use std::process::Abort;
 use std::test::Fail;

@@ -4,9 +4,11 @@ use crate::checked::{
     insert_successor, pop_successor, push_successor, remove_successor, replace_successor,
 };
 use ir_base::{CoreError, Dialects, Limits, Ptr};
-use ir_core::{BasicBlock, BlockPtr, Context, NewBlock, NewOperation, Operation, OperationPtr};
 use ir_toy::Toy;
-use ir_view::{BlockUseQueries, BlockUses, UseQueries};
+use ir_view::{
+    BasicBlock, BlockPtr, BlockUseQueries, BlockUses, Context, NewBlock, NewOperation, Operation,
+    OperationPtr, UseQueries,
+};
 use std::process::Abort;
 use std::test::Fail;
 

@@ -1,13 +1,12 @@
 // Given names, ids and unique names, of values and of blocks, by their handles and by their records.
 use ir_base::{CoreError, Dialects, Identifier, Ptr};
-use ir_core::{
-    BasicBlock, BlockPtr, Context, NewBlock, NewOperation, Operation, OperationPtr, Value,
-    ValueEdits,
-};
 use ir_names::Named;
 use ir_text::ident;
 use ir_toy::{Toy, ToyType};
-use ir_view::ValueQueries;
+use ir_view::{
+    BasicBlock, BlockPtr, Context, NewBlock, NewOperation, Operation, OperationPtr, Value,
+    ValueEdits, ValueQueries,
+};
 use std::process::Abort;
 use std::test::Fail;
 

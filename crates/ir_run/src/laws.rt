@@ -1,7 +1,7 @@
 //! What holds of sessions whatever ids and numbers were chosen. Each function takes and does nothing; its contract is the law.
 
 ghost use Rattle.ir_model.specs.Sessions.{TwoRuns};
-ghost use Rattle.ir_core.specs.State.{behaviour};
+ghost use Rattle.ir_steps.specs.State.{behaviour};
 
 use ir_base::Dialects;
 

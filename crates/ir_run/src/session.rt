@@ -13,18 +13,19 @@ ghost use Rattle.ir_model.specs.Soundness.{Sound};
 ghost use Rattle.ir_model.specs.Uses.{AreUses};
 ghost use Rattle.ir_records.specs.declared.record.ValueIndex.{ValueIndex as PlainIndex};
 ghost use Rattle.ir_records.specs.Meaning.{value_of};
-ghost use Rattle.ir_core.specs.Calls.{LiveWasMade, TypesAreExact};
-ghost use Rattle.ir_core.specs.State.{bare, behaviour, block_uses_of, uses_of};
+ghost use Rattle.ir_steps.specs.Calls.{LiveWasMade, TypesAreExact};
+ghost use Rattle.ir_steps.specs.State.{bare, behaviour, block_uses_of, uses_of};
 ghost use Rattle.ir_run.specs.SessionEdits.{edit_of};
 ghost use Rattle.ir_run.specs.Headline.{GoneAtCuts, KeepsKeys};
 ghost use Rattle.ir_run.specs.SessionState.{plain};
 
 use crate::edit::Edit;
 use ir_base::{Answer, CoreError, Dialects, Limits, Ptr, TypeHandle};
-use ir_core::{BasicBlock, Context, Operation, Region, Value};
 use ir_steps::steps::{self, OpParts};
-use ir_steps::{definition_steps, erase_steps, list_steps, redirect_steps, use_steps};
-use ir_tables::Tables;
+use ir_steps::{
+    BasicBlock, Context, Operation, Region, Tables, Value, definition_steps, erase_steps,
+    list_steps, redirect_steps, use_steps,
+};
 use std::alloc::Global;
 use std::marker::Model;
 
@@ -38,7 +39,7 @@ pub struct Session<D: Dialects> {
 impl<D: Dialects> Model for Session<D> {
     ghost use Rattle.ir_model.specs.Soundness.{Sound};
     ghost use Rattle.ir_run.specs.SessionState.{plain, SessionState};
-    ghost use Rattle.ir_tables.specs.SessionTables.{entries_of};
+    ghost use Rattle.ir_steps.specs.SessionTables.{entries_of};
 
     ghost Value = { SessionState D D.Attr D.TypeKey D.TypeBody D.Saved D.Aux D.Loc };
 

@@ -4,16 +4,14 @@ ghost use Rattle.std.specs.Prelude.{◌<◌, ◌≤◌, length, IfOk};
 ghost use Rattle.ir_model.specs.Forest.{a_value};
 ghost use Rattle.ir_model.specs.Nesting.{IsLiveNamed};
 ghost use Rattle.ir_records.specs.Meaning.{value_of};
-ghost use Rattle.ir_core.specs.State.{forest_of, types_of};
+ghost use Rattle.ir_view.specs.State.{forest_of, types_of};
 
 use ir_base::{ArenaIndex, CoreError, Dialects, Identifier, Limits, Ptr, TypeHandle};
-use ir_core::{
-    AddRegion, BasicBlock, BlockPtr, Context, DanglingPtrDerefError, DefiningEntity, NewBlock,
-    NewOperation, Operation, OperationPtr, RegionPtr, Use, UseIndex, Value, ValueIndex,
-};
 use ir_toy::{Toy, ToyType};
 use ir_view::{
-    BlockUseQueries, BlockUses, IndexErr, UseError, UseQueries, ValueError, ValueQueries,
+    AddRegion, BasicBlock, BlockPtr, BlockUseQueries, BlockUses, Context, DanglingPtrDerefError,
+    DefiningEntity, IndexErr, NewBlock, NewOperation, Operation, OperationPtr, RegionPtr, Use,
+    UseError, UseIndex, UseQueries, Value, ValueError, ValueIndex, ValueQueries,
 };
 use std::alloc::Global;
 use std::process::Abort;

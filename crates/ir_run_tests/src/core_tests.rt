@@ -3,18 +3,18 @@
 ghost use Rattle.std.specs.Prelude.{◌≡◌, ◌<◌, ◌≤◌, length, IfOk};
 ghost use Rattle.ir_model.specs.Forest.{a_value};
 ghost use Rattle.ir_model.specs.Nesting.{IsLiveNamed};
-ghost use Rattle.ir_core.specs.Calls.{LeadsToLive};
+ghost use Rattle.ir_view.specs.Calls.{LeadsToLive};
 ghost use Rattle.ir_records.specs.Meaning.{value_of};
-ghost use Rattle.ir_core.specs.State.{forest_of, types_of};
+ghost use Rattle.ir_view.specs.State.{forest_of, types_of};
 
 use example::chain;
 use ir_base::{ArenaIndex, CoreError, Dialects, Limits, Ptr, Room, TypeHandle};
-use ir_core::{
-    Context, DanglingPtrDerefError, DefiningEntity, NewOperation, Operation, OperationPtr,
-    RegionPtr, TypeQueries, Use, UseIndex, Value, ValueIndex,
-};
 use ir_toy::{Toy, ToyType};
-use ir_view::{IndexErr, ResultUses, UseError, UseQueries, ValueError, ValueQueries};
+use ir_view::{
+    Context, DanglingPtrDerefError, DefiningEntity, IndexErr, NewOperation, Operation,
+    OperationPtr, RegionPtr, ResultUses, TypeQueries, Use, UseError, UseIndex, UseQueries, Value,
+    ValueError, ValueIndex, ValueQueries,
+};
 use std::alloc::Global;
 use std::process::Abort;
 use std::test::Fail;

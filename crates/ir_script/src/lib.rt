@@ -6,4 +6,7 @@ mod script_print;
 mod script_run;
 mod script_uses;
 
+pub use ir_base::{Answer, Limits, Refused};
+pub use ir_run::{Edit, Session};
+pub use ir_toy::{Toy, ToyType};
 pub use script_run::{run_script, run_script_with_limits};

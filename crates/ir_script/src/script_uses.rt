@@ -4,10 +4,8 @@
 
 use crate::script_parse::ScriptError;
 use ir_base::Ptr;
-use ir_core::{BasicBlock, BlockPtr, Operation, OperationPtr, Value};
-use ir_run::Session;
+use ir_run::{BasicBlock, BlockPtr, Operation, OperationPtr, Session, Value, ValueQueries};
 use ir_toy::Toy;
-use ir_values::ValueQueries;
 use std::alloc::Global;
 use std::collections::HashMap;
 

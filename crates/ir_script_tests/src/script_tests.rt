@@ -1,9 +1,8 @@
 //! Scripts over memory, with what the program prints for them and its status.
 
-use ir_base::{Answer, Limits, Refused};
-use ir_run::{Edit, Session};
-use ir_script::{run_script, run_script_with_limits};
-use ir_toy::{Toy, ToyType};
+use ir_script::{
+    Answer, Edit, Limits, Refused, Session, Toy, ToyType, run_script, run_script_with_limits,
+};
 use std::alloc::Global;
 use std::io;
 use std::io::{ErrorKind, Read, Write};

@@ -7,7 +7,7 @@ use Rattle.ir_model.specs.Nesting.{IsLive, IsLiveNamed}
 use Rattle.ir_model.specs.ContextIds.{context_ids}
 use Rattle.ir_model.specs.Edits.{AddRegion, Condition, Each, NewOp, Tables as PlainTables, The}
 use Rattle.ir_records.specs.Meaning.{value_of}
-use Rattle.ir_core.specs.State.{State, forest_of, session_of}
+use Rattle.ir_tables.specs.State.{State, forest_of, session_of}
 use Rattle.ir_arena.specs.declared.ptr.Ptr.{Ptr}
 use Rattle.ir_records.specs.declared.handles.Value.{Value}
 use Rattle.ir_records.specs.declared.record.BasicBlock.{BasicBlock}

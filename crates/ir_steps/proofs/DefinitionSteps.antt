@@ -23,9 +23,9 @@ use Rattle.ir_model.proofs.IdCases.{id_same}
 use Rattle.ir_records.specs.Mapped.{slice_get-insert_at}
 use Rattle.ir_records.specs.Meaning.{closed}
 use Rattle.ir_chains.specs.ListReads.{slice_get-push_at}
-use Rattle.ir_core.specs.Calls.{SameButForest, SkipsAtMost}
-use Rattle.ir_core.specs.Definitions.{MakesValue, UnusedAt, definition_inserted, definition_pushed, definition_removed}
-use Rattle.ir_core.specs.State.{State, bare, forest_of, session_of, types_of}
+use Rattle.ir_tables.specs.Calls.{SameButForest, SkipsAtMost}
+use Rattle.ir_tables.specs.Definitions.{MakesValue, UnusedAt, definition_inserted, definition_pushed, definition_removed}
+use Rattle.ir_tables.specs.State.{State, bare, forest_of, session_of, types_of}
 use Rattle.ir_tables.specs.Named.{NamesLive}
 use Rattle.ir_tables.specs.SessionLists.{the-map}
 use Rattle.ir_tables.specs.SessionTables.{answer_of, with_value}

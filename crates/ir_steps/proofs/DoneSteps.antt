@@ -14,9 +14,9 @@ use Rattle.ir_model.specs.Sessions.{HasNumbers, LacksNumbers, Passed, Passes, Se
 use Rattle.ir_model.proofs.Decided.{at_most}
 use Rattle.ir_model.proofs.Supply.{above}
 use Rattle.ir_records.specs.Meaning.{closed}
-use Rattle.ir_core.specs.Calls.{HandsOut, SameButForest, SkipsAtMost}
-use Rattle.ir_core.specs.Places.{MakesUse}
-use Rattle.ir_core.specs.State.{State, bare, forest_of, session_of}
+use Rattle.ir_tables.specs.Calls.{HandsOut, SameButForest, SkipsAtMost}
+use Rattle.ir_tables.specs.Places.{MakesUse}
+use Rattle.ir_tables.specs.State.{State, bare, forest_of, session_of}
 use Rattle.ir_tables.specs.SessionTables.{done_of}
 use Rattle.ir_steps.proofs.SessionSteps.{HasRoom, Tells, made_so, no_fresh, passes_none, refused, same-state, skips_none, tells_memory}
 

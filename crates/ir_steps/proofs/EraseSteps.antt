@@ -10,8 +10,8 @@ use Rattle.ir_model.specs.Changes.{DropsUses, Removes}
 use Rattle.ir_model.specs.Edits.{Condition, DropBlockUses, DropOpUses, DropRegionUses, EraseBlock, EraseOp, EraseRegion, Tables, The, no_needs, over}
 use Rattle.ir_model.specs.Sessions.{Session, Step}
 use Rattle.ir_records.specs.Meaning.{closed}
-use Rattle.ir_core.specs.Calls.{SameButForest}
-use Rattle.ir_core.specs.State.{State, bare, forest_of, session_of}
+use Rattle.ir_tables.specs.Calls.{SameButForest}
+use Rattle.ir_tables.specs.State.{State, bare, forest_of, session_of}
 use Rattle.ir_tables.specs.Named.{NamesLive}
 use Rattle.ir_steps.proofs.SessionSteps.{HasRoom}
 use Rattle.ir_steps.proofs.EntryKinds.{blocks, listed, not_one, one, ops, regions, unlisted}

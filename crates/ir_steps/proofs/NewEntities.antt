@@ -16,8 +16,8 @@ use Rattle.ir_model.proofs.TwoRuns.{id_tells}
 use Rattle.ir_records.specs.Meaning.{block_index, block_record, closed, op_index, op_record}
 use Rattle.ir_records.specs.declared.record.BasicBlock.{BasicBlock}
 use Rattle.ir_records.specs.declared.record.Operation.{Operation}
-use Rattle.ir_core.specs.Calls.{IsBlock, IsOperation, MakesBlock, MakesOperation, MakesRegion, SameButTypes, block_needs, op_needs, region_needs}
-use Rattle.ir_core.specs.State.{State, bare, forest_of, session_of, types_of}
+use Rattle.ir_tables.specs.Calls.{IsBlock, IsOperation, MakesBlock, MakesOperation, MakesRegion, SameButTypes, block_needs, op_needs, region_needs}
+use Rattle.ir_tables.specs.State.{State, bare, forest_of, session_of, types_of}
 use Rattle.ir_tables.specs.SessionTables.{with_block, with_op, with_region, with_type}
 use Rattle.ir_tables.specs.SessionLists.{below, length-these}
 use Rattle.ir_steps.proofs.SessionSteps.{HasRoom, made_so, no_fresh, passes_none, same-state}

@@ -11,8 +11,8 @@ use Rattle.ir_model.specs.Changes.{redirect, retarget}
 use Rattle.ir_model.specs.Edits.{Condition, ReplaceAllUses, RetargetAll, Tables, UsersLinked, no_needs}
 use Rattle.ir_model.specs.Sessions.{Session, Step}
 use Rattle.ir_records.specs.Meaning.{closed}
-use Rattle.ir_core.specs.Calls.{SameButForest}
-use Rattle.ir_core.specs.State.{State, bare, forest_of, session_of}
+use Rattle.ir_tables.specs.Calls.{SameButForest}
+use Rattle.ir_tables.specs.State.{State, bare, forest_of, session_of}
 use Rattle.ir_tables.specs.Named.{NamesLive, NamesLiveValue}
 use Rattle.ir_tables.specs.SessionTables.{done_of}
 use Rattle.ir_steps.proofs.SessionSteps.{HasRoom}

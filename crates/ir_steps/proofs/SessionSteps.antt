@@ -11,8 +11,8 @@ use Rattle.ir_model.specs.Sessions.{Passed, Passes, Session, Skips, Step, counte
 use Rattle.ir_model.specs.Soundness.{AreGone, IsCounted, Sound}
 use Rattle.ir_model.proofs.Decided.{at_most}
 use Rattle.ir_model.proofs.Supply.{above}
-use Rattle.ir_core.specs.State.{State, bare, session_of}
-use Rattle.ir_core.specs.Calls.{HandsOut, SkipsAtMost, block_needs, op_needs, region_needs}
+use Rattle.ir_tables.specs.State.{State, bare, session_of}
+use Rattle.ir_tables.specs.Calls.{HandsOut, SkipsAtMost, block_needs, op_needs, region_needs}
 use Rattle.ir_records.specs.Meaning.{closed}
 use Rattle.ir_tables.specs.SessionTables.{answer_of}
 

@@ -15,9 +15,9 @@ use Rattle.ir_model.specs.Edits.{Condition, InsertOperand, InsertSuccessor, Push
 use Rattle.ir_model.specs.Sessions.{LacksNumbers, Session, Step}
 use Rattle.ir_records.specs.declared.record.Operation.{Operation}
 use Rattle.ir_records.specs.Meaning.{closed, op_record}
-use Rattle.ir_core.specs.Calls.{IsOperation, SameButForest}
-use Rattle.ir_core.specs.Places.{MakesUse, operand_inserted, operand_pushed, operand_replaced, successor_inserted, successor_pushed, successor_replaced}
-use Rattle.ir_core.specs.State.{State, bare, forest_of, session_of}
+use Rattle.ir_tables.specs.Calls.{IsOperation, SameButForest}
+use Rattle.ir_tables.specs.Places.{MakesUse, operand_inserted, operand_pushed, operand_replaced, successor_inserted, successor_pushed, successor_replaced}
+use Rattle.ir_tables.specs.State.{State, bare, forest_of, session_of}
 use Rattle.ir_tables.specs.Named.{NamesLive, NamesLiveValue}
 use Rattle.ir_tables.specs.SessionTables.{done_of}
 use Rattle.ir_steps.proofs.SessionSteps.{HasRoom}

@@ -8,16 +8,16 @@ ghost use Rattle.ir_model.specs.Forest.{a_block, an_op, of_block, of_op};
 ghost use Rattle.ir_model.specs.Nesting.{IsLive, definitions_of, numbers_of};
 ghost use Rattle.ir_model.specs.Sessions.{Step};
 ghost use Rattle.ir_model.specs.Soundness.{Sound};
-ghost use Rattle.ir_core.specs.Calls.{counts_of};
-ghost use Rattle.ir_core.specs.State.{behaviour, forest_of, session_of, types_of};
+ghost use Rattle.ir_tables.specs.Calls.{counts_of};
+ghost use Rattle.ir_tables.specs.State.{behaviour, forest_of, session_of, types_of};
 ghost use Rattle.ir_tables.specs.SessionTables.{answer_of, entries_of, with_value};
 
 use crate::steps::{answer, make_room, needs_nothing};
 use ir_base::{Answer, CoreError, Dialects, Ptr, Refused, TypeHandle};
-use ir_core::{
+use ir_tables::{
     ArgumentEdits, BasicBlock, BlockPtr, Context, Needs, Operation, OperationPtr, ResultEdits,
+    Tables, find_unused_argument, find_unused_result, find_with_type,
 };
-use ir_tables::{Tables, find_unused_argument, find_unused_result, find_with_type};
 
 /// Gives the operation another result, the last, of the type, and enters it.
 pub fn push_result<D: Dialects>(

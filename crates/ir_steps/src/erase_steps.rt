@@ -4,13 +4,15 @@
 
 ghost use Rattle.ir_model.specs.Edits.{DropBlockUses as PlainDropBlockUses, DropOpUses as PlainDropOpUses, DropRegionUses as PlainDropRegionUses, EraseBlock as PlainEraseBlock, EraseOp as PlainEraseOp, EraseRegion as PlainEraseRegion};
 ghost use Rattle.ir_model.specs.Sessions.{Step};
-ghost use Rattle.ir_core.specs.State.{behaviour, session_of};
+ghost use Rattle.ir_tables.specs.State.{behaviour, session_of};
 ghost use Rattle.ir_tables.specs.SessionTables.{entries_of};
 
 use crate::steps::needs_nothing;
 use ir_base::{Answer, Dialects, Ptr, Refused};
-use ir_core::{BasicBlock, Context, DropUses, Erase, EraseRegion, Operation, Region};
-use ir_tables::{Tables, find, find_closed, find_closed_region};
+use ir_tables::{
+    BasicBlock, Context, DropUses, Erase, EraseRegion, Operation, Region, Tables, find,
+    find_closed, find_closed_region,
+};
 
 /// Takes the operands and successors of all operations inside the operation out, also its own.
 pub fn drop_op_uses<D: Dialects>(ctx: &mut Context<D>, tables: &Tables<D>, op: usize) -> Answer

@@ -9,3 +9,7 @@ pub mod list_steps;
 pub mod redirect_steps;
 pub mod steps;
 pub mod use_steps;
+
+pub use ir_tables::{
+    BasicBlock, BlockPtr, Context, Operation, OperationPtr, Region, Tables, Value, ValueQueries,
+};

@@ -4,16 +4,15 @@
 
 ghost use Rattle.ir_model.specs.Edits.{AppendBlocks as PlainAppendBlocks, AppendOps as PlainAppendOps, BlockAfter as PlainBlockAfter, BlockBack as PlainBlockBack, BlockBefore as PlainBlockBefore, BlockFront as PlainBlockFront, MoveRegion as PlainMoveRegion, OpAfter as PlainOpAfter, OpBack as PlainOpBack, OpBefore as PlainOpBefore, OpFront as PlainOpFront, UnlinkBlock as PlainUnlinkBlock, UnlinkOp as PlainUnlinkOp};
 ghost use Rattle.ir_model.specs.Sessions.{Step};
-ghost use Rattle.ir_core.specs.State.{behaviour, session_of};
+ghost use Rattle.ir_tables.specs.State.{behaviour, session_of};
 ghost use Rattle.ir_tables.specs.SessionTables.{entries_of};
 
 use crate::steps::needs_nothing;
 use ir_base::{Answer, Dialects, Ptr, Refused};
-use ir_core::{
+use ir_tables::{
     BasicBlock, BlockContainer, BlockList, Context, Operation, OperationContainer, OperationList,
-    Region, RegionMoves,
+    Region, RegionMoves, Tables, find_beside, find_into, find_joined, find_linked, find_outside,
 };
-use ir_tables::{Tables, find_beside, find_into, find_joined, find_linked, find_outside};
 
 /// Puts the operation at the front of the block.
 pub fn op_front<D: Dialects>(

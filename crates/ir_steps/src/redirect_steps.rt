@@ -4,13 +4,12 @@
 
 ghost use Rattle.ir_model.specs.Edits.{ReplaceAllUses as PlainReplaceAllUses, RetargetAll as PlainRetargetAll};
 ghost use Rattle.ir_model.specs.Sessions.{Step};
-ghost use Rattle.ir_core.specs.State.{behaviour, session_of};
+ghost use Rattle.ir_tables.specs.State.{behaviour, session_of};
 ghost use Rattle.ir_tables.specs.SessionTables.{entries_of};
 
 use crate::steps::{done, needs_nothing};
 use ir_base::{Answer, Dialects, Refused};
-use ir_core::{Context, Retarget, ValueEdits};
-use ir_tables::{Tables, find_retargeted, find_values};
+use ir_tables::{Context, Retarget, Tables, ValueEdits, find_retargeted, find_values};
 
 /// Lets each operand that names the first value name the second.
 pub fn replace_all_uses<D: Dialects>(

@@ -8,16 +8,15 @@ ghost use Rattle.ir_model.specs.Forest.{an_op};
 ghost use Rattle.ir_model.specs.Nesting.{IsLive};
 ghost use Rattle.ir_model.specs.Sessions.{HasNumbers, HasSlots, LacksNumbers, LacksSlots, Step};
 ghost use Rattle.ir_model.specs.Soundness.{Sound};
-ghost use Rattle.ir_core.specs.Calls.{HasAll, counts_of};
-ghost use Rattle.ir_core.specs.State.{bare, behaviour, forest_of, session_of};
+ghost use Rattle.ir_tables.specs.Calls.{HasAll, counts_of};
+ghost use Rattle.ir_tables.specs.State.{bare, behaviour, forest_of, session_of};
 ghost use Rattle.ir_tables.specs.SessionTables.{HasPlace, answer_of, done_of, entries_of};
 
 use ir_base::{Answer, CoreError, Dialects, Identifier, Ptr, Refused, TypeHandle};
-use ir_core::{
+use ir_tables::{
     AddRegion, BasicBlock, BlockPtr, Context, Needs, NewBlock, NewOperation, Operation,
-    OperationPtr, Value,
+    OperationPtr, Tables, Value, all_below, all_live, live_entry, picked,
 };
-use ir_tables::{Tables, all_below, all_live, live_entry, picked};
 use std::alloc::{AllocError, Global};
 
 /// What an operation is made of, by numbers in the tables.

@@ -4,13 +4,15 @@
 
 ghost use Rattle.ir_model.specs.Edits.{InsertOperand as PlainInsertOperand, InsertSuccessor as PlainInsertSuccessor, PushOperand as PlainPushOperand, PushSuccessor as PlainPushSuccessor, RemoveOperand as PlainRemoveOperand, RemoveSuccessor as PlainRemoveSuccessor, ReplaceOperand as PlainReplaceOperand, ReplaceSuccessor as PlainReplaceSuccessor};
 ghost use Rattle.ir_model.specs.Sessions.{Step};
-ghost use Rattle.ir_core.specs.State.{behaviour, session_of};
+ghost use Rattle.ir_tables.specs.State.{behaviour, session_of};
 ghost use Rattle.ir_tables.specs.SessionTables.{entries_of};
 
 use crate::steps::{done, needs_nothing};
 use ir_base::{Answer, Dialects, Ptr, Refused};
-use ir_core::{BasicBlock, Context, OperandEdits, Operation, OperationPtr, SuccessorEdits};
-use ir_tables::{Tables, find, find_both, find_op_and_value};
+use ir_tables::{
+    BasicBlock, Context, OperandEdits, Operation, OperationPtr, SuccessorEdits, Tables, find,
+    find_both, find_op_and_value,
+};
 
 /// Gives the operation another operand, the last, which names the value.
 pub fn push_operand<D: Dialects>(

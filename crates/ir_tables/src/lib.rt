@@ -16,6 +16,12 @@ pub use definition_conditions::{
 };
 pub use entities::{EntityEntry, find};
 pub use erase_conditions::{find_closed, find_closed_region};
+pub use ir_view::{
+    AddRegion, ArgumentEdits, BasicBlock, BlockContainer, BlockList, BlockPtr, Context, DropUses,
+    Erase, EraseRegion, Needs, NewBlock, NewOperation, OperandEdits, Operation, OperationContainer,
+    OperationList, OperationPtr, Region, RegionMoves, RegionPtr, ResultEdits, Retarget,
+    SuccessorEdits, Value, ValueEdits, ValueQueries,
+};
 pub use list_conditions::{find_beside, find_into, find_joined, find_linked, find_outside};
 pub use lookups::{Entry, all_below, all_live, live_entry, picked};
 pub use session_tables::Tables;

@@ -2,11 +2,12 @@
 
 ghost use Rattle.std.specs.Prelude.{◌≡◌, ◌<◌, ◌↔◌, Some, length, IfOk, IfSome, IsNone, IsTrue, slice_get};
 ghost use Rattle.ir_model.specs.Edits.{Each, The, these};
-ghost use Rattle.ir_core.specs.State.{forest_of};
+ghost use Rattle.ir_view.specs.State.{forest_of};
 
 use ir_base::{Dialects, Ptr};
-use ir_core::{BasicBlock, BlockPtr, Context, Operation, OperationPtr, Region, RegionPtr, Value};
-use ir_values::ValueQueries;
+use ir_view::{
+    BasicBlock, BlockPtr, Context, Operation, OperationPtr, Region, RegionPtr, Value, ValueQueries,
+};
 use std::alloc::{AllocError, Global};
 
 /// An entry of a table, which is live or not.

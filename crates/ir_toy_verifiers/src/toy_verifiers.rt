@@ -4,16 +4,15 @@ ghost use Rattle.std.specs.Prelude.{◌≡◌, Some, IfErr, OnOk};
 ghost use Rattle.ir_model.specs.Calls.{kind_of};
 ghost use Rattle.ir_model.specs.Forest.{an_op};
 ghost use Rattle.ir_model.specs.Nesting.{IsLive};
-ghost use Rattle.ir_core.specs.State.{forest_of};
+ghost use Rattle.ir_view.specs.State.{forest_of};
 ghost use Rattle.ir_view.specs.Wrapped.{kind_in, operation_in};
 ghost use Rattle.ir_verify.specs.Shown.{shown};
 ghost use Rattle.ir_verify.specs.Told.{MayFail, MayPass};
 ghost use Rattle.ir_toy_verifiers.specs.ToyVerifiers.{silent, toy_verifiers};
 
-use ir_core::{Context, OperationPtr};
 use ir_toy::{Toy, ToyAttr, ToyType};
 use ir_verify::{CheckErr, Verifiers};
-use ir_view::OpObj;
+use ir_view::{Context, OpObj, OperationPtr};
 
 /// The code of an integer type whose width is 0.
 pub const EMPTY_INTEGER: u32 = 1;

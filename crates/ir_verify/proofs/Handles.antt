@@ -11,7 +11,7 @@ use Rattle.ir_model.specs.Ids.{Distinct}
 use Rattle.ir_model.specs.Nesting.{In, WellFormed, definitions_of}
 use Rattle.ir_model.proofs.Nests.{In-map, not_in-Absent}
 use Rattle.ir_records.specs.Found.{some_behind}
-use Rattle.ir_values.specs.Values.{HasType}
+use Rattle.ir_view.specs.Values.{HasType}
 use Rattle.ir_verify.specs.declared.error.VerifyErr.{VerifyErr}
 use Rattle.ir_verify.specs.Parts.{Finds, FindsAt, IsThere, NoFault, RootFault, RunsOnAttributes, RunsOnHandle, RunsOnTypes}
 use Rattle.ir_verify.proofs.Pieces.{tells-whole, there-more}

@@ -8,7 +8,7 @@ use Rattle.ir_model.specs.Kinds.{Kinds}
 use Rattle.ir_model.specs.Sessions.{Beside}
 use Rattle.ir_model.specs.Verifiers.{Verifiers, checks_of}
 use Rattle.ir_records.specs.Meaning.{closed}
-use Rattle.ir_core.specs.State.{State, beside_of, forest_of, types_of}
+use Rattle.ir_view.specs.State.{State, beside_of, forest_of, types_of}
 
 -- the forest, the stored types, and saved and auxiliary data
 pub record Shown (W : Dialect) : Type 0 where

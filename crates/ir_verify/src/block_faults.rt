@@ -5,16 +5,18 @@ ghost use Rattle.ir_model.specs.Faults.{IsEntry, IsNamed, IsNamedAside, LacksTer
 ghost use Rattle.ir_model.specs.Forest.{a_block, an_op, the_block};
 ghost use Rattle.ir_model.specs.Names.{IsBlockName};
 ghost use Rattle.ir_model.specs.Nesting.{In, IsLive, names_of};
-ghost use Rattle.ir_core.specs.State.{behaviour, forest_of, types_of};
+ghost use Rattle.ir_view.specs.State.{behaviour, forest_of, types_of};
 ghost use Rattle.ir_verify.specs.Parts.{BlockFault, IsAside, Tells};
 
 use crate::error::{BasicBlockVerifyErr, DefUseVerifyErr, VerifyErr};
 use ir_base::interfaces::NO_TERMINATOR;
 use ir_base::{Dialects, Identifier, Ptr};
-use ir_core::{BasicBlock, BlockIndex, Context, Operation, OperationPtr, RegionPtr};
 use ir_names::Named;
 use ir_records::block_uses;
-use ir_view::{BlockPlace, BlockSuccessors, BlockUses, OperationPlace, RegionPlace};
+use ir_view::{
+    BasicBlock, BlockIndex, BlockPlace, BlockSuccessors, BlockUses, Context, Operation,
+    OperationPlace, OperationPtr, RegionPlace, RegionPtr,
+};
 
 // The unique name of a live block.
 pub(crate) fn name_of<D: Dialects>(

@@ -6,8 +6,8 @@ ghost use Rattle.ir_model.specs.Forest.{an_op};
 ghost use Rattle.ir_model.specs.Nesting.{In, IsLive};
 ghost use Rattle.ir_records.specs.declared.record.Definition.{Definition as PlainDefinition};
 ghost use Rattle.ir_records.specs.Meaning.{definition_of};
-ghost use Rattle.ir_core.specs.State.{behaviour, forest_of, types_of};
-ghost use Rattle.ir_walk.specs.Dominance.{kinds};
+ghost use Rattle.ir_view.specs.State.{behaviour, forest_of, types_of};
+ghost use Rattle.ir_view.specs.Dominance.{kinds};
 ghost use Rattle.ir_verify.specs.Parts.{Finds, FindsAt, NoFault, RunsOnAttributes, RunsOnOp, RunsOnTypes};
 ghost use Rattle.ir_verify.specs.Shown.{checks_in};
 
@@ -15,9 +15,8 @@ use crate::error::VerifyErr;
 use crate::verifiers::Verifiers;
 use ir_base::attribute::AttributeDict;
 use ir_base::{Dialects, Ptr, TypeHandle};
-use ir_core::{Context, Operation, TypeQueries};
 use ir_records::Definition;
-use ir_view::OperationKind;
+use ir_view::{Context, Operation, OperationKind, TypeQueries};
 
 // The checks of a type: those of the numbers that are listed for its kind, and its own.
 pub(crate) fn check_type<D: Dialects, V: Verifiers<D>>(

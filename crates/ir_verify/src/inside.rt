@@ -4,8 +4,8 @@ ghost use Rattle.ir_model.specs.Faults.{the_entity};
 ghost use Rattle.ir_model.specs.Forest.{a_block, an_op};
 ghost use Rattle.ir_model.specs.Nesting.{IsLive};
 ghost use Rattle.ir_records.specs.Meaning.{entity_of};
-ghost use Rattle.ir_core.specs.State.{behaviour, forest_of, types_of};
-ghost use Rattle.ir_walk.specs.Dominance.{kinds};
+ghost use Rattle.ir_view.specs.State.{behaviour, forest_of, types_of};
+ghost use Rattle.ir_view.specs.Dominance.{kinds};
 ghost use Rattle.ir_verify.specs.Parts.{FaultAt, Finds, FindsAt, RunAt};
 ghost use Rattle.ir_verify.specs.Shown.{checks_in};
 
@@ -15,9 +15,9 @@ use crate::error::VerifyErr;
 use crate::operation_faults::verify_place;
 use crate::verifiers::Verifiers;
 use ir_base::{Dialects, Ptr};
-use ir_core::{BasicBlock, Context, Operation};
 use ir_erase::{deepest, next_inside, subtrees_are_listed};
 use ir_records::EntityIndex;
+use ir_view::{BasicBlock, Context, Operation};
 
 // A live operation alone, without what is inside it.
 fn verify_operation_alone<D: Dialects, V: Verifiers<D>>(

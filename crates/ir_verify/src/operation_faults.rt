@@ -2,15 +2,14 @@
 
 ghost use Rattle.ir_model.specs.Forest.{an_op};
 ghost use Rattle.ir_model.specs.Nesting.{IsLive};
-ghost use Rattle.ir_core.specs.State.{behaviour, forest_of, types_of};
+ghost use Rattle.ir_view.specs.State.{behaviour, forest_of, types_of};
 ghost use Rattle.ir_verify.specs.Parts.{OpFault, Tells};
 
 use crate::block_faults::name_of;
 use crate::error::{BasicBlockVerifyErr, VerifyErr};
 use ir_base::interfaces::TERMINATOR;
 use ir_base::{Dialects, Ptr};
-use ir_core::{Context, Operation, OperationPtr};
-use ir_view::OperationPlace;
+use ir_view::{Context, Operation, OperationPlace, OperationPtr};
 
 // The faults of a live operation itself.
 pub(crate) fn verify_place<D: Dialects>(

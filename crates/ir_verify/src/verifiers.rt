@@ -4,15 +4,14 @@ ghost use Rattle.std.specs.Prelude.{◌≡◌, Some, IfErr, OnOk};
 ghost use Rattle.ir_model.specs.Calls.{kind_of};
 ghost use Rattle.ir_model.specs.Forest.{an_op};
 ghost use Rattle.ir_model.specs.Nesting.{IsLive};
-ghost use Rattle.ir_core.specs.State.{forest_of};
+ghost use Rattle.ir_view.specs.State.{forest_of};
 ghost use Rattle.ir_view.specs.Wrapped.{kind_in, operation_in};
 ghost use Rattle.ir_verify.specs.Shown.{shown};
 ghost use Rattle.ir_verify.specs.Told.{MayFail, MayPass};
 
 use crate::error::CheckErr;
 use ir_base::Dialects;
-use ir_core::Context;
-use ir_view::OpObj;
+use ir_view::{Context, OpObj};
 
 /// What is handed in for verification: for each kind of operations, attributes and types a list of numbers of checks, the check of each number, and the own checks.
 ///

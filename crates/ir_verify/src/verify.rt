@@ -7,8 +7,8 @@ ghost use Rattle.ir_model.specs.Forest.{a_block, a_region, a_value, an_op};
 ghost use Rattle.ir_model.specs.Nesting.{IsLive, IsLiveNamed};
 ghost use Rattle.ir_model.specs.VerifyAnswers.{AllIsWell, MayAnswer};
 ghost use Rattle.ir_records.specs.Meaning.{value_of};
-ghost use Rattle.ir_core.specs.State.{behaviour, forest_of, types_of};
-ghost use Rattle.ir_walk.specs.Dominance.{kinds};
+ghost use Rattle.ir_view.specs.State.{behaviour, forest_of, types_of};
+ghost use Rattle.ir_view.specs.Dominance.{kinds};
 ghost use Rattle.ir_view.specs.Wrapped.{operation_in};
 ghost use Rattle.ir_verify.specs.Parts.{FindsAt};
 ghost use Rattle.ir_verify.specs.Shown.{checks_in};
@@ -19,9 +19,8 @@ use crate::error::VerifyErr;
 use crate::inside::verify_inside;
 use crate::verifiers::Verifiers;
 use ir_base::{Dialects, Ptr, TypeHandle};
-use ir_core::{BasicBlock, Context, Operation, Region, TypeQueries, Value};
 use ir_records::EntityIndex;
-use ir_view::{OpObj, ValueQueries};
+use ir_view::{BasicBlock, Context, OpObj, Operation, Region, TypeQueries, Value, ValueQueries};
 
 /// Verifies a live operation and all that is inside it. It stands for pliron's `verify_operation`.
 ///
@@ -102,7 +101,7 @@ fn verify_value<D: Dialects, V: Verifiers<D>>(
 pub trait Verify<D: Dialects> {
     ghost use Rattle.ir_model.specs.Faults.{Root};
     ghost use Rattle.ir_records.specs.Meaning.{closed};
-    ghost use Rattle.ir_core.specs.State.{State};
+    ghost use Rattle.ir_view.specs.State.{State};
 
     // It is live, or known.
     ghost IsThere: { State D D.Attr D.TypeKey D.TypeBody D.Saved D.Aux D.Loc → Self → Type 0 };

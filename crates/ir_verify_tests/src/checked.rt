@@ -1,12 +1,8 @@
 //! What the tests make and what they expect; the conditions of each call are asserted first.
 
 use ir_base::{CoreError, Dialects, Identifier, Ptr};
-use ir_core::{
-    BasicBlock, BlockList, BlockPtr, Context, NewBlock, NewOperation, Operation, OperationList,
-    OperationPtr, Region, RegionPtr,
-};
 use ir_verify::{Verifiers, VerifyErr, verify_operation};
-use ir_view::{BlockPlace, Entity, OperationPlace, is_inside};
+use ir_view::{BasicBlock, BlockList, BlockPlace, BlockPtr, Context, Entity, NewBlock, NewOperation, Operation, OperationList, OperationPlace, OperationPtr, Region, RegionPtr, is_inside};
 use std::process::Abort;
 
 /// A new operation of the kind, without results, operands and successors, with so many regions.

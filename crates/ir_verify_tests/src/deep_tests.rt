@@ -2,10 +2,10 @@
 
 use crate::checked::{add_block, add_op, expect_at, first_region, new_op, put_op};
 use ir_base::{CoreError, Dialects, Ptr};
-use ir_core::{BasicBlock, Context, Operation};
 use ir_toy::Toy;
 use ir_toy_verifiers::ToyVerifiers;
 use ir_verify::Verifiers;
+use ir_view::{BasicBlock, Context, Operation};
 use std::process::Abort;
 use std::test::Fail;
 

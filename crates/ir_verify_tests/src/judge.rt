@@ -3,16 +3,15 @@ ghost use Rattle.std.specs.Prelude.{◌≡◌, ℕ, Some, IfErr, OnOk};
 ghost use Rattle.ir_model.specs.Calls.{kind_of};
 ghost use Rattle.ir_model.specs.Forest.{an_op};
 ghost use Rattle.ir_model.specs.Nesting.{IsLive};
-ghost use Rattle.ir_core.specs.State.{forest_of};
+ghost use Rattle.ir_view.specs.State.{forest_of};
 ghost use Rattle.ir_view.specs.Wrapped.{kind_in, operation_in};
 ghost use Rattle.ir_verify.specs.Shown.{shown};
 ghost use Rattle.ir_verify.specs.Told.{MayFail, MayPass};
 ghost use Rattle.ir_verify_tests.specs.Judge.{answers, attr_list, judging, op_list, type_list};
 
 use crate::small_dialect::{Small, SmallAttr};
-use ir_core::Context;
 use ir_verify::{CheckErr, Verifiers};
-use ir_view::OpObj;
+use ir_view::{Context, OpObj};
 
 /// Answers one code where its check is run, or, at one check, that memory ran out. No check has the code 0.
 #[derive(Clone, Copy, Drop)]

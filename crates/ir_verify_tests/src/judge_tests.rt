@@ -5,14 +5,10 @@ use crate::judge::Judge;
 use crate::small_dialect::{Marked, Plain, Small, SmallAttr};
 use ir_base::attribute::Attribute;
 use ir_base::{CoreError, Dialects, Ptr, TypeHandle, ident};
-use ir_core::{
-    BasicBlock, BlockList, BlockPtr, BlockPtrMut, Context, NewBlock, NewOperation, Operation,
-    OperationPtr, OperationPtrMut, Region, RegionPtr, TypeQueries, Value,
-};
 use ir_verify::{
     VerifierErr, Verify, VerifyErr, verify_attr, verify_op, verify_operation, verify_type,
 };
-use ir_view::{BlockPlace, Entity, OperationKind, ValueQueries, is_inside};
+use ir_view::{BasicBlock, BlockList, BlockPlace, BlockPtr, BlockPtrMut, Context, Entity, NewBlock, NewOperation, Operation, OperationKind, OperationPtr, OperationPtrMut, Region, RegionPtr, TypeQueries, Value, ValueQueries, is_inside};
 use std::process::Abort;
 use std::test::Fail;
 

@@ -5,13 +5,13 @@ use crate::plain_faults::plain_faults;
 use crate::random_edits::RandomEdits;
 use crate::reading::read_session;
 use ir_base::{Answer, CoreError, Limits, Refused};
-use ir_core::{BlockPtr, OperationPtr, RegionPtr};
 use ir_run::Session;
 use ir_toy::Toy;
 use ir_toy_verifiers::ToyVerifiers;
 use ir_verify::{
     BasicBlockVerifyErr, DefUseVerifyErr, Verify, VerifyErr, verify_operation,
 };
+use ir_view::{BlockPtr, OperationPtr, RegionPtr};
 use std::alloc::Global;
 use std::process::Abort;
 use std::test::Fail;

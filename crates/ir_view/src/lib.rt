@@ -1,6 +1,6 @@
 //! Views over what a context tells: iterators over the parts of an operation or a block, edges between blocks, and wrapped operations.
 //!
-//! All of it reads only. What a call gives is live, known or in range by its contract. It gives out what the crates between `ir_core` and it tell of a context, so that a caller names these two.
+//! All of it reads only. What a call gives is live, known or in range by its contract. It gives out what the crates below it tell of a context and change in it, so that a caller names it and `ir_base`.
 #![tactic(auto)]
 
 mod backward_edges;
@@ -15,6 +15,14 @@ pub use backward_edges::BlockPredecessors;
 pub use block_parts::{ArgumentTypes, ArgumentTypesOf, Arguments, ArgumentsOf, BlockParts};
 pub use forward_edges::BlockSuccessors;
 pub use indexed::{HasParts, Parts};
+pub use ir_core::{
+    AddRegion, ArgumentEdits, BasicBlock, BasicBlockMut, BlockContainer, BlockIndex, BlockList,
+    BlockPtr, BlockPtrMut, Context, DanglingPtrDerefError, Definer, DefiningEntity, DropUses,
+    Erase, EraseRegion, Needs, NewBlock, NewOperation, OperandEdits, Operation, OperationContainer,
+    OperationList, OperationMut, OperationPtr, OperationPtrMut, Region, RegionMoves, RegionPtr,
+    ResultEdits, Retarget, SuccessorEdits, TypeQueries, Use, UseIndex, Value, ValueEdits,
+    ValueIndex,
+};
 pub use ir_values::{
     BlockUseQueries, BlockUses, IndexErr, OperationUses, ResultUses, UseError, UseQueries,
     ValueError, ValueQueries,

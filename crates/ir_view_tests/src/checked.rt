@@ -1,11 +1,11 @@
 //! The edits of lists that the tests do, each of whose conditions is asserted first.
 
 use ir_base::{CoreError, Dialects, Ptr};
-use ir_core::{
-    BasicBlock, BlockList, BlockPtr, Context, NewBlock, NewOperation, Operation, OperationList,
-    OperationPtr, Region, RegionMoves, RegionPtr,
+use ir_view::{
+    BasicBlock, BlockList, BlockPlace, BlockPtr, Context, Entity, NewBlock, NewOperation,
+    Operation, OperationList, OperationPlace, OperationPtr, Region, RegionMoves, RegionPtr,
+    is_inside,
 };
-use ir_view::{BlockPlace, Entity, OperationPlace, is_inside};
 use std::process::Abort;
 
 /// Puts the operation at the back of the block.

@@ -2,9 +2,11 @@
 
 use crate::checked::{new_block, new_branch, new_op, region_at};
 use ir_base::{CoreError, Dialects, Ptr};
-use ir_core::{BasicBlock, BlockPtr, Context, NewOperation, Operation};
 use ir_toy::Toy;
-use ir_view::{BlockPredecessors, BlockSuccessors, BlockUses};
+use ir_view::{
+    BasicBlock, BlockPredecessors, BlockPtr, BlockSuccessors, BlockUses, Context, NewOperation,
+    Operation,
+};
 use std::process::Abort;
 use std::test::Fail;
 

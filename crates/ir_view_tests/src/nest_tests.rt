@@ -2,13 +2,11 @@
 
 use crate::checked::{new_block, new_op, put_op, region_at};
 use ir_base::{CoreError, Dialects, Ptr, TypeHandle};
-use ir_core::{
-    BasicBlock, BlockPtr, Context, NewBlock, NewOperation, Operation, OperationPtr, Region,
-    RegionPtr, TypeQueries, Value,
-};
 use ir_toy::{Toy, ToyType};
 use ir_view::{
-    BlockPlace, Entity, OperationPlace, RegionPlace, ValuePlace, ValueQueries, can_erase, is_inside,
+    BasicBlock, BlockPlace, BlockPtr, Context, Entity, NewBlock, NewOperation, Operation,
+    OperationPlace, OperationPtr, Region, RegionPlace, RegionPtr, TypeQueries, Value, ValuePlace,
+    ValueQueries, can_erase, is_inside,
 };
 use std::process::Abort;
 use std::test::Fail;

@@ -1,11 +1,11 @@
 //! The parts of an operation and of a block, walked from both ends.
 
 use ir_base::{CoreError, Dialects, Ptr, TypeHandle};
-use ir_core::{
-    BasicBlock, BlockPtr, Context, NewBlock, NewOperation, Operation, OperationPtr, TypeQueries,
-};
 use ir_toy::{Toy, ToyType};
-use ir_view::{BlockParts, HasParts, OperationParts, Parts};
+use ir_view::{
+    BasicBlock, BlockParts, BlockPtr, Context, HasParts, NewBlock, NewOperation, Operation,
+    OperationParts, OperationPtr, Parts, TypeQueries,
+};
 use std::process::Abort;
 use std::test::Fail;
 

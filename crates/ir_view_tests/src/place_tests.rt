@@ -2,11 +2,11 @@
 
 use crate::checked::{new_op, put_op, unlink_op};
 use ir_base::{CoreError, Dialects, Ptr};
-use ir_core::{
-    BasicBlock, BlockPtr, Context, NewBlock, Operation, OperationPtr, Region, RegionPtr,
-};
 use ir_toy::Toy;
-use ir_view::{BlockPlace, OperationPlace, RegionPlace};
+use ir_view::{
+    BasicBlock, BlockPlace, BlockPtr, Context, NewBlock, Operation, OperationPlace, OperationPtr,
+    Region, RegionPlace, RegionPtr,
+};
 use std::process::Abort;
 use std::test::Fail;
 

@@ -2,9 +2,8 @@
 
 use crate::checked::{move_region, new_op, region_at};
 use ir_base::{CoreError, Dialects, Ptr};
-use ir_core::{Context, Operation, OperationPtr, Region, RegionPtr};
 use ir_toy::Toy;
-use ir_view::{OperationParts, RegionPlace};
+use ir_view::{Context, Operation, OperationParts, OperationPtr, Region, RegionPlace, RegionPtr};
 use std::process::Abort;
 use std::test::Fail;
 

@@ -1,12 +1,11 @@
 //! Uses of values and of blocks, and a refused operation that leaves them as they were.
 
 use ir_base::{CoreError, Dialects, Ptr, TypeHandle};
-use ir_core::{
-    BasicBlock, BlockPtr, Context, NewBlock, NewOperation, Operation, OperationPtr, TypeQueries,
-    Value,
-};
 use ir_toy::{Toy, ToyType};
-use ir_view::{BlockUses, OperationParts, ResultUses, UseQueries, ValueQueries};
+use ir_view::{
+    BasicBlock, BlockPtr, BlockUses, Context, NewBlock, NewOperation, Operation, OperationParts,
+    OperationPtr, ResultUses, TypeQueries, UseQueries, Value, ValueQueries,
+};
 use std::process::Abort;
 use std::test::Fail;
 

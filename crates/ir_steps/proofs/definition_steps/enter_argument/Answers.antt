@@ -3,8 +3,8 @@ use Rattle.std.proofs.lemmas.List.{length-map}
 use Rattle.ir_model.specs.Forest.{of_block}
 use Rattle.ir_model.specs.Nesting.{ops_of}
 use Rattle.ir_records.specs.Meaning.{definer_of, block_record, value_of}
-use Rattle.ir_core.specs.State.{forest_of}
-use Rattle.ir_tables.specs.Definitions.{argument_count, argument_number}
+use Rattle.ir_tables.specs.State.{forest_of}
+use Rattle.ir_tables.specs.DefinitionEntries.{argument_count, argument_number}
 use Rattle.ir_tables.specs.SessionTables.{entries_of, with_value}
 use Rattle.ir_steps.proofs.DefinitionSteps.{value_by}
 use Rattle.ir_steps.proofs.definition_steps.enter_argument.Goals as goal

@@ -1,8 +1,8 @@
 use Rattle.std.proofs.Common.{arith}
 use Rattle.ir_model.specs.Nesting.{ops_of}
 use Rattle.ir_records.specs.Meaning.{block_record}
-use Rattle.ir_core.specs.State.{forest_of}
-use Rattle.ir_tables.specs.Definitions.{argument_count}
+use Rattle.ir_tables.specs.State.{forest_of}
+use Rattle.ir_tables.specs.DefinitionEntries.{argument_count}
 use Rattle.ir_tables.specs.SessionTables.{entries_of}
 use Rattle.ir_steps.proofs.DefinitionSteps.{stored}
 use Rattle.ir_steps.proofs.definition_steps.insert_argument.Goals as goal

@@ -1,7 +1,7 @@
 use Rattle.std.proofs.Common.{arith}
 use Rattle.ir_records.specs.Meaning.{op_record}
-use Rattle.ir_core.specs.State.{forest_of}
-use Rattle.ir_tables.specs.Definitions.{result_count}
+use Rattle.ir_tables.specs.State.{forest_of}
+use Rattle.ir_tables.specs.DefinitionEntries.{result_count}
 use Rattle.ir_tables.specs.SessionTables.{entries_of}
 use Rattle.ir_steps.proofs.DefinitionSteps.{stored}
 use Rattle.ir_steps.proofs.definition_steps.insert_result.Goals as goal

@@ -3,8 +3,8 @@ use Rattle.std.proofs.lemmas.Result.{err_from_is_err_and}
 use Rattle.ir_model.specs.Edits.{PushResult}
 use Rattle.ir_model.specs.Forest.{an_op, of_op}
 use Rattle.ir_model.specs.Ids.{Counts}
-use Rattle.ir_core.specs.Definitions.{definition_pushed}
-use Rattle.ir_core.specs.State.{forest_of}
+use Rattle.ir_tables.specs.Definitions.{definition_pushed}
+use Rattle.ir_tables.specs.State.{forest_of}
 use Rattle.ir_tables.specs.SessionTables.{entries_of}
 use Rattle.ir_steps.proofs.DefinitionSteps.{may_push_result, no_room, not_made, place_within, pushed_there, value_made}
 use Rattle.ir_steps.proofs.SessionSteps.{room_found}

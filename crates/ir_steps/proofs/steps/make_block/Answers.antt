@@ -6,8 +6,8 @@ use Rattle.ir_model.specs.declared.error.CoreError.TheVariants.{OutOfMemory}
 use Rattle.ir_model.specs.Edits.{NewBlock, these}
 use Rattle.ir_model.specs.Nesting.{ops_of}
 use Rattle.ir_records.specs.Meaning.{block_record}
-use Rattle.ir_core.specs.Calls.{block_needs}
-use Rattle.ir_core.specs.State.{bare, forest_of, types_of}
+use Rattle.ir_tables.specs.Calls.{block_needs}
+use Rattle.ir_tables.specs.State.{bare, forest_of, types_of}
 use Rattle.ir_tables.specs.SessionTables.{entries_of, with_block}
 use Rattle.ir_steps.proofs.Conditions.{types_still}
 use Rattle.ir_steps.proofs.NewEntities.{block_made, count_is}

@@ -7,8 +7,8 @@ use Rattle.ir_model.specs.Forest.{a_block, a_value}
 use Rattle.ir_model.specs.Nesting.{IsLive, IsLiveNamed}
 use Rattle.ir_model.specs.Edits.{NewOp, these}
 use Rattle.ir_records.specs.Meaning.{op_record, value_of}
-use Rattle.ir_core.specs.Calls.{op_needs}
-use Rattle.ir_core.specs.State.{bare, forest_of, types_of}
+use Rattle.ir_tables.specs.Calls.{op_needs}
+use Rattle.ir_tables.specs.State.{bare, forest_of, types_of}
 use Rattle.ir_tables.specs.SessionTables.{entries_of, with_op}
 use Rattle.ir_steps.proofs.Conditions.{op_still}
 use Rattle.ir_steps.proofs.NewEntities.{count_is, op_asks, op_made}

@@ -4,8 +4,8 @@ use Rattle.std.proofs.lemmas.List.{length-map}
 use Rattle.std.proofs.lemmas.Result.{err_from_is_err_and}
 use Rattle.ir_model.specs.Edits.{AddRegion}
 use Rattle.ir_model.specs.Ids.{Counts}
-use Rattle.ir_core.specs.Calls.{region_needs}
-use Rattle.ir_core.specs.State.{bare, forest_of}
+use Rattle.ir_tables.specs.Calls.{region_needs}
+use Rattle.ir_tables.specs.State.{bare, forest_of}
 use Rattle.ir_tables.specs.SessionTables.{entries_of, with_region}
 use Rattle.ir_steps.proofs.Conditions.{there}
 use Rattle.ir_steps.proofs.NewEntities.{region_made}

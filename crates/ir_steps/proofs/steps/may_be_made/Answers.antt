@@ -3,7 +3,7 @@ use Rattle.std.specs.Prelude.{slice_get}
 use Rattle.ir_model.specs.Forest.{a_value}
 use Rattle.ir_model.specs.Nesting.{IsLiveNamed}
 use Rattle.ir_model.specs.Edits.{Each, The}
-use Rattle.ir_core.specs.State.{forest_of}
+use Rattle.ir_tables.specs.State.{forest_of}
 use Rattle.ir_tables.specs.SessionTables.{entries_of}
 use Rattle.ir_steps.proofs.Conditions.{blocks_tested, types_tested, values_tested}
 use Rattle.ir_tables.specs.SessionLists.{clash}

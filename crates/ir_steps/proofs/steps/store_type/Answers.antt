@@ -3,7 +3,7 @@ use Rattle.std.proofs.lemmas.List.{length-map}
 use Rattle.std.proofs.lemmas.Result.{err_from_is_err_and}
 use Rattle.ir_model.specs.declared.error.CoreError.TheVariants.{OutOfMemory}
 use Rattle.ir_model.specs.Edits.{NewType, no_needs}
-use Rattle.ir_core.specs.State.{bare}
+use Rattle.ir_tables.specs.State.{bare}
 use Rattle.ir_tables.specs.SessionTables.{entries_of, with_type}
 use Rattle.ir_steps.proofs.NewEntities.{type_made}
 use Rattle.ir_steps.proofs.SessionSteps.{refused, skips_none, tells_memory}

@@ -1,7 +1,7 @@
 use Rattle.std.proofs.Common.{◌≤◌, length, arith}
 use Rattle.ir_model.specs.Nesting.{operands_of}
 use Rattle.ir_records.specs.Meaning.{value_of}
-use Rattle.ir_core.specs.State.{forest_of}
+use Rattle.ir_tables.specs.State.{forest_of}
 use Rattle.ir_tables.specs.SessionTables.{entries_of}
 use Rattle.ir_steps.proofs.UseSteps.{insert_operand_made, operand_count}
 use Rattle.ir_steps.proofs.use_steps.insert_operand.Goals as goal

@@ -1,6 +1,6 @@
 use Rattle.std.proofs.Common.{◌<◌, length, arith}
 use Rattle.ir_model.specs.Nesting.{operands_of}
-use Rattle.ir_core.specs.State.{forest_of}
+use Rattle.ir_tables.specs.State.{forest_of}
 use Rattle.ir_tables.specs.SessionTables.{entries_of}
 use Rattle.ir_steps.proofs.UseSteps.{operand_count, remove_operand_done}
 use Rattle.ir_steps.proofs.use_steps.remove_operand.Goals as goal

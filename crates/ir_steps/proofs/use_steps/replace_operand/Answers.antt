@@ -1,7 +1,7 @@
 use Rattle.std.proofs.Common.{◌<◌, length, arith}
 use Rattle.ir_model.specs.Nesting.{operands_of}
 use Rattle.ir_records.specs.Meaning.{value_of}
-use Rattle.ir_core.specs.State.{forest_of}
+use Rattle.ir_tables.specs.State.{forest_of}
 use Rattle.ir_tables.specs.SessionTables.{entries_of}
 use Rattle.ir_steps.proofs.UseSteps.{operand_count, replace_operand_made}
 use Rattle.ir_steps.proofs.use_steps.replace_operand.Goals as goal

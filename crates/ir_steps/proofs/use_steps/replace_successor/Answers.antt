@@ -1,6 +1,6 @@
 use Rattle.std.proofs.Common.{◌<◌, length, arith}
 use Rattle.ir_model.specs.Nesting.{successors_of}
-use Rattle.ir_core.specs.State.{forest_of}
+use Rattle.ir_tables.specs.State.{forest_of}
 use Rattle.ir_tables.specs.SessionTables.{entries_of}
 use Rattle.ir_steps.proofs.UseSteps.{replace_successor_made, successor_count}
 use Rattle.ir_steps.proofs.use_steps.replace_successor.Goals as goal

@@ -1,7 +1,7 @@
 use Rattle.std.proofs.Common.{◌≡◌, ◌∙◌, Some, length, refl, sym, ap, subst, rules, inr}
 use Rattle.ir_model.specs.ContextIds.{same_id}
 use Rattle.ir_model.proofs.TwoRuns.{lawful}
-use Rattle.ir_core.specs.State.{behaviour, forest_of, types_of}
+use Rattle.ir_view.specs.State.{behaviour, forest_of, types_of}
 use Rattle.ir_verify.proofs.Blocks.{aside-by, aside-told, ender-leads, in-block, leads-nowhere}
 use Rattle.ir_verify.proofs.block_faults.is_aside.Goals as goal
 

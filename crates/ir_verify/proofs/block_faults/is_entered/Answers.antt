@@ -1,6 +1,6 @@
 use Rattle.std.proofs.Common.{◌∙◌, sym}
 use Rattle.std.proofs.lemmas.Bool.{false≢true}
-use Rattle.ir_core.specs.State.{forest_of}
+use Rattle.ir_view.specs.State.{forest_of}
 use Rattle.ir_verify.proofs.Blocks.{named-used, used-named}
 use Rattle.ir_verify.proofs.block_faults.is_entered.Goals as goal
 

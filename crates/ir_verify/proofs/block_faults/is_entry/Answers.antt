@@ -5,7 +5,7 @@ use Rattle.ir_model.specs.Parent.{first_of}
 use Rattle.ir_model.specs.Nesting.{blocks_of}
 use Rattle.ir_model.proofs.IdCases.{id_same}
 use Rattle.ir_model.proofs.TwoRuns.{lawful}
-use Rattle.ir_core.specs.State.{behaviour, forest_of, types_of}
+use Rattle.ir_view.specs.State.{behaviour, forest_of, types_of}
 use Rattle.ir_verify.proofs.Blocks.{entry-first, entry-linked, in-region}
 use Rattle.ir_verify.proofs.block_faults.is_entry.Goals as goal
 

@@ -8,7 +8,7 @@ use Rattle.ir_model.specs.Uses.{AreUses, Use}
 use Rattle.ir_model.proofs.Back.{slice_get-in}
 use Rattle.ir_records.specs.declared.record.UseIndex.{UseIndex}
 use Rattle.ir_records.specs.Meaning.{use_of}
-use Rattle.ir_core.specs.State.{behaviour, forest_of, types_of}
+use Rattle.ir_view.specs.State.{behaviour, forest_of, types_of}
 use Rattle.ir_verify.specs.Parts.{IsAside}
 use Rattle.ir_verify.proofs.Blocks.{kept-named, named-kept, namer-live}
 use Rattle.ir_verify.proofs.Loops.{before-all, before-more}

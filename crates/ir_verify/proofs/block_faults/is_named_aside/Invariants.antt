@@ -1,4 +1,4 @@
-use Rattle.ir_core.specs.State.{behaviour, forest_of, types_of}
+use Rattle.ir_view.specs.State.{behaviour, forest_of, types_of}
 use Rattle.ir_verify.specs.Parts.{IsAside}
 use Rattle.ir_verify.proofs.Loops.{Before}
 use Rattle.ir_verify.proofs.block_faults.is_named_aside.Given as goal

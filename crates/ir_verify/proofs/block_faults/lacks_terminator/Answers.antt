@@ -2,7 +2,7 @@ use Rattle.std.proofs.Common.{◌≡◌, ◌∙◌, Bool, false, true, None, len
 use Rattle.std.specs.Prelude.{not}
 use Rattle.ir_model.specs.BlockGraph.{implements, no_terminator_interface}
 use Rattle.ir_model.specs.Forest.{a_block, a_region}
-use Rattle.ir_core.specs.State.{behaviour, forest_of, types_of}
+use Rattle.ir_view.specs.State.{behaviour, forest_of, types_of}
 use Rattle.ir_records.specs.Meaning.{op_record}
 use Rattle.ir_verify.proofs.Blocks.{implements-read, in-op, in-region, lacks-by, lacks-linked, not-true, true-not}
 use Rattle.ir_verify.proofs.block_faults.lacks_terminator.Goals as goal

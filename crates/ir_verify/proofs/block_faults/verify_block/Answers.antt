@@ -1,7 +1,7 @@
 use Rattle.std.proofs.Common.{◌≡◌, ◌∙◌, Err, ap, refl, rules, sym}
 use Rattle.std.proofs.lemmas.Bool.{false≢true}
 use Rattle.ir_model.specs.Faults.{NoParent, MissingTerminator, EntryHasPred}
-use Rattle.ir_core.specs.State.{behaviour, forest_of, types_of}
+use Rattle.ir_view.specs.State.{behaviour, forest_of, types_of}
 use Rattle.ir_verify.proofs.Blocks.{has-name}
 use Rattle.ir_verify.proofs.Ends.{no-block_fault}
 use Rattle.ir_verify.proofs.block_faults.verify_block.Goals as goal

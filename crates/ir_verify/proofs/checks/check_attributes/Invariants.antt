@@ -2,8 +2,8 @@ use Rattle.std.proofs.Common.{◌⊎◌}
 use Rattle.ir_model.specs.Faults.{Fault, IsRun, the_attribute}
 use Rattle.ir_model.specs.Forest.{Text}
 use Rattle.ir_model.specs.Nesting.{In}
-use Rattle.ir_core.specs.State.{behaviour, forest_of, types_of}
-use Rattle.ir_walk.specs.Dominance.{kinds}
+use Rattle.ir_view.specs.State.{behaviour, forest_of, types_of}
+use Rattle.ir_view.specs.Dominance.{kinds}
 use Rattle.ir_verify.specs.Parts.{IsThere, NoFault}
 use Rattle.ir_verify.specs.Shown.{checks_in}
 use Rattle.ir_verify.proofs.checks.check_attributes.Given as goal

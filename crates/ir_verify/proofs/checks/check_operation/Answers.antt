@@ -3,8 +3,8 @@ use Rattle.std.proofs.lemmas.Option.{slice_get-get_or}
 use Rattle.ir_model.specs.Nesting.{In}
 use Rattle.ir_model.proofs.Back.{slice_get-in}
 use Rattle.ir_model.specs.Calls.{kind_of}
-use Rattle.ir_core.specs.State.{behaviour, forest_of, types_of}
-use Rattle.ir_walk.specs.Dominance.{kinds}
+use Rattle.ir_view.specs.State.{behaviour, forest_of, types_of}
+use Rattle.ir_view.specs.Dominance.{kinds}
 use Rattle.ir_verify.specs.Shown.{shown}
 use Rattle.ir_verify.specs.Told.{MayFail, MayPass, of_check}
 use Rattle.ir_verify.proofs.Passed.{kind-numbers, numbers-kind, op-clean, op-listed, op-itself}

@@ -2,8 +2,8 @@ use Rattle.std.proofs.Common.{◌≡◌, ◌∙◌, Err, ap, arith, get_or, rule
 use Rattle.std.proofs.lemmas.Option.{slice_get-get_or}
 use Rattle.ir_model.specs.Nesting.{In}
 use Rattle.ir_model.proofs.Back.{slice_get-in}
-use Rattle.ir_core.specs.State.{behaviour, forest_of, types_of}
-use Rattle.ir_walk.specs.Dominance.{kinds}
+use Rattle.ir_view.specs.State.{behaviour, forest_of, types_of}
+use Rattle.ir_view.specs.Dominance.{kinds}
 use Rattle.ir_verify.specs.Shown.{shown}
 use Rattle.ir_verify.specs.Told.{MayPass, of_check}
 use Rattle.ir_verify.proofs.Passed.{type-clean, type-listed, type-itself}

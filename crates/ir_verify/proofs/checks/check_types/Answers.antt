@@ -6,8 +6,8 @@ use Rattle.ir_model.proofs.Back.{slice_get-in}
 use Rattle.ir_model.proofs.Nests.{In-map, In-map_back}
 use Rattle.ir_records.specs.declared.record.Definition.{Definition}
 use Rattle.ir_records.specs.Meaning.{definition_of}
-use Rattle.ir_core.specs.State.{behaviour, forest_of, types_of}
-use Rattle.ir_walk.specs.Dominance.{kinds}
+use Rattle.ir_view.specs.State.{behaviour, forest_of, types_of}
+use Rattle.ir_view.specs.Dominance.{kinds}
 use Rattle.ir_verify.specs.Parts.{IsThere, NoFault, RunsOnHandle}
 use Rattle.ir_verify.specs.Shown.{checks_in}
 use Rattle.ir_verify.proofs.Handles.{handle-finds, none-of, some-err}

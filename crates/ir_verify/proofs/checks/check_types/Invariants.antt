@@ -1,6 +1,6 @@
 use Rattle.ir_model.specs.Faults.{Fault}
-use Rattle.ir_core.specs.State.{behaviour, forest_of, types_of}
-use Rattle.ir_walk.specs.Dominance.{kinds}
+use Rattle.ir_view.specs.State.{behaviour, forest_of, types_of}
+use Rattle.ir_view.specs.Dominance.{kinds}
 use Rattle.ir_verify.specs.Parts.{IsThere, NoFault, RunsOnHandle}
 use Rattle.ir_verify.specs.Shown.{checks_in}
 use Rattle.ir_verify.proofs.Loops.{Before}

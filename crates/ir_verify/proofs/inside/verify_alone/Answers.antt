@@ -2,8 +2,8 @@ use Rattle.std.proofs.Common.{◌≡◌, ◌∙◌, ap, subst, sym}
 use Rattle.ir_model.specs.ContextIds.{context_ids}
 use Rattle.ir_model.specs.Forest.{Entity, an_op, a_block}
 use Rattle.ir_records.specs.Meaning.{entity_of}
-use Rattle.ir_core.specs.State.{behaviour, forest_of, types_of}
-use Rattle.ir_walk.specs.Dominance.{kinds}
+use Rattle.ir_view.specs.State.{behaviour, forest_of, types_of}
+use Rattle.ir_view.specs.Dominance.{kinds}
 use Rattle.ir_verify.specs.Shown.{checks_in}
 use Rattle.ir_verify.specs.Parts.{FaultAt, Finds, RunAt}
 use Rattle.ir_verify.proofs.inside.verify_alone.Goals as goal

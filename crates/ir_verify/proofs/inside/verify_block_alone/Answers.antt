@@ -6,8 +6,8 @@ use Rattle.ir_records.specs.declared.record.Definer.TheVariants.{Block}
 use Rattle.ir_records.specs.Lists.{in_record}
 use Rattle.ir_records.specs.Meaning.{block_record, definition_of}
 use Rattle.ir_records.specs.Tree.{ops_in, tree_of}
-use Rattle.ir_core.specs.State.{behaviour, forest_of, types_of}
-use Rattle.ir_walk.specs.Dominance.{kinds}
+use Rattle.ir_view.specs.State.{behaviour, forest_of, types_of}
+use Rattle.ir_view.specs.Dominance.{kinds}
 use Rattle.ir_verify.specs.Shown.{checks_in}
 use Rattle.ir_verify.specs.Parts.{BlockFault, IsThere, NoCheck, NoFault, RunAt, RunsOnAttributes, RunsOnOp, RunsOnTypes}
 use Rattle.ir_verify.proofs.Alone.{and-last, and-passed, definitions-are, put-as, types-known}

@@ -6,8 +6,8 @@ use Rattle.ir_model.specs.Forest.{Entity}
 use Rattle.ir_records.specs.declared.record.EntityIndex.{EntityIndex}
 use Rattle.ir_records.specs.Meaning.{entity_of}
 use Rattle.ir_erase.specs.Walks.{subtree}
-use Rattle.ir_core.specs.State.{behaviour, forest_of, types_of}
-use Rattle.ir_walk.specs.Dominance.{kinds}
+use Rattle.ir_view.specs.State.{behaviour, forest_of, types_of}
+use Rattle.ir_view.specs.Dominance.{kinds}
 use Rattle.ir_verify.specs.Shown.{checks_in}
 use Rattle.ir_verify.specs.Parts.{FaultAt, IsThere, RootFault, RunAt}
 use Rattle.ir_verify.proofs.Pieces.{tells-whole}

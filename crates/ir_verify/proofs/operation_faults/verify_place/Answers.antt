@@ -5,7 +5,7 @@ use Rattle.ir_model.specs.Forest.{a_block, an_op}
 use Rattle.ir_model.specs.Nesting.{ops_of}
 use Rattle.ir_model.proofs.Nests.{In-map}
 use Rattle.ir_records.specs.Meaning.{op_record}
-use Rattle.ir_core.specs.State.{behaviour, forest_of, types_of}
+use Rattle.ir_view.specs.State.{behaviour, forest_of, types_of}
 use Rattle.ir_verify.specs.declared.error.VerifyErr.TheVariants.{OutOfMemory}
 use Rattle.ir_verify.proofs.Blocks.{has-name, implements-read, in-block}
 use Rattle.ir_verify.proofs.Ends.{no-op_fault}

@@ -4,7 +4,7 @@ use Rattle.ir_model.specs.Soundness.{Sound}
 use Rattle.ir_model.proofs.RefusedForGood.{gone_for_good}
 use Rattle.ir_run.specs.SessionEdits.{edit_of}
 use Rattle.ir_run.specs.SessionState.{SessionState, plain}
-use Rattle.ir_tables.specs.SessionLists.{map-push}
+use Rattle.ir_steps.specs.SessionLists.{map-push}
 use Rattle.ir_run.proofs.SessionRuns.{run-more, run_keys}
 use Rattle.ir_run.proofs.session.Session.carry_out.Goals as goal
 

@@ -2,7 +2,7 @@ use Rattle.std.proofs.Common.{◌≡◌, map, length, vec_len, vec_capacity}
 use Rattle.ir_model.specs.Sessions.{Run}
 use Rattle.ir_run.specs.SessionEdits.{edit_of}
 use Rattle.ir_run.specs.SessionState.{plain}
-use Rattle.ir_core.specs.State.{behaviour}
+use Rattle.ir_steps.specs.State.{behaviour}
 use Rattle.ir_run.proofs.session.Session.carry_out.Given as goal
 
 abbrev pub invariant-loop-edit : goal.invariant-loop-edit

@@ -3,8 +3,8 @@ use Rattle.ir_model.specs.Faults.{the_entity, the_attribute, the_type, the_value
 use Rattle.ir_model.specs.Forest.{an_op, a_block, a_region}
 use Rattle.ir_model.specs.VerifyAnswers.{AllIsWell, MayAnswer}
 use Rattle.ir_records.specs.Meaning.{value_of}
-use Rattle.ir_core.specs.State.{behaviour, forest_of, types_of}
-use Rattle.ir_walk.specs.Dominance.{kinds}
+use Rattle.ir_view.specs.State.{behaviour, forest_of, types_of}
+use Rattle.ir_view.specs.Dominance.{kinds}
 use Rattle.ir_verify.specs.Shown.{checks_in}
 use Rattle.ir_verify.specs.Told.{told}
 use Rattle.ir_verify.proofs.Handles.{if-err, on-ok}
