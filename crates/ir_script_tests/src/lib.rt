@@ -3,3 +3,5 @@
 
 #[cfg(test)]
 mod script_tests;
+#[cfg(test)]
+mod verify_tests;

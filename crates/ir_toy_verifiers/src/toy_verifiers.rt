@@ -31,14 +31,17 @@ impl Verifiers<Toy> for ToyVerifiers {
     ghost handed_in = { λ _. toy_verifiers };
 
     fn op_verifiers(&self, _kind: u32) -> &[u32] {
+        // No checks of operations are listed.
         &[]
     }
 
     fn attr_verifiers(&self, _kind: u32) -> &[u32] {
+        // No checks of attributes are listed.
         &[]
     }
 
     fn type_verifiers(&self, _kind: u32) -> &[u32] {
+        // No checks of types are listed.
         &[]
     }
 
@@ -48,6 +51,7 @@ impl Verifiers<Toy> for ToyVerifiers {
         _op: OpObj<Toy>,
         _ctx: &Context<Toy>,
     ) -> Result<(), CheckErr> {
+        // No check of an operation has a number.
         Ok(())
     }
 
@@ -57,6 +61,7 @@ impl Verifiers<Toy> for ToyVerifiers {
         _attr: &ToyAttr,
         _ctx: &Context<Toy>,
     ) -> Result<(), CheckErr> {
+        // No check of an attribute has a number.
         Ok(())
     }
 
@@ -66,6 +71,7 @@ impl Verifiers<Toy> for ToyVerifiers {
         _ty: &ToyType,
         _ctx: &Context<Toy>,
     ) -> Result<(), CheckErr> {
+        // No check of a type has a number.
         Ok(())
     }
 
@@ -78,6 +84,7 @@ impl Verifiers<Toy> for ToyVerifiers {
     }
 
     fn check_attr(&self, _attr: &ToyAttr, _ctx: &Context<Toy>) -> Result<(), CheckErr> {
+        // Attributes have no own check.
         Ok(())
     }
 
