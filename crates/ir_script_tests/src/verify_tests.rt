@@ -30,8 +30,7 @@ fn script_missing_terminator(rt: HostRuntime) -> Result<(), Fail> {
     let output = "made o0\nmade b0\nok\nrefused condition\nok\nok\n";
     expect(&rt, rt.alloc(), script, output)?;
     let script = "op 6 - - - 1\nblock -\nbackb b0 r0\nback o0 b0\nverify o0\nerase o0";
-    let output =
-        "made o0\nmade b0\nok\nrefused condition\nfault MissingTerminator block1v1\nok\n";
+    let output = "made o0\nmade b0\nok\nrefused condition\nfault MissingTerminator block1v1\nok\n";
     expect(&rt, rt.alloc(), script, output)?;
     Ok(())
 }
@@ -93,7 +92,13 @@ fn aside_and_erased(rt: HostRuntime) -> Result<(), Fail> {
 // A line that verifies has one name, that of an operation.
 #[test]
 fn malformed_verifications(rt: HostRuntime) -> Result<(), Fail> {
-    for script in ["verify", "verify b0", "verify o0 o0", "verify o", "verify o0,o1"] {
+    for script in [
+        "verify",
+        "verify b0",
+        "verify o0 o0",
+        "verify o",
+        "verify o0,o1",
+    ] {
         let mut input = script.as_bytes();
         let mut printed = Vec::new(rt.alloc());
         let mut told = Vec::new(rt.alloc());

@@ -8,7 +8,7 @@ ghost use Rattle.ir_view.specs.State.{forest_of};
 ghost use Rattle.ir_view.specs.Wrapped.{kind_in, operation_in};
 ghost use Rattle.ir_verify.specs.Shown.{shown};
 ghost use Rattle.ir_verify.specs.Told.{MayFail, MayPass};
-ghost use Rattle.ir_toy_verifiers.specs.ToyVerifiers.{silent, toy_verifiers};
+ghost use Rattle.ir_toy_verifiers.specs.ToyVerifiers.{toy_verifiers};
 
 use ir_toy::{Toy, ToyAttr, ToyType};
 use ir_verify::{CheckErr, Verifiers};
@@ -47,10 +47,15 @@ impl Verifiers<Toy> for ToyVerifiers {
 
     fn check_op_interface(
         &self,
-        _number: u32,
-        _op: OpObj<Toy>,
-        _ctx: &Context<Toy>,
-    ) -> Result<(), CheckErr> {
+        number: u32,
+        op: OpObj<Toy>,
+        ctx: &Context<Toy>,
+    ) -> Result<(), CheckErr>
+        requires live { IsLive (forest_of ctx.now) (an_op (operation_in op)) }
+        requires kind { kind_of (forest_of ctx.now) (operation_in op) ≡ Some (kind_in op) }
+        ensures pass { OnOk result (MayPass (toy_verifiers.op_interface number) (operation_in op) (shown ctx.now)) }
+        ensures fail { IfErr result (MayFail (toy_verifiers.op_interface number) (operation_in op) (shown ctx.now)) }
+    {
         // No check of an operation has a number.
         Ok(())
     }
@@ -75,7 +80,12 @@ impl Verifiers<Toy> for ToyVerifiers {
         Ok(())
     }
 
-    fn check_op(&self, op: OpObj<Toy>, ctx: &Context<Toy>) -> Result<(), CheckErr> {
+    fn check_op(&self, op: OpObj<Toy>, ctx: &Context<Toy>) -> Result<(), CheckErr>
+        requires live { IsLive (forest_of ctx.now) (an_op (operation_in op)) }
+        requires kind { kind_of (forest_of ctx.now) (operation_in op) ≡ Some (kind_in op) }
+        ensures pass { OnOk result (MayPass toy_verifiers.op_itself (operation_in op) (shown ctx.now)) }
+        ensures fail { IfErr result (MayFail toy_verifiers.op_itself (operation_in op) (shown ctx.now)) }
+    {
         let operands = op.get_operation().deref(ctx).get_num_operands();
         if op.kind() == ADDITION && operands != 2 {
             return Err(CheckErr::Code(OPERAND_COUNT));

@@ -24,6 +24,10 @@ answers asked spent code_of = record {
   Memory = λ x state. (spent ≡ code_of x) × (asked ≢ code_of x);
 }
 
+-- a check of the code itself
+abbrev pub itself : ℕ → ℕ → Answers ℕ (Unit {0})
+itself asked spent = answers asked spent (λ code. code)
+
 -- checks of operations begin at 0, those of attributes at 100 and those of types at 200; number n has n in its tens, and what is checked is added
 module _ {A B S X L : Type 0} where
   abbrev pub judging : (A → ℕ) → ℕ → ℕ → Verifiers (closed A ℕ B S X L) (Shown (closed A ℕ B S X L))

@@ -2,7 +2,10 @@
 
 use ir_base::{CoreError, Dialects, Identifier, Ptr};
 use ir_verify::{Verifiers, VerifyErr, verify_operation};
-use ir_view::{BasicBlock, BlockList, BlockPlace, BlockPtr, Context, Entity, NewBlock, NewOperation, Operation, OperationList, OperationPlace, OperationPtr, Region, RegionPtr, is_inside};
+use ir_view::{
+    BasicBlock, BlockList, BlockPlace, BlockPtr, Context, Entity, NewBlock, NewOperation,
+    Operation, OperationList, OperationPlace, OperationPtr, Region, RegionPtr, is_inside,
+};
 use std::process::Abort;
 
 /// A new operation of the kind, without results, operands and successors, with so many regions.

@@ -1,5 +1,6 @@
 //! The checks of the small dialect. Each has a code of its own: those of operations begin at 0, of attributes at 100, of types at 200; the check of number n has n in its tens; the slot of the operation, the number of the attribute or the type is added.
-ghost use Rattle.std.specs.Prelude.{◌≡◌, ℕ, Some, IfErr, OnOk};
+ghost use Rattle.std.specs.Prelude.{◌≡◌, ◌+◌, ◌*◌, Some, IfErr, OnOk};
+ghost use Rattle.ir_model.specs.declared.ids.ArenaIndex.{ArenaIndex};
 ghost use Rattle.ir_model.specs.Calls.{kind_of};
 ghost use Rattle.ir_model.specs.Forest.{an_op};
 ghost use Rattle.ir_model.specs.Nesting.{IsLive};
@@ -7,7 +8,7 @@ ghost use Rattle.ir_view.specs.State.{forest_of};
 ghost use Rattle.ir_view.specs.Wrapped.{kind_in, operation_in};
 ghost use Rattle.ir_verify.specs.Shown.{shown};
 ghost use Rattle.ir_verify.specs.Told.{MayFail, MayPass};
-ghost use Rattle.ir_verify_tests.specs.Judge.{answers, attr_list, judging, op_list, type_list};
+ghost use Rattle.ir_verify_tests.specs.Judge.{answers, itself, judging};
 
 use crate::small_dialect::{Small, SmallAttr};
 use ir_verify::{CheckErr, Verifiers};
@@ -24,7 +25,10 @@ pub(crate) struct Judge {
 
 impl Judge {
     // What the check with this code answers.
-    fn judge(&self, code: u64) -> Result<(), CheckErr> {
+    fn judge(&self, code: u64) -> Result<(), CheckErr>
+        ensures pass { OnOk result (MayPass (itself self.now.asked self.now.spent) code tt) }
+        ensures fail { IfErr result (MayFail (itself self.now.asked self.now.spent) code tt) }
+    {
         if code == u64::from(self.asked) {
             Err(CheckErr::Code(self.asked))
         } else if code == u64::from(self.spent) {
@@ -35,16 +39,10 @@ impl Judge {
     }
 }
 
-// What is added for an attribute.
-fn number_of(attr: &SmallAttr) -> u32 {
-    match attr {
-        SmallAttr::Marked(marked) => marked.number,
-        SmallAttr::Plain(plain) => plain.number,
-    }
-}
-
 // What is added for an operation.
-fn slot_of(op: OpObj<Small>) -> u32 {
+fn slot_of(op: OpObj<Small>) -> u32
+    ensures { result ≡ (operation_in op).slot }
+{
     op.get_operation().index().slot
 }
 
@@ -80,8 +78,13 @@ impl Verifiers<Small> for Judge {
         &self,
         number: u32,
         op: OpObj<Small>,
-        _ctx: &Context<Small>,
-    ) -> Result<(), CheckErr> {
+        ctx: &Context<Small>,
+    ) -> Result<(), CheckErr>
+        requires live { IsLive (forest_of ctx.now) (an_op (operation_in op)) }
+        requires kind { kind_of (forest_of ctx.now) (operation_in op) ≡ Some (kind_in op) }
+        ensures pass { OnOk result (MayPass (answers self.now.asked self.now.spent (λ (o : ArenaIndex). number * 10 + o.slot)) (operation_in op) (shown ctx.now)) }
+        ensures fail { IfErr result (MayFail (answers self.now.asked self.now.spent (λ (o : ArenaIndex). number * 10 + o.slot)) (operation_in op) (shown ctx.now)) }
+    {
         self.judge(u64::from(number) * 10 + u64::from(slot_of(op)))
     }
 
@@ -91,7 +94,14 @@ impl Verifiers<Small> for Judge {
         attr: &SmallAttr,
         _ctx: &Context<Small>,
     ) -> Result<(), CheckErr> {
-        self.judge(100 + u64::from(number) * 10 + u64::from(number_of(attr)))
+        match attr {
+            SmallAttr::Marked(marked) => {
+                self.judge(100 + u64::from(number) * 10 + u64::from(marked.number))
+            }
+            SmallAttr::Plain(plain) => {
+                self.judge(100 + u64::from(number) * 10 + u64::from(plain.number))
+            }
+        }
     }
 
     fn check_type_interface(
@@ -103,12 +113,20 @@ impl Verifiers<Small> for Judge {
         self.judge(200 + u64::from(number) * 10 + u64::from(*ty))
     }
 
-    fn check_op(&self, op: OpObj<Small>, _ctx: &Context<Small>) -> Result<(), CheckErr> {
+    fn check_op(&self, op: OpObj<Small>, ctx: &Context<Small>) -> Result<(), CheckErr>
+        requires live { IsLive (forest_of ctx.now) (an_op (operation_in op)) }
+        requires kind { kind_of (forest_of ctx.now) (operation_in op) ≡ Some (kind_in op) }
+        ensures pass { OnOk result (MayPass (answers self.now.asked self.now.spent (λ (o : ArenaIndex). o.slot)) (operation_in op) (shown ctx.now)) }
+        ensures fail { IfErr result (MayFail (answers self.now.asked self.now.spent (λ (o : ArenaIndex). o.slot)) (operation_in op) (shown ctx.now)) }
+    {
         self.judge(u64::from(slot_of(op)))
     }
 
     fn check_attr(&self, attr: &SmallAttr, _ctx: &Context<Small>) -> Result<(), CheckErr> {
-        self.judge(100 + u64::from(number_of(attr)))
+        match attr {
+            SmallAttr::Marked(marked) => self.judge(100 + u64::from(marked.number)),
+            SmallAttr::Plain(plain) => self.judge(100 + u64::from(plain.number)),
+        }
     }
 
     fn check_type(&self, ty: &u32, _ctx: &Context<Small>) -> Result<(), CheckErr> {

@@ -8,7 +8,11 @@ use ir_base::{CoreError, Dialects, Ptr, TypeHandle, ident};
 use ir_verify::{
     VerifierErr, Verify, VerifyErr, verify_attr, verify_op, verify_operation, verify_type,
 };
-use ir_view::{BasicBlock, BlockList, BlockPlace, BlockPtr, BlockPtrMut, Context, Entity, NewBlock, NewOperation, Operation, OperationKind, OperationPtr, OperationPtrMut, Region, RegionPtr, TypeQueries, Value, ValueQueries, is_inside};
+use ir_view::{
+    BasicBlock, BlockList, BlockPlace, BlockPtr, BlockPtrMut, Context, Entity, NewBlock,
+    NewOperation, Operation, OperationKind, OperationPtr, OperationPtrMut, Region, RegionPtr,
+    TypeQueries, Value, ValueQueries, is_inside,
+};
 use std::process::Abort;
 use std::test::Fail;
 
@@ -79,12 +83,7 @@ fn call_root(
 }
 
 // Asserts that a code is found exactly where it is one of these, and that memory runs out exactly where it does so in a check with one of these codes.
-fn expect_found(
-    rt: &impl Abort,
-    judge: &Judge,
-    found: &Result<(), VerifyErr>,
-    codes: &[u32],
-) {
+fn expect_found(rt: &impl Abort, judge: &Judge, found: &Result<(), VerifyErr>, codes: &[u32]) {
     let fault = if codes.contains(&judge.asked) {
         Err(VerifyErr::VerifierErr(VerifierErr { code: judge.asked }))
     } else if codes.contains(&judge.spent) {
@@ -193,11 +192,7 @@ fn make_judged<D: Dialects>(
 }
 
 // The results of the operation inside, and the argument of the block.
-fn values_of<D: Dialects>(
-    rt: &impl Abort,
-    ctx: &Context<D>,
-    judged: &Judged<D>,
-) -> [Value<D>; 3] {
+fn values_of<D: Dialects>(rt: &impl Abort, ctx: &Context<D>, judged: &Judged<D>) -> [Value<D>; 3] {
     assert!(rt; judged.inner.is_live(ctx));
     let inner = judged.inner.deref(ctx);
     assert!(rt; inner.get_num_results() == 2);

@@ -20,7 +20,9 @@ fn block_faults(
     }
     let (named, aside) = plain.is_named(number);
     if named && plain.is_entry(number) {
-        let text = format!(in alloc; "Basic block \"{name}\" is an entry block and has a predecessor")?;
+        let text = format!(in alloc;
+            "Basic block \"{name}\" is an entry block and has a predecessor"
+        )?;
         texts.push(text)?;
     }
     if aside {
@@ -42,7 +44,9 @@ fn op_faults(
     let alloc = plain.alloc;
     if let Some(block) = plain.ended_early(number) {
         let name = block.name.as_str();
-        let text = format!(in alloc; "Basic block \"{name}\" has a terminator that is not the last operation in the block")?;
+        let text = format!(in alloc;
+            "Basic block \"{name}\" has a terminator that is not the last operation in the block"
+        )?;
         texts.push(text)?;
     }
     if op.kind == 1 && op.operands != 2 {

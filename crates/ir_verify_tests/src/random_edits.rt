@@ -8,7 +8,9 @@ use std::alloc::{AllocError, Global};
 
 // How many blocks, operations that may have regions, and operations that may end blocks are made at first.
 const BLOCKS: usize = 4;
+
 const OPERATIONS: usize = 6;
+
 const BRANCHES: usize = 4;
 
 /// A source of random edits.

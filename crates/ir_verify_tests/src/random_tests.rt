@@ -8,9 +8,7 @@ use ir_base::{Answer, CoreError, Limits, Refused};
 use ir_run::Session;
 use ir_toy::Toy;
 use ir_toy_verifiers::ToyVerifiers;
-use ir_verify::{
-    BasicBlockVerifyErr, DefUseVerifyErr, Verify, VerifyErr, verify_operation,
-};
+use ir_verify::{BasicBlockVerifyErr, DefUseVerifyErr, Verify, VerifyErr, verify_operation};
 use ir_view::{BlockPtr, OperationPtr, RegionPtr};
 use std::alloc::Global;
 use std::process::Abort;
@@ -91,10 +89,7 @@ fn expect_plain(
 }
 
 // What is found at the live root with this number.
-fn found_at(
-    session: &Session<Toy>,
-    root: Node,
-) -> Option<Result<(), VerifyErr>> {
+fn found_at(session: &Session<Toy>, root: Node) -> Option<Result<(), VerifyErr>> {
     let ctx = session.ctx();
     match root {
         Node::Op(number) => {

@@ -4,7 +4,10 @@ use crate::plain::{Plain, PlainBlock, PlainOp, PlainRegion};
 use ir_base::{Ptr, TypeHandle};
 use ir_run::Session;
 use ir_toy::{Toy, ToyType};
-use ir_view::{BasicBlock, BlockPlace, BlockPtr, Context, Operation, OperationPtr, Region, RegionPlace, RegionPtr, TypeQueries, ValueQueries};
+use ir_view::{
+    BasicBlock, BlockPlace, BlockPtr, Context, Operation, OperationPtr, Region, RegionPlace,
+    RegionPtr, TypeQueries, ValueQueries,
+};
 use std::alloc::{AllocError, Global};
 
 // The number of an operation in its table.

@@ -1,11 +1,16 @@
 //! The faults of blocks and of their operations, each with its text.
 
-use crate::checked::{add_block, add_op, expect, expect_at, first_region, new_op, put_op, two_blocks};
+use crate::checked::{
+    add_block, add_op, expect, expect_at, first_region, new_op, put_op, two_blocks,
+};
 use ir_base::{CoreError, Dialects, Ptr, ident};
 use ir_toy::Toy;
 use ir_toy_verifiers::ToyVerifiers;
 use ir_verify::{Verifiers, Verify};
-use ir_view::{BasicBlock, BlockPtr, Context, NewBlock, NewOperation, Operation, OperationPtr, Region, RegionPtr};
+use ir_view::{
+    BasicBlock, BlockPtr, Context, NewBlock, NewOperation, Operation, OperationPtr, Region,
+    RegionPtr,
+};
 use std::process::Abort;
 use std::test::Fail;
 

@@ -5,7 +5,10 @@ use ir_base::{CoreError, Dialects, Ptr, TypeHandle, ident};
 use ir_toy::{Toy, ToyAttr, ToyType};
 use ir_toy_verifiers::ToyVerifiers;
 use ir_verify::{Verifiers, Verify, verify_attr, verify_op, verify_type};
-use ir_view::{BasicBlock, BlockPtr, Context, NewBlock, NewOperation, Operation, OperationKind, OperationPtr, TypeQueries, Value, ValueQueries};
+use ir_view::{
+    BasicBlock, BlockPtr, Context, NewBlock, NewOperation, Operation, OperationKind, OperationPtr,
+    TypeQueries, Value, ValueQueries,
+};
 use std::process::Abort;
 use std::test::Fail;
 
