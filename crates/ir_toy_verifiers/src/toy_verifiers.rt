@@ -1,13 +1,5 @@
 //! The own checks of the dialect Toy: an integer type has a width, and an addition has two operands.
 
-ghost use Rattle.std.specs.Prelude.{◌≡◌, Some, IfErr, OnOk};
-ghost use Rattle.ir_model.specs.Calls.{kind_of};
-ghost use Rattle.ir_model.specs.Forest.{an_op};
-ghost use Rattle.ir_model.specs.Nesting.{IsLive};
-ghost use Rattle.ir_view.specs.State.{forest_of};
-ghost use Rattle.ir_view.specs.Wrapped.{kind_in, operation_in};
-ghost use Rattle.ir_verify.specs.Shown.{shown};
-ghost use Rattle.ir_verify.specs.Told.{MayFail, MayPass};
 ghost use Rattle.ir_toy_verifiers.specs.ToyVerifiers.{toy_verifiers};
 
 use ir_toy::{Toy, ToyAttr, ToyType};
@@ -47,15 +39,10 @@ impl Verifiers<Toy> for ToyVerifiers {
 
     fn check_op_interface(
         &self,
-        number: u32,
-        op: OpObj<Toy>,
-        ctx: &Context<Toy>,
-    ) -> Result<(), CheckErr>
-        requires live { IsLive (forest_of ctx.now) (an_op (operation_in op)) }
-        requires kind { kind_of (forest_of ctx.now) (operation_in op) ≡ Some (kind_in op) }
-        ensures pass { OnOk result (MayPass (toy_verifiers.op_interface number) (operation_in op) (shown ctx.now)) }
-        ensures fail { IfErr result (MayFail (toy_verifiers.op_interface number) (operation_in op) (shown ctx.now)) }
-    {
+        _number: u32,
+        _op: &OpObj<Toy>,
+        _ctx: &Context<Toy>,
+    ) -> Result<(), CheckErr> {
         // No check of an operation has a number.
         Ok(())
     }
@@ -80,12 +67,7 @@ impl Verifiers<Toy> for ToyVerifiers {
         Ok(())
     }
 
-    fn check_op(&self, op: OpObj<Toy>, ctx: &Context<Toy>) -> Result<(), CheckErr>
-        requires live { IsLive (forest_of ctx.now) (an_op (operation_in op)) }
-        requires kind { kind_of (forest_of ctx.now) (operation_in op) ≡ Some (kind_in op) }
-        ensures pass { OnOk result (MayPass toy_verifiers.op_itself (operation_in op) (shown ctx.now)) }
-        ensures fail { IfErr result (MayFail toy_verifiers.op_itself (operation_in op) (shown ctx.now)) }
-    {
+    fn check_op(&self, op: &OpObj<Toy>, ctx: &Context<Toy>) -> Result<(), CheckErr> {
         let operands = op.get_operation().deref(ctx).get_num_operands();
         if op.kind() == ADDITION && operands != 2 {
             return Err(CheckErr::Code(OPERAND_COUNT));

@@ -57,9 +57,9 @@ pub(crate) fn check_operation<D: Dialects, V: Verifiers<D>>(
 {
     let object = op.get_op_dyn(ctx);
     for number in verifiers.op_verifiers(object.kind()) {
-        verifiers.check_op_interface(*number, object, ctx)?;
+        verifiers.check_op_interface(*number, &object, ctx)?;
     }
-    Ok(verifiers.check_op(object, ctx)?)
+    Ok(verifiers.check_op(&object, ctx)?)
 }
 
 // The checks of all attributes of a dictionary.

@@ -44,13 +44,13 @@ pub trait Verifiers<D: Dialects> {
     fn check_op_interface(
         &self,
         number: u32,
-        op: OpObj<D>,
+        op: &OpObj<D>,
         ctx: &Context<D>,
     ) -> Result<(), CheckErr>
-        requires live { IsLive (forest_of ctx.now) (an_op (operation_in op)) }
-        requires kind { kind_of (forest_of ctx.now) (operation_in op) ≡ Some (kind_in op) }
-        ensures pass { OnOk result (MayPass ((handed_in self.now).op_interface number) (operation_in op) (shown ctx.now)) }
-        ensures fail { IfErr result (MayFail ((handed_in self.now).op_interface number) (operation_in op) (shown ctx.now)) };
+        requires live { IsLive (forest_of ctx.now) (an_op (operation_in op.now)) }
+        requires kind { kind_of (forest_of ctx.now) (operation_in op.now) ≡ Some (kind_in op.now) }
+        ensures pass { OnOk result (MayPass ((handed_in self.now).op_interface number) (operation_in op.now) (shown ctx.now)) }
+        ensures fail { IfErr result (MayFail ((handed_in self.now).op_interface number) (operation_in op.now) (shown ctx.now)) };
 
     /// The check of this number, on an attribute.
     ///
@@ -82,11 +82,11 @@ pub trait Verifiers<D: Dialects> {
     ///
     /// # Errors
     /// A code that stands, or `OutOfMemory` where it may be answered.
-    fn check_op(&self, op: OpObj<D>, ctx: &Context<D>) -> Result<(), CheckErr>
-        requires live { IsLive (forest_of ctx.now) (an_op (operation_in op)) }
-        requires kind { kind_of (forest_of ctx.now) (operation_in op) ≡ Some (kind_in op) }
-        ensures pass { OnOk result (MayPass (handed_in self.now).op_itself (operation_in op) (shown ctx.now)) }
-        ensures fail { IfErr result (MayFail (handed_in self.now).op_itself (operation_in op) (shown ctx.now)) };
+    fn check_op(&self, op: &OpObj<D>, ctx: &Context<D>) -> Result<(), CheckErr>
+        requires live { IsLive (forest_of ctx.now) (an_op (operation_in op.now)) }
+        requires kind { kind_of (forest_of ctx.now) (operation_in op.now) ≡ Some (kind_in op.now) }
+        ensures pass { OnOk result (MayPass (handed_in self.now).op_itself (operation_in op.now) (shown ctx.now)) }
+        ensures fail { IfErr result (MayFail (handed_in self.now).op_itself (operation_in op.now) (shown ctx.now)) };
 
     /// The own check of an attribute.
     ///
