@@ -1,0 +1,4 @@
+pub mod Moving
+pub mod NewOnes
+pub mod OperandCounts
+pub mod Rebuilt
