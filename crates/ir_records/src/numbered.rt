@@ -1,6 +1,6 @@
 //! Items of a list that are found by their numbers, of which no two are equal.
 //!
-//! A number is tried where it stands in an unbroken row, up or down, with the first item's and with the last item's: so it is found at once after items were put in, taken out or replaced one by one from either end.
+//! A number is tried where it stands in an unbroken row, up or down, with the first item's and with the last item's: so it is found at once after items were put in, taken out or replaced one by one from either end. Where it stands at neither place, it is sought outward from the best guess, which is near where numbers are missing evenly. No answer depends on a guess.
 
 ghost use Rattle.std.specs.Prelude.{◌≡◌, ◌↔◌, ℕ, ◌==◌, IsTrue, Some, map, position};
 ghost use Rattle.ir_model.specs.Ids.{Distinct};
@@ -48,11 +48,31 @@ fn from_last<T: Numbered>(items: &[T], number: u64) -> usize {
     }
 }
 
+// Where it stands if they are spread evenly between the first item's and the last item's.
+fn between<T: Numbered>(items: &[T], number: u64) -> usize {
+    let (Some(first), Some(last)) = (items.first(), items.last()) else {
+        return 0;
+    };
+    let whole = last.number().abs_diff(first.number()).max(1);
+    let part = number.abs_diff(first.number());
+    let steps = items.len().saturating_sub(1) as u64;
+    (part.saturating_mul(steps) / whole) as usize
+}
+
 // How far the number of the item at a place is from this one.
 fn distance<T: Numbered>(items: &[T], place: usize, number: u64) -> u64 {
     match items.get(place) {
         Some(item) => number.abs_diff(item.number()),
         None => u64::MAX,
+    }
+}
+
+// The place of the two whose item's number is nearer to this one.
+fn nearer<T: Numbered>(items: &[T], number: u64, one: usize, other: usize) -> usize {
+    if distance(items, one, number) < distance(items, other, number) {
+        one
+    } else {
+        other
     }
 }
 
@@ -86,7 +106,7 @@ fn find_outward<T: Numbered>(items: &[T], number: u64, place: usize) -> Option<u
     None
 }
 
-// The place of the item with this number. It is tried where it stands if numbers go to the last item's, and then sought from there or from the place that was tried before, whichever has the nearer number.
+// The place of the item with this number. It is tried where it stands if numbers go on to the last item's, and then sought outward from the place, of all that were guessed, that has the nearest number.
 #[inline(never)]
 fn find_elsewhere<T: Numbered>(items: &[T], number: u64, first: usize) -> Option<usize>
     requires { Distinct (map (λ x. T.number_of x) items.now) }
@@ -96,11 +116,9 @@ fn find_elsewhere<T: Numbered>(items: &[T], number: u64, first: usize) -> Option
     if is_at(items, last, number) {
         return Some(last);
     }
-    if distance(items, first, number) < distance(items, last, number) {
-        find_outward(items, number, first)
-    } else {
-        find_outward(items, number, last)
-    }
+    let end = nearer(items, number, first, last);
+    let nearest = nearer(items, number, end, between(items, number));
+    find_outward(items, number, nearest)
 }
 
 // The place of the item with this number. It is first tried where it stands if numbers go on from the first item's, and the answer doesn't depend on that.
