@@ -1,15 +1,17 @@
 -- The last of a list, and the one before an entity in its list, as the records say.
-use Rattle.std.proofs.Common.{◌≡◌, ◌-◌, ◌<◌, ◌≤◌, drop, ◌⊎◌, inl, inr, Bool, true, false, slice_index_or, cond, ℕ, zero, suc, List, [], ◌∷◌, ◌++◌, map, length, slice_get, Option, Some, None, refl, sym, ap, ◌∙◌, subst, arith}
+use Rattle.std.proofs.Common.{◌≡◌, ◌≢◌, ◌-◌, ◌<◌, ◌≤◌, drop, ◌⊎◌, inl, inr, Bool, true, false, slice_index_or, cond, ℕ, zero, suc, List, [], ◌∷◌, ◌++◌, map, length, slice_get, Option, Some, None, refl, sym, ap, ◌∙◌, subst, arith}
 use Rattle.std.specs.Option.{option_map, option_and_then}
 use Rattle.std.proofs.lemmas.Option.{same_Some, slice_get-map}
 use Rattle.std.proofs.lemmas.List.{map-append, append_assoc, length-map}
 use Rattle.ir_model.specs.declared.ids.ArenaIndex.{ArenaIndex}
 use Rattle.ir_model.specs.ContextIds.{context_ids, same_id}
 use Rattle.ir_model.specs.Forest.{Entity, an_op, a_block, a_region, OpRecord, BlockRecord}
-use Rattle.ir_model.specs.Nesting.{In, list_of, children, regions_of, ops_of, blocks_of}
+use Rattle.ir_model.specs.Nesting.{In, Nested, list_of, children, regions_of, ops_of, blocks_of}
 use Rattle.ir_model.specs.Parent.{last_of as last_in}
 use Rattle.ir_model.proofs.IdCases.{id_cases, id_same, id_differs}
-use Rattle.ir_model.proofs.Nests.{In-map_back}
+use Rattle.ir_model.specs.Ids.{Absent, Distinct}
+use Rattle.ir_model.proofs.Keeps.{Distinct-unmap}
+use Rattle.ir_model.proofs.Nests.{In-map_back, not_in-Absent}
 use Rattle.ir_arena.specs.Arena.{get}
 use Rattle.ir_arena.specs.Lists.{Ends, Links, linked, head_or, last_of, last_or}
 use Rattle.ir_records.specs.declared.record.Operation.{Operation}
@@ -94,6 +96,29 @@ scan-previous x xs h = elim (scan None x xs h) [
   | inl m ↦ subst (PreviousIs xs x) (sym m.1) m.0
   | inr m ↦ subst (PreviousIs xs x) (sym m.1) m.2
 ]
+
+in-at : (xs : List ArenaIndex) (k : ℕ) (x : ArenaIndex) → slice_get xs k ≡ Some x → In x xs
+in-at [] k x e = absurd cc
+in-at (y ∷ ys) zero x e = inl (sym (same_Some y x e))
+in-at (y ∷ ys) (suc k) x e = inr (in-at ys k x e)
+
+-- where no item stands twice, the one before an item is the one at the place before
+pub before-at : (p : Option ArenaIndex) (x y : ArenaIndex) (xs : List ArenaIndex) (k : ℕ) → Distinct xs → slice_get xs k ≡ Some y → slice_get xs (suc k) ≡ Some x → before_from p x xs ≡ Some y
+before-at p x y [] k d e h = absurd cc
+before-at p x y (z ∷ zs) zero d e h = past p x z zs (ne x z zs 0 d.0 h) ∙ here zs h
+  where
+    ne : (x z : ArenaIndex) (zs : List ArenaIndex) (k : ℕ) → Absent z zs → slice_get zs k ≡ Some x → z ≢ x
+    ne x z zs k out at same = not_in-Absent z zs out (subst (λ w. In w zs) (sym same) (in-at zs k x at))
+
+    past : (p : Option ArenaIndex) (x z : ArenaIndex) (zs : List ArenaIndex) → z ≢ x → before_from p x (z ∷ zs) ≡ before_from (Some z) x zs
+    past p x z zs differ = ap (λ b. cond b p (before_from (Some z) x zs)) (id_differs z x differ)
+
+    here : (ws : List ArenaIndex) → slice_get ws 0 ≡ Some x → before_from (Some z) x ws ≡ Some y
+    here [] f = absurd cc
+    here (w ∷ ws) f = ap (λ b. cond b (Some z) (before_from (Some w) x ws)) (ap (λ v. same_id v x) (same_Some w x f) ∙ id_same x) ∙ e
+before-at p x y (z ∷ zs) (suc k) d e h =
+    ap (λ b. cond b p (before_from (Some z) x zs)) (id_differs z x (λ same. not_in-Absent z zs d.0 (subst (λ w. In w zs) (sym same) (in-at zs (suc k) x h))))
+    ∙ before-at (Some z) x y zs k d.1 e h
 
 -- a node of these lists has its neighbours as links
 abbrev pub AreNeighbours : (ArenaIndex → Option Links) → (ArenaIndex → List ArenaIndex) → Type 0
@@ -192,3 +217,9 @@ module _ (xs : List ArenaIndex) (k : ℕ) (d x : ArenaIndex) (p : Option ArenaIn
 
   pub scan-end : length xs ≤ k → before_from p x (drop k xs) ≡ None
   scan-end h = ap (before_from p x) (drop-past xs k h)
+
+-- no region stands twice in an operation
+pub regions-once : {D A K B S X L : Type 0} (t : Records D A K B S X L) (o : ArenaIndex) (r : Operation D A K B S X L) → Some r ≡ get t.ops o → Nested (forest_of t) → Distinct r.regions
+regions-once {D} {A} {K} {B} {S} {X} {L} t o r found nested =
+    Distinct-unmap a_region r.regions
+    (subst (λ (m : Option (Operation D A K B S X L)). Distinct {A = Entity context_ids} (map a_region (list_of (λ (q : OpRecord context_ids (closed A K B S X L)). q.regions) (option_map op_record m)))) (sym found) (nested.once (an_op o)))

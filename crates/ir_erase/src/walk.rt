@@ -1,11 +1,12 @@
 //! A walk over all that stands inside an entity, by links: from the last child to the first, all inside each before the child itself, and the entity last. It removes nothing, and a caller may change what the lists don't tell.
 //!
-//! `let mut current = Some(deepest(records, root));` begins it, and `next_inside` goes on until there is nothing more. A region's neighbour is looked for in the list of its operation; all other steps follow one link.
+//! `let mut current = Some(deepest(records, root));` begins it, and `next_inside` goes on until there is nothing more. A region's neighbour is looked for in the list of its operation, first where it stands if the regions were made one after the other; all other steps follow one link.
 
 ghost use Rattle.std.specs.Prelude.{◌≡◌, ◌++◌, ◌∷◌, [], List, Some, None};
 ghost use Rattle.std.specs.Option.{option_map};
 ghost use Rattle.ir_model.specs.ContextIds.{context_ids};
 ghost use Rattle.ir_model.specs.Forest.{Entity};
+ghost use Rattle.ir_model.specs.Ids.{Distinct};
 ghost use Rattle.ir_model.specs.Nesting.{Inside, Nested, children};
 ghost use Rattle.ir_model.specs.Parent.{first_of};
 ghost use Rattle.ir_records.specs.Meaning.{entity_of, forest_of};
@@ -40,7 +41,7 @@ fn last_in_record<D: Dialects>(records: &Records<D>, entity: EntityIndex) -> Opt
 }
 
 // The item before the first place of an item in a list.
-fn item_before(items: &[ArenaIndex], item: ArenaIndex) -> Option<ArenaIndex>
+fn first_before(items: &[ArenaIndex], item: ArenaIndex) -> Option<ArenaIndex>
     ensures { result ≡ before_from None item items.now }
 {
     let mut previous = None;
@@ -53,8 +54,32 @@ fn item_before(items: &[ArenaIndex], item: ArenaIndex) -> Option<ArenaIndex>
     None
 }
 
+// Where an item of a list would stand if the slots were spread evenly from the first item's to the last item's, as they are where regions were made one after the other.
+fn likely_place(items: &[ArenaIndex], item: ArenaIndex) -> usize {
+    let (Some(first), Some(last)) = (items.first(), items.last()) else {
+        return 0;
+    };
+    let whole = u64::from(last.slot.abs_diff(first.slot).max(1));
+    let part = u64::from(item.slot.abs_diff(first.slot));
+    let steps = items.len().saturating_sub(1) as u64;
+    (part.saturating_mul(steps) / whole) as usize
+}
+
+// The item before an item in a list that has none twice. The likely place is tried first, and the answer doesn't depend on it.
+fn item_before(items: &[ArenaIndex], item: ArenaIndex) -> Option<ArenaIndex>
+    requires { Distinct items.now }
+    ensures { result ≡ before_from None item items.now }
+{
+    let place = likely_place(items, item);
+    if 0 < place && place < items.len() && items[place] == item {
+        return Some(items[place - 1]);
+    }
+    first_before(items, item)
+}
+
 // The one before an entity in its list, as the records say.
 fn previous_in_record<D: Dialects>(records: &Records<D>, entity: EntityIndex) -> Option<EntityIndex>
+    requires { Nested (forest_of records.now) }
     ensures { option_map entity_of result ≡ kept_previous (tree_of records.now) (entity_of entity) }
 {
     match entity {

@@ -1,6 +1,8 @@
 //! Items of a list that are found by their numbers, of which no two are equal.
+//!
+//! A number is tried where it stands in an unbroken row, up or down, with the first item's and with the last item's: so it is found at once after items were put in, taken out or replaced one by one from either end. Where it stands at neither place, it is sought outward from the best guess, which is near where numbers are missing evenly. No answer depends on a guess.
 
-ghost use Rattle.std.specs.Prelude.{◌≡◌, ℕ, ◌==◌, map, position};
+ghost use Rattle.std.specs.Prelude.{◌≡◌, ◌↔◌, ℕ, ◌==◌, IsTrue, Some, map, position};
 ghost use Rattle.ir_model.specs.Ids.{Distinct};
 
 use crate::record::{Definition, UsePlace};
@@ -29,22 +31,104 @@ impl<N> Numbered for UsePlace<N> {
     }
 }
 
-// Where the item with this number stands if numbers follow on, as they are handed out.
-fn expected<T: Numbered>(items: &[T], number: u64) -> usize {
+// Where the item with this number stands if numbers go up or down one by one from the first item's.
+fn from_first<T: Numbered>(items: &[T], number: u64) -> usize {
     match items.first() {
-        Some(first) => number.wrapping_sub(first.number()) as usize,
+        Some(first) => number.abs_diff(first.number()) as usize,
         None => 0,
     }
 }
 
-// The place of the item with this number. The expected place is tried first, and the answer doesn't depend on it.
+// Where it stands if they go up or down one by one to the last item's.
+fn from_last<T: Numbered>(items: &[T], number: u64) -> usize {
+    let end = items.len().saturating_sub(1);
+    match items.last() {
+        Some(last) => end.saturating_sub(number.abs_diff(last.number()) as usize),
+        None => end,
+    }
+}
+
+// Where it stands if they are spread evenly between the first item's and the last item's.
+fn between<T: Numbered>(items: &[T], number: u64) -> usize {
+    let (Some(first), Some(last)) = (items.first(), items.last()) else {
+        return 0;
+    };
+    let whole = last.number().abs_diff(first.number()).max(1);
+    let part = number.abs_diff(first.number());
+    let steps = items.len().saturating_sub(1) as u64;
+    (part.saturating_mul(steps) / whole) as usize
+}
+
+// How far the number of the item at a place is from this one.
+fn distance<T: Numbered>(items: &[T], place: usize, number: u64) -> u64 {
+    match items.get(place) {
+        Some(item) => number.abs_diff(item.number()),
+        None => u64::MAX,
+    }
+}
+
+// The place of the two whose item's number is nearer to this one.
+fn nearer<T: Numbered>(items: &[T], number: u64, one: usize, other: usize) -> usize {
+    if distance(items, one, number) < distance(items, other, number) {
+        one
+    } else {
+        other
+    }
+}
+
+// Whether the item with this number stands at a place.
+fn is_at<T: Numbered>(items: &[T], place: usize, number: u64) -> bool
+    requires { Distinct (map (λ x. T.number_of x) items.now) }
+    ensures { IsTrue result ↔ position (λ x. T.number_of x == number) items.now ≡ Some place }
+{
+    match items.get(place) {
+        Some(item) => item.number() == number,
+        None => false,
+    }
+}
+
+// The place of the item with this number, sought from a place outward.
+fn find_outward<T: Numbered>(items: &[T], number: u64, place: usize) -> Option<usize>
+    requires { Distinct (map (λ x. T.number_of x) items.now) }
+    ensures { result ≡ position (λ x. T.number_of x == number) items.now }
+{
+    let start = place.min(items.len().saturating_sub(1));
+    for away in 0..items.len() {
+        let behind = start.saturating_add(away);
+        if is_at(items, behind, number) {
+            return Some(behind);
+        }
+        let before = start.saturating_sub(away);
+        if is_at(items, before, number) {
+            return Some(before);
+        }
+    }
+    None
+}
+
+// The place of the item with this number. It is tried where it stands if numbers go on to the last item's, and then sought outward from the place, of all that were guessed, that has the nearest number.
+#[inline(never)]
+fn find_elsewhere<T: Numbered>(items: &[T], number: u64, first: usize) -> Option<usize>
+    requires { Distinct (map (λ x. T.number_of x) items.now) }
+    ensures { result ≡ position (λ x. T.number_of x == number) items.now }
+{
+    let last = from_last(items, number);
+    if is_at(items, last, number) {
+        return Some(last);
+    }
+    let end = nearer(items, number, first, last);
+    let nearest = nearer(items, number, end, between(items, number));
+    find_outward(items, number, nearest)
+}
+
+// The place of the item with this number. It is first tried where it stands if numbers go on from the first item's, and the answer doesn't depend on that.
 pub(crate) fn find_numbered<T: Numbered>(items: &[T], number: u64) -> Option<usize>
     requires { Distinct (map (λ x. T.number_of x) items.now) }
     ensures { result ≡ position (λ x. T.number_of x == number) items.now }
 {
-    let expected = expected(items, number);
-    if expected < items.len() && items[expected].number() == number {
-        return Some(expected);
+    let first = from_first(items, number);
+    if is_at(items, first, number) {
+        return Some(first);
     }
-    items.iter().position(|x| x.number() == number)
+    find_elsewhere(items, number, first)
 }

@@ -1,18 +1,18 @@
-use Rattle.std.proofs.Common.{◌≡◌, ◌+◌, ◌∙◌, suc, drop, slice_index_or, Some, None, sym, subst, arith}
-use Rattle.ir_erase.specs.Walks.{before_from}
-use Rattle.ir_erase.proofs.Siblings.{scan-here, scan-on, scan-end}
+use Rattle.std.proofs.Common.{◌≡◌, ◌-◌, ◌<◌, suc, Some, slice_get, slice_index_or, sym, ap, ◌∙◌, length, arith}
+use Rattle.std.proofs.lemmas.Option.{slice_get-get_or}
+use Rattle.ir_model.specs.declared.ids.ArenaIndex.{ArenaIndex}
+use Rattle.ir_model.proofs.TwoRuns.{id_tells}
+use Rattle.ir_erase.proofs.Siblings.{before-at}
 use Rattle.ir_erase.proofs.walk.item_before.Goals as goal
 
 pub returns-then-eq : goal.returns-then-eq
 returns-then-eq c =
-    sym (c.loop-here.invariant ∙ scan-here c.args.items.now c.loop-here.here-index _ c.args.item c.loop-here.previous c.loop-here-test.true (sym c.eq.ensures ∙ c.if-eq.true))
-
-pub loop-here-preserved : goal.loop-here-preserved
-loop-here-preserved c =
-    let next : suc c.loop-here.here-index ≡ c.loop-here.here-index + 1 = omega arith in
-    subst (λ k. before_from None c.args.item c.args.items.now ≡ before_from (Some (slice_index_or c.args.items.now c.loop-here.here-index (record { slot = 0; version = 0 }))) c.args.item (drop k c.args.items.now)) next
-    (c.loop-here.invariant ∙ scan-on c.args.items.now c.loop-here.here-index _ c.args.item c.loop-here.previous c.loop-here-test.true (sym c.eq.ensures ∙ c.if-eq.false))
-
-pub returns : goal.returns
-returns c =
-    sym (c.loop-here.invariant ∙ scan-end c.args.items.now c.loop-here.here-index c.args.item c.args.item c.loop-here.previous (omega arith))
+    let xs = c.args.items.now in
+    let place = c.likely_place-place.result in
+    let none : ArenaIndex = record { slot = 0; version = 0 } in
+    let next : suc (place - 1) ≡ place = omega (arith, c.if-place-gt0.true) in
+    let within : place < length xs = c.if-place-items.true in
+    let before : place - 1 < length xs = omega arith in
+    let is : slice_index_or xs place none ≡ c.args.item = (id_tells (slice_index_or xs place none) c.args.item).0 (sym c.eq.ensures ∙ c.if-eq.true) in
+    sym (before-at _ c.args.item (slice_index_or xs (place - 1) none) xs (place - 1) c.requires (slice_get-get_or xs (place - 1) none before)
+    (ap (slice_get xs) next ∙ slice_get-get_or xs place none within ∙ ap Some is))

@@ -1,6 +1,6 @@
 use Rattle.std.proofs.Common.{◌≡◌, None, drop}
 use Rattle.ir_erase.specs.Walks.{before_from}
-use Rattle.ir_erase.proofs.walk.item_before.Given as goal
+use Rattle.ir_erase.proofs.walk.first_before.Given as goal
 
 -- the answer is that of the items from here on
 abbrev pub invariant-loop-here : goal.invariant-loop-here
