@@ -6,15 +6,14 @@
 mod calc;
 mod calc_ops;
 
-pub use calc::{Calc, CalcAttr, CalcType, Literal};
-pub use calc_ops::{Constant, Less};
-
 ghost use Rattle.std.specs.Prelude.{IfOk};
 ghost use Rattle.ir_model.specs.Forest.{a_value};
 ghost use Rattle.ir_model.specs.Nesting.{IsLiveNamed};
 ghost use Rattle.ir_records.specs.Meaning.{value_of};
 ghost use Rattle.ir_view.specs.State.{forest_of};
 
+pub use calc::{Calc, CalcAttr, CalcType, Literal};
+pub use calc_ops::{Constant, Less};
 use ir_base::{CoreError, Dialects};
 use ir_view::{Context, NewOperation, Operation, OperationPtr, Value};
 

@@ -84,11 +84,7 @@ fn interfaces_of_wrapped_operations(rt: HostRuntime) -> Result<(), Fail> {
 }
 
 // The ids of a live return, by its handle, by its wrapper and by the wrapper's type alone.
-fn tell_ids(
-    rt: &impl Abort,
-    ctx: &Context<Toy>,
-    op: Ptr<Operation<Toy>>,
-) -> Result<(), CoreError> {
+fn tell_ids(rt: &impl Abort, ctx: &Context<Toy>, op: Ptr<Operation<Toy>>) -> Result<(), CoreError> {
     assert!(rt; op.is_live(ctx));
     let id = op.get_opid(ctx)?;
     assert!(rt; prints_as(ctx.alloc(), &id, "toy.return")?);
