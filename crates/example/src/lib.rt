@@ -1,16 +1,21 @@
-//! How a crate of one's own stands on the core: a function that builds a chain of operations, generic in the dialect.
+//! How a crate of one's own stands on the core: a function that builds a chain of operations, generic in the dialect; and a dialect, `Calc`, with operations under types of their own.
 //!
-//! Each call of the core settles the condition of the next: a type that was made is known, what a live operation gives is live, and an index below the number of results that were asked for is in range. So nothing is tested here.
+//! Each call of the core settles the condition of the next: a type that was made is known, what a live operation gives is live, and an index below the number of results that were asked for is in range. So the chain tests nothing.
 #![tactic(auto)]
+
+mod calc;
+mod calc_ops;
 
 ghost use Rattle.std.specs.Prelude.{IfOk};
 ghost use Rattle.ir_model.specs.Forest.{a_value};
 ghost use Rattle.ir_model.specs.Nesting.{IsLiveNamed};
 ghost use Rattle.ir_records.specs.Meaning.{value_of};
-ghost use Rattle.ir_core.specs.State.{forest_of};
+ghost use Rattle.ir_view.specs.State.{forest_of};
 
+pub use calc::{Calc, CalcAttr, CalcType, Literal};
+pub use calc_ops::{Constant, Less};
 use ir_base::{CoreError, Dialects};
-use ir_core::{Context, NewOperation, Operation, OperationPtr, Value};
+use ir_view::{Context, NewOperation, Operation, OperationPtr, Value};
 
 /// Makes an operation with one result of the type with this key, and behind it a chain of so many operations, each of which uses the result of the one before. Answers the last result, which is live.
 ///

@@ -9,6 +9,7 @@ mod forward_edges;
 mod indexed;
 mod op_queries;
 mod operation_parts;
+mod wrapper_laws;
 mod wrappers;
 
 pub use backward_edges::BlockPredecessors;
@@ -37,3 +38,8 @@ pub use operation_parts::{
     SuccessorUsesOf, Successors, SuccessorsOf,
 };
 pub use wrappers::{Op, OpObj, op_impls, op_impls_static};
+
+/// Laws about the definitions that the contracts cite.
+pub mod laws {
+    pub use crate::wrapper_laws::wrapped_operations_compare_by_operation;
+}

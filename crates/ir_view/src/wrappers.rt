@@ -17,7 +17,9 @@ use std::cmp::PartialEq;
 use std::hash::Hash;
 
 /// A type that stands for operations of one kind of the dialect. It stands for pliron's trait `Op`.
-pub trait Op<D: Dialects> {
+///
+/// A type that implements it keeps the handle of an operation, and gives the kind, the index in that handle, and the two functions that read it and make it.
+pub trait Op<D: Dialects>: Sized {
     ghost use Rattle.ir_model.specs.declared.ids.ArenaIndex.{ArenaIndex};
 
     ghost KIND: { ℕ };
@@ -32,11 +34,16 @@ pub trait Op<D: Dialects> {
     fn get_operation(&self) -> Ptr<Operation<D>>
         ensures { result.index ≡ op_of self.now };
 
+    /// What wraps the operation under this handle. A type that implements the trait writes it, and a caller calls `from_operation`.
+    fn wrap(op: &Ptr<Operation<D>>) -> Self
+        ensures { op_of result ≡ op.now.index };
+
     /// What wraps this operation. It doesn't ask whether the operation is of the kind.
-    ///
-    /// A type that implements it states the clause again in the words of its own field, as `ensures { result.op.index ≡ op.index }`: the check holds that against this one.
-    fn from_operation(op: Ptr<Operation<D>>) -> Self
-        ensures { op_of result ≡ op.index };
+    final fn from_operation(op: Ptr<Operation<D>>) -> Self
+        ensures { op_of result ≡ op.index }
+    {
+        Self::wrap(&op)
+    }
 
     /// The id of the operation.
     ///

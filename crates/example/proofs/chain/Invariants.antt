@@ -2,7 +2,7 @@ use Rattle.std.proofs.Common.{◌<◌, length}
 use Rattle.ir_model.specs.Forest.{a_value}
 use Rattle.ir_model.specs.Nesting.{IsLiveNamed}
 use Rattle.ir_records.specs.Meaning.{value_of}
-use Rattle.ir_core.specs.State.{forest_of, types_of}
+use Rattle.ir_view.specs.State.{forest_of, types_of}
 use Rattle.example.proofs.chain.Given as goal
 
 -- the type is known, and the last result is live

@@ -1,0 +1,34 @@
+-- What the dialect Calc calls its kinds, and what its operations say.
+use Rattle.std.specs.Prelude.{ℕ, List, Option, ◌==◌, codes, if◌then◌else◌, option_and_then}
+use Rattle.std.specs.Option.{option_map}
+use Rattle.ir_model.specs.declared.ids.ArenaIndex.{ArenaIndex}
+use Rattle.ir_model.specs.Calls.{attributes_of}
+use Rattle.ir_model.specs.ContextIds.{context_ids}
+use Rattle.ir_model.specs.Forest.{Forest, of_op}
+use Rattle.ir_model.specs.Stores.{attribute_at}
+use Rattle.ir_records.specs.Meaning.{closed}
+use Rattle.example.specs.declared.calc.CalcAttr.{CalcAttr}
+use Rattle.example.specs.declared.calc.CalcAttr.TheVariants.{Literal}
+
+-- The name of a kind of operations.
+abbrev pub op_name : ℕ → List ℕ
+op_name kind =
+    if kind == 0 then codes "constant"
+    else if kind == 1 then codes "less"
+    else codes "unknown"
+
+-- The name of a kind of types.
+abbrev pub type_name : ℕ → List ℕ
+type_name kind =
+    if kind == 0 then codes "number"
+    else if kind == 1 then codes "truth"
+    else codes "unknown"
+
+-- The number that an attribute writes.
+abbrev pub number_in : CalcAttr → ℕ
+number_in (Literal number) = number.value
+
+module _ {K B S X L : Type 0} where
+  -- The number that the operation has under the key `value`, where it has one.
+  abbrev pub number_of : Forest context_ids (closed CalcAttr K B S X L) → ArenaIndex → Option ℕ
+  number_of f o = option_and_then (λ pairs. option_map number_in (attribute_at pairs (codes "value"))) (attributes_of f (of_op o))
