@@ -1,7 +1,7 @@
 use Rattle.std.proofs.Common.{◌≡◌, ◌<◌, ◌^◌, length, is_some, IsSome, sym, ap, ◌∙◌, arith}
 use Rattle.ir_model.specs.Forest.{a_block, an_op}
 use Rattle.ir_model.specs.Nesting.{In, ops_of}
-use Rattle.ir_arena.specs.Arena.{get, arena_len}
+use Rattle.ir_model.specs.Arenas.{get, arena_len}
 use Rattle.ir_records.specs.declared.records.Records.{Records}
 use Rattle.ir_records.specs.Meaning.{op_record}
 use Rattle.ir_view.specs.State.{forest_of}

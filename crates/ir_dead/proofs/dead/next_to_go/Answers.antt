@@ -58,4 +58,4 @@ returns-clause-none g c =
     let f = forest_of c.args.ctx.now in
     let b = c.args.block.index in
     let B = behaviour g.D.TypeKey.PartialEq.eq g.D.Dialects.first_body g.D.Dialects.unknown g.D.Dialects.op_impls_of in
-    λ e. walk_ends B f b (option_map (λ p. p.index) c.args.place) (subst (λ m. Walking B f b (option_map (λ p. p.index) c.args.place) (option_map (λ p. p.index) m)) c.in-None.is c.loop-place.invariant.passed)
+    λ e. walk_ends B f b (option_map (λ p. p.index) c.args.place) (subst (λ m. Walking B f b (option_map (λ p. p.index) c.args.place) (option_map (λ p. p.index) m)) c.in_default.is c.loop-place.invariant.passed)
