@@ -1,0 +1,5 @@
+mod Partly
+mod Sequences
+mod Ranks
+mod Walks
+mod Purity

@@ -1,0 +1,34 @@
+-- Operations of a block that go one after the other.
+use Rattle.std.specs.Prelude.{ℕ, zero, suc, ◌≤◌, List, [], ◌∷◌, Option, Some, None, IsTrue, if◌then◌else◌}
+use Rattle.ir_model.specs.declared.ids.ArenaIndex.{ArenaIndex}
+use Rattle.ir_model.specs.ContextIds.{context_ids, same_id}
+use Rattle.ir_model.specs.Forest.{Dialect, Behaviour, Forest, an_op}
+use Rattle.ir_model.specs.Nesting.{In, IsClosed, ops_of}
+use Rattle.ir_model.specs.Changes.{Removes}
+use Rattle.ir_model.specs.Subtree.{IsSubtreeSize}
+use Rattle.ir_model.specs.BlockGraph.{implements, pure_interface}
+
+-- the place of an operation in a list, counted from 1
+abbrev pub place_of : ArenaIndex → List ArenaIndex → ℕ
+place_of o [] = 1
+place_of o (x ∷ xs) = if same_id x o then 1 else suc (place_of o xs)
+
+-- the place of an operation, or 0 without one
+abbrev pub rank : Option ArenaIndex → List ArenaIndex → ℕ
+rank None xs = 0
+rank (Some o) xs = place_of o xs
+
+module _ {W : Dialect} (B : Behaviour W) where
+  -- the kind of the operation is pure, and nothing outside it names what is defined inside it
+  pub record CanGo (f : Forest context_ids W) (o : ArenaIndex) : Type 0 where
+    pub is_pure : IsTrue (implements B f pure_interface o)
+    pub closed : IsClosed f (an_op o)
+
+  -- so many operations of the block's list went, one after the other, each with all inside it, and each could go when it went
+  pub data Goes (b : ArenaIndex) (f : Forest context_ids W) : Forest context_ids W → ℕ → Type 0 where
+    none_goes : Goes b f f zero
+    one_goes : {g h : Forest context_ids W} {n : ℕ} (o : ArenaIndex) (size : ℕ) → Goes b f g n → In o (ops_of g b) → CanGo g o → IsSubtreeSize g (an_op o) size → Removes g (an_op o) h → Goes b f h (suc n)
+
+  -- none of the block's list that stands at this place or before it can go
+  abbrev pub NoneGoesUpTo : Forest context_ids W → ArenaIndex → ℕ → Type 0
+  NoneGoesUpTo f b n = (o : ArenaIndex) → In o (ops_of f b) → place_of o (ops_of f b) ≤ n → CanGo f o → ⊥

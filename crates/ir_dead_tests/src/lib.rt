@@ -1,0 +1,5 @@
+//! Tests of the sweep of a block, over the dialect Toy.
+#![tactic(auto)]
+
+#[cfg(test)]
+mod sweep_tests;
