@@ -1,6 +1,6 @@
 //! The sweep of a block: dead operations go, with all that stands inside them, however they use each other.
 //!
-//! An operation goes only while nothing outside it names what is defined inside. A walk goes from the end of the block to its front, so that what names is met before what it names, where definitions stand before their uses. Where an operation goes, the walk follows the operand of it whose definer can go then, along a chain, and comes back to its place. It begins again at the end of the block until it finds none. It takes no memory and doesn't recurse.
+//! An operation goes only while nothing outside it names what is defined inside. A walk goes from the end of the block to its front, so that what names is met before what it names, where definitions stand before their uses. Where an operation goes, the walk follows its last operand whose definer is pure and stands in the block: if that can go then, it goes next, and so on along a chain; then the walk comes back to its place. It begins again at the end of the block until it finds none. It takes no memory and doesn't recurse.
 
 ghost use Rattle.std.specs.Prelude.{◌≢◌, ◌↔◌, ◌<◌, ◌^◌, length, IsTrue, IfSome, IsNone};
 ghost use Rattle.std.specs.Option.{option_map};
