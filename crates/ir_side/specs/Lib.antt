@@ -1,0 +1,4 @@
+pub mod Names
+pub mod NameTable
+pub mod Side
+pub mod SideLends
