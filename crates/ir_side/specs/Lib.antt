@@ -1,4 +1,3 @@
 pub mod Names
-pub mod NameTable
 pub mod Side
 pub mod SideLends

@@ -1,27 +1,19 @@
--- Names of auxiliary data, as a map from texts to indices.
-use Rattle.std.specs.Prelude.{ℕ, Option, refl}
-use Rattle.std.specs.Ordering.{nat_cmp}
-use Rattle.std.specs.Cmp.Lexicographic.{slice_cmp}
-use Rattle.std.specs.Coded.{Coded, code_by, coded×, coded_list, coded_ℕ}
-use Rattle.std.specs.FinMap as finite
+-- Names of auxiliary data, each with its index.
+use Rattle.std.specs.Prelude.{List, [], Option, bytes_eq}
+use Rattle.std.specs.Map.{lookup}
+use Rattle.std.specs.Option.{option_map}
 use Rattle.ir_model.specs.declared.ids.ArenaIndex.{ArenaIndex}
 use Rattle.ir_model.specs.Forest.{Text}
+use Rattle.ir_side.specs.declared.aux_index.AuxDataIndex.{AuxDataIndex}
 
--- the index of each name
+-- the names in some order, each with its index
 abbrev pub Names : Type 0
-Names = finite.FinMap (slice_cmp nat_cmp) ArenaIndex
-
--- an index is stored as its slot and its version
-abbrev pub index_code : Coded ArenaIndex
-index_code = code_by (ℕ × ℕ) (coded× coded_ℕ coded_ℕ) (λ i. (i.slot, i.version)) (λ p. record { slot = p.0; version = p.1 }) (λ _. refl)
-
-abbrev pub names_code : Coded Names
-names_code = finite.code (coded_list coded_ℕ) index_code
+Names = List (Text × AuxDataIndex)
 
 -- no name leads anywhere
 abbrev pub no_names : Names
-no_names = finite.empty
+no_names = []
 
 -- the index that the name leads to
 abbrev pub index_at : Names → Text → Option ArenaIndex
-index_at names name = finite.get names name
+index_at names name = option_map (λ found. found.index) (lookup (bytes_eq name) names)

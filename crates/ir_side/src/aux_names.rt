@@ -22,15 +22,11 @@ pub struct AuxNames {
 }
 
 impl Model for AuxNames {
-    ghost use Rattle.ir_side.specs.Names.{Names, names_code};
+    ghost use Rattle.ir_side.specs.Names.{Names};
 
     ghost Value = { Names };
 
-    ghost coded = { names_code };
-
-    ghost use Rattle.ir_side.specs.NameTable.{names_in};
-
-    ghost view = { λ n. names_in n.indices };
+    ghost view = { λ n. n.indices.entries };
 }
 
 impl AuxNames {
