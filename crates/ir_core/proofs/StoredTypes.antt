@@ -2,9 +2,11 @@
 use Rattle.std.proofs.Common.{◌≡◌, refl, sym, ap, subst, ◌∙◌, ℕ, zero, suc, Some, slice_get, ◌+◌, ◌≤◌, Bool, true, false, not, ◌||◌, cond, List, [], ◌∷◌, ◌++◌, map, length, arith}
 use Rattle.std.specs.Prelude.{MatchBool}
 use Rattle.std.specs.List.{list_any}
-use Rattle.std.specs.Map.{keys_of}
+use Rattle.std.specs.Map.{keys_of, values_of}
 use Rattle.std.specs.Option.{option_map}
 use Rattle.ir_model.specs.Edits.{StoredType, place_of, type_place, with_type}
+use Rattle.indexmap.specs.IndexMap.{set_value_at}
+use Rattle.ir_model.specs.Saved.{set_body}
 use Rattle.ir_base.specs.Stores.{Stores, has_key}
 use Rattle.ir_records.specs.Meaning.{closed}
 use Rattle.ir_core.specs.State.{behaviour}
@@ -54,7 +56,7 @@ module _ (A K B S X L : Type 0) (same : K → K → Bool) (first : B) (unknown :
           let more : (body : B) × (IsFirst body × (new ≡ old ++ (key, body) ∷ [])) = subst (λ b. MatchBool b (new ≡ old) ((body : B) × (IsFirst body × (new ≡ old ++ (key, body) ∷ [])))) e s in
           omega (arith, ap length more.1.1, grown old (key, more.0))
 
-abbrev type_stored : (A K B S X L : Type 0) → K × B → StoredType (closed A K B S X L)
+abbrev pub type_stored : (A K B S X L : Type 0) → K × B → StoredType (closed A K B S X L)
 type_stored A K B S X L p = record { key = p.0; body = p.1 }
 
 pub length-stored : (A K B S X L : Type 0) (ps : List (K × B)) → length (map (type_stored A K B S X L) ps) ≡ length ps
@@ -66,3 +68,21 @@ pub key-stored : (A K B S X L : Type 0) (ps : List (K × B)) (i : ℕ) (k : K) �
 key-stored A K B S X L [] i k e = cc
 key-stored A K B S X L (p ∷ ps) zero k e = sym e
 key-stored A K B S X L (p ∷ ps) (suc i) k e = key-stored A K B S X L ps i k e
+
+-- the body at a place is that of the type there
+pub body-stored : (A K B S X L : Type 0) (ps : List (K × B)) (i : ℕ) (b : B) → Some b ≡ slice_get (values_of ps) i → option_map (λ (t : StoredType (closed A K B S X L)). t.body) (slice_get (map (type_stored A K B S X L) ps) i) ≡ Some b
+body-stored A K B S X L [] i b e = cc
+body-stored A K B S X L (p ∷ ps) zero b e = sym e
+body-stored A K B S X L (p ∷ ps) (suc i) b e = body-stored A K B S X L ps i b e
+
+-- the types where one body was set
+pub set-stored : (A K B S X L : Type 0) (ps : List (K × B)) (i : ℕ) (b : B) → map (type_stored A K B S X L) (set_value_at ps i b) ≡ set_body (map (type_stored A K B S X L) ps) i b
+set-stored A K B S X L [] i b = refl
+set-stored A K B S X L (p ∷ ps) zero b = refl
+set-stored A K B S X L (p ∷ ps) (suc i) b = ap (λ ts. type_stored A K B S X L p ∷ ts) (set-stored A K B S X L ps i b)
+
+-- are as many as before
+pub length-set : (K B : Type 0) (ps : List (K × B)) (i : ℕ) (b : B) → length (set_value_at ps i b) ≡ length ps
+length-set K B [] i b = refl
+length-set K B (p ∷ ps) zero b = refl
+length-set K B (p ∷ ps) (suc i) b = ap suc (length-set K B ps i b)

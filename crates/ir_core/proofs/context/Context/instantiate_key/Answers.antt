@@ -22,6 +22,7 @@ invariant_of-self-2 g c =
         op_slots = s.counted.op_slots;
         block_slots = s.counted.block_slots;
         region_slots = s.counted.region_slots;
+        aux_slots = s.counted.aux_slots;
       };
     }
 
