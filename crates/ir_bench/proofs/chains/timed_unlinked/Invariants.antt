@@ -3,7 +3,7 @@ use Rattle.ir_model.specs.Forest.{a_value}
 use Rattle.ir_model.specs.Nesting.{IsLiveNamed}
 use Rattle.ir_records.specs.Meaning.{value_of}
 use Rattle.ir_view.specs.State.{forest_of, types_of}
-use Rattle.ir_bench.proofs.workloads.timed_unlinked.Given as goal
+use Rattle.ir_bench.proofs.chains.timed_unlinked.Given as goal
 
 abbrev pub invariant-loop-i : goal.invariant-loop-i
 invariant-loop-i g l =
