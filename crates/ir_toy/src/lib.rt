@@ -2,5 +2,7 @@
 #![tactic(auto)]
 
 mod toy;
+mod toy_attributes;
 
 pub use toy::{SIZED_TYPE, Toy, ToyAttr, ToyLoc, ToySaved, ToyType};
+pub use toy_attributes::{ToyInt, ToyOutlined, ToyText};
