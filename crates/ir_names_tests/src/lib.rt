@@ -2,4 +2,6 @@
 #![tactic(auto)]
 
 #[cfg(test)]
+mod kept_names_tests;
+#[cfg(test)]
 mod names_tests;
