@@ -5,6 +5,7 @@ mod script_parse;
 mod script_print;
 mod script_run;
 mod script_uses;
+mod script_verify;
 
 pub use ir_base::{Answer, Limits, Refused};
 pub use ir_run::{Edit, Session};

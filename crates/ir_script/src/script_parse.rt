@@ -1,4 +1,4 @@
-//! Reading of scripts: from their text to the edits that they ask for.
+//! Reading of scripts: from their text to the edits and verifications that they ask for.
 //!
 //! A script is lines that are ended by LF, which the last may lack; a CR before an LF is dropped. A line that is empty, that has spaces alone, or whose first character is `#` is skipped and counted. Other lines are fields with spaces between them.
 
@@ -9,6 +9,7 @@ use ir_run::Edit;
 use ir_toy::{Toy, ToyType};
 use std::alloc::{AllocError, AllocFailed, Global};
 use std::fmt;
+use std::mem::replace;
 use thiserror::Error;
 
 // The greatest kind of operations that a script may name.
@@ -80,16 +81,25 @@ impl fmt::Display for Letter {
     }
 }
 
-/// The edits of a script, and for each of them what it makes or changes.
+/// A part of a script: edits, for each of them what it makes or changes, and a verification after them.
 #[derive(Drop)]
-pub(crate) struct Script {
+pub(crate) struct Part {
     /// The edits, in the order of their lines.
     pub edits: Vec<Edit<Toy>>,
     /// The letter for each edit.
     pub letters: Vec<Letter>,
+    /// The operation that is verified after them; none in the last part.
+    pub verified: Option<usize>,
 }
 
-// Why a line gives no edit.
+// What a line asks for.
+#[derive(Drop)]
+enum Step {
+    Edit(Letter, Edit<Toy>),
+    Verify(usize),
+}
+
+// Why a line asks for nothing.
 #[derive(Drop)]
 enum LineError {
     Malformed,
@@ -102,28 +112,42 @@ impl From<AllocFailed<usize>> for LineError {
     }
 }
 
-/// The edits that a script asks for.
+/// The parts of a script, of which each but the last ends with a verification.
 ///
 /// # Errors
 /// `Malformed` with the first malformed line, and `OutOfMemory` where a growth was refused before one was found.
-pub(crate) fn parse_script(alloc: Global, text: &str) -> Result<Script, ScriptError> {
-    let mut edits = Vec::new(alloc);
-    let mut letters = Vec::new(alloc);
+pub(crate) fn parse_script(alloc: Global, text: &str) -> Result<Vec<Part>, ScriptError> {
+    let mut parts = Vec::new(alloc);
+    let mut part = new_part(alloc);
     for (number, line) in (1..u64::MAX).zip(text.split_inclusive('\n')) {
         let line = without_end(line);
         if is_skipped(line) {
             continue;
         }
-        match parse_line(alloc, line) {
-            Ok((letter, edit)) => {
-                letters.push(letter)?;
-                edits.push(edit)?;
+        match parse_step(alloc, line) {
+            Ok(Step::Edit(letter, edit)) => {
+                part.letters.push(letter)?;
+                part.edits.push(edit)?;
+            }
+            Ok(Step::Verify(op)) => {
+                part.verified = Some(op);
+                parts.push(replace(&mut part, new_part(alloc)))?;
             }
             Err(LineError::Malformed) => return Err(ScriptError::Malformed { line: number }),
             Err(LineError::OutOfMemory) => return Err(ScriptError::OutOfMemory),
         }
     }
-    Ok(Script { edits, letters })
+    parts.push(part)?;
+    Ok(parts)
+}
+
+// A part with no edits.
+fn new_part(alloc: Global) -> Part {
+    Part {
+        edits: Vec::new(alloc),
+        letters: Vec::new(alloc),
+        verified: None,
+    }
 }
 
 // The line without the LF that ends it and the CR before that.
@@ -137,6 +161,17 @@ fn without_end(line: &str) -> &str {
 // Whether the line is empty, has spaces alone, or begins with `#`.
 fn is_skipped(line: &str) -> bool {
     line.starts_with('#') || line.trim_start_matches(' ').is_empty()
+}
+
+// What a line asks for: a verification, or an edit.
+fn parse_step(alloc: Global, line: &str) -> Result<Step, LineError> {
+    let (first, rest) = take_field(line)?;
+    if first == "verify" {
+        Ok(Step::Verify(parse_one_name('o', rest)?))
+    } else {
+        let (letter, edit) = parse_line(alloc, line)?;
+        Ok(Step::Edit(letter, edit))
+    }
 }
 
 // The edit that a line asks for, and what it makes or changes.

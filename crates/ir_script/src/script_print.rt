@@ -34,13 +34,12 @@ fn unwritable(error: io::Error) -> ScriptError {
     }
 }
 
-// The answers, one a line. The letters say what each edit makes.
-pub(crate) fn answers_text(
-    alloc: Global,
+// Writes the answers, one a line. The letters say what each edit makes.
+pub(crate) fn write_answers(
+    text: &mut String,
     letters: &[Letter],
     answers: &[Answer],
-) -> Result<String, AllocError> {
-    let mut text = String::new(alloc);
+) -> Result<(), AllocError> {
     for (letter, answer) in letters.iter().zip(answers.iter()) {
         match answer {
             Answer::Made(number) => writeln!(text, "made {letter}{number}")?,
@@ -48,11 +47,11 @@ pub(crate) fn answers_text(
             Answer::Refused(refused) => text.push_str(refusal_line(*refused))?,
         }
     }
-    Ok(text)
+    Ok(())
 }
 
 // The line of a refusal.
-fn refusal_line(refused: Refused) -> &'static str
+pub(crate) fn refusal_line(refused: Refused) -> &'static str
     ensures { result.now ≡ line_of refused }
 {
     match refused {

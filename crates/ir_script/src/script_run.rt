@@ -1,20 +1,22 @@
-//! The program `ircore`: it reads a script, carries its edits out over the dialect Toy with default limits, and prints the answers, and then the uses of each live value and block.
+//! The program `ircore`: it reads a script, carries its edits out over the dialect Toy with default limits, verifies the operations that it asks for in between, and prints the answers, and then the uses of each live value and block.
 //!
 //! The whole script is read before anything is done.
 ghost use Rattle.std.specs.Prelude.{◌<◌, ◌≤◌};
 
-use crate::script_parse::{Script, ScriptError, parse_script};
-use crate::script_print::{answers_text, finish, read_script, write_text};
+use crate::script_parse::{Part, ScriptError, parse_script};
+use crate::script_print::{finish, read_script, write_answers, write_text};
 use crate::script_uses::uses_text;
+use crate::script_verify::write_found;
 use ir_base::Limits;
 use ir_run::Session;
+use ir_toy::Toy;
 use std::alloc::Global;
 use std::io::{Read, Write};
 use std::str::from_utf8;
 
 /// Reads a script from the input, carries it out with default limits, and prints its answers, one a line, and then each live value by number, and each live block by number, with its uses.
 ///
-/// It answers the program's status: 0 where all lines were answered, refusals included; 1 where memory was wanting outside an edit; 2 where a line is malformed or the input can't be read; 3 where the output can't be written. Under 1 and 2 it says why on `fault`.
+/// It answers the program's status: 0 where all lines were answered, refusals included; 1 where memory was wanting outside an edit and a verification; 2 where a line is malformed or the input can't be read; 3 where the output can't be written. Under 1 and 2 it says why on `fault`.
 pub fn run_script<R: Read, W: Write, F: Write>(
     alloc: Global,
     input: &mut R,
@@ -55,11 +57,27 @@ fn answer_script<R: Read, W: Write>(
     let Ok(text) = from_utf8(bytes.as_slice()) else {
         return Err(ScriptError::Unreadable);
     };
-    let Script { edits, letters } = parse_script(alloc, text)?;
+    let parts = parse_script(alloc, text)?;
     let mut session = Session::new(alloc, limits);
-    let answers = session.run(edits)?;
-    let text = answers_text(alloc, letters.as_slice(), answers.as_slice())?;
+    let mut text = String::new(alloc);
+    for part in parts {
+        answer_part(&mut text, &mut session, part)?;
+    }
     write_text(output, text.as_str())?;
     let text = uses_text(alloc, &session)?;
     write_text(output, text.as_str())
+}
+
+// Carries the edits of a part out, verifies what it asks for after them, and writes the answers.
+fn answer_part(
+    text: &mut String,
+    session: &mut Session<Toy>,
+    part: Part,
+) -> Result<(), ScriptError> {
+    let answers = session.run(part.edits)?;
+    write_answers(text, part.letters.as_slice(), answers.as_slice())?;
+    if let Some(op) = part.verified {
+        write_found(text, session, op)?;
+    }
+    Ok(())
 }

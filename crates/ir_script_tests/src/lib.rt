@@ -9,3 +9,5 @@ mod memory_tests;
 mod outcome;
 #[cfg(test)]
 mod script_tests;
+#[cfg(test)]
+mod verify_tests;

@@ -67,15 +67,6 @@ fn script_refused_then_made(rt: HostRuntime) -> Result<(), Fail> {
 }
 
 #[test]
-fn script_successors(rt: HostRuntime) -> Result<(), Fail> {
-    let script =
-        b"op 5 - - - 1\nblock -\nblock -\nbackb b0 r0\nbackb b1 r0\nop 3 - - b1,b1 0\nback o1 b0";
-    let output = "made o0\nmade b0\nmade b1\nok\nok\nmade o1\nok\nb0:\nb1: o1.0 o1.1\n";
-    expect(&rt, rt.alloc(), script, 0, output, "")?;
-    Ok(())
-}
-
-#[test]
 fn script_op_into_itself(rt: HostRuntime) -> Result<(), Fail> {
     let script = b"op 5 - - - 1\nblock -\nbackb b0 r0\nback o0 b0";
     let output = "made o0\nmade b0\nok\nrefused condition\nb0:\n";
