@@ -1,5 +1,0 @@
-//! Tests of the sweep of a block, over the dialect Toy.
-#![tactic(auto)]
-
-#[cfg(test)]
-mod sweep_tests;
