@@ -4,7 +4,7 @@
 
 ghost use Rattle.std.specs.Prelude.{◌≡◌, ◌<◌, IfOk, IfSome, length};
 ghost use Rattle.ir_model.specs.Forest.{a_value, an_op};
-ghost use Rattle.ir_model.specs.Nesting.{IsLive, IsLiveNamed};
+ghost use Rattle.ir_model.specs.Nesting.{IsLive, IsLiveNamed, operands_of};
 ghost use Rattle.ir_records.specs.Meaning.{value_of};
 ghost use Rattle.example.specs.Calc.{number_of};
 ghost use Rattle.ir_view.specs.Calls.{StayLive};
@@ -121,6 +121,7 @@ impl Less {
     /// The two numbers, where the operation compares two constants.
     pub fn sides(&self, ctx: &Context<Calc>) -> Option<(u64, u64)>
         requires { IsLive (forest_of ctx.now) (an_op self.now.op.index) }
+        ensures { IfSome result (λ _. length (operands_of (forest_of ctx.now) self.now.op.index) ≡ 2) }
     {
         let record = self.op.deref(ctx);
         if record.get_num_operands() != 2 {

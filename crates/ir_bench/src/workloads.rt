@@ -1,11 +1,12 @@
 //! What is timed. Each workload has one function, named `timed_..`, that is the timed part and nothing more.
 
-ghost use Rattle.std.specs.Prelude.{◌<◌, length};
+ghost use Rattle.std.specs.Prelude.{◌≡◌, ◌<◌, length};
 ghost use Rattle.ir_model.specs.Forest.{a_value};
 ghost use Rattle.ir_model.specs.Nesting.{IsLiveNamed};
 ghost use Rattle.ir_records.specs.Meaning.{value_of};
 ghost use Rattle.ir_view.specs.State.{forest_of, types_of};
 
+use anyhow::bail;
 use ir_base::{CoreError, Dialects, Ptr, TypeHandle};
 use ir_toy::{Toy, ToyType};
 use ir_view::{Context, NewOperation, Operation, OperationPtr, TypeQueries, Value, ValueQueries};
@@ -33,7 +34,7 @@ pub struct Outcome {
 
 impl Workload {
     /// The name on the command line.
-    pub fn name(self) -> &'static str {
+    pub(crate) fn name(self) -> &'static str {
         match self {
             Workload::Unlinked => "unlinked",
             Workload::Interning => "e",
@@ -41,7 +42,7 @@ impl Workload {
     }
 
     /// Runs the workload on a new context. Gives the nanoseconds of the timed part, and what came out.
-    pub fn run<C: CpuClock>(
+    pub(crate) fn run<C: CpuClock>(
         self,
         rt: &C,
         alloc: Global,
@@ -108,13 +109,23 @@ fn uses_sum<D: Dialects>(ctx: &Context<D>, ops: &[Ptr<Operation<D>>]) -> u64 {
     sum
 }
 
+// Makes an operation with one result of this type, and gives the result.
+fn new_value(ctx: &mut Context<Toy>, ty: TypeHandle) -> Result<Value<Toy>, CoreError>
+    requires { ty.place < length (types_of ctx.old) }
+    ensures { types_of ctx.new ≡ types_of ctx.old }
+{
+    let op = Operation::new(ctx, 0, &[ty], &[], &[], 0)?;
+    Ok(op.deref(ctx).get_result(0))
+}
+
 fn unlinked<C: CpuClock>(rt: &C, alloc: Global, count: usize) -> anyhow::Result<(u64, Outcome)> {
     let mut ctx: Context<Toy> = Context::new(alloc);
     let ty = ctx.instantiate_key(ToyType::Int { width: 32 })?;
-    let one = Operation::new(&mut ctx, 0, &[ty], &[], &[], 0)?;
-    let first = one.deref(&ctx).get_result(0);
-    let two = Operation::new(&mut ctx, 0, &[ty], &[], &[], 0)?;
-    let second = two.deref(&ctx).get_result(0);
+    let first = new_value(&mut ctx, ty)?;
+    let second = new_value(&mut ctx, ty)?;
+    if !first.is_live(&ctx) || !second.is_live(&ctx) {
+        bail!("a value is gone");
+    }
     let mut made = Vec::with_capacity(alloc, count)?;
     let start = nanos_now(rt)?;
     timed_unlinked(&mut ctx, ty, first, second, count, &mut made)?;

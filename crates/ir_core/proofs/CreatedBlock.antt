@@ -56,10 +56,10 @@ module _ {D A K B S X L : Type 0} (s : State D A K B S X L) (t : Records D A K B
     uses_fit = omega (arith, sound.counted.use_limit)
 
     abbrev after : State D A K B S X L
-    after = record { records = t; types = s.types; next_value = s.next_value + length ts; next_use = s.next_use; limits = s.limits }
+    after = record { records = t; types = s.types; next_value = s.next_value + length ts; next_use = s.next_use; side = s.side; limits = s.limits }
 
     is_after : made s sound t together [] (b ∷ []) [] extends (length ts) 0 room.values uses_fit ≡ after
-    is_after i = record { records = t; types = s.types; next_value = s.next_value + length ts; next_use = no_uses i; limits = s.limits }
+    is_after i = record { records = t; types = s.types; next_value = s.next_value + length ts; next_use = no_uses i; side = s.side; limits = s.limits }
 
     pub created-block-sound : IsSound after
     created-block-sound = subst IsSound is_after (block-sound s sound t together unknown b label ts extends forest dead all_known room.values uses_fit)

@@ -91,7 +91,7 @@ module _ {D A K B S X L V P : Type 0} (s : State D A K B S X L) (sound : IsSound
 
   -- the context after it
   abbrev after : ℕ → State D A K B S X L
-  after uses = record { records = t; types = s.types; next_value = s.next_value + length ts; next_use = s.next_use + uses; limits = s.limits }
+  after uses = record { records = t; types = s.types; next_value = s.next_value + length ts; next_use = s.next_use + uses; side = s.side; limits = s.limits }
 
   pub created-sound : IsSound (after (length vs + length bs))
   created-sound = subst (λ k. IsSound (after k)) all (op-sound s sound t together unknown u kind ts named targets rs made.3 forest dead dead_regions known_types live_values live_blocks room.values uses_fit)

@@ -58,7 +58,7 @@ module _ {D A K B S X L : Type 0} (s : State D A K B S X L) (sound : IsSound s) 
     dead = dead-region s.records r (grows.dead r (inl refl))
 
     is_after : made s sound t together [] [] (r ∷ []) extends 0 0 values_fit uses_fit ≡ after
-    is_after i = record { records = t; types = s.types; next_value = no_values i; next_use = no_uses i; limits = s.limits }
+    is_after i = record { records = t; types = s.types; next_value = no_values i; next_use = no_uses i; side = s.side; limits = s.limits }
 
     one-sound : IsSound after
     one-sound = let q = there ((forest_of s).ops o) live in subst IsSound is_after (region-sound s sound t together o r q.0 extends forest q.1 dead values_fit uses_fit)

@@ -50,6 +50,7 @@ module _ {D A K B S X L : Type 0} where
           op_slots = keeps-same s s.records.ops t.ops keeps.op_ids sound.counted.op_slots;
           block_slots = keeps-same s s.records.blocks t.blocks keeps.block_ids sound.counted.block_slots;
           region_slots = keeps-same s s.records.regions t.regions keeps.region_ids sound.counted.region_slots;
+          aux_slots = sound.counted.aux_slots;
         };
       };
       rest = record {

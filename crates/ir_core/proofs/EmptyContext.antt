@@ -20,6 +20,8 @@ use Rattle.ir_records.specs.declared.record.Definer.{Definer as DefinerIndex}
 use Rattle.ir_records.specs.declared.record.Definer.TheVariants.{Op, Block}
 use Rattle.ir_records.specs.Links.{LinkedBut, NoHole}
 use Rattle.ir_records.specs.Table.{operands_at, successors_at, uses_at, block_uses_at}
+use Rattle.ir_side.specs.Side.{nothing as no_side}
+use Rattle.ir_core.specs.Calls.{nothing_beside}
 use Rattle.ir_core.specs.Sound.{AreLimits, IsSound}
 use Rattle.std.specs.Prelude.{slice_get}
 use Rattle.std.proofs.lemmas.Bool.{le-ltb}
@@ -93,6 +95,7 @@ module _ (D A K B S X L : Type 0) (l : Limits) where
     types = [];
     next_value = 0;
     next_use = 0;
+    side = no_side l.slots l.last_version;
     limits = l;
   }
 
@@ -120,6 +123,14 @@ module _ (D A K B S X L : Type 0) (l : Limits) where
 
   no_block_uses : (b : BlockIndex) → block_uses_at (nothing).records b ≡ []
   no_block_uses b = rw (get-empty (BasicBlock D A K B S X L) l.slots l.last_version b.index) refl
+
+  pub nothing-aside : (bare nothing).beside ≡ nothing_beside
+  nothing-aside i = record {
+    saved = [];
+    aux = λ q. get-empty X l.slots l.last_version q i;
+    aux_names = λ q. None;
+    aux_passed = λ q. passed-empty X l.slots l.last_version q i;
+  }
 
   pub nothing-new : IsNewSession (bare nothing)
   nothing-new = record {
@@ -159,5 +170,6 @@ module _ (D A K B S X L : Type 0) (l : Limits) where
       op_slots = record { limit = refl; last_version = refl };
       block_slots = record { limit = refl; last_version = refl };
       region_slots = record { limit = refl; last_version = refl };
+      aux_slots = record { limit = refl; last_version = refl };
     };
   }

@@ -46,6 +46,7 @@ module _ {D A K B S X L : Type 0} (s : State D A K B S X L) (sound : IsSound s) 
       op_slots = keeps-passed s.records.ops t.ops ids.ops sound.counted.op_slots;
       block_slots = keeps-passed s.records.blocks t.blocks ids.blocks sound.counted.block_slots;
       region_slots = keeps-passed s.records.regions t.regions ids.regions sound.counted.region_slots;
+      aux_slots = sound.counted.aux_slots;
     };
   }
 

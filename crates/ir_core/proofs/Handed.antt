@@ -65,6 +65,7 @@ module _ {D A K B S X L : Type 0} (s : State D A K B S X L) (sound : IsSound s) 
         op_slots = keeps-grown s.limits s.records.ops t.ops skips.ops.skipped sound.counted.op_slots skips.ops.grows;
         block_slots = keeps-grown s.limits s.records.blocks t.blocks skips.blocks.skipped sound.counted.block_slots skips.blocks.grows;
         region_slots = keeps-grown s.limits s.records.regions t.regions skips.regions.skipped sound.counted.region_slots skips.regions.grows;
+        aux_slots = sound.counted.aux_slots;
       };
     }
 
@@ -96,7 +97,7 @@ module _ {D A K B S X L : Type 0} (s : State D A K B S X L) (sound : IsSound s) 
   module _ (ops blocks regions : List ArenaIndex) (extends : Extends s.records t ops blocks regions) (values uses : ℕ)
       (values_fit : s.next_value + values ≤ s.limits.values) (uses_fit : s.next_use + uses ≤ s.limits.uses) where
     abbrev pub made : State D A K B S X L
-    made = record { records = t; types = s.types; next_value = s.next_value + values; next_use = s.next_use + uses; limits = s.limits }
+    made = record { records = t; types = s.types; next_value = s.next_value + values; next_use = s.next_use + uses; side = s.side; limits = s.limits }
 
     abbrev pub made_ids : Fresh context_ids
     made_ids = record { ops = ops; blocks = blocks; regions = regions; numbers = range_with_len s.next_value values; uses = range_with_len s.next_use uses }
@@ -119,6 +120,7 @@ module _ {D A K B S X L : Type 0} (s : State D A K B S X L) (sound : IsSound s) 
         op_slots = keeps-grown s.limits s.records.ops t.ops ops sound.counted.op_slots extends.ops;
         block_slots = keeps-grown s.limits s.records.blocks t.blocks blocks sound.counted.block_slots extends.blocks;
         region_slots = keeps-grown s.limits s.records.regions t.regions regions sound.counted.region_slots extends.regions;
+        aux_slots = sound.counted.aux_slots;
       };
     }
 

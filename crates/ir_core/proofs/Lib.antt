@@ -41,3 +41,4 @@ pub mod TakenValues
 pub mod Redirected
 pub mod Asked
 pub mod Stands
+pub mod Aside

@@ -18,6 +18,7 @@ use Rattle.ir_records.specs.Meaning.{closed, forest_of as forest_in, use_of}
 use Rattle.ir_records.specs.Table.{uses_at}
 use Rattle.ir_core.specs.Calls.{EntitiesStayLive, StayLive}
 use Rattle.ir_core.specs.Creation.{AreFresh}
+use Rattle.ir_side.specs.Side.{nothing as no_side}
 use Rattle.ir_core.specs.State.{State}
 use Rattle.ir_core.specs.Named.{use-live}
 use Rattle.ir_core.proofs.ExactUses.{uses-exact}
@@ -113,7 +114,7 @@ module _ {W : Dialect} (f g : Forest context_ids W) (o : ArenaIndex) (loc : W.Lo
 module _ {D A K B S X L : Type 0} (f : Forest context_ids (closed A K B S X L)) (t : Records D A K B S X L) (o : ArenaIndex) (loc : L) (kind : ℕ) (results : List (Definition context_ids (closed A K B S X L)))
     (is : forest_in t ≡ new_op f o loc kind results [] [] []) (dead : f.ops o ≡ None) where
   abbrev alone : State D A K B S X L
-  alone = record { records = t; types = []; next_value = 0; next_use = 0; limits = record { values = 0; uses = 0; slots = 0; last_version = 0 } }
+  alone = record { records = t; types = []; next_value = 0; next_use = 0; side = no_side 0 0; limits = record { values = 0; uses = 0; slots = 0; last_version = 0 } }
 
   abbrev result : ℕ → ValueIndex
   result n = record { definer = Op o; number = n }

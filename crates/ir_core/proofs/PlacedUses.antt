@@ -97,7 +97,7 @@ module _ {D A K B S X L : Type 0} {s : State D A K B S X L} {t : Records D A K B
     no_values = omega arith
 
     is_after : made s sound t together [] [] [] extends 0 1 values_fit room.uses ≡ with_use s t
-    is_after i = record { records = t; types = s.types; next_value = no_values i; next_use = s.next_use + 1; limits = s.limits }
+    is_after i = record { records = t; types = s.types; next_value = no_values i; next_use = s.next_use + 1; side = s.side; limits = s.limits }
 
     placed : Kept (forest_of s) (make s.next_use) (length s.types) (s.next_use ∷ []) → StayLive (forest_of s) (make s.next_use) → EntitiesStayLive (forest_of s) (make s.next_use) → Placed s t make
     placed kept stay entities_stay = record {
@@ -152,6 +152,7 @@ module _ {D A K B S X L : Type 0} {s : State D A K B S X L} {t : Records D A K B
       op_slots = keeps-same s s.records.ops t.ops keeps.op_ids sound.counted.op_slots;
       block_slots = keeps-same s s.records.blocks t.blocks keeps.block_ids sound.counted.block_slots;
       region_slots = subst (Keeps s.limits) (sym keeps.regions) sound.counted.region_slots;
+      aux_slots = sound.counted.aux_slots;
     };
   }
 

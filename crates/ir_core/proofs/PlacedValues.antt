@@ -54,7 +54,7 @@ module _ {D A K B S X L : Type 0} {s : State D A K B S X L} {t : Records D A K B
   no_uses = omega arith
 
   is_after : made s sound t (together sound keeps linked) [] [] [] (extends sound keeps linked) 1 0 room.values uses_fit ≡ with_value s t
-  is_after i = record { records = t; types = s.types; next_value = s.next_value + 1; next_use = no_uses i; limits = s.limits }
+  is_after i = record { records = t; types = s.types; next_value = s.next_value + 1; next_use = no_uses i; side = s.side; limits = s.limits }
 
   unused : (d : Definer context_ids) → In s.next_value (numbers_of (forest_of s) d) → ⊥
   unused d h = let below = sound.counted.values d s.next_value h in absurd (omega (arith, below))

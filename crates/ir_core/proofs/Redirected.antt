@@ -1,11 +1,12 @@
 -- What uses that come to name another definition, and a value that gets another type or name, leave of a context.
-use Rattle.std.proofs.Common.{◌≡◌, ◌++◌, ℕ, ◌<◌, List, [], length, map, slice_get, if◌then◌else◌, Bool, Option, inl, refl, sym, ap, ap₂, subst, ◌∙◌, arith}
+use Rattle.std.proofs.Common.{◌≡◌, ◌≢◌, ◌++◌, ℕ, ◌<◌, List, [], length, map, slice_get, if◌then◌else◌, Bool, Option, inl, refl, sym, ap, ap₂, subst, ◌∙◌, arith}
 use Rattle.std.specs.Option.{option_map}
 use Rattle.ir_model.specs.declared.ids.ArenaIndex.{ArenaIndex}
 use Rattle.ir_model.specs.ContextIds.{context_ids}
 use Rattle.ir_model.specs.CallLaws.{CallsKeepForm}
 use Rattle.ir_model.specs.Calls.{SameStructure, set_name, set_type}
 use Rattle.ir_model.specs.Changes.{on_operands, on_successors, redirect, redirected, retarget, retargeted}
+use Rattle.ir_model.specs.DefinitionLaws.{TakesUses}
 use Rattle.ir_model.specs.Forest.{Dialect, Definer, of_op, of_block, Definition, Forest, OpRecord, Operand, Successor, Text, Value, a_block, a_region, a_value, an_op, the_block}
 use Rattle.ir_model.specs.Nesting.{In, IsLiveNamed, WellFormed, definitions_of, uses_of}
 use Rattle.ir_model.specs.Redirect.{redirect_uses, retarget_uses}
@@ -15,7 +16,9 @@ use Rattle.ir_model.proofs.Keeps.{is_some-map, list_of-map}
 use Rattle.ir_model.proofs.KeepsUses.{ReplaceAllUses-kept, RetargetAll-kept}
 use Rattle.ir_model.proofs.Nests.{In-map_back}
 use Rattle.ir_model.proofs.Parts.{Kept}
+use Rattle.ir_model.proofs.Redirected.{block_all, block_none, value_all, value_none}
 use Rattle.ir_model.proofs.SomeUses.{block_numbers, calls_keep_well_formed, redirected_formed, retargeted_formed, value_numbers}
+use Rattle.ir_model.proofs.TwoRuns.{lawful}
 use Rattle.ir_records.specs.declared.record.BlockIndex.{BlockIndex}
 use Rattle.ir_records.specs.declared.record.UseIndex.{UseIndex}
 use Rattle.ir_records.specs.declared.record.UsePlace.{UsePlace}
@@ -88,6 +91,19 @@ module _ {D A K B S X L : Type 0} {s : State D A K B S X L} {t : Records D A K B
   all-retargeted b c live is =
       kept-edited sound keeps linked _ is (RetargetAll-kept f (length s.types) [] sound.formed b c live)
       (names-live f (λ o. on_successors (map (retargeted b c))) (λ o r. refl)) (entities-live f (λ o. on_successors (map (retargeted b c))) (λ o r. refl))
+
+  -- then another one has all the uses of both
+  pub all-taken : (v w : Value context_ids) → v ≢ w → forest_in t ≡ redirect f v w → TakesUses f (forest_in t) (a_value v) (a_value w)
+  all-taken v w differ is = subst (λ g. TakesUses f g (a_value v) (a_value w)) (sym is) (record {
+    none = value_none lawful f (length s.types) sound.formed v w differ;
+    all = value_all lawful f (length s.types) sound.formed v w differ;
+  })
+
+  pub all-targets-taken : (b c : ArenaIndex) → b ≢ c → forest_in t ≡ retarget f b c → TakesUses f (forest_in t) (the_block b) (the_block c)
+  all-targets-taken b c differ is = subst (λ g. TakesUses f g (the_block b) (the_block c)) (sym is) (record {
+    none = block_none lawful f (length s.types) sound.formed b c differ;
+    all = block_all lawful f (length s.types) sound.formed b c differ;
+  })
 
   -- the uses of a set do
   module _ (set : Use context_ids → Bool) where

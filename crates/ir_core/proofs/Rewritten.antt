@@ -127,5 +127,6 @@ module _ {D A K B S X L : Type 0} (s : State D A K B S X L) (sound : IsSound s) 
       op_slots = keeps-ids s.limits s.records.ops t.ops sound.counted.op_slots ops;
       block_slots = keeps-ids s.limits s.records.blocks t.blocks sound.counted.block_slots blocks;
       region_slots = keeps-ids s.limits s.records.regions t.regions sound.counted.region_slots regions;
+      aux_slots = sound.counted.aux_slots;
     };
   }

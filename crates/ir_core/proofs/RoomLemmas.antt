@@ -8,7 +8,7 @@ use Rattle.ir_model.specs.declared.ids.Limits.{Limits}
 use Rattle.ir_model.specs.Ids.{Absent, Distinct}
 use Rattle.ir_model.specs.Nesting.{In}
 use Rattle.ir_model.specs.Sessions.{Number, TakesSlot}
-use Rattle.ir_arena.specs.Arena.{Arena, get, IsWhole, is_passed, room}
+use Rattle.ir_arena.specs.Arena.{Arena, get, IsLive, IsWhole, is_passed, room}
 use Rattle.ir_model.proofs.ArenaRoom.{takes-number, room-splits}
 use Rattle.ir_core.specs.Calls.{Left}
 use Rattle.ir_core.specs.Sound.{Keeps}
@@ -57,6 +57,10 @@ Number-same n same p = (p.0, p.1, λ x. (λ h. (same x).0 ((p.2 x).0 h), λ h. (
 
 pub Left-below : (n count : ℕ) → n ≤ count → Left count (λ m. IsTrue (nat_lt m n)) (count - n)
 Left-below n count h = record { gone = n; number = Number-below n; whole = omega arith }
+
+-- the slots that are taken
+pub Left-taken : {T : Type 0} (limits : Limits) (a : Arena T) → Keeps limits a → IsWhole a → Left limits.slots (TakesSlot limits (is_passed a) (IsLive a)) (room a)
+Left-taken limits a keeps whole = record { gone = a.limit - room a; number = takes-number limits a (sym keeps.last_version) whole; whole = omega (arith, room-splits a whole, keeps.limit) }
 
 module _ {T R : Type 0} (f : ArenaIndex → T → R) (limits : Limits) (a : Arena T) (keeps : Keeps limits a) (whole : IsWhole a) where
   there : (i : ArenaIndex) (m : Option T) → IsSome m ↔ IsSome (option_map (f i) m)

@@ -7,6 +7,7 @@ use Rattle.ir_model.specs.ContextIds.{context_ids}
 use Rattle.ir_model.specs.Ids.{Fresh, Counts, counts, FreshDistinct}
 use Rattle.ir_model.specs.Forest.{Dialect, Behaviour, Definer as DefinedBy, Forest, Named, Text, Value, Entity, a_block, a_region, a_value, an_op}
 use Rattle.ir_model.specs.Nesting.{In, IsLive, IsLiveNamed, numbers_of, ops_of, regions_of, uses_of}
+use Rattle.ir_model.specs.AuxData.{live_aux}
 use Rattle.ir_model.specs.Edits.{StoredType, no_needs}
 use Rattle.ir_model.specs.Changes.{definition, operand, successor, new_op, new_block, add_region}
 use Rattle.ir_model.specs.Sessions.{Beside, Session, Number, TakesSlot, AreNew, Passes, Within, live_op, live_block, live_region}
@@ -53,6 +54,7 @@ module _ {W : Dialect} where
     pub ops : Left s.limits.slots (TakesSlot s.limits s.passed.ops (live_op s.state)) left.ops
     pub blocks : Left s.limits.slots (TakesSlot s.limits s.passed.blocks (live_block s.state)) left.blocks
     pub regions : Left s.limits.slots (TakesSlot s.limits s.passed.regions (live_region s.state)) left.regions
+    pub aux : Left s.limits.slots (TakesSlot s.limits s.beside.aux_passed (live_aux s.beside)) left.aux
 
   -- no operation, block or region is live
   pub record NoEntity (f : Forest context_ids W) : Type 0 where
@@ -76,6 +78,13 @@ module _ {W : Dialect} where
   pub record SameButTypes (old new : Session W) : Type 0 where
     pub forest : new.state.forest ≡ old.state.forest
     pub beside : new.beside ≡ old.beside
+    pub passed : new.passed ≡ old.passed
+    pub limits : new.limits ≡ old.limits
+
+  -- all but saved data, and auxiliary data with its names, is as before
+  pub record SameButSide (old new : Session W) : Type 0 where
+    pub forest : new.state.forest ≡ old.state.forest
+    pub store : new.state.store ≡ old.state.store
     pub passed : new.passed ≡ old.passed
     pub limits : new.limits ≡ old.limits
 

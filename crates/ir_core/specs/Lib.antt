@@ -8,3 +8,4 @@ pub mod Lending
 pub mod Places
 pub mod Definitions
 pub mod Asked
+pub mod AuxLending

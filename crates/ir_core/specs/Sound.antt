@@ -5,22 +5,17 @@ use Rattle.ir_model.specs.declared.ids.Limits.{Limits}
 use Rattle.ir_model.specs.ContextIds.{context_ids}
 use Rattle.ir_model.specs.Forest.{Definer}
 use Rattle.ir_model.specs.Nesting.{In, WellFormed, numbers_of, uses_of}
-use Rattle.ir_arena.specs.Arena.{Arena}
 use Rattle.ir_records.specs.Chains.{AreLinked, chains_of}
 use Rattle.ir_records.specs.Nested.{AreNested}
 use Rattle.ir_records.specs.Table.{KnowOwn}
 use Rattle.ir_records.specs.Tree.{tree_of}
+pub use Rattle.ir_side.specs.Side.{Keeps}
 use Rattle.ir_core.specs.State.{State, forest_of}
 
 -- the limits are in range
 pub record AreLimits (l : Limits) : Type 0 where
   pub slots : l.slots < 4294967295
   pub some_version : 1 ≤ l.last_version
-
--- the arena keeps to the limits
-pub record Keeps {T : Type 0} (l : Limits) (a : Arena T) : Type 0 where
-  pub limit : a.limit ≡ l.slots
-  pub last_version : a.last_version ≡ l.last_version
 
 module _ {D A K B S X L : Type 0} where
   -- each number in use was handed out, and no limit is passed
@@ -33,6 +28,7 @@ module _ {D A K B S X L : Type 0} where
     pub op_slots : Keeps s.limits s.records.ops
     pub block_slots : Keeps s.limits s.records.blocks
     pub region_slots : Keeps s.limits s.records.regions
+    pub aux_slots : Keeps s.limits s.side.aux
 
   pub record IsSound (s : State D A K B S X L) : Type 0 where
     -- uses and places name each other

@@ -1,5 +1,5 @@
--- What a contract sees of a `Context`, and what it means: a forest, a store of types, what has passed, and limits.
-use Rattle.std.specs.Prelude.{ℕ, Bool, false, List, [], map, None, nat_lt}
+-- What a contract sees of a `Context`, and what it means: a forest, a store of types, saved and auxiliary data, what has passed, and limits.
+use Rattle.std.specs.Prelude.{ℕ, Bool, List, [], map, nat_lt}
 use Rattle.ir_model.specs.declared.ids.ArenaIndex.{ArenaIndex}
 use Rattle.ir_model.specs.declared.ids.Limits.{Limits}
 use Rattle.ir_model.specs.ContextIds.{context_ids}
@@ -13,17 +13,20 @@ use Rattle.ir_records.specs.declared.record.BlockIndex.{BlockIndex}
 use Rattle.ir_records.specs.declared.records.Records.{Records}
 use Rattle.ir_records.specs.Table.{uses_at, block_uses_at}
 use Rattle.ir_records.specs.Meaning.{closed, use_of, forest_of as forest_in}
+use Rattle.ir_side.specs.declared.side_data.SideData.{SideData}
+use Rattle.ir_side.specs.Side.{beside_in}
 
 -- what the code of a dialect answers, as the definitions ask it
 abbrev pub behaviour : {A K B S X L : Type 0} → (K → K → Bool) → B → L → (ℕ → ℕ → Bool) → Behaviour (closed A K B S X L)
 behaviour same_key first_body unknown op_impls = record { same_key = same_key; first_body = first_body; unknown = unknown; op_impls = op_impls }
 
--- the records, the store of types, the next numbers, and the limits
+-- the records, the store of types, the next numbers, what is kept beside, and the limits
 pub record State (D A K B S X L : Type 0) : Type 0 where
   pub records : Records D A K B S X L
   pub types : List (K × B)
   pub next_value : ℕ
   pub next_use : ℕ
+  pub side : SideData D A K B S X L
   pub limits : Limits
 
 abbrev pub no_tables : Tables context_ids
@@ -48,9 +51,9 @@ module _ {D A K B S X L : Type 0} where
     uses = λ n. nat_lt n s.next_use;
   }
 
-  -- there are no saved and no auxiliary data
+  -- saved data, and auxiliary data with its names
   abbrev pub beside_of : State D A K B S X L → Beside (closed A K B S X L)
-  beside_of s = record { saved = []; aux = λ _. None; aux_names = λ _. None; aux_passed = λ _. false }
+  beside_of s = beside_in s.side
 
   -- the context with the tables of a session
   abbrev pub session_of : State D A K B S X L → Tables context_ids → Session (closed A K B S X L)

@@ -1,9 +1,9 @@
-//! The context: the operations, regions and types of one compilation, and the numbers and slots that it has left.
+//! The context: the operations, regions and types of one compilation, what is saved and kept beside them, and the numbers and slots that it has left.
 //!
 //! It means a plain forest, found by `forest_of`, which is well formed at every time. What was handed out is never handed out again.
 
-ghost use Rattle.std.specs.Prelude.{◌≡◌, ℕ, ◌⊎◌, ◌+◌, ◌-◌, ◌<◌, ◌≤◌, ◌^◌, ◌↔◌, [], length, Some, None, IsTrue, IfOk, IfErr, OnOk, OnErr, IsSome, IfSome};
-ghost use Rattle.std.specs.Option.{option_copied};
+ghost use Rattle.std.specs.Prelude.{◌≡◌, ℕ, ◌⊎◌, ◌+◌, ◌-◌, ◌<◌, ◌≤◌, ◌^◌, ◌↔◌, [], length, position, Some, None, IsTrue, IfOk, IfErr, OnOk, OnErr, IsSome, IfSome};
+ghost use Rattle.std.specs.Option.{option_copied, option_map};
 ghost use Rattle.std.specs.Map.{keys_of};
 ghost use Rattle.ir_model.specs.ContextIds.{context_ids};
 ghost use Rattle.ir_model.specs.Forest.{a_value, the_block};
@@ -22,6 +22,7 @@ ghost use Rattle.ir_core.specs.Calls.{IsRoom, LiveWasMade, NoEntity, SameButType
 
 use ir_base::{Arena, CoreError, Dialects, Limits, Room, TypeHandle, TypeStore};
 use ir_records::Records;
+use ir_side::SideData;
 use std::alloc::Global;
 use std::marker::Model;
 
@@ -32,6 +33,7 @@ pub struct Context<D: Dialects> {
     pub(crate) types: TypeStore<D::TypeKey, D::TypeBody>,
     pub(crate) next_value: u64,
     pub(crate) next_use: u64,
+    pub(crate) side: SideData<D>,
     pub(crate) limits: Limits,
     pub(crate) alloc: Global,
 }
@@ -42,9 +44,9 @@ impl<D: Dialects> Model for Context<D> {
 
     ghost Value = { State D D.Attr D.TypeKey D.TypeBody D.Saved D.Aux D.Loc };
 
-    ghost view = { λ c. record { records = c.records; types = c.types; next_value = c.next_value; next_use = c.next_use; limits = c.limits } };
+    ghost view = { λ c. record { records = c.records; types = c.types; next_value = c.next_value; next_use = c.next_use; side = c.side; limits = c.limits } };
 
-    ghost invariant = { λ c. IsSound (record { records = c.records; types = c.types; next_value = c.next_value; next_use = c.next_use; limits = c.limits }) };
+    ghost invariant = { λ c. IsSound (record { records = c.records; types = c.types; next_value = c.next_value; next_use = c.next_use; side = c.side; limits = c.limits }) };
 }
 
 impl<D: Dialects> Context<D> {
@@ -74,6 +76,7 @@ impl<D: Dialects> Context<D> {
             types: TypeStore::new(alloc),
             next_value: 0,
             next_use: 0,
+            side: SideData::new(alloc, limits.slots, limits.last_version),
             limits,
             alloc,
         }
@@ -84,10 +87,9 @@ impl<D: Dialects> Context<D> {
         self.alloc
     }
 
-    /// How many numbers and slots are left. There is no room for auxiliary data.
+    /// How many numbers and slots are left.
     pub fn room(&self) -> Room
         ensures exact { IsRoom (bare self.now) result }
-        ensures no_aux { result.aux ≡ 0 }
         ensures ops { result.ops ≡ room self.now.records.ops }
         ensures blocks { result.blocks ≡ room self.now.records.blocks }
         ensures regions { result.regions ≡ room self.now.records.regions }
@@ -98,7 +100,7 @@ impl<D: Dialects> Context<D> {
             ops: self.records.ops.room(),
             blocks: self.records.blocks.room(),
             regions: self.records.regions.room(),
-            aux: 0,
+            aux: self.side.room(),
         }
     }
 
@@ -122,6 +124,7 @@ impl<D: Dialects> Context<D> {
         ensures rest { SameButTypes (bare self.old) (bare self.new) }
         ensures memory { IfErr result (λ e. e ≡ CoreError.OutOfMemory) }
         ensures err { OnErr result (self.new ≡ self.old) }
+        ensures only_new { OnErr result (type_place (behaviour D.TypeKey.eq D.first_body D.unknown D.op_impls_of) (types_of self.old) key ≡ length (types_of self.old)) }
     {
         let place = self.types.get_or_insert(key)?;
         Ok(TypeHandle::at(place))
@@ -136,6 +139,17 @@ impl<D: Dialects> Context<D> {
             Some(TypeHandle::at(place))
         } else {
             None
+        }
+    }
+
+    /// The type with this key, where it is stored. It stands for pliron's `Type::get_self_handle` of a type object.
+    pub fn find_type(&self, key: &D::TypeKey) -> Option<TypeHandle>
+        ensures found { option_map (λ t. t.place) result ≡ position (λ t. D.TypeKey.eq t.key key.now) (types_of self.now) }
+        ensures known { IfSome result (λ t. t.place < length (types_of self.now)) }
+    {
+        match self.types.get(key) {
+            Some(place) => Some(TypeHandle::at(place)),
+            None => None,
         }
     }
 

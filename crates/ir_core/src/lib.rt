@@ -5,6 +5,7 @@
 
 mod argument_edits;
 mod asking;
+mod aux_data;
 mod block;
 mod block_list;
 mod context;
@@ -21,6 +22,7 @@ mod operation_list;
 mod region;
 mod result_edits;
 mod retargeting;
+mod saved_data;
 mod successor_edits;
 mod types;
 mod value_edits;
@@ -41,6 +43,7 @@ pub use ir_records::{
     BasicBlock, BasicBlockMut, BlockIndex, Definer, DefiningEntity, Operation, OperationMut,
     Region, Use, UseIndex, Value, ValueIndex,
 };
+pub use ir_side::AuxDataIndex;
 pub use lending::{BlockPtrMut, OperationPtrMut};
 pub use needs::Needs;
 pub use new_entities::{AddRegion, NewBlock, NewOperation};

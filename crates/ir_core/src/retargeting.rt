@@ -2,9 +2,10 @@
 //!
 //! A use keeps its number and its place among the successors of its user. Where the other block is this one, nothing changes.
 
-ghost use Rattle.std.specs.Prelude.{◌≡◌, Bool, IfErr, IfOk, IsOk, OnErr, OnOk};
+ghost use Rattle.std.specs.Prelude.{◌≡◌, ◌≢◌, Bool, IfErr, IfOk, IsOk, OnErr, OnOk};
 ghost use Rattle.ir_model.specs.BlockGraph.{IsPredecessor};
 ghost use Rattle.ir_model.specs.Changes.{retarget};
+ghost use Rattle.ir_model.specs.DefinitionLaws.{TakesUses};
 ghost use Rattle.ir_model.specs.Edits.{UsersLinked};
 ghost use Rattle.ir_model.specs.Forest.{a_block, the_block};
 ghost use Rattle.ir_model.specs.Nesting.{In, IsLive, ops_of};
@@ -51,7 +52,7 @@ pub trait Retarget<D: Dialects> {
 
     ghost use_of: { Self.Use → PlainUse context_ids };
 
-    /// Lets each successor that names the live block name the other live one. Each operation that names the block stands in a block, as `preds_are_linked` tells. It stands for pliron's `retarget_all_preds_to`.
+    /// Lets each successor that names the live block name the other live one, which then has as many uses as both had. Each operation that names the block stands in a block, as `preds_are_linked` tells. It stands for pliron's `retarget_all_preds_to`.
     ///
     /// # Errors
     /// `OutOfMemory` where the list of the other block's uses had to grow and couldn't. Then nothing has changed. It doesn't come where both are one block.
@@ -60,6 +61,7 @@ pub trait Retarget<D: Dialects> {
         requires other_live { IsLive (forest_of ctx.old) (a_block (index_of other)) }
         requires linked { UsersLinked (forest_of ctx.old) (index_of self) }
         ensures forest { OnOk result (forest_of ctx.new ≡ retarget (forest_of ctx.old) (index_of self) (index_of other)) }
+        ensures counts { OnOk result (index_of self ≢ index_of other → TakesUses (forest_of ctx.old) (forest_of ctx.new) (the_block (index_of self)) (the_block (index_of other))) }
         ensures rest { SameButForest (bare ctx.old) (bare ctx.new) }
         ensures stay_live { StayLive (forest_of ctx.old) (forest_of ctx.new) }
         ensures entities_stay_live { EntitiesStayLive (forest_of ctx.old) (forest_of ctx.new) }

@@ -2,9 +2,10 @@
 //!
 //! A use keeps its number and its place among the operands of its user. Where the other value is this one, nothing changes.
 
-ghost use Rattle.std.specs.Prelude.{◌≡◌, ◌<◌, length, option_map, Bool, IfErr, IfOk, IsOk, OnErr, OnOk};
+ghost use Rattle.std.specs.Prelude.{◌≡◌, ◌≢◌, ◌<◌, length, option_map, Bool, IfErr, IfOk, IsOk, OnErr, OnOk};
 ghost use Rattle.ir_model.specs.Calls.{set_name as with_value_name, set_type as with_value_type};
 ghost use Rattle.ir_model.specs.Changes.{redirect};
+ghost use Rattle.ir_model.specs.DefinitionLaws.{TakesUses};
 ghost use Rattle.ir_model.specs.Forest.{a_value};
 ghost use Rattle.ir_model.specs.Nesting.{In, IsLiveNamed};
 ghost use Rattle.ir_model.specs.Redirect.{redirect_uses};
@@ -69,7 +70,7 @@ pub trait ValueEdits<D: Dialects> {
         ensures stay_live { StayLive (forest_of ctx.old) (forest_of ctx.new) }
         ensures entities_stay_live { EntitiesStayLive (forest_of ctx.old) (forest_of ctx.new) };
 
-    /// Lets each operand that names the live value name the other live one. It stands for pliron's `Value::replace_all_uses_with`.
+    /// Lets each operand that names the live value name the other live one, which then has as many uses as both had. It stands for pliron's `Value::replace_all_uses_with`.
     ///
     /// # Errors
     /// `OutOfMemory` where the list of the other value's uses had to grow and couldn't. Then nothing has changed. It doesn't come where both are one value.
@@ -77,6 +78,7 @@ pub trait ValueEdits<D: Dialects> {
         requires live { IsLiveNamed (forest_of ctx.old) (a_value (value_of self)) }
         requires other_live { IsLiveNamed (forest_of ctx.old) (a_value (value_of other)) }
         ensures forest { OnOk result (forest_of ctx.new ≡ redirect (forest_of ctx.old) (value_of self) (value_of other)) }
+        ensures counts { OnOk result (value_of self ≢ value_of other → TakesUses (forest_of ctx.old) (forest_of ctx.new) (a_value (value_of self)) (a_value (value_of other))) }
         ensures rest { SameButForest (bare ctx.old) (bare ctx.new) }
         ensures stay_live { StayLive (forest_of ctx.old) (forest_of ctx.new) }
         ensures entities_stay_live { EntitiesStayLive (forest_of ctx.old) (forest_of ctx.new) }

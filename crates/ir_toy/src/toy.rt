@@ -5,6 +5,7 @@ ghost use Rattle.std.specs.Prelude.{◌≡◌, IfOk, IfErr, None, Some, codes, f
 ghost use Rattle.std.proofs.Common.{rules};
 ghost use Rattle.ir_toy.specs.Toy.{attr_name, attr_table, has_pair, is_ssa, op_name, op_table, type_name, type_table};
 
+use crate::toy_attributes::{ToyInt, ToyOutlined, ToyText};
 use ir_base::interfaces::{
     NO_TERMINATOR, OUTLINED_ATTRIBUTE, PURE_OPERATION, REGION_KIND, TERMINATOR, TYPED_ATTRIBUTE,
 };
@@ -25,16 +26,11 @@ pub struct Toy;
 #[derive(Debug, Drop, PartialEq, Eq, Hash)]
 pub enum ToyAttr {
     /// An integer with its type: kind 0.
-    Int {
-        /// The integer.
-        value: i64,
-        /// Its type.
-        ty: TypeHandle,
-    },
+    Int(ToyInt),
     /// A text: kind 1.
-    Text(String),
+    Text(ToyText),
     /// A text that is to be outlined: kind 2.
-    Outlined(String),
+    Outlined(ToyOutlined),
 }
 
 /// The uniqued part of a type of the dialect Toy.
@@ -134,7 +130,7 @@ impl Dialects for Toy {
 
     ghost op_impls_of = { has_pair op_table };
 
-    ghost attr_kind_of = { elim [ attr.Int _ _ ↦ 0 | attr.Text _ ↦ 1 | attr.Outlined _ ↦ 2 ] };
+    ghost attr_kind_of = { elim [ attr.Int _ ↦ 0 | attr.Text _ ↦ 1 | attr.Outlined _ ↦ 2 ] };
 
     ghost attr_impls_of = { has_pair attr_table };
 
@@ -146,9 +142,9 @@ impl Dialects for Toy {
 
     ghost region_ssa_dominance_of = { is_ssa };
 
-    ghost attr_outline_of = { elim [ attr.Int _ _ ↦ false | attr.Text _ ↦ false | attr.Outlined _ ↦ true ] };
+    ghost attr_outline_of = { elim [ attr.Int _ ↦ false | attr.Text _ ↦ false | attr.Outlined _ ↦ true ] };
 
-    ghost attr_type_of = { elim [ attr.Int _ t ↦ Some t | attr.Text _ ↦ None | attr.Outlined _ ↦ None ] };
+    ghost attr_type_of = { elim [ attr.Int number ↦ Some number.ty | attr.Text _ ↦ None | attr.Outlined _ ↦ None ] };
 
     ghost op_id_of = { λ kind. record { dialect = codes "toy"; name = op_name kind } };
 
@@ -168,7 +164,7 @@ impl Dialects for Toy {
 
     fn attr_kind(attr: &ToyAttr) -> u32 {
         match attr {
-            ToyAttr::Int { .. } => 0,
+            ToyAttr::Int(_) => 0,
             ToyAttr::Text(_) => 1,
             ToyAttr::Outlined(_) => 2,
         }
@@ -207,7 +203,7 @@ impl Dialects for Toy {
 
     fn attr_outline(attr: &ToyAttr) -> bool {
         match attr {
-            ToyAttr::Int { .. } => false,
+            ToyAttr::Int(_) => false,
             ToyAttr::Text(_) => false,
             ToyAttr::Outlined(_) => true,
         }
@@ -215,7 +211,7 @@ impl Dialects for Toy {
 
     fn attr_type(attr: &ToyAttr) -> Option<TypeHandle> {
         match attr {
-            ToyAttr::Int { ty, .. } => Some(*ty),
+            ToyAttr::Int(number) => Some(number.ty),
             ToyAttr::Text(_) => None,
             ToyAttr::Outlined(_) => None,
         }
@@ -223,12 +219,12 @@ impl Dialects for Toy {
 
     fn copy_attr(_alloc: Global, attr: &ToyAttr) -> Result<ToyAttr, CoreError> {
         Ok(match attr {
-            ToyAttr::Int { value, ty } => ToyAttr::Int {
-                value: *value,
-                ty: *ty,
-            },
-            ToyAttr::Text(text) => ToyAttr::Text(text.clone()?),
-            ToyAttr::Outlined(text) => ToyAttr::Outlined(text.clone()?),
+            ToyAttr::Int(number) => ToyAttr::Int(ToyInt {
+                value: number.value,
+                ty: number.ty,
+            }),
+            ToyAttr::Text(text) => ToyAttr::Text(ToyText(text.0.clone()?)),
+            ToyAttr::Outlined(text) => ToyAttr::Outlined(ToyOutlined(text.0.clone()?)),
         })
     }
 
@@ -263,5 +259,5 @@ impl Dialects for Toy {
 
     ghost saved_kinds = { Prim.search rules };
 
-    ghost typed = { elim [ attr.Int _ _ ↦ refl | attr.Text _ ↦ refl | attr.Outlined _ ↦ refl ] };
+    ghost typed = { elim [ attr.Int _ ↦ refl | attr.Text _ ↦ refl | attr.Outlined _ ↦ refl ] };
 }

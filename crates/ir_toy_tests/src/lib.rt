@@ -2,4 +2,6 @@
 #![tactic(auto)]
 
 #[cfg(test)]
+mod dictionary_tests;
+#[cfg(test)]
 mod toy_tests;

@@ -4,7 +4,7 @@ use ir_base::interfaces::{
     NO_TERMINATOR, OUTLINED_ATTRIBUTE, PURE_OPERATION, REGION_KIND, TERMINATOR, TYPED_ATTRIBUTE,
 };
 use ir_base::{Dialects, Identifier, TypeHandle};
-use ir_toy::{SIZED_TYPE, Toy, ToyAttr, ToyLoc, ToySaved, ToyType};
+use ir_toy::{SIZED_TYPE, Toy, ToyAttr, ToyInt, ToyLoc, ToyOutlined, ToySaved, ToyText, ToyType};
 use std::test::Fail;
 
 #[test]
@@ -38,9 +38,9 @@ fn operations(rt: HostRuntime) -> Result<(), Fail> {
 #[test]
 fn attributes(rt: HostRuntime) -> Result<(), Fail> {
     let ty = TypeHandle::at(3);
-    let number = ToyAttr::Int { value: -1, ty };
-    let text = ToyAttr::Text(String::from_str(rt.alloc(), "a")?);
-    let outlined = ToyAttr::Outlined(String::from_str(rt.alloc(), "b")?);
+    let number = ToyAttr::Int(ToyInt { value: -1, ty });
+    let text = ToyAttr::Text(ToyText(String::from_str(rt.alloc(), "a")?));
+    let outlined = ToyAttr::Outlined(ToyOutlined(String::from_str(rt.alloc(), "b")?));
     assert_eq!(rt; Toy::attr_type(&number), Some(ty));
     assert_eq!(rt; Toy::attr_type(&text), None);
     assert!(rt; !Toy::attr_outline(&text));

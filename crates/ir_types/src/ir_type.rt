@@ -1,7 +1,7 @@
 //! The types of one kind.
 
-ghost use Rattle.std.specs.Prelude.{◌≡◌, ℕ, Option, Some, is_some, nat_eq, IfOk, IfErr, OnErr, OnOk};
-ghost use Rattle.std.specs.Option.{option_copied};
+ghost use Rattle.std.specs.Prelude.{◌≡◌, ◌<◌, ℕ, Option, Some, is_some, length, nat_eq, position, IfOk, IfErr, IfSome, OnErr, OnOk};
+ghost use Rattle.std.specs.Option.{option_copied, option_map};
 ghost use Rattle.ir_model.specs.Edits.{type_place, with_type};
 ghost use Rattle.ir_model.specs.Kinds.{HasKind};
 ghost use Rattle.ir_model.specs.declared.error.CoreError.TheVariants.{OutOfMemory};
@@ -11,7 +11,7 @@ ghost use Rattle.ir_view.specs.State.{bare, behaviour, types_of};
 ghost use Rattle.ir_types.specs.Handles.{typed_place};
 
 use crate::typed_handle::TypedHandle;
-use ir_base::{CoreError, Dialects, TypeId};
+use ir_base::{CoreError, Dialects, TypeHandle, TypeId};
 use ir_view::Context;
 use std::alloc::Global;
 
@@ -65,6 +65,16 @@ pub trait IrType<D: Dialects>: Eq + Sized {
         ensures memory { IfErr result (λ e. e ≡ OutOfMemory) }
     {
         D::type_id(alloc, Self::KIND)
+    }
+
+    /// The handle of the type that this value stands for, where the context has it. It stands for pliron's `Type::get_self_handle`.
+    ///
+    /// It takes the value, since the context is searched by a key, and a key is made of a value.
+    final fn get_self_handle(self, ctx: &Context<D>) -> Option<TypeHandle>
+        ensures found { option_map (λ t. t.place) result ≡ position (λ t. D.TypeKey.eq t.key (key_of self)) (types_of ctx.now) }
+        ensures known { IfSome result (λ t. t.place < length (types_of ctx.now)) }
+    {
+        ctx.find_type(&self.to_key())
     }
 
     /// The type that this value stands for; where the context has none that is equal it is stored last, with the default body. It stands for pliron's `Type::instantiate`.

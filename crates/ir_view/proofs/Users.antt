@@ -6,15 +6,16 @@ use Rattle.std.specs.Option.{option_map}
 use Rattle.std.proofs.lemmas.List.{length-map}
 use Rattle.std.proofs.lemmas.Option.{same_Some, slice_get-map}
 use Rattle.ir_model.specs.declared.ids.ArenaIndex.{ArenaIndex}
-use Rattle.ir_model.specs.BlockGraph.{IsPredecessor}
+use Rattle.ir_model.specs.BlockGraph.{IsPredecessor, IsSuccessor}
 use Rattle.ir_model.specs.ContextIds.{context_ids}
+use Rattle.ir_model.specs.DefinitionLaws.{OnlyTerminatorsBranch}
 use Rattle.ir_model.specs.Edits.{UsersLinked}
-use Rattle.ir_model.specs.Forest.{Dialect, Forest, Named, Operand, Successor, a_block, a_value, an_op, the_block}
+use Rattle.ir_model.specs.Forest.{Behaviour, Dialect, Forest, Named, Operand, Successor, a_block, a_value, an_op, the_block}
 use Rattle.ir_model.specs.Nesting.{In, IsLinked, IsLive, WellFormed, names_of, operands_of, ops_of, successors_of}
 use Rattle.ir_model.specs.Predecessors.{ArePredecessorsBy, IsPredecessorAt}
 use Rattle.ir_model.specs.QueryLaws.{PredecessorsInOrder}
 use Rattle.ir_model.specs.Uses.{AreUses, IsUse, Use}
-use Rattle.ir_model.proofs.Edges.{got_in}
+use Rattle.ir_model.proofs.Edges.{edges_meet, got_in}
 use Rattle.ir_model.proofs.Nests.{In-append, In-map, In-map_back, In-right}
 use Rattle.ir_model.proofs.Queries.{predecessors_follow_uses}
 use Rattle.ir_records.specs.declared.record.UseIndex.{UseIndex}
@@ -38,6 +39,12 @@ module _ {W : Dialect} (f : Forest context_ids W) where
         let s : b ≡ at.0.block = cc in
         (record { user = o; number = at.0.use_number }, subst (λ z. In z (successors_of f o)) (λ i. record { use_number = at.0.use_number; block = sym s i }) at.1, refl)
   ]
+
+  -- the predecessors in an answer agree with the successors of all blocks, where terminators alone name successors
+  pub edges-ok : (B : Behaviour W) (keys : ℕ) → WellFormed f keys → (b : ArenaIndex) {V E P : Type 0} (index : P → ArenaIndex) (items : V → List P) (r : Result V E) (uses : List (Use context_ids))
+      → IfOk r (λ v. ArePredecessorsBy f b uses (map index (items v))) → IfOk r (λ v. OnlyTerminatorsBranch f B → (a : ArenaIndex) → IsSuccessor B f a b ↔ In a (map index (items v)))
+  edges-ok B keys formed b index items (Ok v) uses are = λ only a. edges_meet W B f keys formed only a b (map index (items v)) (record { uses = uses; are_uses = are.are_uses; in_order = are.in_order })
+  edges-ok B keys formed b index items (Err e) uses are = tt
 
   module _ (b : ArenaIndex) (kept : List UseIndex) (are : AreUses f (the_block b) (map use_of kept)) where
     -- the user of each kept use names the block

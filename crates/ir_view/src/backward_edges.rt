@@ -5,7 +5,8 @@
 ghost use Rattle.std.specs.Prelude.{◌≡◌, ◌<◌, ◌↔◌, All, Any, List, length, map, Some, IsTrue, IfOk, IfErr, slice_get};
 ghost use Rattle.std.specs.List.{AllZip};
 ghost use Rattle.ir_model.specs.declared.ids.ArenaIndex.{ArenaIndex as Index};
-ghost use Rattle.ir_model.specs.BlockGraph.{IsPredecessor, IsSuccessorOf};
+ghost use Rattle.ir_model.specs.BlockGraph.{IsPredecessor, IsSuccessor, IsSuccessorOf};
+ghost use Rattle.ir_model.specs.DefinitionLaws.{OnlyTerminatorsBranch};
 ghost use Rattle.ir_model.specs.Edits.{UsersLinked};
 ghost use Rattle.ir_model.specs.Forest.{a_block, an_op, the_block};
 ghost use Rattle.ir_model.specs.Nesting.{In, IsLinked, IsLive, ops_of};
@@ -13,7 +14,7 @@ ghost use Rattle.ir_model.specs.Parent.{FindsOne};
 ghost use Rattle.ir_model.specs.Predecessors.{ArePredecessorsBy, IsPredecessorAt};
 ghost use Rattle.ir_model.specs.Uses.{AreUses};
 ghost use Rattle.ir_records.specs.Meaning.{use_of};
-ghost use Rattle.ir_core.specs.State.{block_uses_of, forest_of};
+ghost use Rattle.ir_core.specs.State.{behaviour, block_uses_of, forest_of};
 
 use crate::forward_edges::{names_block, tail};
 use ir_base::{ArenaIndex, CoreError, Dialects, Ptr};
@@ -125,7 +126,7 @@ pub trait BlockPredecessors<D: Dialects> {
         requires { IsLive (forest_of ctx.now) (a_block (index_of self)) }
         ensures { IsTrue result ↔ UsersLinked (forest_of ctx.now) (index_of self) };
 
-    /// The predecessors of the live block, whose users are linked: one for each use, in the order in which the uses are kept. It stands for pliron's `preds`.
+    /// The predecessors of the live block, whose users are linked: one for each use, in the order in which the uses are kept. Where terminators alone name successors, they are exactly the blocks that have it among their successors. It stands for pliron's `preds`.
     ///
     /// # Errors
     /// `OutOfMemory`.
@@ -133,6 +134,7 @@ pub trait BlockPredecessors<D: Dialects> {
         requires live { IsLive (forest_of ctx.now) (a_block (index_of self)) }
         requires linked { UsersLinked (forest_of ctx.now) (index_of self) }
         ensures exact { IfOk result (λ blocks. ArePredecessorsBy (forest_of ctx.now) (index_of self) (block_uses_of ctx.now (index_of self)) (map (λ p. p.index) blocks.items)) }
+        ensures edges { IfOk result (λ blocks. OnlyTerminatorsBranch (forest_of ctx.now) (behaviour D.TypeKey.eq D.first_body D.unknown D.op_impls_of) → (a : Index) → IsSuccessor (behaviour D.TypeKey.eq D.first_body D.unknown D.op_impls_of) (forest_of ctx.now) a (index_of self) ↔ In a (map (λ p. p.index) blocks.items)) }
         ensures live { IfOk result (λ blocks. All (λ p. IsLive (forest_of ctx.now) (a_block p.index)) blocks.items) }
         ensures memory { IfErr result (λ e. e ≡ CoreError.OutOfMemory) };
 
@@ -163,6 +165,7 @@ impl<D: Dialects> BlockPredecessors<D> for Ptr<BasicBlock<D>> {
     }
 
     fn preds(self, ctx: &Context<D>) -> Result<Vec<Ptr<BasicBlock<D>>>, CoreError> {
+        ctx.is_well_formed();
         blocks_of_users(ctx, kept_uses(ctx, self))
     }
 

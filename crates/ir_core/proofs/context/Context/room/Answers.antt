@@ -1,7 +1,7 @@
 use Rattle.std.proofs.Common.{[], sym}
 use Rattle.ir_records.specs.Meaning.{op_record, block_record}
 use Rattle.ir_records.specs.Tree.{tree_of, ops_in, blocks_in}
-use Rattle.ir_core.proofs.RoomLemmas.{Left-below, Left-slots}
+use Rattle.ir_core.proofs.RoomLemmas.{Left-below, Left-slots, Left-taken}
 use Rattle.ir_core.proofs.context.Context.room.Goals as goal
 
 pub returns-clause-exact : goal.returns-clause-exact
@@ -11,6 +11,7 @@ returns-clause-exact g c = rw (sym c.self.view_is) (record {
   ops = rw c.room.ensures.value (Left-slots (λ _. op_record) c.self.inside.limits c.self.inside.records.ops c.self.invariant.counted.op_slots c.room.ensures.whole);
   blocks = rw c.room-2.ensures.value (Left-slots (λ b. block_record (ops_in (tree_of c.self.inside.records) b)) c.self.inside.limits c.self.inside.records.blocks c.self.invariant.counted.block_slots c.room-2.ensures.whole);
   regions = rw c.room-3.ensures.value (Left-slots (λ g _. blocks_in (tree_of c.self.inside.records) g) c.self.inside.limits c.self.inside.records.regions c.self.invariant.counted.region_slots c.room-3.ensures.whole);
+  aux = rw c.room-4.ensures.value (Left-taken c.self.inside.limits c.self.inside.side.aux c.self.invariant.counted.aux_slots c.room-4.ensures.whole);
 })
 
 pub returns-clause-ops : goal.returns-clause-ops

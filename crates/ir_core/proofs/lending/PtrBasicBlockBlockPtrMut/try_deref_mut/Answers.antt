@@ -7,13 +7,13 @@ use Rattle.ir_core.proofs.lending.PtrBasicBlockBlockPtrMut.try_deref_mut.Goals a
 pub invariant_of-ctx-lent : goal.invariant_of-ctx-lent
 invariant_of-ctx-lent g c =
     let i = c.ctx.inside in
-    let s : State _ _ _ _ _ _ _ = record { records = i.records; types = i.types; next_value = i.next_value; next_use = i.next_use; limits = i.limits } in
+    let s : State _ _ _ _ _ _ _ = record { records = i.records; types = i.types; next_value = i.next_value; next_use = i.next_use; side = i.side; limits = i.limits } in
     block-lent-sound s c.args.ptr.index c.in-Some.block.now (sym c.in-Some.ensures.value) c.ctx.invariant
 
 pub returns-in-Some : goal.returns-in-Some
 returns-in-Some g c =
     let i = c.ctx.inside in
-    let s : State _ _ _ _ _ _ _ = record { records = i.records; types = i.types; next_value = i.next_value; next_use = i.next_use; limits = i.limits } in (
+    let s : State _ _ _ _ _ _ _ = record { records = i.records; types = i.types; next_value = i.next_value; next_use = i.next_use; side = i.side; limits = i.limits } in (
       lent-same _ (λ rest. block-lent-now s c.args.ptr.index c.in-Some.block.now (sym c.in-Some.ensures.value) c.args.ctx.now c.ctx.view_is rest),
       record {
         writes_back = tt;
@@ -31,7 +31,7 @@ returns-in-Some g c =
 pub returns-in-None : goal.returns-in-None
 returns-in-None g c =
     let i = c.ctx.inside in
-    let s : State _ _ _ _ _ _ _ = record { records = i.records; types = i.types; next_value = i.next_value; next_use = i.next_use; limits = i.limits } in (
+    let s : State _ _ _ _ _ _ _ = record { records = i.records; types = i.types; next_value = i.next_value; next_use = i.next_use; side = i.side; limits = i.limits } in (
       ap inr c.ctx.view_is,
       record {
         writes_back = tt;

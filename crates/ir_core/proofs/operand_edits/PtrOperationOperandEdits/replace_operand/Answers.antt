@@ -24,12 +24,12 @@ replace_operand-requires-clause-within g c = let many = operand-count c.ctx.insi
 pub invariant_of-ctx : goal.invariant_of-ctx
 invariant_of-ctx g c =
     let i = c.ctx.inside in
-    subst IsSound (λ j. record { records = sym c.in_err-replace_operand.ensures.err j; types = i.types; next_value = i.next_value; next_use = i.next_use; limits = i.limits }) c.ctx.invariant
+    subst IsSound (λ j. record { records = sym c.in_err-replace_operand.ensures.err j; types = i.types; next_value = i.next_value; next_use = i.next_use; side = i.side; limits = i.limits }) c.ctx.invariant
 
 pub invariant_of-ctx-2 : goal.invariant_of-ctx-2
 invariant_of-ctx-2 g c =
     let i = c.ctx.inside in
-    let s : State _ _ _ _ _ _ _ = record { records = i.records; types = i.types; next_value = i.next_value; next_use = i.next_use; limits = i.limits } in
+    let s : State _ _ _ _ _ _ _ = record { records = i.records; types = i.types; next_value = i.next_value; next_use = i.next_use; side = i.side; limits = i.limits } in
     let e = c.replace_operand.ensures in
     let d = value_in c.args.value.index in
     (operand-placed {s = s} c.ctx.invariant e.keeps e.linked (rw (sym c.ctx.view_is) at c.in_ok-has_use_number.ensures.enough) (operand_replaced (forest_of s) c.args.self.index c.args.index d) c.in_ok-replace_operand.ensures.forest c.args.self.index
@@ -38,7 +38,7 @@ invariant_of-ctx-2 g c =
 pub returns-clause-made : goal.returns-clause-made
 returns-clause-made g c =
     let i = c.ctx.inside in
-    let s : State _ _ _ _ _ _ _ = record { records = i.records; types = i.types; next_value = i.next_value; next_use = i.next_use; limits = i.limits } in
+    let s : State _ _ _ _ _ _ _ = record { records = i.records; types = i.types; next_value = i.next_value; next_use = i.next_use; side = i.side; limits = i.limits } in
     let e = c.replace_operand.ensures in
     let d = value_in c.args.value.index in
     rw (sym c.ctx.view_is) (operand-placed {s = s} c.ctx.invariant e.keeps e.linked (rw (sym c.ctx.view_is) at c.in_ok-has_use_number.ensures.enough) (operand_replaced (forest_of s) c.args.self.index c.args.index d) c.in_ok-replace_operand.ensures.forest c.args.self.index
@@ -47,7 +47,7 @@ returns-clause-made g c =
 pub returns-clause-stay_live : goal.returns-clause-stay_live
 returns-clause-stay_live g c =
     let i = c.ctx.inside in
-    let s : State _ _ _ _ _ _ _ = record { records = i.records; types = i.types; next_value = i.next_value; next_use = i.next_use; limits = i.limits } in
+    let s : State _ _ _ _ _ _ _ = record { records = i.records; types = i.types; next_value = i.next_value; next_use = i.next_use; side = i.side; limits = i.limits } in
     let e = c.replace_operand.ensures in
     let d = value_in c.args.value.index in
     rw (sym c.ctx.view_is) (operand-placed {s = s} c.ctx.invariant e.keeps e.linked (rw (sym c.ctx.view_is) at c.in_ok-has_use_number.ensures.enough) (operand_replaced (forest_of s) c.args.self.index c.args.index d) c.in_ok-replace_operand.ensures.forest c.args.self.index

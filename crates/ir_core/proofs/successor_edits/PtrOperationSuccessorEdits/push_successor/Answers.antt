@@ -19,12 +19,12 @@ push_successor-requires-clause-fresh g c = next-successor c.ctx.invariant
 pub invariant_of-ctx : goal.invariant_of-ctx
 invariant_of-ctx g c =
     let i = c.ctx.inside in
-    subst IsSound (λ j. record { records = sym c.in_err-push_successor.ensures.err j; types = i.types; next_value = i.next_value; next_use = i.next_use; limits = i.limits }) c.ctx.invariant
+    subst IsSound (λ j. record { records = sym c.in_err-push_successor.ensures.err j; types = i.types; next_value = i.next_value; next_use = i.next_use; side = i.side; limits = i.limits }) c.ctx.invariant
 
 pub invariant_of-ctx-2 : goal.invariant_of-ctx-2
 invariant_of-ctx-2 g c =
     let i = c.ctx.inside in
-    let s : State _ _ _ _ _ _ _ = record { records = i.records; types = i.types; next_value = i.next_value; next_use = i.next_use; limits = i.limits } in
+    let s : State _ _ _ _ _ _ _ = record { records = i.records; types = i.types; next_value = i.next_value; next_use = i.next_use; side = i.side; limits = i.limits } in
     let e = c.push_successor.ensures in
     let d = c.args.block.index in
     (successor-placed {s = s} c.ctx.invariant e.keeps e.linked (rw (sym c.ctx.view_is) at c.in_ok-has_use_number.ensures.enough) (successor_pushed (forest_of s) c.args.self.index d) c.in_ok-push_successor.ensures.forest c.args.self.index
@@ -33,7 +33,7 @@ invariant_of-ctx-2 g c =
 pub returns-clause-made : goal.returns-clause-made
 returns-clause-made g c =
     let i = c.ctx.inside in
-    let s : State _ _ _ _ _ _ _ = record { records = i.records; types = i.types; next_value = i.next_value; next_use = i.next_use; limits = i.limits } in
+    let s : State _ _ _ _ _ _ _ = record { records = i.records; types = i.types; next_value = i.next_value; next_use = i.next_use; side = i.side; limits = i.limits } in
     let e = c.push_successor.ensures in
     let d = c.args.block.index in
     rw (sym c.ctx.view_is) (successor-placed {s = s} c.ctx.invariant e.keeps e.linked (rw (sym c.ctx.view_is) at c.in_ok-has_use_number.ensures.enough) (successor_pushed (forest_of s) c.args.self.index d) c.in_ok-push_successor.ensures.forest c.args.self.index
@@ -42,7 +42,7 @@ returns-clause-made g c =
 pub returns-clause-stay_live : goal.returns-clause-stay_live
 returns-clause-stay_live g c =
     let i = c.ctx.inside in
-    let s : State _ _ _ _ _ _ _ = record { records = i.records; types = i.types; next_value = i.next_value; next_use = i.next_use; limits = i.limits } in
+    let s : State _ _ _ _ _ _ _ = record { records = i.records; types = i.types; next_value = i.next_value; next_use = i.next_use; side = i.side; limits = i.limits } in
     let e = c.push_successor.ensures in
     let d = c.args.block.index in
     rw (sym c.ctx.view_is) (successor-placed {s = s} c.ctx.invariant e.keeps e.linked (rw (sym c.ctx.view_is) at c.in_ok-has_use_number.ensures.enough) (successor_pushed (forest_of s) c.args.self.index d) c.in_ok-push_successor.ensures.forest c.args.self.index

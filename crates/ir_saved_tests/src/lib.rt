@@ -1,0 +1,7 @@
+//! Tests of saved data, auxiliary data and bodies of types, over the dialect Toy.
+#![tactic(auto)]
+
+#[cfg(test)]
+mod aux_tests;
+#[cfg(test)]
+mod saved_tests;
