@@ -9,5 +9,5 @@ mod script_verify;
 
 pub use ir_base::{Answer, Limits, Refused};
 pub use ir_run::{Edit, Session};
-pub use ir_toy::{Toy, ToyType};
+pub use ir_toy_verifiers::{Toy, ToyType};
 pub use script_run::{run_script, run_script_with_limits};

@@ -6,7 +6,7 @@ ghost use Rattle.std.specs.Prelude.{◌≤◌, IfOk};
 
 use ir_base::CoreError;
 use ir_run::Edit;
-use ir_toy::{Toy, ToyType};
+use ir_toy_verifiers::{Toy, ToyType};
 use std::alloc::{AllocError, AllocFailed, Global};
 use std::fmt;
 use std::mem::replace;

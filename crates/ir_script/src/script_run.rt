@@ -9,7 +9,7 @@ use crate::script_uses::uses_text;
 use crate::script_verify::write_found;
 use ir_base::Limits;
 use ir_run::Session;
-use ir_toy::Toy;
+use ir_toy_verifiers::Toy;
 use std::alloc::Global;
 use std::io::{Read, Write};
 use std::str::from_utf8;

@@ -5,7 +5,7 @@
 use crate::script_parse::ScriptError;
 use ir_base::Ptr;
 use ir_run::{BasicBlock, BlockPtr, Operation, OperationPtr, Session, Value, ValueQueries};
-use ir_toy::Toy;
+use ir_toy_verifiers::Toy;
 use std::alloc::Global;
 use std::collections::HashMap;
 

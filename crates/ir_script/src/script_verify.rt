@@ -3,9 +3,10 @@
 use crate::script_print::refusal_line;
 use ir_base::Refused;
 use ir_run::{OperationPtr, Session};
-use ir_toy::Toy;
-use ir_toy_verifiers::ToyVerifiers;
-use ir_verify::{BasicBlockVerifyErr, DefUseVerifyErr, VerifierErr, VerifyErr, verify_operation};
+use ir_toy_verifiers::{
+    BasicBlockVerifyErr, DefUseVerifyErr, Toy, ToyVerifiers, VerifierErr, VerifyErr,
+    verify_operation,
+};
 use std::alloc::AllocError;
 
 /// Verifies the operation with this number by Toy's checks, and writes what is found as a line. Where no live operation has the number, that is refused.

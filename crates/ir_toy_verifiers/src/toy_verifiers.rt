@@ -3,8 +3,7 @@
 ghost use Rattle.ir_toy_verifiers.specs.ToyVerifiers.{toy_verifiers};
 
 use ir_toy::{Toy, ToyAttr, ToyType};
-use ir_verify::{CheckErr, Verifiers};
-use ir_view::{Context, OpObj, OperationPtr};
+use ir_verify::{CheckErr, Context, OpObj, OperationPtr, Verifiers};
 
 /// The code of an integer type whose width is 0.
 pub const EMPTY_INTEGER: u32 = 1;

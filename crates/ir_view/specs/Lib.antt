@@ -1,11 +1,11 @@
 pub mod Parts
 pub mod Types
 pub mod Wrapped
-pub use Rattle.ir_core.specs.State
-pub use Rattle.ir_core.specs.Calls
-pub use Rattle.ir_core.specs.Named
-pub use Rattle.ir_core.specs.Places
-pub use Rattle.ir_core.specs.Definitions
+pub use Rattle.ir_walk.specs.State
+pub use Rattle.ir_walk.specs.Calls
+pub use Rattle.ir_walk.specs.Named
+pub use Rattle.ir_walk.specs.Places
+pub use Rattle.ir_walk.specs.Definitions
 pub use Rattle.ir_walk.specs.Entities
 pub use Rattle.ir_walk.specs.Dominance
-pub use Rattle.ir_values.specs.Values
+pub use Rattle.ir_walk.specs.Values

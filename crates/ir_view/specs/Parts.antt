@@ -9,7 +9,7 @@ use Rattle.ir_records.specs.declared.record.Operation.{Operation}
 use Rattle.ir_records.specs.declared.record.UseIndex.{UseIndex}
 use Rattle.ir_records.specs.declared.record.ValueIndex.{ValueIndex}
 use Rattle.ir_records.specs.Meaning.{closed, block_index, block_record, op_index, op_record}
-use Rattle.ir_core.specs.Calls.{BlockLeadsToLive, LeadsToLive}
+use Rattle.ir_walk.specs.Calls.{BlockLeadsToLive, LeadsToLive}
 
 module _ {D A K B S X L : Type 0} where
   -- the operation's results

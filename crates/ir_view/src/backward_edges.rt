@@ -14,13 +14,13 @@ ghost use Rattle.ir_model.specs.Parent.{FindsOne};
 ghost use Rattle.ir_model.specs.Predecessors.{ArePredecessorsBy, IsPredecessorAt};
 ghost use Rattle.ir_model.specs.Uses.{AreUses};
 ghost use Rattle.ir_records.specs.Meaning.{use_of};
-ghost use Rattle.ir_core.specs.State.{behaviour, block_uses_of, forest_of};
+ghost use Rattle.ir_walk.specs.State.{behaviour, block_uses_of, forest_of};
 
 use crate::forward_edges::{names_block, tail};
 use ir_base::{ArenaIndex, CoreError, Dialects, Ptr};
-use ir_core::{BasicBlock, BlockIndex, Context, OperationPtr, UseIndex};
 use ir_records::{EntityIndex, block_uses};
 use ir_tree::parent_of;
+use ir_walk::{BasicBlock, BlockIndex, Context, OperationPtr, UseIndex};
 
 // The kept uses of a live block.
 fn kept_uses<D: Dialects>(ctx: &Context<D>, block: Ptr<BasicBlock<D>>) -> &[UseIndex]

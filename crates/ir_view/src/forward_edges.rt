@@ -5,14 +5,14 @@ ghost use Rattle.std.specs.Option.{option_map};
 ghost use Rattle.ir_model.specs.BlockGraph.{last_op, succs, terminator, IsSuccessor};
 ghost use Rattle.ir_model.specs.Forest.{a_block, an_op};
 ghost use Rattle.ir_model.specs.Nesting.{In, IsLive};
-ghost use Rattle.ir_core.specs.Calls.{LeadsToLive};
-ghost use Rattle.ir_core.specs.State.{behaviour, forest_of};
+ghost use Rattle.ir_walk.specs.Calls.{LeadsToLive};
+ghost use Rattle.ir_walk.specs.State.{behaviour, forest_of};
 ghost use Rattle.ir_view.specs.Parts.{successors_of};
 
 use crate::operation_parts::OperationParts;
 use ir_base::interfaces::TERMINATOR;
 use ir_base::{CoreError, Dialects, Ptr};
-use ir_core::{BasicBlock, Context, Operation, OperationPtr};
+use ir_walk::{BasicBlock, Context, Operation, OperationPtr};
 use std::alloc::Global;
 
 // The last operation of a live block.

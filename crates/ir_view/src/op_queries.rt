@@ -5,12 +5,12 @@ ghost use Rattle.std.specs.Option.{option_map};
 ghost use Rattle.ir_model.specs.Calls.{kind_of};
 ghost use Rattle.ir_model.specs.Forest.{an_op};
 ghost use Rattle.ir_model.specs.Nesting.{IsLive};
-ghost use Rattle.ir_core.specs.State.{forest_of};
+ghost use Rattle.ir_walk.specs.State.{forest_of};
 ghost use Rattle.ir_view.specs.Wrapped.{kind_in, operation_in};
 
 use crate::wrappers::{Op, OpObj};
 use ir_base::{CoreError, Dialects, OpId, Ptr};
-use ir_core::{Context, Operation, OperationPtr};
+use ir_walk::{Context, Operation, OperationPtr};
 
 /// What can be asked of the handle of a live operation about its kind. It stands for pliron's calls of `Operation`.
 pub trait OperationKind<D: Dialects> {

@@ -6,14 +6,15 @@ ghost use Rattle.ir_model.specs.Forest.{a_block, a_region, a_value};
 ghost use Rattle.ir_model.specs.Nesting.{IsLive, IsLiveNamed};
 ghost use Rattle.ir_records.specs.Meaning.{op_record, use_of, value_of};
 ghost use Rattle.ir_records.specs.Values.{IsLiveBlockUse, IsLiveUse};
-ghost use Rattle.ir_core.specs.State.{forest_of, types_of};
-ghost use Rattle.ir_values.specs.Values.{HasType};
+ghost use Rattle.ir_walk.specs.State.{forest_of, types_of};
+ghost use Rattle.ir_walk.specs.Values.{HasType};
 ghost use Rattle.ir_view.specs.Parts.{operand_uses_of, result_types_of, results_of, successor_uses_of, successors_of, WhereLive};
 
 use crate::indexed::{HasParts, Parts};
 use ir_base::{ArenaIndex, Dialects, Ptr, TypeHandle};
-use ir_core::{BasicBlock, Context, Operation, Region, Use, UseIndex, Value, ValueIndex};
-use ir_values::ValueQueries;
+use ir_walk::{
+    BasicBlock, Context, Operation, Region, Use, UseIndex, Value, ValueIndex, ValueQueries,
+};
 
 /// The results of an operation, in order.
 pub type Results<'a, D> = Parts<ValueIndex, ResultsOf<'a, D>>;
@@ -132,7 +133,7 @@ pub struct OperandTypesOf<'a, D: Dialects> {
 }
 
 impl<'a, D: Dialects> HasParts<usize> for OperandTypesOf<'a, D> {
-    ghost use Rattle.ir_core.specs.Calls.{LeadsToLive};
+    ghost use Rattle.ir_walk.specs.Calls.{LeadsToLive};
     ghost use Rattle.ir_view.specs.Types.{operand_types_of};
 
     type Item = TypeHandle;
@@ -217,7 +218,7 @@ impl<'a, D: Dialects> HasParts<ArenaIndex> for RegionsOf<'a, D> {
 /// What a context gave as the operation under a live handle leads to what is live there, and to known types.
 pub trait OperationParts<D: Dialects> {
     ghost use Rattle.ir_records.specs.declared.record.Operation.{Operation as Plain};
-    ghost use Rattle.ir_core.specs.Calls.{LeadsToLive};
+    ghost use Rattle.ir_walk.specs.Calls.{LeadsToLive};
 
     ghost operation: { Self → Plain D D.Attr D.TypeKey D.TypeBody D.Saved D.Aux D.Loc };
 

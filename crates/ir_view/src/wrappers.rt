@@ -6,12 +6,12 @@ ghost use Rattle.std.specs.Prelude.{◌≡◌, ◌↔◌, ℕ, Some, IsTrue, IfO
 ghost use Rattle.ir_model.specs.Calls.{loc_of};
 ghost use Rattle.ir_model.specs.Forest.{an_op, of_op};
 ghost use Rattle.ir_model.specs.Nesting.{IsLive};
-ghost use Rattle.ir_core.specs.State.{forest_of};
+ghost use Rattle.ir_walk.specs.State.{forest_of};
 ghost use Rattle.ir_view.specs.Wrapped.{kind_in, operation_in};
 
 use ir_base::interfaces::OpInterfaceMarker;
 use ir_base::{CoreError, Dialects, OpId, Ptr};
-use ir_core::{Context, Operation, OperationPtr};
+use ir_walk::{Context, Operation, OperationPtr};
 use std::alloc::Global;
 use std::cmp::PartialEq;
 use std::hash::Hash;

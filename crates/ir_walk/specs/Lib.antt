@@ -3,3 +3,9 @@ pub mod Dominance
 pub mod Entities
 pub mod Neighbours
 pub mod Shallow
+pub use Rattle.ir_values.specs.State
+pub use Rattle.ir_values.specs.Calls
+pub use Rattle.ir_values.specs.Named
+pub use Rattle.ir_values.specs.Places
+pub use Rattle.ir_values.specs.Definitions
+pub use Rattle.ir_values.specs.Values

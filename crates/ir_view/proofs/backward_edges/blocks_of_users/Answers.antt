@@ -1,7 +1,7 @@
 use Rattle.std.proofs.Common.{take}
 use Rattle.ir_model.specs.Forest.{a_block}
 use Rattle.ir_model.specs.Nesting.{In, IsLive, ops_of}
-use Rattle.ir_core.specs.State.{forest_of}
+use Rattle.ir_walk.specs.State.{forest_of}
 use Rattle.ir_view.proofs.Items.{zip-next, zip-second}
 use Rattle.ir_view.proofs.Stands.{stands-live}
 use Rattle.ir_view.proofs.backward_edges.blocks_of_users.Goals as goal

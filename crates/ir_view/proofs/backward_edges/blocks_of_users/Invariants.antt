@@ -1,7 +1,7 @@
 use Rattle.std.proofs.Common.{take}
 use Rattle.std.specs.List.{AllZip}
 use Rattle.ir_model.specs.Nesting.{In, ops_of}
-use Rattle.ir_core.specs.State.{forest_of}
+use Rattle.ir_walk.specs.State.{forest_of}
 use Rattle.ir_view.proofs.backward_edges.blocks_of_users.Given as goal
 
 abbrev pub invariant-loop-index : goal.invariant-loop-index

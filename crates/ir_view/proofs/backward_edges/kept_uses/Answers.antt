@@ -2,7 +2,7 @@ use Rattle.std.proofs.Common.{◌∙◌, ap, map, subst, sym}
 use Rattle.ir_model.specs.ContextIds.{context_ids}
 use Rattle.ir_model.specs.Forest.{the_block}
 use Rattle.ir_model.specs.Uses.{AreUses, Use}
-use Rattle.ir_core.specs.State.{forest_of}
+use Rattle.ir_walk.specs.State.{forest_of}
 use Rattle.ir_view.proofs.Users.{kept-meant}
 use Rattle.ir_view.proofs.backward_edges.kept_uses.Goals as goal
 

@@ -1,4 +1,4 @@
-use Rattle.ir_core.specs.State.{forest_of}
+use Rattle.ir_walk.specs.State.{forest_of}
 use Rattle.ir_view.proofs.Stands.{linked-in}
 use Rattle.ir_view.proofs.backward_edges.linked_block.Goals as goal
 

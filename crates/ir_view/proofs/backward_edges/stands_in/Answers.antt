@@ -1,4 +1,4 @@
-use Rattle.ir_core.specs.State.{forest_of}
+use Rattle.ir_walk.specs.State.{forest_of}
 use Rattle.ir_view.proofs.Stands.{stands-found}
 use Rattle.ir_view.proofs.backward_edges.stands_in.Goals as goal
 

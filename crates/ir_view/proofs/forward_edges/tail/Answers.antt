@@ -1,5 +1,5 @@
 use Rattle.std.proofs.Common.{◌∙◌, ap, sym, Some}
-use Rattle.ir_core.specs.State.{forest_of}
+use Rattle.ir_walk.specs.State.{forest_of}
 use Rattle.ir_view.proofs.Tails.{tail-is, tail-live}
 use Rattle.ir_view.proofs.forward_edges.tail.Goals as goal
 

@@ -1,5 +1,5 @@
 use Rattle.std.proofs.lemmas.Option.{slice_get-get_or}
-use Rattle.ir_core.specs.State.{block_uses_of, forest_of}
+use Rattle.ir_walk.specs.State.{block_uses_of, forest_of}
 use Rattle.ir_view.proofs.Users.{kept-within, predecessor-at, predecessor-listed, user-linked}
 use Rattle.ir_view.proofs.backward_edges.PtrBasicBlockBlockPredecessors.get_pred.Goals as goal
 

@@ -1,4 +1,4 @@
-use Rattle.ir_core.specs.State.{forest_of}
+use Rattle.ir_walk.specs.State.{forest_of}
 use Rattle.ir_view.proofs.Users.{users-in}
 use Rattle.ir_view.proofs.backward_edges.PtrBasicBlockBlockPredecessors.is_pred.Goals as goal
 

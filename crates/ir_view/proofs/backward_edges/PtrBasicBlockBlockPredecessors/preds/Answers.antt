@@ -1,5 +1,5 @@
 use Rattle.std.proofs.Common.{length}
-use Rattle.ir_core.specs.State.{behaviour, block_uses_of, forest_of, types_of}
+use Rattle.ir_walk.specs.State.{behaviour, block_uses_of, forest_of, types_of}
 use Rattle.ir_view.proofs.Users.{edges-ok, predecessors-ok, users-linked}
 use Rattle.ir_view.proofs.backward_edges.PtrBasicBlockBlockPredecessors.preds.Goals as goal
 

@@ -1,4 +1,4 @@
-use Rattle.ir_core.specs.State.{forest_of}
+use Rattle.ir_walk.specs.State.{forest_of}
 use Rattle.ir_view.proofs.Leads.{targets-live}
 use Rattle.ir_view.proofs.forward_edges.PtrBasicBlockBlockSuccessors.succs.Goals as goal
 

@@ -1,5 +1,5 @@
 use Rattle.ir_records.specs.Meaning.{value_of}
-use Rattle.ir_core.specs.State.{forest_of}
+use Rattle.ir_walk.specs.State.{forest_of}
 use Rattle.ir_view.proofs.TypeLemmas.{type-found, operand-type-at}
 use Rattle.ir_view.proofs.operation_parts.OperandTypesOfHasPartsUsize.part.Goals as goal
 

@@ -1,4 +1,4 @@
-use Rattle.ir_core.specs.State.{forest_of}
+use Rattle.ir_walk.specs.State.{forest_of}
 use Rattle.ir_view.proofs.TypeLemmas.{operand-types, operand-types-known}
 use Rattle.ir_view.proofs.operation_parts.OperationOperationParts.operand_types.Goals as goal
 
