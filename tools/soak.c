@@ -15,7 +15,7 @@
 #include <sys/wait.h>
 #include <unistd.h>
 
-enum { MOST = 1 << 20, LONGEST = 4096 };
+enum { MOST = 1 << 20, LONGEST = 1 << 16 };
 
 typedef struct {
     size_t length;
@@ -71,7 +71,8 @@ typedef struct {
 
 static const Form FORMS[] = {
     {"type", "N"},   {"op", "KTVBN"}, {"block", "T"}, {"push", "ov"}, {"set", "oNv"},  {"succ", "ob"},
-    {"back", "ob"}, {"backb", "br"}, {"unlink", "o"}, {"move", "ro"}, {"erase", "o"},
+    {"back", "ob"}, {"backb", "br"}, {"unlink", "o"}, {"move", "ro"}, {"erase", "o"}, {"rauw", "vv"},
+    {"verify", "o"},
 };
 enum { FORM_COUNT = sizeof FORMS / sizeof *FORMS };
 
@@ -118,7 +119,7 @@ static void change_script(void) {
     old = script;
     size_t cut = below(old.length + 1);
     size_t from = below(4) ? cut + below(3) : below(old.length + 1);
-    size_t change = below(CHANGE_COUNT), times = below(16) ? 1 : below(200);
+    size_t change = below(CHANGE_COUNT), times = below(16) ? 1 : below(8) ? below(200) : below(LONGEST);
     if (below(12) == 0) from = old.length;
     script.length = 0;
     put((char *)old.bytes, cut);
@@ -186,7 +187,7 @@ static bool is_field(Field field, char form) {
     switch (form) {
     case 'N':
         fits = is_number(field, 4294967295u, &number);
-        is_huge |= number > 100000;
+        is_huge |= number > 10000;
         return fits;
     case 'K': return is_number(field, 7, &number);
     case 'T': return is_list(field, 't');
@@ -196,7 +197,8 @@ static bool is_field(Field field, char form) {
     }
 }
 
-static bool is_line(const char *at, size_t length) {
+/* Finds the form that a line has; it has none where the line is malformed. */
+static const Form *form_of(const char *at, size_t length) {
     Field fields[8];
     size_t count = 0;
     for (size_t i = 0; i < length;) {
@@ -205,18 +207,26 @@ static bool is_line(const char *at, size_t length) {
         start = i;
         while (i < length && at[i] != ' ') i++;
         if (i == start) break;
-        if (count == 8) return false;
+        if (count == 8) return NULL;
         fields[count++] = (Field){at + start, i - start};
     }
     for (size_t form = 0; form < FORM_COUNT; form++) {
         const char *word = FORMS[form].word, *parts = FORMS[form].fields;
         if (strlen(word) != fields[0].length || memcmp(word, fields[0].start, fields[0].length)) continue;
-        if (count != strlen(parts) + 1) return false;
+        if (count != strlen(parts) + 1) return NULL;
         for (size_t i = 0; parts[i]; i++)
-            if (!is_field(fields[i + 1], parts[i])) return false;
-        return true;
+            if (!is_field(fields[i + 1], parts[i])) return NULL;
+        return &FORMS[form];
     }
-    return false;
+    return NULL;
+}
+
+/* What a line is answered with beside refusals: a name with the letter t, o or b, a finding (v), or ok (k). */
+static char answer_form(const Form *form) {
+    if (!strcmp(form->word, "type")) return 't';
+    if (!strcmp(form->word, "op")) return 'o';
+    if (!strcmp(form->word, "block")) return 'b';
+    return strcmp(form->word, "verify") ? 'k' : 'v';
 }
 
 static bool is_skipped(const char *at, size_t length) {
@@ -225,6 +235,9 @@ static bool is_skipped(const char *at, size_t length) {
         if (at[i] != ' ') return false;
     return true;
 }
+
+/* What each line is answered with beside refusals. */
+static char asked[LONGEST];
 
 /* The status, what is said, and how many answers there are. */
 static int wanted(char *fault, size_t *answers) {
@@ -241,11 +254,12 @@ static int wanted(char *fault, size_t *answers) {
         size_t length = (size_t)((stop ? stop : end) - at);
         if (stop && length && at[length - 1] == '\r') length--;
         if (!is_skipped(at, length)) {
-            if (!is_line(at, length)) {
+            const Form *form = form_of(at, length);
+            if (!form) {
                 sprintf(fault, "line %zu: malformed\n", number);
                 return 2;
             }
-            ++*answers;
+            asked[(*answers)++] = answer_form(form);
         }
         if (!stop) break;
         at = stop + 1;
@@ -295,12 +309,33 @@ static bool is_digits(const char **at) {
     return *at > start;
 }
 
-static bool is_answer(const char *line) {
-    static const char *const PLAIN[] = {"ok", "refused condition", "refused counter", "refused slots"};
-    for (size_t i = 0; i < sizeof PLAIN / sizeof *PLAIN; i++)
-        if (!strcmp(line, PLAIN[i])) return true;
+/* The unique name of a block without a label. */
+static bool is_block_name(const char *line) {
+    if (strncmp(line, "block", 5)) return false;
+    line += 5;
+    return is_digits(&line) && *line++ == 'v' && is_digits(&line) && !*line;
+}
+
+/* What verification finds: one of these, with a block's name or a code where one belongs to it. */
+static bool is_finding(const char *line) {
+    static const char *const OF_BLOCKS[] = {"fault MissingTerminator ", "fault TerminatorNotLast ", "fault EntryHasPred "};
+    if (!strcmp(line, "ok") || !strcmp(line, "refused condition")) return true;
+    if (!strcmp(line, "fault OperandNotUseOfDef")) return true;
+    if (!strcmp(line, "fault Verifier 1") || !strcmp(line, "fault Verifier 2")) return true;
+    for (size_t i = 0; i < sizeof OF_BLOCKS / sizeof *OF_BLOCKS; i++)
+        if (!strncmp(line, OF_BLOCKS[i], strlen(OF_BLOCKS[i]))) return is_block_name(line + strlen(OF_BLOCKS[i]));
+    return false;
+}
+
+/* An answer to a line of this form. */
+static bool is_answer(const char *line, char form) {
+    static const char *const REFUSALS[] = {"refused condition", "refused counter", "refused slots"};
     if (!strcmp(line, "refused memory")) return is_huge;
-    if (strncmp(line, "made ", 5) || !line[5] || !strchr("tob", line[5])) return false;
+    if (form == 'v') return is_finding(line);
+    for (size_t i = 0; i < sizeof REFUSALS / sizeof *REFUSALS; i++)
+        if (!strcmp(line, REFUSALS[i])) return true;
+    if (form == 'k') return !strcmp(line, "ok");
+    if (strncmp(line, "made ", 5) || line[5] != form) return false;
     line += 6;
     return is_digits(&line) && !*line;
 }
@@ -326,7 +361,7 @@ static bool is_printed(size_t answers) {
     for (char *line = (char *)output.bytes; line; number++) {
         char *stop = strchr(line, '\n');
         if (stop) *stop = 0;
-        if (!(number < answers ? is_answer(line) : is_listed(line))) return false;
+        if (!(number < answers ? is_answer(line, asked[number]) : is_listed(line))) return false;
         line = stop ? stop + 1 : NULL;
     }
     return number >= answers;

@@ -4,4 +4,6 @@
 #[cfg(test)]
 mod aux_tests;
 #[cfg(test)]
+mod law_tests;
+#[cfg(test)]
 mod saved_tests;

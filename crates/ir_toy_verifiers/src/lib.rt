@@ -3,7 +3,7 @@
 
 mod toy_verifiers;
 
-pub use ir_toy::{Toy, ToyAttr, ToyType};
+pub use ir_toy::{Toy, ToyAttr, ToyInt, ToyOutlined, ToyText, ToyType};
 pub use ir_verify::{
     BasicBlockVerifyErr, DefUseVerifyErr, VerifierErr, VerifyErr, verify_operation,
 };

@@ -8,3 +8,4 @@ pub mod Passed
 pub mod Handles
 pub mod Ends
 pub mod Alone
+pub mod TypedChecks

@@ -1,7 +1,7 @@
 //! The checks that are handed in, run on operations, attributes and types.
 
 ghost use Rattle.std.specs.Prelude.{◌<◌, length, map};
-ghost use Rattle.ir_model.specs.Faults.{the_attribute, the_type};
+ghost use Rattle.ir_model.specs.Faults.{the_attribute, the_type, the_typed};
 ghost use Rattle.ir_model.specs.Forest.{an_op};
 ghost use Rattle.ir_model.specs.Nesting.{In, IsLive};
 ghost use Rattle.ir_records.specs.declared.record.Definition.{Definition as PlainDefinition};
@@ -29,6 +29,17 @@ pub(crate) fn check_type<D: Dialects, V: Verifiers<D>>(
     for number in verifiers.type_verifiers(D::type_kind(key)) {
         verifiers.check_type_interface(*number, key, ctx)?;
     }
+    Ok(verifiers.check_type(key, ctx)?)
+}
+
+// The own check of a type, which is all that is run for the handle of a type of one kind.
+pub(crate) fn check_own_type<D: Dialects, V: Verifiers<D>>(
+    key: &D::TypeKey,
+    ctx: &Context<D>,
+    verifiers: &V,
+) -> Result<(), VerifyErr>
+    ensures { FindsAt (behaviour D.TypeKey.eq D.first_body D.unknown D.op_impls_of) (forest_of ctx.now) (types_of ctx.now) (checks_in (kinds D.attr_kind_of D.type_kind_of D.type_impls_of D.saved_kind_of D.Saved.eq D.region_ssa_dominance_of) (V.handed_in verifiers.now) ctx.now) (the_typed key.now) result }
+{
     Ok(verifiers.check_type(key, ctx)?)
 }
 

@@ -8,6 +8,7 @@ mod checks;
 mod error;
 mod inside;
 mod operation_faults;
+mod type_handles;
 mod verifiers;
 mod verify;
 

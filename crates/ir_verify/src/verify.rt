@@ -109,7 +109,7 @@ pub trait Verify<D: Dialects> {
     // This is what it means to verify.
     ghost IsRoot: { State D D.Attr D.TypeKey D.TypeBody D.Saved D.Aux D.Loc → Self → Root (closed D.Attr D.TypeKey D.TypeBody D.Saved D.Aux D.Loc) → Type 0 };
 
-    /// Verifies it: an operation, a block or a region with all that is inside it; of a value its type; of a type its own check and those that are listed for its kind.
+    /// Verifies it: an operation, a block or a region with all that is inside it; of a value its type; of a type its own check and those that are listed for its kind; of the handle of a type of one kind the own check alone.
     ///
     /// # Errors
     /// A fault that stands there; `OutOfMemory` only where a fault that names a block stands, or a check that is run may answer it.

@@ -1,0 +1,17 @@
+use Rattle.std.proofs.Common.{◌≡◌, ◌∙◌, ap, true}
+use Rattle.ir_model.specs.Forest.{of_block}
+use Rattle.ir_model.specs.Nesting.{ops_of}
+use Rattle.ir_records.specs.Meaning.{block_record, definer_of, value_of}
+use Rattle.ir_view.specs.Definitions.{last_place}
+use Rattle.ir_view.specs.State.{forest_of}
+use Rattle.ir_value_tests.proofs.Unused.{last_argument, unused_there}
+use Rattle.ir_value_tests.proofs.definition_tests.pop_argument.Goals as goal
+
+pub pop_argument-requires-clause-unused : goal.pop_argument-requires-clause-unused
+pop_argument-requires-clause-unused g c =
+    let f = forest_of c.args.ctx.now in
+    let i = c.args.block.index in
+    let v = value_of c.get_argument.result.index in
+    unused_there f (of_block i) (last_place f (of_block i)) v (ap definer_of c.get_argument.ensures.definer ∙ ap of_block c.deref-record.ensures.found.own)
+    (last_argument f i (block_record (ops_of f i) c.deref-record.result.now) c.deref-record.ensures.found.found c.get_num_arguments-count.result v.number c.get_num_arguments-count.ensures c.get_argument.ensures.number)
+    (λ used. let e : c.is_used.result ≡ true = c.is_used.ensures.1 used in cc)
