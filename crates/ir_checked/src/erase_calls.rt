@@ -57,15 +57,26 @@ pub fn drop_region_uses<D: Dialects>(
 /// # Errors
 /// `Condition` where it isn't live.
 pub fn can_erase<D: Dialects>(ctx: &Context<D>, entity: Entity<D>) -> Result<bool, CheckedErr> {
-    let live = match entity {
-        Entity::Op(op) => op.is_live(ctx),
-        Entity::Block(block) => block.is_live(ctx),
-        Entity::Region(region) => region.is_live(ctx),
-    };
-    if !live {
-        return Err(CheckedErr::Condition);
+    match entity {
+        Entity::Op(op) => {
+            if !op.is_live(ctx) {
+                return Err(CheckedErr::Condition);
+            }
+            Ok(ir_view::can_erase(ctx, Entity::Op(op)))
+        }
+        Entity::Block(block) => {
+            if !block.is_live(ctx) {
+                return Err(CheckedErr::Condition);
+            }
+            Ok(ir_view::can_erase(ctx, Entity::Block(block)))
+        }
+        Entity::Region(region) => {
+            if !region.is_live(ctx) {
+                return Err(CheckedErr::Condition);
+            }
+            Ok(ir_view::can_erase(ctx, Entity::Region(region)))
+        }
     }
-    Ok(ir_view::can_erase(ctx, entity))
 }
 
 /// Erases the operation with all that stands inside it.

@@ -20,22 +20,18 @@ pub fn retarget_all<D: Dialects>(
     Ok(())
 }
 
-/// Lets the successor of this use, which names the one block, name the other.
+/// Lets the successor of this use name the other block.
 ///
 /// # Errors
-/// `Condition` where the use isn't live or names something else, or the other block isn't live; else what `retarget_pred_to` lacks.
+/// `Condition` where the use or the block isn't live; else what `retarget_pred_to` lacks.
 pub fn retarget_pred<D: Dialects>(
     ctx: &mut Context<D>,
-    old: Ptr<BasicBlock<D>>,
     used: Use<Ptr<BasicBlock<D>>>,
     new: Ptr<BasicBlock<D>>,
 ) -> Result<(), CheckedErr> {
     if used.try_find_index(ctx).is_err() || !new.is_live(ctx) {
         return Err(CheckedErr::Condition);
     }
-    if used.get_def(ctx) != old {
-        return Err(CheckedErr::Condition);
-    }
-    old.retarget_pred_to(ctx, used, new)?;
+    used.get_def(ctx).retarget_pred_to(ctx, used, new)?;
     Ok(())
 }

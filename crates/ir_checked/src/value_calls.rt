@@ -47,22 +47,18 @@ pub fn replace_all_uses<D: Dialects>(
     Ok(())
 }
 
-/// Lets the operand of this use, which names the one value, name the other.
+/// Lets the operand of this use name the other value.
 ///
 /// # Errors
-/// `Condition` where the use isn't live or names something else, or the other value isn't live; else what `replace_use_with` lacks.
+/// `Condition` where the use or the value isn't live; else what `replace_use_with` lacks.
 pub fn replace_use<D: Dialects>(
     ctx: &mut Context<D>,
-    old: Value<D>,
     used: Use<Value<D>>,
     new: Value<D>,
 ) -> Result<(), CheckedErr> {
     if used.try_find_index(ctx).is_err() || !new.is_live(ctx) {
         return Err(CheckedErr::Condition);
     }
-    if used.get_def(ctx) != old {
-        return Err(CheckedErr::Condition);
-    }
-    old.replace_use_with(ctx, used, new)?;
+    used.get_def(ctx).replace_use_with(ctx, used, new)?;
     Ok(())
 }
