@@ -1,7 +1,7 @@
 //! Chains of operations, each of which uses the results of the two before.
 
 use crate::building::{build, pair_block};
-use crate::outcome::{Run, block_sum, nanos_now, timed, uses_sum};
+use crate::outcome::{Run, block_sum, nanos_now, run_of, uses_sum};
 use ir_base::{Dialects, Ptr, TypeHandle};
 use ir_checked::{
     BasicBlock, CheckedErr, Context, Operation, Value, block_head, erase_op, new_op, next_op,
@@ -51,7 +51,7 @@ pub(crate) fn unlinked<C: CpuClock, D: Dialects>(
     let start = nanos_now(rt)?;
     timed_unlinked(ctx, ty, first, second, count, &mut made)?;
     let end = nanos_now(rt)?;
-    timed(start, end, count, uses_sum(ctx, made.as_slice())?)
+    run_of(start, end, count, uses_sum(ctx, made.as_slice())?)
 }
 
 // Makes so many operations at the back of a block.
@@ -76,7 +76,7 @@ pub(crate) fn building<C: CpuClock, D: Dialects>(
     let start = nanos_now(rt)?;
     timed_building(ctx, ty, block, count)?;
     let end = nanos_now(rt)?;
-    timed(start, end, count, block_sum(ctx, block)?)
+    run_of(start, end, count, block_sum(ctx, block)?)
 }
 
 // Puts a new operation with the same operands behind one with two, and answers it.
@@ -86,7 +86,9 @@ fn copy_behind<D: Dialects>(
     op: Ptr<Operation<D>>,
 ) -> Result<Ptr<Operation<D>>, CheckedErr> {
     let types = [ty];
-    let operands = [operand(ctx, op, 0)?, operand(ctx, op, 1)?];
+    let first = operand(ctx, op, 0)?;
+    let second = operand(ctx, op, 1)?;
+    let operands = [first, second];
     let new = new_op(ctx, 1, &types, &operands, &[], 0)?;
     op_after(ctx, new, op)?;
     Ok(new)
@@ -136,5 +138,5 @@ pub(crate) fn rebuilding<C: CpuClock, D: Dialects>(
     let start = nanos_now(rt)?;
     timed_rebuilding(ctx, ty, block, count)?;
     let end = nanos_now(rt)?;
-    timed(start, end, count, block_sum(ctx, block)?)
+    run_of(start, end, count, block_sum(ctx, block)?)
 }

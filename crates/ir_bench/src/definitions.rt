@@ -1,6 +1,6 @@
 //! Results and arguments that are put in front of others.
 
-use crate::outcome::{Run, mix, nanos_now, timed};
+use crate::outcome::{Run, mix, nanos_now, run_of};
 use ir_base::{Dialects, Ptr, TypeHandle};
 use ir_checked::{
     BasicBlock, BlockPtr, CheckedErr, Context, Operation, OperationPtr, TypeQueries, Value,
@@ -14,11 +14,13 @@ use std::time::CpuClock;
 fn timed_results<D: Dialects>(
     ctx: &mut Context<D>,
     op: Ptr<Operation<D>>,
-    types: [TypeHandle; 2],
+    first: TypeHandle,
+    second: TypeHandle,
     count: usize,
 ) -> Result<(), CheckedErr> {
     for i in 0..count {
-        insert_result(ctx, op, 0, types[i % 2])?;
+        let ty = if i % 2 == 0 { first } else { second };
+        insert_result(ctx, op, 0, ty)?;
     }
     Ok(())
 }
@@ -28,11 +30,13 @@ fn timed_results<D: Dialects>(
 fn timed_arguments<D: Dialects>(
     ctx: &mut Context<D>,
     block: Ptr<BasicBlock<D>>,
-    types: [TypeHandle; 2],
+    first: TypeHandle,
+    second: TypeHandle,
     count: usize,
 ) -> Result<(), CheckedErr> {
     for i in 0..count {
-        insert_argument(ctx, block, 0, types[i % 2])?;
+        let ty = if i % 2 == 0 { first } else { second };
+        insert_argument(ctx, block, 0, ty)?;
     }
     Ok(())
 }
@@ -59,7 +63,8 @@ fn results_sum<D: Dialects>(
 ) -> Result<u64, CheckedErr> {
     let mut sum = 0;
     for index in 0..count {
-        sum = mix(sum, type_number(ctx, result(ctx, op, index)?, ty)?);
+        let value = result(ctx, op, index)?;
+        sum = mix(sum, type_number(ctx, value, ty)?);
     }
     Ok(sum)
 }
@@ -73,7 +78,8 @@ fn arguments_sum<D: Dialects>(
 ) -> Result<u64, CheckedErr> {
     let mut sum = 0;
     for index in 0..count {
-        sum = mix(sum, type_number(ctx, argument(ctx, block, index)?, ty)?);
+        let value = argument(ctx, block, index)?;
+        sum = mix(sum, type_number(ctx, value, ty)?);
     }
     Ok(sum)
 }
@@ -88,9 +94,9 @@ pub(crate) fn results_front<C: CpuClock>(
     let other = ctx.instantiate_key(ToyType::Int { width: 64 })?;
     let op = new_op(ctx, 4, &[], &[], &[], 0)?;
     let start = nanos_now(rt)?;
-    timed_results(ctx, op, [ty, other], count)?;
+    timed_results(ctx, op, ty, other, count)?;
     let end = nanos_now(rt)?;
-    timed(start, end, count, results_sum(ctx, op, ty, count)?)
+    run_of(start, end, count, results_sum(ctx, op, ty, count)?)
 }
 
 /// N arguments are put into one block, each in front of the others.
@@ -103,7 +109,7 @@ pub(crate) fn arguments_front<C: CpuClock>(
     let other = ctx.instantiate_key(ToyType::Int { width: 64 })?;
     let block = new_block(ctx, None, &[])?;
     let start = nanos_now(rt)?;
-    timed_arguments(ctx, block, [ty, other], count)?;
+    timed_arguments(ctx, block, ty, other, count)?;
     let end = nanos_now(rt)?;
-    timed(start, end, count, arguments_sum(ctx, block, ty, count)?)
+    run_of(start, end, count, arguments_sum(ctx, block, ty, count)?)
 }

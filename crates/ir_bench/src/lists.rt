@@ -1,7 +1,7 @@
 //! Operations that are moved between blocks, and blocks between regions.
 
 use crate::building::{add_block, add_marked};
-use crate::outcome::{Run, block_sum, mix, nanos_now, timed};
+use crate::outcome::{Run, block_sum, mix, nanos_now, run_of};
 use crate::random::Random;
 use ir_base::{Dialects, Ptr, TypeHandle};
 use ir_checked::{
@@ -44,7 +44,7 @@ pub(crate) fn front_to_back<C: CpuClock, D: Dialects>(
     let start = nanos_now(rt)?;
     timed_front_to_back(ctx, from, to, count)?;
     let end = nanos_now(rt)?;
-    timed(start, end, count, block_sum(ctx, to)?)
+    run_of(start, end, count, block_sum(ctx, to)?)
 }
 
 // A random place of so many, and another one where there are two.
@@ -56,6 +56,17 @@ fn two_places(random: &mut Random, count: usize) -> (usize, usize) {
         other = if next == count { 0 } else { next };
     }
     (one, other)
+}
+
+// The operation at a place.
+fn op_at<D: Dialects>(
+    ops: &[Ptr<Operation<D>>],
+    place: usize,
+) -> Result<Ptr<Operation<D>>, CheckedErr> {
+    match ops.get(place) {
+        Some(op) => Ok(*op),
+        None => Err(CheckedErr::Condition),
+    }
 }
 
 // Puts an operation before another one.
@@ -78,11 +89,8 @@ fn timed_random_moves<D: Dialects>(
     let count = ops.len();
     for _i in 0..count {
         let (one, other) = two_places(random, count);
-        let (Some(op), Some(mark)) = (ops.get(one), ops.get(other)) else {
-            return Err(CheckedErr::Condition);
-        };
         if one != other {
-            put_before(ctx, *op, *mark)?;
+            put_before(ctx, op_at(ops, one)?, op_at(ops, other)?)?;
         }
     }
     Ok(())
@@ -105,7 +113,7 @@ pub(crate) fn random_moves<C: CpuClock, D: Dialects>(
     timed_random_moves(ctx, made.as_slice(), &mut random)?;
     let end = nanos_now(rt)?;
     let checksum = mix(block_sum(ctx, even)?, block_sum(ctx, odd)?);
-    timed(start, end, count, checksum)
+    run_of(start, end, count, checksum)
 }
 
 // Takes so many blocks from the front of a region and puts each at the back of another.
@@ -168,5 +176,5 @@ pub(crate) fn blocks<C: CpuClock, D: Dialects>(
     let start = nanos_now(rt)?;
     timed_blocks(ctx, from, to, count)?;
     let end = nanos_now(rt)?;
-    timed(start, end, count, arguments_sum(ctx, to)?)
+    run_of(start, end, count, arguments_sum(ctx, to)?)
 }

@@ -1,7 +1,7 @@
 //! Nests of operations: what is built, asked, verified, and erased with all inside.
 
 use crate::building::{add_block, add_op, build};
-use crate::outcome::{Run, nanos_now, timed};
+use crate::outcome::{Run, nanos_now, run_of};
 use anyhow::bail;
 use ir_base::{Dialects, Ptr, TypeHandle};
 use ir_checked::{
@@ -71,7 +71,7 @@ pub(crate) fn module_built<C: CpuClock, D: Dialects>(
     timed_module(ctx, ty, count / 8)?;
     let end = nanos_now(rt)?;
     let entities = entities_of(count / 8);
-    timed(start, end, entities, entities as u64)
+    run_of(start, end, entities, entities as u64)
 }
 
 // Erases an operation with all that stands inside it, where nothing outside names what is inside.
@@ -95,7 +95,7 @@ pub(crate) fn module_erased<C: CpuClock, D: Dialects>(
         bail!("something is left");
     }
     let entities = entities_of(count / 8);
-    timed(start, end, entities, entities as u64)
+    run_of(start, end, entities, entities as u64)
 }
 
 // Makes a nest so many levels deep, each of a region, a block and an operation, from the outermost on, and answers its ends: the outer one first.
@@ -166,7 +166,7 @@ fn timed_nest_below<D: Dialects>(ctx: &mut Context<D>, levels: usize) -> Result<
 // What comes of a nest so many levels deep, built or asked from this time to that.
 fn nest_outcome(start: u64, end: u64, levels: usize) -> Run {
     let units = levels.wrapping_mul(3).wrapping_add(2);
-    timed(start, end, units, levels as u64)
+    run_of(start, end, units, levels as u64)
 }
 
 /// A nest N/3 deep is built from the outermost operation on, and its ends are asked whether each is inside the other. The units are the entities.

@@ -1,7 +1,7 @@
 //! Operands that are put in, taken out and replaced.
 
 use crate::building::{add_op, add_users, copies, pair_block};
-use crate::outcome::{Run, mix, nanos_now, operand_count, operand_sum, timed, uses_of};
+use crate::outcome::{Run, mix, nanos_now, operand_count, operand_sum, run_of, uses_of};
 use crate::random::random_places;
 use ir_base::{Dialects, Ptr, TypeHandle};
 use ir_checked::{
@@ -41,7 +41,7 @@ pub(crate) fn push_and_remove<C: CpuClock, D: Dialects>(
     timed_push_and_remove(ctx, op, value, count)?;
     let end = nanos_now(rt)?;
     let operands = operand_count(ctx, op) as u64;
-    timed(
+    run_of(
         start,
         end,
         count,
@@ -91,7 +91,7 @@ pub(crate) fn pushes_and_removals<C: CpuClock, D: Dialects>(
     let middle = uses_of(ctx, value)?;
     timed_removals(ctx, op, count)?;
     let end = nanos_now(rt)?;
-    timed(start, end, count, mix(middle, uses_of(ctx, value)?))
+    run_of(start, end, count, mix(middle, uses_of(ctx, value)?))
 }
 
 // Lets the first operand of the operations at these places name one value and the other in turn.
@@ -132,7 +132,7 @@ pub(crate) fn replacements<C: CpuClock, D: Dialects>(
     timed_replacements(ctx, made.as_slice(), order.as_slice(), other, value)?;
     let end = nanos_now(rt)?;
     let sum = operand_sum(ctx, made.as_slice(), value)?;
-    timed(start, end, count, mix(sum, uses_of(ctx, value)?))
+    run_of(start, end, count, mix(sum, uses_of(ctx, value)?))
 }
 
 // An operation with so many operands that name the first of two values, and both.
@@ -158,7 +158,7 @@ fn wide_outcome<D: Dialects>(
     end: u64,
 ) -> Run {
     let sum = operand_sum(ctx, &[op], value)?;
-    timed(
+    run_of(
         start,
         end,
         operand_count(ctx, op),

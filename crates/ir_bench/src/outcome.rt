@@ -31,7 +31,7 @@ pub(crate) fn nanos_now<C: CpuClock>(rt: &C) -> anyhow::Result<u64> {
 }
 
 /// A run that began and ended at these nanoseconds, with so many units.
-pub(crate) fn timed(start: u64, end: u64, units: usize, checksum: u64) -> Run {
+pub(crate) fn run_of(start: u64, end: u64, units: usize, checksum: u64) -> Run {
     let units = units as u64;
     Ok((end.saturating_sub(start), Outcome { units, checksum }))
 }
@@ -63,7 +63,8 @@ fn op_number<D: Dialects>(ctx: &Context<D>, op: Ptr<Operation<D>>) -> Result<u64
     if result_count(ctx, op) == 0 {
         return Ok(operands);
     }
-    let uses = uses_of(ctx, result(ctx, op, 0)?)?;
+    let value = result(ctx, op, 0)?;
+    let uses = uses_of(ctx, value)?;
     Ok(uses.wrapping_mul(7).wrapping_add(operands))
 }
 

@@ -1,7 +1,7 @@
 //! Blocks that are swept: dead chains, whichever way they run, and a block with nothing dead.
 
 use crate::building::add_op;
-use crate::outcome::{Run, mix, nanos_now, timed};
+use crate::outcome::{Run, mix, nanos_now, run_of};
 use ir_base::{Dialects, Ptr, TypeHandle};
 use ir_checked::{
     BasicBlock, BlockPlace, BlockPtr, CheckedErr, Context, Operation, Value, new_block, new_op,
@@ -23,14 +23,15 @@ fn timed_sweep<D: Dialects>(
 }
 
 // How many operations stand in a block.
-fn length_of<D: Dialects>(
-    ctx: &Context<D>,
-    block: Ptr<BasicBlock<D>>,
-) -> Result<usize, CheckedErr> {
+fn length_of<D: Dialects>(ctx: &Context<D>, block: Ptr<BasicBlock<D>>) -> Result<u64, CheckedErr> {
     if !block.is_live(ctx) {
         return Err(CheckedErr::Condition);
     }
-    Ok(block.iter(ctx).count())
+    let mut length = 0u64;
+    for _op in block.iter(ctx) {
+        length = length.wrapping_add(1);
+    }
+    Ok(length)
 }
 
 // Sweeps a block that was made with so many operations that count, and gives how many went, and how many are left.
@@ -43,8 +44,8 @@ fn swept<C: CpuClock, D: Dialects>(
     let start = nanos_now(rt)?;
     let gone = timed_sweep(ctx, block)?;
     let end = nanos_now(rt)?;
-    let left = length_of(ctx, block)? as u64;
-    timed(start, end, count, mix(gone as u64, left))
+    let left = length_of(ctx, block)?;
+    run_of(start, end, count, mix(gone as u64, left))
 }
 
 // Makes a block with an operation that has one result, and answers both.

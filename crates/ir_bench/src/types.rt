@@ -1,6 +1,6 @@
 //! Types that are asked for by their keys.
 
-use crate::outcome::{Run, mix, nanos_now, timed};
+use crate::outcome::{Run, mix, nanos_now, run_of};
 use ir_base::{CoreError, TypeHandle};
 use ir_checked::{Context, TypeQueries};
 use ir_toy_verifiers::{Toy, ToyType};
@@ -44,5 +44,5 @@ pub(crate) fn interning<C: CpuClock>(rt: &C, ctx: &mut Context<Toy>, count: usiz
     let start = nanos_now(rt)?;
     timed_interning(ctx, count / 10, count, &mut made)?;
     let end = nanos_now(rt)?;
-    timed(start, end, count, types_sum(ctx, made.as_slice())?)
+    run_of(start, end, count, types_sum(ctx, made.as_slice())?)
 }

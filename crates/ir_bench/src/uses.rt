@@ -1,7 +1,7 @@
 //! Uses of values: all of one value's come to name another, and many values with one use each.
 
 use crate::building::{add_op, add_users, copies, pair_block};
-use crate::outcome::{Run, block_sum, mix, nanos_now, operand_sum, timed, uses_of};
+use crate::outcome::{Run, block_sum, mix, nanos_now, operand_sum, run_of, uses_of};
 use ir_base::{Dialects, Ptr, TypeHandle};
 use ir_checked::{BasicBlock, CheckedErr, Context, Value, argument, new_block, replace_all_uses};
 use std::time::CpuClock;
@@ -56,7 +56,7 @@ pub(crate) fn replacing<C: CpuClock, D: Dialects>(
     let back = redirected(rt, ctx, other, value)?;
     let sum = mix(operand_sum(ctx, made.as_slice(), value)?, there);
     let checksum = mix(sum, both_uses(ctx, value, other)?);
-    timed(
+    run_of(
         0,
         forth.saturating_add(back),
         count.wrapping_mul(2),
@@ -79,7 +79,7 @@ pub(crate) fn replacing_in_one<C: CpuClock, D: Dialects>(
     let forth = redirected(rt, ctx, value, other)?;
     let back = redirected(rt, ctx, other, value)?;
     let checksum = operand_sum(ctx, &[op], value)?;
-    timed(
+    run_of(
         0,
         forth.saturating_add(back),
         count.wrapping_mul(2),
@@ -95,7 +95,8 @@ fn timed_argument_users<D: Dialects>(
     count: usize,
 ) -> Result<(), CheckedErr> {
     for index in 0..count {
-        let operands = [argument(ctx, block, index)?];
+        let value = argument(ctx, block, index)?;
+        let operands = [value];
         add_op(ctx, block, 4, &[], &operands, 0)?;
     }
     Ok(())
@@ -113,5 +114,5 @@ pub(crate) fn argument_users<C: CpuClock, D: Dialects>(
     let start = nanos_now(rt)?;
     timed_argument_users(ctx, block, count)?;
     let end = nanos_now(rt)?;
-    timed(start, end, count, block_sum(ctx, block)?)
+    run_of(start, end, count, block_sum(ctx, block)?)
 }

@@ -2,7 +2,7 @@
 
 use crate::building::{add_op, build};
 use crate::nests::{add_function, entities_of, with_block};
-use crate::outcome::{Run, nanos_now, timed};
+use crate::outcome::{Run, nanos_now, run_of};
 use anyhow::bail;
 use ir_base::{Dialects, Ptr, TypeHandle};
 use ir_checked::{CheckedErr, Context, Operation, OperationPtr};
@@ -48,5 +48,5 @@ pub(crate) fn verifying<C: CpuClock>(
         bail!("something is wrong with the module");
     }
     let entities = entities_of(count / 8);
-    timed(start, end, entities, entities as u64)
+    run_of(start, end, entities, entities as u64)
 }

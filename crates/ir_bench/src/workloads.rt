@@ -13,7 +13,6 @@ use crate::sweeps::{sweep_back, sweep_front, sweep_none};
 use crate::types::interning;
 use crate::uses::{argument_users, replacing, replacing_in_one};
 use crate::verifying::verifying;
-use ir_base::TypeHandle;
 use ir_checked::Context;
 use ir_toy_verifiers::{Toy, ToyType};
 use std::alloc::Global;
@@ -152,18 +151,12 @@ impl Workload {
     /// Runs the workload on a new context. Gives the nanoseconds of the timed part, and what came out.
     pub(crate) fn run<C: CpuClock>(self, rt: &C, alloc: Global, count: usize) -> Run {
         let mut ctx: Context<Toy> = Context::new(alloc);
-        let ty = ctx.instantiate_key(ToyType::Int { width: 32 })?;
-        self.run_in(rt, &mut ctx, ty, count)
+        self.run_in(rt, &mut ctx, count)
     }
 
-    // Runs the workload in a context that has this type and nothing else.
-    fn run_in<C: CpuClock>(
-        self,
-        rt: &C,
-        ctx: &mut Context<Toy>,
-        ty: TypeHandle,
-        count: usize,
-    ) -> Run {
+    // Runs the workload in an empty context, to which it gives a type.
+    fn run_in<C: CpuClock>(self, rt: &C, ctx: &mut Context<Toy>, count: usize) -> Run {
+        let ty = ctx.instantiate_key(ToyType::Int { width: 32 })?;
         match self {
             Workload::Unlinked => unlinked(rt, ctx, ty, count),
             Workload::Building => building(rt, ctx, ty, count),
