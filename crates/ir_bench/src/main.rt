@@ -5,11 +5,24 @@
 //! A line has the program's name, the workload, N, the median, the least and the greatest nanoseconds of thread time by unit, a checksum, the peak of the memory in kB, and the number of units. With REPS 0 the workload runs once, and `-` stands for what differs from run to run.
 #![tactic(auto)]
 
+mod building;
+mod chains;
+mod definitions;
+mod lists;
+mod nests;
+mod operands;
+mod outcome;
+mod random;
 mod report;
+mod sweeps;
+mod types;
+mod uses;
+mod verifying;
 mod workloads;
 
+use crate::outcome::Outcome;
 use crate::report::{Timing, peak_memory};
-use crate::workloads::{Outcome, Workload};
+use crate::workloads::Workload;
 use anyhow::{Context, bail};
 use std::alloc::Global;
 use std::env;
@@ -70,7 +83,7 @@ fn main(rt: HostRuntime) -> anyhow::Result<()> {
     let count: usize = words.next().context(usage)?.as_str().parse()?;
     let times: usize = words.next().context(usage)?.as_str().parse()?;
     let mut printed = 0u32;
-    for workload in [Workload::Unlinked, Workload::Interning] {
+    for workload in Workload::all() {
         if wanted.as_str() == "all" || wanted.as_str() == workload.name() {
             print_line(&rt, workload, count, times)?;
             printed = 1;

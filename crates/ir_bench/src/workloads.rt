@@ -1,17 +1,21 @@
-//! What is timed. Each workload has one function, named `timed_..`, that is the timed part and nothing more.
+//! What is timed. Each workload has functions named `timed_..` that are the timed part and nothing more.
 
-ghost use Rattle.std.specs.Prelude.{◌≡◌, ◌<◌, length};
-ghost use Rattle.ir_model.specs.Forest.{a_value};
-ghost use Rattle.ir_model.specs.Nesting.{IsLiveNamed};
-ghost use Rattle.ir_records.specs.Meaning.{value_of};
-ghost use Rattle.ir_view.specs.State.{forest_of, types_of};
-
-use anyhow::bail;
-use ir_base::{CoreError, Dialects, Ptr, TypeHandle};
-use ir_toy::{Toy, ToyType};
-use ir_view::{Context, NewOperation, Operation, OperationPtr, TypeQueries, Value, ValueQueries};
+use crate::chains::{building, rebuilding, unlinked};
+use crate::definitions::{arguments_front, results_front};
+use crate::lists::{blocks, front_to_back, random_moves};
+use crate::nests::{deep, deep_asked, module_built, module_erased, nest_above, nest_below};
+use crate::operands::{
+    push_and_remove, pushes_and_removals, replaced_back, replaced_front, replaced_random,
+    replacements,
+};
+use crate::outcome::Run;
+use crate::sweeps::{sweep_back, sweep_front, sweep_none};
+use crate::types::interning;
+use crate::uses::{argument_users, replacing, replacing_in_one};
+use crate::verifying::verifying;
+use ir_checked::Context;
+use ir_toy_verifiers::{Toy, ToyType};
 use std::alloc::Global;
-use std::collections::HashSet;
 use std::time::CpuClock;
 
 /// What can be timed.
@@ -19,167 +23,169 @@ use std::time::CpuClock;
 pub enum Workload {
     /// N operations without a block, each with one result and the results of the two before as operands.
     Unlinked,
+    /// N such operations at the back of a block.
+    Building,
+    /// N uses of one value, each by an operation of its own, come to name another value, and back.
+    Replacing,
+    /// Over N operations of a block, a new one behind each takes its uses, and the old one is erased.
+    Rebuilding,
+    /// A module of N/8 functions with five operations each is erased.
+    ModuleErased,
+    /// Such a module is built.
+    ModuleBuilt,
     /// N types out of N/10 keys.
     Interning,
-}
-
-/// What comes out of a run, each time the same.
-#[derive(Clone, Copy, Debug, Drop, PartialEq, Eq)]
-pub struct Outcome {
-    /// How many units were timed together.
-    pub units: u64,
-    /// What was made, in a number.
-    pub checksum: u64,
+    /// N operations one by one from the front of one block to the back of another.
+    FrontToBack,
+    /// A random one of N operations before another random one, N times.
+    RandomMoves,
+    /// N blocks one by one from the front of one region to the back of another.
+    Blocks,
+    /// An operand that names a value with N other uses is put in and taken out, N times.
+    PushAndRemove,
+    /// N operands are put into one operation and taken out, the last first.
+    PushesAndRemovals,
+    /// The operand of N random users of one value is replaced.
+    Replacements,
+    /// N uses of one value, all by one operation, come to name another value, and back.
+    ReplacingInOne,
+    /// Over a block of N arguments, an operation for each that uses it.
+    ArgumentUsers,
+    /// A nest N/3 deep is erased.
+    Deep,
+    /// In such a nest all uses are dropped, and it is asked whether it can be erased.
+    DeepAsked,
+    /// Such a nest is built from the outermost operation on, and its ends are asked whether each is inside the other.
+    NestAbove,
+    /// The same from the innermost operation on.
+    NestBelow,
+    /// A module of N/8 functions is verified.
+    Verifying,
+    /// A dead chain of N operations, each of which uses the one before, is swept.
+    SweepFront,
+    /// The same, with each operation in front of the one that it uses.
+    SweepBack,
+    /// A block of N pure operations is swept, none of which is dead.
+    SweepNone,
+    /// N operands of one operation are replaced one by one, the first first.
+    ReplacedFront,
+    /// The same, the last first.
+    ReplacedBack,
+    /// A random one of N operands of one operation is replaced, N times.
+    ReplacedRandom,
+    /// N results are put into one operation, each in front of the others.
+    ResultsFront,
+    /// N arguments are put into one block, each in front of the others.
+    ArgumentsFront,
 }
 
 impl Workload {
+    /// All of them, in the order in which they are printed.
+    pub(crate) fn all() -> [Workload; 28] {
+        [
+            Workload::Unlinked,
+            Workload::Building,
+            Workload::Replacing,
+            Workload::Rebuilding,
+            Workload::ModuleErased,
+            Workload::ModuleBuilt,
+            Workload::Interning,
+            Workload::FrontToBack,
+            Workload::RandomMoves,
+            Workload::Blocks,
+            Workload::PushAndRemove,
+            Workload::PushesAndRemovals,
+            Workload::Replacements,
+            Workload::ReplacingInOne,
+            Workload::ArgumentUsers,
+            Workload::Deep,
+            Workload::DeepAsked,
+            Workload::NestAbove,
+            Workload::NestBelow,
+            Workload::Verifying,
+            Workload::SweepFront,
+            Workload::SweepBack,
+            Workload::SweepNone,
+            Workload::ReplacedFront,
+            Workload::ReplacedBack,
+            Workload::ReplacedRandom,
+            Workload::ResultsFront,
+            Workload::ArgumentsFront,
+        ]
+    }
+
     /// The name on the command line.
     pub(crate) fn name(self) -> &'static str {
         match self {
             Workload::Unlinked => "unlinked",
+            Workload::Building => "a",
+            Workload::Replacing => "b",
+            Workload::Rebuilding => "c",
+            Workload::ModuleErased => "d",
+            Workload::ModuleBuilt => "d_build",
             Workload::Interning => "e",
+            Workload::FrontToBack => "f1",
+            Workload::RandomMoves => "f2",
+            Workload::Blocks => "f3",
+            Workload::PushAndRemove => "g1",
+            Workload::PushesAndRemovals => "g2",
+            Workload::Replacements => "g3",
+            Workload::ReplacingInOne => "b2",
+            Workload::ArgumentUsers => "h",
+            Workload::Deep => "deep",
+            Workload::DeepAsked => "deep_asked",
+            Workload::NestAbove => "nest_above",
+            Workload::NestBelow => "nest_below",
+            Workload::Verifying => "v",
+            Workload::SweepFront => "sweep_front",
+            Workload::SweepBack => "sweep_back",
+            Workload::SweepNone => "sweep_none",
+            Workload::ReplacedFront => "replaced_front",
+            Workload::ReplacedBack => "replaced_back",
+            Workload::ReplacedRandom => "replaced_random",
+            Workload::ResultsFront => "results_front",
+            Workload::ArgumentsFront => "arguments_front",
         }
     }
 
     /// Runs the workload on a new context. Gives the nanoseconds of the timed part, and what came out.
-    pub(crate) fn run<C: CpuClock>(
-        self,
-        rt: &C,
-        alloc: Global,
-        count: usize,
-    ) -> anyhow::Result<(u64, Outcome)> {
+    pub(crate) fn run<C: CpuClock>(self, rt: &C, alloc: Global, count: usize) -> Run {
+        let mut ctx: Context<Toy> = Context::new(alloc);
+        self.run_in(rt, &mut ctx, count)
+    }
+
+    // Runs the workload in an empty context, to which it gives a type.
+    fn run_in<C: CpuClock>(self, rt: &C, ctx: &mut Context<Toy>, count: usize) -> Run {
+        let ty = ctx.instantiate_key(ToyType::Int { width: 32 })?;
         match self {
-            Workload::Unlinked => unlinked(rt, alloc, count),
-            Workload::Interning => interning(rt, alloc, count),
+            Workload::Unlinked => unlinked(rt, ctx, ty, count),
+            Workload::Building => building(rt, ctx, ty, count),
+            Workload::Replacing => replacing(rt, ctx, ty, count),
+            Workload::Rebuilding => rebuilding(rt, ctx, ty, count),
+            Workload::ModuleErased => module_erased(rt, ctx, ty, count),
+            Workload::ModuleBuilt => module_built(rt, ctx, ty, count),
+            Workload::Interning => interning(rt, ctx, count),
+            Workload::FrontToBack => front_to_back(rt, ctx, ty, count),
+            Workload::RandomMoves => random_moves(rt, ctx, ty, count),
+            Workload::Blocks => blocks(rt, ctx, ty, count),
+            Workload::PushAndRemove => push_and_remove(rt, ctx, ty, count),
+            Workload::PushesAndRemovals => pushes_and_removals(rt, ctx, ty, count),
+            Workload::Replacements => replacements(rt, ctx, ty, count),
+            Workload::ReplacingInOne => replacing_in_one(rt, ctx, ty, count),
+            Workload::ArgumentUsers => argument_users(rt, ctx, ty, count),
+            Workload::Deep => deep(rt, ctx, count),
+            Workload::DeepAsked => deep_asked(rt, ctx, count),
+            Workload::NestAbove => nest_above(rt, ctx, count),
+            Workload::NestBelow => nest_below(rt, ctx, count),
+            Workload::Verifying => verifying(rt, ctx, ty, count),
+            Workload::SweepFront => sweep_front(rt, ctx, ty, count),
+            Workload::SweepBack => sweep_back(rt, ctx, ty, count),
+            Workload::SweepNone => sweep_none(rt, ctx, ty, count),
+            Workload::ReplacedFront => replaced_front(rt, ctx, ty, count),
+            Workload::ReplacedBack => replaced_back(rt, ctx, ty, count),
+            Workload::ReplacedRandom => replaced_random(rt, ctx, ty, count),
+            Workload::ResultsFront => results_front(rt, ctx, ty, count),
+            Workload::ArgumentsFront => arguments_front(rt, ctx, ty, count),
         }
     }
-}
-
-// A checksum with one number more.
-fn mix(sum: u64, number: u64) -> u64 {
-    sum.wrapping_mul(31).wrapping_add(number)
-}
-
-// The nanoseconds of the thread so far.
-fn nanos_now<C: CpuClock>(rt: &C) -> anyhow::Result<u64> {
-    let time = rt.thread_cpu_time()?;
-    Ok(u64::try_from(time.as_nanos()).unwrap_or(u64::MAX))
-}
-
-// Makes so many operations and puts their handles behind the others.
-#[inline(never)]
-fn timed_unlinked<D: Dialects>(
-    ctx: &mut Context<D>,
-    ty: TypeHandle,
-    mut first: Value<D>,
-    mut second: Value<D>,
-    count: usize,
-    made: &mut Vec<Ptr<Operation<D>>>,
-) -> Result<(), CoreError>
-    requires known { ty.place < length (types_of ctx.old) }
-    requires first { IsLiveNamed (forest_of ctx.old) (a_value (value_of first.index)) }
-    requires second { IsLiveNamed (forest_of ctx.old) (a_value (value_of second.index)) }
-{
-    let successors = [];
-    for _i in 0..count {
-        let types = [ty];
-        let operands = [first, second];
-        let op = Operation::new(ctx, 1, &types, &operands, &successors, 0)?;
-        made.push(op)?;
-        first = second;
-        second = op.deref(ctx).get_result(0);
-    }
-    Ok(())
-}
-
-// Of each operation, how many uses its result and how many operands it has.
-fn uses_sum<D: Dialects>(ctx: &Context<D>, ops: &[Ptr<Operation<D>>]) -> u64 {
-    let mut sum = 0u64;
-    for op in ops {
-        let Ok(op) = op.try_deref(ctx) else {
-            continue;
-        };
-        let mut uses = 0usize;
-        if op.get_num_results() > 0 {
-            uses = op.get_result(0).num_uses(ctx);
-        }
-        let number = (uses as u64).wrapping_mul(7);
-        sum = mix(sum, number.wrapping_add(op.get_num_operands() as u64));
-    }
-    sum
-}
-
-// Makes an operation with one result of this type, and gives the result.
-fn new_value(ctx: &mut Context<Toy>, ty: TypeHandle) -> Result<Value<Toy>, CoreError>
-    requires { ty.place < length (types_of ctx.old) }
-    ensures { types_of ctx.new ≡ types_of ctx.old }
-{
-    let op = Operation::new(ctx, 0, &[ty], &[], &[], 0)?;
-    Ok(op.deref(ctx).get_result(0))
-}
-
-fn unlinked<C: CpuClock>(rt: &C, alloc: Global, count: usize) -> anyhow::Result<(u64, Outcome)> {
-    let mut ctx: Context<Toy> = Context::new(alloc);
-    let ty = ctx.instantiate_key(ToyType::Int { width: 32 })?;
-    let first = new_value(&mut ctx, ty)?;
-    let second = new_value(&mut ctx, ty)?;
-    if !first.is_live(&ctx) || !second.is_live(&ctx) {
-        bail!("a value is gone");
-    }
-    let mut made = Vec::with_capacity(alloc, count)?;
-    let start = nanos_now(rt)?;
-    timed_unlinked(&mut ctx, ty, first, second, count, &mut made)?;
-    let end = nanos_now(rt)?;
-    let outcome = Outcome {
-        units: count as u64,
-        checksum: uses_sum(&ctx, made.as_slice()),
-    };
-    Ok((end.saturating_sub(start), outcome))
-}
-
-// Asks for so many types out of a pool of keys, and puts their handles behind the others.
-#[inline(never)]
-fn timed_interning(
-    ctx: &mut Context<Toy>,
-    pool: usize,
-    count: usize,
-    made: &mut Vec<TypeHandle>,
-) -> Result<(), CoreError>
-    requires { 0 < pool }
-{
-    for i in 0..count {
-        let key = i.wrapping_mul(7919) % pool;
-        let width = u32::try_from(key).unwrap_or(0).wrapping_add(1);
-        made.push(ctx.instantiate_key(ToyType::Int { width })?)?;
-    }
-    Ok(())
-}
-
-// The width of each type, and how many types there are.
-fn types_sum(ctx: &Context<Toy>, alloc: Global, types: &[TypeHandle]) -> anyhow::Result<u64> {
-    let mut sum = 0u64;
-    let mut distinct = HashSet::new(alloc);
-    for ty in types {
-        if ty.is_known(ctx) {
-            if let ToyType::Int { width } = ty.deref(ctx) {
-                sum = mix(sum, *width as u64);
-            }
-        }
-        distinct.insert(ty.place)?;
-    }
-    Ok(mix(sum, distinct.len() as u64))
-}
-
-fn interning<C: CpuClock>(rt: &C, alloc: Global, count: usize) -> anyhow::Result<(u64, Outcome)> {
-    let mut ctx: Context<Toy> = Context::new(alloc);
-    let pool = (count / 10).max(1);
-    let mut made = Vec::with_capacity(alloc, count)?;
-    let start = nanos_now(rt)?;
-    timed_interning(&mut ctx, pool, count, &mut made)?;
-    let end = nanos_now(rt)?;
-    let outcome = Outcome {
-        units: count as u64,
-        checksum: types_sum(&ctx, alloc, made.as_slice())?,
-    };
-    Ok((end.saturating_sub(start), outcome))
 }

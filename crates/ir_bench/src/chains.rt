@@ -1,0 +1,142 @@
+//! Chains of operations, each of which uses the results of the two before.
+
+use crate::building::{build, pair_block};
+use crate::outcome::{Run, block_sum, nanos_now, run_of, uses_sum};
+use ir_base::{Dialects, Ptr, TypeHandle};
+use ir_checked::{
+    BasicBlock, CheckedErr, Context, Operation, Value, block_head, erase_op, new_op, next_op,
+    op_after, operand, replace_all_uses, result,
+};
+use std::time::CpuClock;
+
+// Makes so many operations and puts their handles behind the others.
+#[inline(never)]
+fn timed_unlinked<D: Dialects>(
+    ctx: &mut Context<D>,
+    ty: TypeHandle,
+    first: Value<D>,
+    second: Value<D>,
+    count: usize,
+    made: &mut Vec<Ptr<Operation<D>>>,
+) -> anyhow::Result<()> {
+    let mut first = first;
+    let mut second = second;
+    for _i in 0..count {
+        let types = [ty];
+        let operands = [first, second];
+        let op = new_op(ctx, 1, &types, &operands, &[], 0)?;
+        made.push(op)?;
+        first = second;
+        second = result(ctx, op, 0)?;
+    }
+    Ok(())
+}
+
+// Makes an operation with one result of this type, and gives the result.
+fn new_value<D: Dialects>(ctx: &mut Context<D>, ty: TypeHandle) -> Result<Value<D>, CheckedErr> {
+    let op = new_op(ctx, 0, &[ty], &[], &[], 0)?;
+    result(ctx, op, 0)
+}
+
+/// N operations without a block.
+pub(crate) fn unlinked<C: CpuClock, D: Dialects>(
+    rt: &C,
+    ctx: &mut Context<D>,
+    ty: TypeHandle,
+    count: usize,
+) -> Run {
+    let first = new_value(ctx, ty)?;
+    let second = new_value(ctx, ty)?;
+    let mut made = Vec::with_capacity(ctx.alloc(), count)?;
+    let start = nanos_now(rt)?;
+    timed_unlinked(ctx, ty, first, second, count, &mut made)?;
+    let end = nanos_now(rt)?;
+    run_of(start, end, count, uses_sum(ctx, made.as_slice())?)
+}
+
+// Makes so many operations at the back of a block.
+#[inline(never)]
+fn timed_building<D: Dialects>(
+    ctx: &mut Context<D>,
+    ty: TypeHandle,
+    block: Ptr<BasicBlock<D>>,
+    count: usize,
+) -> Result<(), CheckedErr> {
+    build(ctx, ty, block, count)
+}
+
+/// N operations at the back of a block. All of it is timed but the block.
+pub(crate) fn building<C: CpuClock, D: Dialects>(
+    rt: &C,
+    ctx: &mut Context<D>,
+    ty: TypeHandle,
+    count: usize,
+) -> Run {
+    let block = pair_block(ctx, ty)?;
+    let start = nanos_now(rt)?;
+    timed_building(ctx, ty, block, count)?;
+    let end = nanos_now(rt)?;
+    run_of(start, end, count, block_sum(ctx, block)?)
+}
+
+// Puts a new operation with the same operands behind one with two, and answers it.
+fn copy_behind<D: Dialects>(
+    ctx: &mut Context<D>,
+    ty: TypeHandle,
+    op: Ptr<Operation<D>>,
+) -> Result<Ptr<Operation<D>>, CheckedErr> {
+    let types = [ty];
+    let first = operand(ctx, op, 0)?;
+    let second = operand(ctx, op, 1)?;
+    let operands = [first, second];
+    let new = new_op(ctx, 1, &types, &operands, &[], 0)?;
+    op_after(ctx, new, op)?;
+    Ok(new)
+}
+
+// Lets what used the one operation's result use the other's, and erases the one.
+fn take_over<D: Dialects>(
+    ctx: &mut Context<D>,
+    old: Ptr<Operation<D>>,
+    new: Ptr<Operation<D>>,
+) -> Result<(), CheckedErr> {
+    let old_value = result(ctx, old, 0)?;
+    let new_value = result(ctx, new, 0)?;
+    replace_all_uses(ctx, old_value, new_value)?;
+    erase_op(ctx, old)
+}
+
+// Rebuilds so many operations of a chain, from its first on.
+#[inline(never)]
+fn timed_rebuilding<D: Dialects>(
+    ctx: &mut Context<D>,
+    ty: TypeHandle,
+    block: Ptr<BasicBlock<D>>,
+    count: usize,
+) -> Result<(), CheckedErr> {
+    let mut place = block_head(ctx, block)?;
+    for _i in 0..count {
+        let Some(old) = place else {
+            return Err(CheckedErr::Condition);
+        };
+        place = next_op(ctx, old)?;
+        let new = copy_behind(ctx, ty, old)?;
+        take_over(ctx, old, new)?;
+    }
+    Ok(())
+}
+
+/// Over N operations of a block, a new one behind each takes its uses, and the old one is erased. The building of the first ones isn't timed.
+pub(crate) fn rebuilding<C: CpuClock, D: Dialects>(
+    rt: &C,
+    ctx: &mut Context<D>,
+    ty: TypeHandle,
+    count: usize,
+) -> Run {
+    let block = pair_block(ctx, ty)?;
+    build(ctx, ty, block, count)?;
+    let start = nanos_now(rt)?;
+    timed_rebuilding(ctx, ty, block, count)?;
+    let end = nanos_now(rt)?;
+    run_of(start, end, count, block_sum(ctx, block)?)
+}

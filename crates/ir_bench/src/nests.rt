@@ -1,0 +1,239 @@
+//! Nests of operations: what is built, asked, verified, and erased with all inside.
+
+use crate::building::{add_block, add_op, build};
+use crate::outcome::{Run, nanos_now, run_of};
+use anyhow::bail;
+use ir_base::{Dialects, Ptr, TypeHandle};
+use ir_checked::{
+    BasicBlock, CheckedErr, Context, Entity, Operation, block_at_back, can_erase, drop_op_uses,
+    erase_op, is_inside, new_block, new_op, op_at_back, region,
+};
+use std::time::CpuClock;
+
+/// Makes an operation with one region and a block in it, and answers both.
+pub(crate) fn with_block<D: Dialects>(
+    ctx: &mut Context<D>,
+    kind: u32,
+) -> Result<(Ptr<Operation<D>>, Ptr<BasicBlock<D>>), CheckedErr> {
+    let op = new_op(ctx, kind, &[], &[], &[], 1)?;
+    let inside = region(ctx, op, 0)?;
+    Ok((op, add_block(ctx, inside, &[])?))
+}
+
+/// Makes a function at the back of a block, and answers the function's block, which has two arguments.
+pub(crate) fn add_function<D: Dialects>(
+    ctx: &mut Context<D>,
+    ty: TypeHandle,
+    outer: Ptr<BasicBlock<D>>,
+) -> Result<Ptr<BasicBlock<D>>, CheckedErr> {
+    let function = add_op(ctx, outer, 6, &[], &[], 1)?;
+    let body = region(ctx, function, 0)?;
+    add_block(ctx, body, &[ty, ty])
+}
+
+// Makes a module of so many functions, each with a block of five operations.
+fn module<D: Dialects>(
+    ctx: &mut Context<D>,
+    ty: TypeHandle,
+    functions: usize,
+) -> Result<Ptr<Operation<D>>, CheckedErr> {
+    let (root, outer) = with_block(ctx, 5)?;
+    for _i in 0..functions {
+        let block = add_function(ctx, ty, outer)?;
+        build(ctx, ty, block, 5)?;
+    }
+    Ok(root)
+}
+
+// Makes a module of so many functions.
+#[inline(never)]
+fn timed_module<D: Dialects>(
+    ctx: &mut Context<D>,
+    ty: TypeHandle,
+    functions: usize,
+) -> Result<Ptr<Operation<D>>, CheckedErr> {
+    module(ctx, ty, functions)
+}
+
+/// How many entities a module of so many functions has, itself counted.
+pub(crate) fn entities_of(functions: usize) -> usize {
+    functions.wrapping_mul(8).wrapping_add(3)
+}
+
+/// A module of N/8 functions is built. The units are the entities.
+pub(crate) fn module_built<C: CpuClock, D: Dialects>(
+    rt: &C,
+    ctx: &mut Context<D>,
+    ty: TypeHandle,
+    count: usize,
+) -> Run {
+    let start = nanos_now(rt)?;
+    timed_module(ctx, ty, count / 8)?;
+    let end = nanos_now(rt)?;
+    let entities = entities_of(count / 8);
+    run_of(start, end, entities, entities as u64)
+}
+
+// Erases an operation with all that stands inside it, where nothing outside names what is inside.
+#[inline(never)]
+fn timed_erase<D: Dialects>(ctx: &mut Context<D>, op: Ptr<Operation<D>>) -> Result<(), CheckedErr> {
+    erase_op(ctx, op)
+}
+
+/// A module of N/8 functions is erased, after it was asked whether it can be; its building isn't timed. The units are the entities.
+pub(crate) fn module_erased<C: CpuClock, D: Dialects>(
+    rt: &C,
+    ctx: &mut Context<D>,
+    ty: TypeHandle,
+    count: usize,
+) -> Run {
+    let root = module(ctx, ty, count / 8)?;
+    let start = nanos_now(rt)?;
+    timed_erase(ctx, root)?;
+    let end = nanos_now(rt)?;
+    if !ctx.is_ir_empty() {
+        bail!("something is left");
+    }
+    let entities = entities_of(count / 8);
+    run_of(start, end, entities, entities as u64)
+}
+
+// Makes a nest so many levels deep, each of a region, a block and an operation, from the outermost on, and answers its ends: the outer one first.
+fn nest_from_above<D: Dialects>(
+    ctx: &mut Context<D>,
+    levels: usize,
+) -> Result<(Ptr<Operation<D>>, Ptr<Operation<D>>), CheckedErr> {
+    let outer = new_op(ctx, 5, &[], &[], &[], 1)?;
+    let mut inner = outer;
+    for _i in 0..levels {
+        let inside = region(ctx, inner, 0)?;
+        let block = add_block(ctx, inside, &[])?;
+        inner = add_op(ctx, block, 5, &[], &[], 1)?;
+    }
+    Ok((outer, inner))
+}
+
+// Puts an operation into a new block, and that into the region of a new operation, which it answers.
+fn wrap<D: Dialects>(
+    ctx: &mut Context<D>,
+    op: Ptr<Operation<D>>,
+) -> Result<Ptr<Operation<D>>, CheckedErr> {
+    let block = new_block(ctx, None, &[])?;
+    op_at_back(ctx, op, block)?;
+    let outer = new_op(ctx, 5, &[], &[], &[], 1)?;
+    let inside = region(ctx, outer, 0)?;
+    block_at_back(ctx, block, inside)?;
+    Ok(outer)
+}
+
+// Makes such a nest from the innermost on, and answers its ends: the outer one first.
+fn nest_from_below<D: Dialects>(
+    ctx: &mut Context<D>,
+    levels: usize,
+) -> Result<(Ptr<Operation<D>>, Ptr<Operation<D>>), CheckedErr> {
+    let inner = new_op(ctx, 5, &[], &[], &[], 1)?;
+    let mut outer = inner;
+    for _i in 0..levels {
+        outer = wrap(ctx, outer)?;
+    }
+    Ok((outer, inner))
+}
+
+// Whether the one operation is inside the other, and that isn't inside the one.
+fn is_below<D: Dialects>(
+    ctx: &Context<D>,
+    inner: Ptr<Operation<D>>,
+    outer: Ptr<Operation<D>>,
+) -> bool {
+    let down = is_inside(ctx, Entity::Op(inner), Entity::Op(outer));
+    down && !is_inside(ctx, Entity::Op(outer), Entity::Op(inner))
+}
+
+// Makes a nest from above, and asks whether each end is inside the other: the inner one is, and the outer one isn't.
+#[inline(never)]
+fn timed_nest_above<D: Dialects>(ctx: &mut Context<D>, levels: usize) -> Result<bool, CheckedErr> {
+    let (outer, inner) = nest_from_above(ctx, levels)?;
+    Ok(is_below(ctx, inner, outer))
+}
+
+// Makes a nest from below, and asks the same.
+#[inline(never)]
+fn timed_nest_below<D: Dialects>(ctx: &mut Context<D>, levels: usize) -> Result<bool, CheckedErr> {
+    let (outer, inner) = nest_from_below(ctx, levels)?;
+    Ok(is_below(ctx, inner, outer))
+}
+
+// What comes of a nest so many levels deep, built or asked from this time to that.
+fn nest_outcome(start: u64, end: u64, levels: usize) -> Run {
+    let units = levels.wrapping_mul(3).wrapping_add(2);
+    run_of(start, end, units, levels as u64)
+}
+
+/// A nest N/3 deep is built from the outermost operation on, and its ends are asked whether each is inside the other. The units are the entities.
+pub(crate) fn nest_above<C: CpuClock, D: Dialects>(
+    rt: &C,
+    ctx: &mut Context<D>,
+    count: usize,
+) -> Run {
+    let start = nanos_now(rt)?;
+    let right = timed_nest_above(ctx, count / 3)?;
+    let end = nanos_now(rt)?;
+    if !right && count >= 3 {
+        bail!("the nest is another one");
+    }
+    nest_outcome(start, end, count / 3)
+}
+
+/// The same from the innermost operation on.
+pub(crate) fn nest_below<C: CpuClock, D: Dialects>(
+    rt: &C,
+    ctx: &mut Context<D>,
+    count: usize,
+) -> Run {
+    let start = nanos_now(rt)?;
+    let right = timed_nest_below(ctx, count / 3)?;
+    let end = nanos_now(rt)?;
+    if !right && count >= 3 {
+        bail!("the nest is another one");
+    }
+    nest_outcome(start, end, count / 3)
+}
+
+// Drops all uses inside an operation, and tells whether it can be erased.
+#[inline(never)]
+fn timed_asking<D: Dialects>(
+    ctx: &mut Context<D>,
+    op: Ptr<Operation<D>>,
+) -> Result<bool, CheckedErr> {
+    drop_op_uses(ctx, op)?;
+    can_erase(ctx, Entity::Op(op))
+}
+
+/// In a nest N/3 deep all uses are dropped, and it is asked whether it can be erased. The units are the entities.
+pub(crate) fn deep_asked<C: CpuClock, D: Dialects>(
+    rt: &C,
+    ctx: &mut Context<D>,
+    count: usize,
+) -> Run {
+    let (outer, _inner) = nest_from_above(ctx, count / 3)?;
+    let start = nanos_now(rt)?;
+    let may = timed_asking(ctx, outer)?;
+    let end = nanos_now(rt)?;
+    if !may {
+        bail!("something outside names what is inside");
+    }
+    nest_outcome(start, end, count / 3)
+}
+
+/// A nest N/3 deep, whose uses were dropped, is erased, after it was asked whether it can be. The units are the entities.
+pub(crate) fn deep<C: CpuClock, D: Dialects>(rt: &C, ctx: &mut Context<D>, count: usize) -> Run {
+    let (outer, _inner) = nest_from_above(ctx, count / 3)?;
+    drop_op_uses(ctx, outer)?;
+    let start = nanos_now(rt)?;
+    timed_erase(ctx, outer)?;
+    let end = nanos_now(rt)?;
+    if !ctx.is_ir_empty() {
+        bail!("something is left");
+    }
+    nest_outcome(start, end, count / 3)
+}

@@ -1,0 +1,124 @@
+//! What a run comes to: how long its timed part took, and sums of what it left, which are the same for each library.
+
+use ir_base::{Dialects, Ptr};
+use ir_checked::{
+    BasicBlock, BlockPlace, BlockPtr, CheckedErr, Context, Operation, OperationPtr, Value,
+    num_uses, operand, result,
+};
+use std::time::CpuClock;
+
+/// What comes out of a run, each time the same.
+#[derive(Clone, Copy, Debug, Drop, PartialEq, Eq)]
+pub struct Outcome {
+    /// How many units were timed together.
+    pub units: u64,
+    /// What was made, in a number.
+    pub checksum: u64,
+}
+
+/// A run's nanoseconds in its timed part, and what came out of it.
+pub type Run = anyhow::Result<(u64, Outcome)>;
+
+/// A checksum with one number more.
+pub(crate) fn mix(sum: u64, number: u64) -> u64 {
+    sum.wrapping_mul(31).wrapping_add(number)
+}
+
+/// The nanoseconds of the thread so far.
+pub(crate) fn nanos_now<C: CpuClock>(rt: &C) -> anyhow::Result<u64> {
+    let time = rt.thread_cpu_time()?;
+    Ok(u64::try_from(time.as_nanos()).unwrap_or(u64::MAX))
+}
+
+/// A run that began and ended at these nanoseconds, with so many units.
+pub(crate) fn run_of(start: u64, end: u64, units: usize, checksum: u64) -> Run {
+    let units = units as u64;
+    Ok((end.saturating_sub(start), Outcome { units, checksum }))
+}
+
+// How many results an operation has where it is live, and else 0.
+fn result_count<D: Dialects>(ctx: &Context<D>, op: Ptr<Operation<D>>) -> usize {
+    match op.try_deref(ctx) {
+        Ok(op) => op.get_num_results(),
+        Err(_) => 0,
+    }
+}
+
+/// How many operands an operation has where it is live, and else 0.
+pub(crate) fn operand_count<D: Dialects>(ctx: &Context<D>, op: Ptr<Operation<D>>) -> usize {
+    match op.try_deref(ctx) {
+        Ok(op) => op.get_num_operands(),
+        Err(_) => 0,
+    }
+}
+
+/// How many uses a value has.
+pub(crate) fn uses_of<D: Dialects>(ctx: &Context<D>, value: Value<D>) -> Result<u64, CheckedErr> {
+    Ok(num_uses(ctx, value)? as u64)
+}
+
+// What an operation adds to a sum: the uses of its first result, and its operands.
+fn op_number<D: Dialects>(ctx: &Context<D>, op: Ptr<Operation<D>>) -> Result<u64, CheckedErr> {
+    let operands = operand_count(ctx, op) as u64;
+    if result_count(ctx, op) == 0 {
+        return Ok(operands);
+    }
+    let value = result(ctx, op, 0)?;
+    let uses = uses_of(ctx, value)?;
+    Ok(uses.wrapping_mul(7).wrapping_add(operands))
+}
+
+/// Of each operation, how many uses its result and how many operands it has.
+pub(crate) fn uses_sum<D: Dialects>(
+    ctx: &Context<D>,
+    ops: &[Ptr<Operation<D>>],
+) -> Result<u64, CheckedErr> {
+    let mut sum = 0;
+    for op in ops {
+        sum = mix(sum, op_number(ctx, *op)?);
+    }
+    Ok(sum)
+}
+
+/// The same of the operations of a block.
+pub(crate) fn block_sum<D: Dialects>(
+    ctx: &Context<D>,
+    block: Ptr<BasicBlock<D>>,
+) -> Result<u64, CheckedErr> {
+    if !block.is_live(ctx) {
+        return Err(CheckedErr::Condition);
+    }
+    let mut sum = 0;
+    for op in block.iter(ctx) {
+        sum = mix(sum, op_number(ctx, op)?);
+    }
+    Ok(sum)
+}
+
+// Of each operand of an operation, whether it names the value, behind a sum.
+fn operands_added<D: Dialects>(
+    ctx: &Context<D>,
+    op: Ptr<Operation<D>>,
+    value: Value<D>,
+    before: u64,
+) -> Result<u64, CheckedErr> {
+    let mut sum = before;
+    for index in 0..operand_count(ctx, op) {
+        let named = operand(ctx, op, index)? == value;
+        sum = mix(sum, named as u64 + 1);
+    }
+    Ok(sum)
+}
+
+/// Of each operand of each operation, whether it names the value.
+pub(crate) fn operand_sum<D: Dialects>(
+    ctx: &Context<D>,
+    ops: &[Ptr<Operation<D>>],
+    value: Value<D>,
+) -> Result<u64, CheckedErr> {
+    let mut sum = 0;
+    for op in ops {
+        sum = operands_added(ctx, *op, value, sum)?;
+    }
+    Ok(sum)
+}

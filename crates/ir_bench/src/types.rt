@@ -1,0 +1,48 @@
+//! Types that are asked for by their keys.
+
+use crate::outcome::{Run, mix, nanos_now, run_of};
+use ir_base::{CoreError, TypeHandle};
+use ir_checked::{Context, TypeQueries};
+use ir_toy_verifiers::{Toy, ToyType};
+use std::collections::HashSet;
+use std::time::CpuClock;
+
+// Asks for so many types out of a pool of keys, one at least, and puts their handles behind the others.
+#[inline(never)]
+fn timed_interning(
+    ctx: &mut Context<Toy>,
+    pool: usize,
+    count: usize,
+    made: &mut Vec<TypeHandle>,
+) -> Result<(), CoreError> {
+    for i in 0..count {
+        let key = i.wrapping_mul(7919) % pool.max(1);
+        let width = u32::try_from(key).unwrap_or(0).wrapping_add(1);
+        made.push(ctx.instantiate_key(ToyType::Int { width })?)?;
+    }
+    Ok(())
+}
+
+// The width of each type, and how many types there are.
+fn types_sum(ctx: &Context<Toy>, types: &[TypeHandle]) -> anyhow::Result<u64> {
+    let mut sum = 0u64;
+    let mut distinct = HashSet::new(ctx.alloc());
+    for ty in types {
+        if ty.is_known(ctx) {
+            if let ToyType::Int { width } = ty.deref(ctx) {
+                sum = mix(sum, *width as u64);
+            }
+        }
+        distinct.insert(ty.place)?;
+    }
+    Ok(mix(sum, distinct.len() as u64))
+}
+
+/// N types out of N/10 keys.
+pub(crate) fn interning<C: CpuClock>(rt: &C, ctx: &mut Context<Toy>, count: usize) -> Run {
+    let mut made = Vec::with_capacity(ctx.alloc(), count)?;
+    let start = nanos_now(rt)?;
+    timed_interning(ctx, count / 10, count, &mut made)?;
+    let end = nanos_now(rt)?;
+    run_of(start, end, count, types_sum(ctx, made.as_slice())?)
+}

@@ -1,0 +1,52 @@
+//! A module that is verified.
+
+use crate::building::{add_op, build};
+use crate::nests::{add_function, entities_of, with_block};
+use crate::outcome::{Run, nanos_now, run_of};
+use anyhow::bail;
+use ir_base::{Dialects, Ptr, TypeHandle};
+use ir_checked::{CheckedErr, Context, Operation, OperationPtr};
+use ir_toy_verifiers::{Toy, ToyVerifiers, verify_operation};
+use std::time::CpuClock;
+
+// Makes a module of so many functions, each with a block of four operations and a terminator.
+fn ended_module<D: Dialects>(
+    ctx: &mut Context<D>,
+    ty: TypeHandle,
+    functions: usize,
+) -> Result<Ptr<Operation<D>>, CheckedErr> {
+    let (root, outer) = with_block(ctx, 5)?;
+    for _i in 0..functions {
+        let block = add_function(ctx, ty, outer)?;
+        build(ctx, ty, block, 4)?;
+        add_op(ctx, block, 2, &[], &[], 0)?;
+    }
+    Ok(root)
+}
+
+// Whether an operation is live, and verified with all that is inside it by Toy's checks.
+#[inline(never)]
+fn timed_verifying(ctx: &Context<Toy>, op: Ptr<Operation<Toy>>) -> bool {
+    if !op.is_live(ctx) {
+        return false;
+    }
+    verify_operation(op, ctx, &ToyVerifiers).is_ok()
+}
+
+/// A module of N/8 functions is verified: the one that is erased, but that the last operation of each function ends its block. Its building isn't timed. The units are the entities.
+pub(crate) fn verifying<C: CpuClock>(
+    rt: &C,
+    ctx: &mut Context<Toy>,
+    ty: TypeHandle,
+    count: usize,
+) -> Run {
+    let root = ended_module(ctx, ty, count / 8)?;
+    let start = nanos_now(rt)?;
+    let well = timed_verifying(ctx, root);
+    let end = nanos_now(rt)?;
+    if !well {
+        bail!("something is wrong with the module");
+    }
+    let entities = entities_of(count / 8);
+    run_of(start, end, entities, entities as u64)
+}
