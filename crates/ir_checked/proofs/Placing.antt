@@ -7,7 +7,7 @@ use Rattle.ir_model.specs.Edits.{MayJoin}
 
 -- a test that says yes and no
 pub clash : (b : Bool) → b ≡ true → b ≡ false → ⊥
-clash b yes no = let e : true ≡ false = sym yes ∙ no in cc
+clash b t f = let e : true ≡ false = sym t ∙ f in cc
 
 -- what is inside e is e, or inside something in its list
 first_step : {E : Type 0} (lists : E → List E) (e a : E) → Within lists e a → (a ≡ e) ⊎ ((x : E) × In x (lists e) × Within lists x a)
