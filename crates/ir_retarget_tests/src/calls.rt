@@ -1,0 +1,119 @@
+//! What the tests make, move and expect, each with the condition of its call tested.
+
+use ir_base::{Dialects, Ptr};
+use ir_checked::{
+    BasicBlock, BlockPtr, CheckedErr, Context, Operation, OperationPtr, Use, new_op, op_at_back,
+    successor,
+};
+use ir_view::{BlockPredecessors, BlockUseQueries, BlockUses, Retarget};
+use std::process::Abort;
+
+/// A new operation at the back of the block, with these successors.
+pub(crate) fn branch<D: Dialects>(
+    ctx: &mut Context<D>,
+    from: Ptr<BasicBlock<D>>,
+    to: &[Ptr<BasicBlock<D>>],
+) -> Result<Ptr<Operation<D>>, CheckedErr> {
+    let op = new_op(ctx, 3, &[], &[], to, 0)?;
+    op_at_back(ctx, op, from)?;
+    Ok(op)
+}
+
+/// The use of the operation's successor at the index.
+pub(crate) fn use_at<D: Dialects>(
+    ctx: &Context<D>,
+    op: Ptr<Operation<D>>,
+    index: usize,
+) -> Result<Use<Ptr<BasicBlock<D>>>, CheckedErr> {
+    let Ok(record) = op.try_deref(ctx) else {
+        return Err(CheckedErr::Condition);
+    };
+    if index >= record.get_num_successors() {
+        return Err(CheckedErr::Condition);
+    }
+    Ok(record.get_successor_as_use(index))
+}
+
+/// Lets the successors of those operations name the other block that name the one and stand in the chosen block.
+pub(crate) fn retarget_from<D: Dialects>(
+    ctx: &mut Context<D>,
+    block: Ptr<BasicBlock<D>>,
+    chosen: Ptr<BasicBlock<D>>,
+    other: Ptr<BasicBlock<D>>,
+) -> Result<(), CheckedErr> {
+    if !block.is_live(ctx) || !other.is_live(ctx) || !block.preds_are_linked(ctx) {
+        return Err(CheckedErr::Condition);
+    }
+    block.retarget_some_preds_to(
+        ctx,
+        |_shown: &Context<D>, pred: Ptr<BasicBlock<D>>| pred == chosen,
+        other,
+    )?;
+    Ok(())
+}
+
+// Whether something names the block, as the context that is handed in shows it.
+fn is_named<D: Dialects>(shown: &Context<D>, block: Ptr<BasicBlock<D>>) -> bool {
+    block.is_live(shown) && block.has_pred(shown)
+}
+
+/// Lets the successors of those operations name the other block that name the one and stand in a block that something names, in the context before.
+pub(crate) fn retarget_from_named<D: Dialects>(
+    ctx: &mut Context<D>,
+    block: Ptr<BasicBlock<D>>,
+    other: Ptr<BasicBlock<D>>,
+) -> Result<(), CheckedErr> {
+    if !block.is_live(ctx) || !other.is_live(ctx) || !block.preds_are_linked(ctx) {
+        return Err(CheckedErr::Condition);
+    }
+    block.retarget_some_preds_to(
+        ctx,
+        |shown: &Context<D>, pred: Ptr<BasicBlock<D>>| is_named(shown, pred),
+        other,
+    )?;
+    Ok(())
+}
+
+/// Asserts what the operation's successor at the index is.
+pub(crate) fn expect_successor<D: Dialects>(
+    rt: &impl Abort,
+    ctx: &Context<D>,
+    op: Ptr<Operation<D>>,
+    index: usize,
+    block: Ptr<BasicBlock<D>>,
+) -> Result<(), CheckedErr> {
+    let named = successor(ctx, op, index)?;
+    assert!(rt; named == block);
+    Ok(())
+}
+
+/// Asserts how many successors name the block.
+pub(crate) fn expect_preds<D: Dialects>(
+    rt: &impl Abort,
+    ctx: &Context<D>,
+    block: Ptr<BasicBlock<D>>,
+    count: usize,
+) -> Result<(), CheckedErr> {
+    if !block.is_live(ctx) {
+        return Err(CheckedErr::Condition);
+    }
+    assert_eq!(rt; block.num_preds(ctx), count);
+    Ok(())
+}
+
+/// Asserts at which index the use is found, and what it names.
+pub(crate) fn expect_use<D: Dialects>(
+    rt: &impl Abort,
+    ctx: &Context<D>,
+    used: Use<Ptr<BasicBlock<D>>>,
+    index: usize,
+    block: Ptr<BasicBlock<D>>,
+) {
+    assert!(rt; used.try_find_index(ctx) == Ok(index));
+    assert!(rt; used.get_def(ctx) == block);
+}
+
+/// Asserts that the call was refused because its condition doesn't hold.
+pub(crate) fn expect_condition(rt: &impl Abort, answer: Result<(), CheckedErr>) {
+    assert!(rt; matches!(answer, Err(CheckedErr::Condition)));
+}
