@@ -2,4 +2,8 @@
 #![tactic(auto)]
 
 #[cfg(test)]
+mod kept_names_checks;
+#[cfg(test)]
+mod kept_names_tests;
+#[cfg(test)]
 mod names_tests;

@@ -18,8 +18,8 @@ fn expect_given(rt: &impl Abort, given: Option<Identifier>, expected: Option<&st
     }
 }
 
-// Asserts that the live value has this name, this id and this unique name.
-fn expect_value<D: Dialects>(
+/// Asserts that the live value has this name, this id and this unique name.
+pub(crate) fn expect_value<D: Dialects>(
     rt: &impl Abort,
     ctx: &Context<D>,
     value: Value<D>,
@@ -34,8 +34,8 @@ fn expect_value<D: Dialects>(
     Ok(())
 }
 
-// Asserts that the live block has this label, this id and this unique name, by its handle and by its record.
-fn expect_block<D: Dialects>(
+/// Asserts that the live block has this label, this id and this unique name, by its handle and by its record.
+pub(crate) fn expect_block<D: Dialects>(
     rt: &impl Abort,
     ctx: &Context<D>,
     block: Ptr<BasicBlock<D>>,
@@ -54,8 +54,8 @@ fn expect_block<D: Dialects>(
     Ok(())
 }
 
-// Gives the value a name, or takes it away.
-fn set_name<D: Dialects>(
+/// Gives the value a name, or takes it away.
+pub(crate) fn set_name<D: Dialects>(
     rt: &impl Abort,
     ctx: &mut Context<D>,
     value: Value<D>,

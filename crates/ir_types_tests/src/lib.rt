@@ -1,0 +1,15 @@
+//! Tests of what a dialect's author calls of types, over a small dialect.
+#![tactic(auto)]
+
+#[cfg(test)]
+mod checked;
+#[cfg(test)]
+mod handle_tests;
+#[cfg(test)]
+mod small;
+#[cfg(test)]
+mod table_tests;
+#[cfg(test)]
+mod type_tests;
+#[cfg(test)]
+mod typed_tests;
