@@ -1,0 +1,193 @@
+//! What can be verified, and by which call. Each function here tests that its root is there, and then verifies it.
+
+use ir_base::interfaces::TypeInterfaceMarker;
+use ir_base::{Dialects, Ptr, TypeHandle};
+use ir_run::Session;
+use ir_types::{IrType, TypeInterfaceHandle, TypedHandle};
+use ir_verify::{
+    Verifiers, Verify, VerifyErr, verify_attr, verify_op, verify_operation, verify_type,
+};
+use ir_view::{
+    BasicBlock, BlockPtr, Context, Operation, OperationKind, OperationPtr, Region, RegionPtr,
+    TypeQueries, Value, ValueQueries,
+};
+use std::alloc::Global;
+
+/// What is verified, by its number in the tables of a session, and by which call.
+#[derive(Clone, Copy, Debug, Drop, PartialEq, Eq)]
+pub enum Root {
+    /// An operation by its handle.
+    Op(usize),
+    /// An operation by `verify_operation`.
+    OpByCall(usize),
+    /// An operation with its kind, by `verify_op`.
+    OpWithKind(usize),
+    /// A block by its handle.
+    Block(usize),
+    /// A region by its handle.
+    Region(usize),
+    /// A value by its handle.
+    Value(usize),
+    /// A type by its handle.
+    Type(usize),
+    /// A type by `verify_type`.
+    TypeByCall(usize),
+}
+
+/// What is found at the operation, by its handle.
+pub(crate) fn op_found<D: Dialects, V: Verifiers<D>>(
+    ctx: &Context<D>,
+    op: Ptr<Operation<D>>,
+    verifiers: &V,
+) -> Option<Result<(), VerifyErr>> {
+    if !op.is_live(ctx) {
+        return None;
+    }
+    Some(op.verify(ctx, verifiers))
+}
+
+/// What is found at the operation, by `verify_operation`.
+pub(crate) fn op_found_by_call<D: Dialects, V: Verifiers<D>>(
+    ctx: &Context<D>,
+    op: Ptr<Operation<D>>,
+    verifiers: &V,
+) -> Option<Result<(), VerifyErr>> {
+    if !op.is_live(ctx) {
+        return None;
+    }
+    Some(verify_operation(op, ctx, verifiers))
+}
+
+/// What is found at the operation with its kind, by `verify_op`.
+pub(crate) fn op_found_with_kind<D: Dialects, V: Verifiers<D>>(
+    ctx: &Context<D>,
+    op: Ptr<Operation<D>>,
+    verifiers: &V,
+) -> Option<Result<(), VerifyErr>> {
+    if !op.is_live(ctx) {
+        return None;
+    }
+    Some(verify_op(op.get_op_dyn(ctx), ctx, verifiers))
+}
+
+/// What is found at the block.
+pub(crate) fn block_found<D: Dialects, V: Verifiers<D>>(
+    ctx: &Context<D>,
+    block: Ptr<BasicBlock<D>>,
+    verifiers: &V,
+) -> Option<Result<(), VerifyErr>> {
+    if !block.is_live(ctx) {
+        return None;
+    }
+    Some(block.verify(ctx, verifiers))
+}
+
+/// What is found at the region.
+pub(crate) fn region_found<D: Dialects, V: Verifiers<D>>(
+    ctx: &Context<D>,
+    region: Ptr<Region>,
+    verifiers: &V,
+) -> Option<Result<(), VerifyErr>> {
+    if !region.is_live(ctx) {
+        return None;
+    }
+    Some(region.verify(ctx, verifiers))
+}
+
+/// What is found at the value.
+pub(crate) fn value_found<D: Dialects, V: Verifiers<D>>(
+    ctx: &Context<D>,
+    value: Value<D>,
+    verifiers: &V,
+) -> Option<Result<(), VerifyErr>> {
+    if !value.is_live(ctx) {
+        return None;
+    }
+    Some(value.verify(ctx, verifiers))
+}
+
+/// What is found at the type, by its handle.
+pub(crate) fn type_found<D: Dialects, V: Verifiers<D>>(
+    ctx: &Context<D>,
+    ty: TypeHandle,
+    verifiers: &V,
+) -> Option<Result<(), VerifyErr>> {
+    if !ty.is_known(ctx) {
+        return None;
+    }
+    Some(ty.verify(ctx, verifiers))
+}
+
+/// What is found at the type, by `verify_type`.
+pub(crate) fn type_found_by_call<D: Dialects, V: Verifiers<D>>(
+    ctx: &Context<D>,
+    ty: TypeHandle,
+    verifiers: &V,
+) -> Option<Result<(), VerifyErr>> {
+    if !ty.is_known(ctx) {
+        return None;
+    }
+    Some(verify_type(ty.deref(ctx), ctx, verifiers))
+}
+
+/// What is found at the type, by a handle that says that it is a `T`.
+pub(crate) fn typed_found<D: Dialects, T: IrType<D>, V: Verifiers<D>>(
+    ctx: &Context<D>,
+    ty: TypeHandle,
+    verifiers: &V,
+) -> Option<Result<(), VerifyErr>> {
+    if !ty.is_known(ctx) {
+        return None;
+    }
+    match TypedHandle::<T, D>::from_handle(ty, ctx) {
+        Ok(typed) => Some(typed.verify(ctx, verifiers)),
+        Err(_) => None,
+    }
+}
+
+/// What is found at the type, by a handle that says that its kind implements the interface.
+pub(crate) fn interface_found<D: Dialects, I: TypeInterfaceMarker, V: Verifiers<D>>(
+    ctx: &Context<D>,
+    ty: TypeHandle,
+    verifiers: &V,
+) -> Option<Result<(), VerifyErr>> {
+    if !ty.is_known(ctx) {
+        return None;
+    }
+    match TypeInterfaceHandle::<I, D>::from_handle(ty, ctx) {
+        Ok(handle) => Some(handle.verify(ctx, verifiers)),
+        Err(_) => None,
+    }
+}
+
+/// What is found at the root with its number; none where nothing live has the number.
+pub(crate) fn found_at<D: Dialects, V: Verifiers<D>>(
+    session: &Session<D>,
+    root: Root,
+    verifiers: &V,
+) -> Option<Result<(), VerifyErr>> {
+    let ctx = session.ctx();
+    match root {
+        Root::Op(number) => op_found(ctx, session.op(number)?, verifiers),
+        Root::OpByCall(number) => op_found_by_call(ctx, session.op(number)?, verifiers),
+        Root::OpWithKind(number) => op_found_with_kind(ctx, session.op(number)?, verifiers),
+        Root::Block(number) => block_found(ctx, session.block(number)?, verifiers),
+        Root::Region(number) => region_found(ctx, session.region(number)?, verifiers),
+        Root::Value(number) => value_found(ctx, session.value(number)?, verifiers),
+        Root::Type(number) => type_found(ctx, session.ty(number)?, verifiers),
+        Root::TypeByCall(number) => type_found_by_call(ctx, session.ty(number)?, verifiers),
+    }
+}
+
+/// What is found at the attribute, by `verify_attr` in a new context.
+///
+/// # Errors
+/// A code that a check answers, or `OutOfMemory` where one answers so.
+pub fn found_of_attribute<D: Dialects, V: Verifiers<D>>(
+    alloc: Global,
+    attr: &D::Attr,
+    verifiers: &V,
+) -> Result<(), VerifyErr> {
+    let ctx: Context<D> = Context::new(alloc);
+    verify_attr(attr, &ctx, verifiers)
+}

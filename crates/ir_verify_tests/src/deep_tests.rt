@@ -1,0 +1,34 @@
+//! A deep nest: the walk needs no recursion.
+
+use crate::expected::expect;
+use ir_small_verifiers::{Root, Step};
+use std::alloc::{AllocError, Global};
+use std::test::Fail;
+
+const LEVELS: usize = 20000;
+
+// Operations of kind 5 in one another's blocks, so many levels deep. The innermost has number 0, as its region and its block.
+fn nest(alloc: Global, levels: usize) -> Result<Vec<Step<'static>>, AllocError> {
+    let mut steps = Vec::new(alloc);
+    for level in 0..levels {
+        steps.push(Step::Op(5, 1))?;
+        steps.push(Step::Block(&[]))?;
+        steps.push(Step::PutBlock(level, level))?;
+        if level > 0 {
+            steps.push(Step::Put(level - 1, level))?;
+        }
+    }
+    Ok(steps)
+}
+
+// Nothing is at fault in the nest until its innermost block holds an addition without operands.
+#[test]
+fn deep_nest(rt: HostRuntime) -> Result<(), Fail> {
+    let steps = nest(rt.alloc(), LEVELS)?;
+    let outermost = Root::OpByCall(LEVELS - 1);
+    expect(&rt, rt.alloc(), &[steps.as_slice()], outermost, &[])?;
+    let addition = [Step::Op(1, 0), Step::Put(LEVELS, 0)];
+    let lists = [steps.as_slice(), addition.as_slice()];
+    expect(&rt, rt.alloc(), &lists, outermost, &["verifier fault 2"])?;
+    Ok(())
+}
