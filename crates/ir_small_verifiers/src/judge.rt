@@ -5,7 +5,7 @@ ghost use Rattle.ir_view.specs.Wrapped.{operation_in};
 ghost use Rattle.ir_verify.specs.Told.{MayFail, MayPass};
 ghost use Rattle.ir_small_verifiers.specs.Judge.{itself, judging, number_in, number_of};
 
-use crate::small_dialect::{Small, SmallAttr, SmallType};
+use ir_small_dialect::{Small, SmallAttr, SmallType};
 use ir_verify::{CheckErr, Context, OpObj, Verifiers};
 
 /// Answers one code where its check is run, or, at one check, that memory ran out. No check has the code 0.

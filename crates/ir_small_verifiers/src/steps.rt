@@ -1,9 +1,9 @@
 //! Forests that are made by edits, and what verification finds there.
 
-use crate::error::LabErr;
 use crate::roots::{Root, found_at};
 use ir_base::{Answer, CoreError, Dialects, Identifier, Limits, Refused};
 use ir_run::{Edit, Session};
+use ir_small_dialect::LabErr;
 use ir_verify::{Verifiers, VerifyErr};
 use std::alloc::Global;
 

@@ -21,12 +21,19 @@ fn nest(alloc: Global, levels: usize) -> Result<Vec<Step<'static>>, AllocError> 
     Ok(steps)
 }
 
-// Nothing is at fault in the nest until its innermost block holds an addition without operands.
 #[test]
 fn deep_nest(rt: HostRuntime) -> Result<(), Fail> {
     let steps = nest(rt.alloc(), LEVELS)?;
     let outermost = Root::OpByCall(LEVELS - 1);
     expect(&rt, rt.alloc(), &[steps.as_slice()], outermost, &[])?;
+    Ok(())
+}
+
+// The innermost block holds an addition without operands.
+#[test]
+fn deep_nest_with_a_fault(rt: HostRuntime) -> Result<(), Fail> {
+    let steps = nest(rt.alloc(), LEVELS)?;
+    let outermost = Root::OpByCall(LEVELS - 1);
     let addition = [Step::Op(1, 0), Step::Put(LEVELS, 0)];
     let lists = [steps.as_slice(), addition.as_slice()];
     expect(&rt, rt.alloc(), &lists, outermost, &["verifier fault 2"])?;

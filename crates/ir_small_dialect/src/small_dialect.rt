@@ -37,8 +37,8 @@ pub enum SmallType {
 }
 
 impl Dialects for Small {
-    ghost use Rattle.ir_small_verifiers.specs.declared.small_dialect.SmallAttr.TheVariants as attr;
-    ghost use Rattle.ir_small_verifiers.specs.declared.small_dialect.SmallType.TheVariants as ty;
+    ghost use Rattle.ir_small_dialect.specs.declared.small_dialect.SmallAttr.TheVariants as attr;
+    ghost use Rattle.ir_small_dialect.specs.declared.small_dialect.SmallType.TheVariants as ty;
 
     type Attr = SmallAttr;
 

@@ -17,7 +17,7 @@ pub struct ListedType {
 }
 
 impl IrType<Small> for ListedType {
-    ghost use Rattle.ir_small_verifiers.specs.declared.small_dialect.SmallType.TheVariants as ty;
+    ghost use Rattle.ir_small_dialect.specs.declared.small_dialect.SmallType.TheVariants as ty;
 
     ghost KIND = { 1 };
 
