@@ -1,10 +1,10 @@
 //! What verification finds in a forest over the small dialect in which each sort of check is run somewhere.
 
-use crate::judge::Judge;
-use crate::roots::{
+use crate::finding::{
     block_found, interface_found, op_found, op_found_by_call, op_found_with_kind, region_found,
     type_found, type_found_by_call, typed_found, value_found,
 };
+use crate::judge::Judge;
 use ir_small_dialect::{
     LabErr, ListedType, MarkedForest, SizedInterface, Small, argument_of, make_marked, result_of,
 };

@@ -1,21 +1,18 @@
-//! What the tests of verification stand on: a judge whose checks each answer a code of their own, and calls that make a forest, verify what is in it, and let it go.
+//! Verification over a small dialect: a judge whose checks each answer a code of their own, and what is found by each call of verification. It gives out the small dialect.
 //!
-//! The tests hand in and get back plain data, so that no context is theirs. It gives out the small dialect.
+//! A test hands in and gets back plain data, so that no context is its own.
 #![tactic(auto)]
 
+mod finding;
 mod judge;
 mod judged;
-mod reading;
-mod roots;
-mod steps;
-mod surveys;
 
+pub use finding::{
+    block_found, found_of_attribute, interface_found, op_found, op_found_by_call,
+    op_found_with_kind, region_found, type_found, type_found_by_call, typed_found, value_found,
+};
 pub use ir_small_dialect::{
     LabErr, ListedType, MarkedAttr, PlainAttr, SizedInterface, Small, SmallAttr, SmallType,
 };
 pub use judge::Judge;
 pub use judged::{JudgedRoot, found_by_judges};
-pub use reading::{Plain, PlainBlock, PlainOp, PlainRegion};
-pub use roots::{Root, found_of_attribute};
-pub use steps::{Step, found_after};
-pub use surveys::{Finding, Survey, survey_after};

@@ -4,7 +4,7 @@ use crate::search::{
     Node, ended_early, is_entry, is_inside, is_named, is_named_aside, lacks_terminator, live_block,
     live_op, region_of,
 };
-use ir_small_verifiers::{Plain, PlainBlock, PlainOp};
+use ir_verify_sessions::{Plain, PlainBlock, PlainOp};
 use std::alloc::{AllocError, Global};
 
 // The place of the type whose width is 0.

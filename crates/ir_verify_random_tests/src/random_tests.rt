@@ -3,9 +3,9 @@
 use crate::plain_faults::{PlainFault, has_fault, has_fault_with, plain_faults};
 use crate::random_edits::RandomEdits;
 use crate::search::{Node, has_block};
-use ir_small_verifiers::{LabErr, Plain, Root, Survey, survey_after};
 use ir_toy_verifiers::ToyVerifiers;
 use ir_verify::{BasicBlockVerifyErr, DefUseVerifyErr, VerifyErr};
+use ir_verify_sessions::{LabErr, Plain, Root, Survey, survey_after};
 use std::alloc::Global;
 use std::process::Abort;
 use std::test::Fail;

@@ -1,6 +1,6 @@
 //! What is where in a plain forest: where something stands, and who names it, is searched for.
 
-use ir_small_verifiers::{Plain, PlainBlock, PlainOp, PlainRegion};
+use ir_verify_sessions::{Plain, PlainBlock, PlainOp, PlainRegion};
 
 /// An operation, a block or a region, by its number.
 #[derive(Clone, Copy, Debug, Drop, PartialEq, Eq)]

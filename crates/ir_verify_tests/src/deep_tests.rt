@@ -1,7 +1,7 @@
 //! A deep nest: the walk needs no recursion.
 
 use crate::expected::expect;
-use ir_small_verifiers::{Root, Step};
+use ir_verify_sessions::{Root, Step};
 use std::alloc::{AllocError, Global};
 use std::test::Fail;
 

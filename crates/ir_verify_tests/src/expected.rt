@@ -1,10 +1,10 @@
 //! What is expected of verification over the dialect Toy: texts of faults.
 
 use ir_base::Identifier;
-use ir_small_verifiers::{LabErr, Root, Step, found_after};
 use ir_toy::ToyType;
 use ir_toy_verifiers::ToyVerifiers;
 use ir_verify::VerifyErr;
+use ir_verify_sessions::{LabErr, Root, Step, found_after};
 use std::alloc::{AllocError, Global};
 use std::process::Abort;
 

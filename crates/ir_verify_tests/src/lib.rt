@@ -1,12 +1,10 @@
-//! Tests of verification: over the dialect Toy with its checks, and over a small dialect whose checks each answer a code of their own.
+//! Tests of verification over the dialect Toy with its checks.
 #![tactic(auto)]
 
 #[cfg(test)]
 mod deep_tests;
 #[cfg(test)]
 mod expected;
-#[cfg(test)]
-mod judge_tests;
 #[cfg(test)]
 mod row_tests;
 #[cfg(test)]

@@ -2,8 +2,8 @@
 
 use crate::expected::expect_each;
 use ir_base::Identifier;
-use ir_small_verifiers::{LabErr, Root, Step};
 use ir_verify::{BasicBlockVerifyErr, DefUseVerifyErr, VerifierErr, VerifyErr};
+use ir_verify_sessions::{LabErr, Root, Step};
 use std::alloc::{AllocError, Global};
 use std::process::Abort;
 use std::test::Fail;

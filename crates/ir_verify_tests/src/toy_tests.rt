@@ -2,9 +2,10 @@
 
 use crate::expected::{expect_each, expect_found};
 use ir_base::TypeHandle;
-use ir_small_verifiers::{LabErr, Root, Step, found_of_attribute};
+use ir_small_verifiers::found_of_attribute;
 use ir_toy::{Toy, ToyAttr, ToyInt, ToyText};
 use ir_toy_verifiers::ToyVerifiers;
+use ir_verify_sessions::{LabErr, Root, Step};
 use std::alloc::Global;
 use std::process::Abort;
 use std::test::Fail;

@@ -1,8 +1,7 @@
-//! What can be verified, and by which call. Each function here tests that its root is there, and then verifies it.
+//! What verification finds, by each of its calls. Each function here tests that its root is there, and then verifies it.
 
 use ir_base::interfaces::TypeInterfaceMarker;
 use ir_base::{Dialects, Ptr, TypeHandle};
-use ir_run::Session;
 use ir_types::{IrType, TypeInterfaceHandle, TypedHandle};
 use ir_verify::{
     Verifiers, Verify, VerifyErr, verify_attr, verify_op, verify_operation, verify_type,
@@ -13,29 +12,8 @@ use ir_view::{
 };
 use std::alloc::Global;
 
-/// What is verified, by its number in the tables of a session, and by which call.
-#[derive(Clone, Copy, Debug, Drop, PartialEq, Eq)]
-pub enum Root {
-    /// An operation by its handle.
-    Op(usize),
-    /// An operation by `verify_operation`.
-    OpByCall(usize),
-    /// An operation with its kind, by `verify_op`.
-    OpWithKind(usize),
-    /// A block by its handle.
-    Block(usize),
-    /// A region by its handle.
-    Region(usize),
-    /// A value by its handle.
-    Value(usize),
-    /// A type by its handle.
-    Type(usize),
-    /// A type by `verify_type`.
-    TypeByCall(usize),
-}
-
 /// What is found at the operation, by its handle.
-pub(crate) fn op_found<D: Dialects, V: Verifiers<D>>(
+pub fn op_found<D: Dialects, V: Verifiers<D>>(
     ctx: &Context<D>,
     op: Ptr<Operation<D>>,
     verifiers: &V,
@@ -47,7 +25,7 @@ pub(crate) fn op_found<D: Dialects, V: Verifiers<D>>(
 }
 
 /// What is found at the operation, by `verify_operation`.
-pub(crate) fn op_found_by_call<D: Dialects, V: Verifiers<D>>(
+pub fn op_found_by_call<D: Dialects, V: Verifiers<D>>(
     ctx: &Context<D>,
     op: Ptr<Operation<D>>,
     verifiers: &V,
@@ -59,7 +37,7 @@ pub(crate) fn op_found_by_call<D: Dialects, V: Verifiers<D>>(
 }
 
 /// What is found at the operation with its kind, by `verify_op`.
-pub(crate) fn op_found_with_kind<D: Dialects, V: Verifiers<D>>(
+pub fn op_found_with_kind<D: Dialects, V: Verifiers<D>>(
     ctx: &Context<D>,
     op: Ptr<Operation<D>>,
     verifiers: &V,
@@ -71,7 +49,7 @@ pub(crate) fn op_found_with_kind<D: Dialects, V: Verifiers<D>>(
 }
 
 /// What is found at the block.
-pub(crate) fn block_found<D: Dialects, V: Verifiers<D>>(
+pub fn block_found<D: Dialects, V: Verifiers<D>>(
     ctx: &Context<D>,
     block: Ptr<BasicBlock<D>>,
     verifiers: &V,
@@ -83,7 +61,7 @@ pub(crate) fn block_found<D: Dialects, V: Verifiers<D>>(
 }
 
 /// What is found at the region.
-pub(crate) fn region_found<D: Dialects, V: Verifiers<D>>(
+pub fn region_found<D: Dialects, V: Verifiers<D>>(
     ctx: &Context<D>,
     region: Ptr<Region>,
     verifiers: &V,
@@ -95,7 +73,7 @@ pub(crate) fn region_found<D: Dialects, V: Verifiers<D>>(
 }
 
 /// What is found at the value.
-pub(crate) fn value_found<D: Dialects, V: Verifiers<D>>(
+pub fn value_found<D: Dialects, V: Verifiers<D>>(
     ctx: &Context<D>,
     value: Value<D>,
     verifiers: &V,
@@ -107,7 +85,7 @@ pub(crate) fn value_found<D: Dialects, V: Verifiers<D>>(
 }
 
 /// What is found at the type, by its handle.
-pub(crate) fn type_found<D: Dialects, V: Verifiers<D>>(
+pub fn type_found<D: Dialects, V: Verifiers<D>>(
     ctx: &Context<D>,
     ty: TypeHandle,
     verifiers: &V,
@@ -119,7 +97,7 @@ pub(crate) fn type_found<D: Dialects, V: Verifiers<D>>(
 }
 
 /// What is found at the type, by `verify_type`.
-pub(crate) fn type_found_by_call<D: Dialects, V: Verifiers<D>>(
+pub fn type_found_by_call<D: Dialects, V: Verifiers<D>>(
     ctx: &Context<D>,
     ty: TypeHandle,
     verifiers: &V,
@@ -131,7 +109,7 @@ pub(crate) fn type_found_by_call<D: Dialects, V: Verifiers<D>>(
 }
 
 /// What is found at the type, by a handle that says that it is a `T`.
-pub(crate) fn typed_found<D: Dialects, T: IrType<D>, V: Verifiers<D>>(
+pub fn typed_found<D: Dialects, T: IrType<D>, V: Verifiers<D>>(
     ctx: &Context<D>,
     ty: TypeHandle,
     verifiers: &V,
@@ -146,7 +124,7 @@ pub(crate) fn typed_found<D: Dialects, T: IrType<D>, V: Verifiers<D>>(
 }
 
 /// What is found at the type, by a handle that says that its kind implements the interface.
-pub(crate) fn interface_found<D: Dialects, I: TypeInterfaceMarker, V: Verifiers<D>>(
+pub fn interface_found<D: Dialects, I: TypeInterfaceMarker, V: Verifiers<D>>(
     ctx: &Context<D>,
     ty: TypeHandle,
     verifiers: &V,
@@ -157,25 +135,6 @@ pub(crate) fn interface_found<D: Dialects, I: TypeInterfaceMarker, V: Verifiers<
     match TypeInterfaceHandle::<I, D>::from_handle(ty, ctx) {
         Ok(handle) => Some(handle.verify(ctx, verifiers)),
         Err(_) => None,
-    }
-}
-
-/// What is found at the root with its number; none where nothing live has the number.
-pub(crate) fn found_at<D: Dialects, V: Verifiers<D>>(
-    session: &Session<D>,
-    root: Root,
-    verifiers: &V,
-) -> Option<Result<(), VerifyErr>> {
-    let ctx = session.ctx();
-    match root {
-        Root::Op(number) => op_found(ctx, session.op(number)?, verifiers),
-        Root::OpByCall(number) => op_found_by_call(ctx, session.op(number)?, verifiers),
-        Root::OpWithKind(number) => op_found_with_kind(ctx, session.op(number)?, verifiers),
-        Root::Block(number) => block_found(ctx, session.block(number)?, verifiers),
-        Root::Region(number) => region_found(ctx, session.region(number)?, verifiers),
-        Root::Value(number) => value_found(ctx, session.value(number)?, verifiers),
-        Root::Type(number) => type_found(ctx, session.ty(number)?, verifiers),
-        Root::TypeByCall(number) => type_found_by_call(ctx, session.ty(number)?, verifiers),
     }
 }
 

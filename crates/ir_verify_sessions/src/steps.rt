@@ -3,7 +3,7 @@
 use crate::roots::{Root, found_at};
 use ir_base::{Answer, CoreError, Dialects, Identifier, Limits, Refused};
 use ir_run::{Edit, Session};
-use ir_small_dialect::LabErr;
+use ir_small_verifiers::LabErr;
 use ir_verify::{Verifiers, VerifyErr};
 use std::alloc::Global;
 
