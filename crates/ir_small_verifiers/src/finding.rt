@@ -117,10 +117,13 @@ pub fn typed_found<D: Dialects, T: IrType<D>, V: Verifiers<D>>(
     if !ty.is_known(ctx) {
         return None;
     }
-    match TypedHandle::<T, D>::from_handle(ty, ctx) {
-        Ok(typed) => Some(typed.verify(ctx, verifiers)),
-        Err(_) => None,
+    let Ok(typed) = TypedHandle::<T, D>::from_handle(ty, ctx) else {
+        return None;
+    };
+    if !typed.is_known(ctx) {
+        return None;
     }
+    Some(typed.verify(ctx, verifiers))
 }
 
 /// What is found at the type, by a handle that says that its kind implements the interface.
@@ -132,10 +135,13 @@ pub fn interface_found<D: Dialects, I: TypeInterfaceMarker, V: Verifiers<D>>(
     if !ty.is_known(ctx) {
         return None;
     }
-    match TypeInterfaceHandle::<I, D>::from_handle(ty, ctx) {
-        Ok(handle) => Some(handle.verify(ctx, verifiers)),
-        Err(_) => None,
+    let Ok(handle) = TypeInterfaceHandle::<I, D>::from_handle(ty, ctx) else {
+        return None;
+    };
+    if !handle.is_known(ctx) {
+        return None;
     }
+    Some(handle.verify(ctx, verifiers))
 }
 
 /// What is found at the attribute, by `verify_attr` in a new context.
