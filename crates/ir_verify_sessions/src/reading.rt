@@ -3,8 +3,8 @@
 use ir_base::{CoreError, Dialects, Ptr};
 use ir_run::Session;
 use ir_view::{
-    BasicBlock, BlockPlace, BlockPtr, Context, Operation, OperationPtr, Region, RegionPlace,
-    RegionPtr, Value, ValueQueries,
+    BasicBlock, BlockPlace, BlockPtr, Context, Operation, OperationPlace, OperationPtr, Region,
+    RegionPlace, RegionPtr, Value, ValueQueries,
 };
 use std::alloc::Global;
 
@@ -167,19 +167,36 @@ fn argument_types<D: Dialects>(
     Ok(types)
 }
 
-// The operations of the block, where it is live.
+// The first operation of the block; none where it isn't live.
+fn first_op<D: Dialects>(ctx: &Context<D>, block: Ptr<BasicBlock<D>>) -> Option<Ptr<Operation<D>>> {
+    if !block.is_live(ctx) {
+        return None;
+    }
+    block.get_head(ctx)
+}
+
+// The operation after this one; none where it isn't live.
+fn next_op<D: Dialects>(ctx: &Context<D>, op: Ptr<Operation<D>>) -> Option<Ptr<Operation<D>>> {
+    if !op.is_live(ctx) {
+        return None;
+    }
+    op.get_next(ctx)
+}
+
+// The operations of the block.
 fn ops_of<D: Dialects>(
     alloc: Global,
     session: &Session<D>,
     block: Ptr<BasicBlock<D>>,
 ) -> Result<Vec<usize>, CoreError> {
     let mut ops = Vec::new(alloc);
-    let ctx = session.ctx();
-    if !block.is_live(ctx) {
-        return Ok(ops);
-    }
-    for op in block.iter(ctx) {
+    let mut next = first_op(session.ctx(), block);
+    for _ in 0..usize::MAX {
+        let Some(op) = next else {
+            break;
+        };
         ops.push(op_number(session, op))?;
+        next = next_op(session.ctx(), op);
     }
     Ok(ops)
 }
@@ -205,20 +222,53 @@ fn read_block<D: Dialects>(
     }))
 }
 
+// The first block of the region; none where it isn't live.
+fn first_block<D: Dialects>(ctx: &Context<D>, region: Ptr<Region>) -> Option<Ptr<BasicBlock<D>>> {
+    if !region.is_live(ctx) {
+        return None;
+    }
+    region.get_head(ctx)
+}
+
+// The block after this one; none where it isn't live.
+fn next_block<D: Dialects>(
+    ctx: &Context<D>,
+    block: Ptr<BasicBlock<D>>,
+) -> Option<Ptr<BasicBlock<D>>> {
+    if !block.is_live(ctx) {
+        return None;
+    }
+    block.get_next(ctx)
+}
+
+// The blocks of the region.
+fn blocks_of<D: Dialects>(
+    alloc: Global,
+    session: &Session<D>,
+    region: Ptr<Region>,
+) -> Result<Vec<usize>, CoreError> {
+    let mut blocks = Vec::new(alloc);
+    let mut next = first_block(session.ctx(), region);
+    for _ in 0..usize::MAX {
+        let Some(block) = next else {
+            break;
+        };
+        blocks.push(block_number(session, block))?;
+        next = next_block(session.ctx(), block);
+    }
+    Ok(blocks)
+}
+
 // The region under the handle, where it is live.
 fn read_region<D: Dialects>(
     alloc: Global,
     session: &Session<D>,
     region: Ptr<Region>,
 ) -> Result<Option<PlainRegion>, CoreError> {
-    let ctx = session.ctx();
-    if !region.is_live(ctx) {
+    if !region.is_live(session.ctx()) {
         return Ok(None);
     }
-    let mut blocks = Vec::new(alloc);
-    for block in region.iter(ctx) {
-        blocks.push(block_number(session, block))?;
-    }
+    let blocks = blocks_of(alloc, session, region)?;
     Ok(Some(PlainRegion { blocks }))
 }
 
