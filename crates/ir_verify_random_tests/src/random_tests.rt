@@ -28,34 +28,44 @@ struct Met {
     verifier: usize,
 }
 
+// One more.
+fn add_one(count: &mut usize) {
+    *count = count.saturating_add(1);
+}
+
 impl Met {
-    // The count of this fault of a block.
-    fn of_block(&mut self, fault: &BasicBlockVerifyErr) -> &mut usize {
+    // Counts a fault of a block.
+    fn count_block_fault(&mut self, fault: &BasicBlockVerifyErr) {
         match fault {
-            BasicBlockVerifyErr::NoParent(_) => &mut self.no_parent,
-            BasicBlockVerifyErr::MissingTerminator(_) => &mut self.missing_terminator,
-            BasicBlockVerifyErr::TerminatorNotLast(_) => &mut self.terminator_not_last,
-            BasicBlockVerifyErr::EntryHasPred(_) => &mut self.entry_has_pred,
+            BasicBlockVerifyErr::NoParent(_) => add_one(&mut self.no_parent),
+            BasicBlockVerifyErr::MissingTerminator(_) => add_one(&mut self.missing_terminator),
+            BasicBlockVerifyErr::TerminatorNotLast(_) => add_one(&mut self.terminator_not_last),
+            BasicBlockVerifyErr::EntryHasPred(_) => add_one(&mut self.entry_has_pred),
+        }
+    }
+
+    // Counts a fault.
+    fn count_fault(&mut self, fault: &VerifyErr) {
+        match fault {
+            VerifyErr::BasicBlockVerifyErr(fault) => self.count_block_fault(fault),
+            VerifyErr::DefUseVerifyErr(DefUseVerifyErr::OperandNotUseOfDef) => {
+                add_one(&mut self.not_use_of_def);
+            }
+            VerifyErr::VerifierErr(_) => add_one(&mut self.verifier),
+            VerifyErr::OutOfMemory => {}
         }
     }
 
     // Counts an answer. That nothing is found is counted at a root in which a block stands.
     fn count(&mut self, plain: &Plain, root: Node, found: &Result<(), VerifyErr>) {
-        let counted = match found {
+        match found {
             Ok(()) => {
-                if !has_block(plain, root) {
-                    return;
+                if has_block(plain, root) {
+                    add_one(&mut self.well);
                 }
-                &mut self.well
             }
-            Err(VerifyErr::BasicBlockVerifyErr(fault)) => self.of_block(fault),
-            Err(VerifyErr::DefUseVerifyErr(DefUseVerifyErr::OperandNotUseOfDef)) => {
-                &mut self.not_use_of_def
-            }
-            Err(VerifyErr::VerifierErr(_)) => &mut self.verifier,
-            Err(VerifyErr::OutOfMemory) => return,
-        };
-        *counted = counted.saturating_add(1);
+            Err(fault) => self.count_fault(fault),
+        }
     }
 
     // The least of these.

@@ -138,7 +138,7 @@ pub(crate) fn is_entry(plain: &Plain, block: usize) -> bool {
         return false;
     };
     match live_region(plain, number) {
-        Some(region) => region.blocks.first() == Some(&block),
+        Some(region) => region.blocks.first().copied() == Some(block),
         None => false,
     }
 }
@@ -182,7 +182,7 @@ pub(crate) fn is_named_aside(plain: &Plain, block: usize) -> bool {
 /// The block in which the operation ends it too early: there is another one behind it.
 pub(crate) fn ended_early(plain: &Plain, op: usize) -> Option<&PlainBlock> {
     let block = live_block(plain, block_of(plain, op)?)?;
-    if ends_block(live_op(plain, op)?.kind) && block.ops.last() != Some(&op) {
+    if ends_block(live_op(plain, op)?.kind) && block.ops.last().copied() != Some(op) {
         Some(block)
     } else {
         None

@@ -32,10 +32,11 @@ fn deep_nest(rt: HostRuntime) -> Result<(), Fail> {
 // The innermost block holds an addition without operands.
 #[test]
 fn deep_nest_with_a_fault(rt: HostRuntime) -> Result<(), Fail> {
-    let steps = nest(rt.alloc(), LEVELS)?;
+    let mut steps = nest(rt.alloc(), LEVELS)?;
+    steps.push(Step::Op(1, 0))?;
+    steps.push(Step::Put(LEVELS, 0))?;
     let outermost = Root::OpByCall(LEVELS - 1);
-    let addition = [Step::Op(1, 0), Step::Put(LEVELS, 0)];
-    let lists = [steps.as_slice(), addition.as_slice()];
-    expect(&rt, rt.alloc(), &lists, outermost, &["verifier fault 2"])?;
+    let texts = ["verifier fault 2"];
+    expect(&rt, rt.alloc(), &[steps.as_slice()], outermost, &texts)?;
     Ok(())
 }

@@ -82,7 +82,8 @@ fn texts_of_other_faults(rt: HostRuntime) -> Result<(), Fail> {
 // An operation of kind 4, last in block 0, names block 1 twice.
 #[test]
 fn preds_twice(rt: HostRuntime) -> Result<(), Fail> {
-    let lists: [&[Step<'_>]; 2] = [&two_blocks(5), &[Step::Branch(4, &[1, 1]), Step::Put(1, 0)]];
+    let start = two_blocks(5);
+    let names = [Step::Branch(4, &[1, 1]), Step::Put(1, 0)];
     let rows: [(Root, &[&str]); 5] = [
         (Root::Op(0), &[USE_OF_NO_DEF]),
         (Root::OpByCall(0), &[USE_OF_NO_DEF]),
@@ -90,48 +91,56 @@ fn preds_twice(rt: HostRuntime) -> Result<(), Fail> {
         (Root::Block(0), &[]),
         (Root::Op(1), &[]),
     ];
-    expect_each(&rt, rt.alloc(), &lists, &rows)?;
+    expect_each(&rt, rt.alloc(), &[&start, &names], &rows)?;
     Ok(())
 }
 
 // An operation that stands in no block names block 1, which isn't the first of its region.
 #[test]
 fn unlinked_user(rt: HostRuntime) -> Result<(), Fail> {
-    let lists: [&[Step<'_>]; 1] = [&two_blocks(5)];
-    expect_each(&rt, rt.alloc(), &lists, &[(Root::Block(1), &[])])?;
-    let lists: [&[Step<'_>]; 2] = [&two_blocks(5), &[Step::Branch(3, &[1])]];
+    let start = two_blocks(5);
+    let names = [Step::Branch(3, &[1])];
+    expect_each(&rt, rt.alloc(), &[&start], &[(Root::Block(1), &[])])?;
     let rows: [(Root, &[&str]); 4] = [
         (Root::Block(1), &[USE_OF_NO_DEF]),
         (Root::Block(0), &[]),
         (Root::OpByCall(0), &[USE_OF_NO_DEF]),
         (Root::OpByCall(1), &[]),
     ];
-    expect_each(&rt, rt.alloc(), &lists, &rows)?;
+    expect_each(&rt, rt.alloc(), &[&start, &names], &rows)?;
     Ok(())
 }
 
-// Block 0 ends with this operation, and one before it names block 1.
-fn name_before(
-    rt: &impl Abort,
-    alloc: Global,
-    last: Step<'_>,
-    texts: &[&str],
-) -> Result<(), LabErr> {
+// An operation before the terminator of block 0 names block 1: that is well where the terminator names it too.
+#[test]
+fn named_beside_a_branch(rt: HostRuntime) -> Result<(), Fail> {
+    let start = two_blocks(5);
     let names = [
         Step::Branch(4, &[1]),
         Step::Put(1, 0),
-        last,
+        Step::Branch(3, &[1]),
         Step::Put(2, 0),
     ];
-    let rows = [(Root::OpByCall(0), texts), (Root::Block(1), texts)];
-    expect_each(rt, alloc, &[&two_blocks(5), &names], &rows)
+    let rows: [(Root, &[&str]); 2] = [(Root::OpByCall(0), &[]), (Root::Block(1), &[])];
+    expect_each(&rt, rt.alloc(), &[&start, &names], &rows)?;
+    Ok(())
 }
 
-// That is well where the terminator names the block too, and at fault where it names nothing.
+// It is at fault where the terminator names nothing.
 #[test]
-fn named_beside_the_terminator(rt: HostRuntime) -> Result<(), Fail> {
-    name_before(&rt, rt.alloc(), Step::Branch(3, &[1]), &[])?;
-    name_before(&rt, rt.alloc(), Step::Branch(2, &[]), &[USE_OF_NO_DEF])?;
+fn named_beside_a_return(rt: HostRuntime) -> Result<(), Fail> {
+    let start = two_blocks(5);
+    let names = [
+        Step::Branch(4, &[1]),
+        Step::Put(1, 0),
+        Step::Op(2, 0),
+        Step::Put(2, 0),
+    ];
+    let rows: [(Root, &[&str]); 2] = [
+        (Root::OpByCall(0), &[USE_OF_NO_DEF]),
+        (Root::Block(1), &[USE_OF_NO_DEF]),
+    ];
+    expect_each(&rt, rt.alloc(), &[&start, &names], &rows)?;
     Ok(())
 }
 
@@ -152,8 +161,8 @@ fn end_early(rt: &impl Abort, alloc: Global, kind: u32, texts: &[&str]) -> Resul
         (Root::OpByCall(1), &[TERMINATOR_FIRST]),
         (Root::OpByCall(2), &[]),
     ];
-    let lists: [&[Step<'_>]; 2] = [&ended, &[Step::Op(0, 0), Step::Put(2, 0)]];
-    expect_each(rt, alloc, &lists, &rows)
+    let behind = [Step::Op(0, 0), Step::Put(2, 0)];
+    expect_each(rt, alloc, &[&ended, &behind], &rows)
 }
 
 #[test]
@@ -227,8 +236,13 @@ fn faults_beside_what_is_well(rt: HostRuntime) -> Result<(), Fail> {
     let first = "Basic block \"open_block1v1\" is missing a terminator";
     let second = "Basic block \"open_block2v1\" is missing a terminator";
     for (ended, text) in [(1, first), (0, second)] {
-        let lists: [&[Step<'_>]; 2] = [&start, &[Step::Put(1, ended)]];
-        expect_each(&rt, rt.alloc(), &lists, &[(Root::OpByCall(0), &[text])])?;
+        let put = [Step::Put(1, ended)];
+        expect_each(
+            &rt,
+            rt.alloc(),
+            &[&start, &put],
+            &[(Root::OpByCall(0), &[text])],
+        )?;
     }
     Ok(())
 }

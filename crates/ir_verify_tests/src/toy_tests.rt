@@ -6,7 +6,7 @@ use ir_small_verifiers::found_of_attribute;
 use ir_toy::{Toy, ToyAttr, ToyInt, ToyText};
 use ir_toy_verifiers::ToyVerifiers;
 use ir_verify_sessions::{LabErr, Root, Step};
-use std::alloc::Global;
+use std::alloc::{AllocError, Global};
 use std::process::Abort;
 use std::test::Fail;
 
@@ -37,26 +37,44 @@ fn own_checks_of_types(rt: HostRuntime) -> Result<(), Fail> {
     Ok(())
 }
 
+// So many operands that name value 0.
+fn same_value(alloc: Global, count: usize) -> Result<Vec<usize>, AllocError> {
+    let mut operands = Vec::new(alloc);
+    for _ in 0..count {
+        operands.push(0)?;
+    }
+    Ok(operands)
+}
+
+// Asserts what is found at an operation of the kind that names value 0 so many times, by each of its calls.
+fn expect_operands(
+    rt: &impl Abort,
+    alloc: Global,
+    kind: u32,
+    count: usize,
+    texts: &[&str],
+) -> Result<(), LabErr> {
+    let operands = same_value(alloc, count)?;
+    let value = [Step::OpOf(0, &[0], &[])];
+    let user = [Step::OpOf(kind, &[], operands.as_slice())];
+    let roots = [
+        (Root::Op(1), texts),
+        (Root::OpByCall(1), texts),
+        (Root::OpWithKind(1), texts),
+    ];
+    expect_each(rt, alloc, &[&value, &user], &roots)
+}
+
 #[test]
 fn own_checks_of_operations(rt: HostRuntime) -> Result<(), Fail> {
-    let rows: [(u32, &[usize], &[&str]); 7] = [
-        (1, &[], &[OPERANDS]),
-        (1, &[0], &[OPERANDS]),
-        (1, &[0, 0], &[]),
-        (1, &[0, 0, 0], &[OPERANDS]),
-        (0, &[0], &[]),
-        (4, &[0, 0, 0], &[]),
-        (9, &[0], &[]),
-    ];
-    for (kind, operands, texts) in rows {
-        let steps = [Step::OpOf(0, &[0], &[]), Step::OpOf(kind, &[], operands)];
-        let roots = [
-            (Root::Op(1), texts),
-            (Root::OpByCall(1), texts),
-            (Root::OpWithKind(1), texts),
-        ];
-        expect_each(&rt, rt.alloc(), &[&steps], &roots)?;
-    }
+    let alloc = rt.alloc();
+    expect_operands(&rt, alloc, 1, 0, &[OPERANDS])?;
+    expect_operands(&rt, alloc, 1, 1, &[OPERANDS])?;
+    expect_operands(&rt, alloc, 1, 2, &[])?;
+    expect_operands(&rt, alloc, 1, 3, &[OPERANDS])?;
+    expect_operands(&rt, alloc, 0, 1, &[])?;
+    expect_operands(&rt, alloc, 4, 3, &[])?;
+    expect_operands(&rt, alloc, 9, 1, &[])?;
     Ok(())
 }
 
