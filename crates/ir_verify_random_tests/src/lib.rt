@@ -1,0 +1,11 @@
+//! Tests of verification over random forests of the dialect Toy, beside a plain search for faults.
+#![tactic(auto)]
+
+#[cfg(test)]
+mod plain_faults;
+#[cfg(test)]
+mod random_edits;
+#[cfg(test)]
+mod random_tests;
+#[cfg(test)]
+mod search;
