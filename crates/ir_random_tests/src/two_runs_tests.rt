@@ -1,0 +1,160 @@
+//! The law on two runs, tried from outside: the same random edits in two sessions, which have other limits and in which other slots were used, give the same answers and the same dump.
+
+use crate::random_lists::random_list;
+use ir_base::{Answer, Limits, Refused};
+use ir_lab::{Lab, LabError};
+use std::alloc::Global;
+use std::process::Abort;
+use std::test::Fail;
+
+// How many random edits a list has.
+const EDITS: usize = 40;
+
+// Types, and three operations and three blocks that are erased then.
+const BEGINNING: &str = "
+new-type 32 => made t0
+new-type 64 => made t1
+new-op 5 t0 - - 2 => made o0
+new-block - t1 => made b0
+new-op 5 t0 - - 2 => made o1
+new-block - t1 => made b1
+new-op 5 t0 - - 2 => made o2
+new-block - t1 => made b2";
+
+const FROM_THE_FIRST: &str = "
+erase-op o0 => done
+erase-block b0 => done
+erase-op o1 => done
+erase-block b1 => done
+erase-op o2 => done
+erase-block b2 => done";
+
+const FROM_THE_LAST: &str = "
+erase-op o2 => done
+erase-block b2 => done
+erase-op o1 => done
+erase-block b1 => done
+erase-op o0 => done
+erase-block b0 => done";
+
+// What the random edits begin with: b3 to b5, and o3 to o8 with r6 to r9, and v6 to v11.
+const ENTITIES: &str = "
+new-block - t0 => made b3
+new-block - t0 => made b4
+new-block - - => made b5
+new-op 5 - - - 2 => made o3
+new-op 5 - - - 2 => made o4
+new-op 0 t0 - - 0 => made o5
+new-op 0 t1 - - 0 => made o6
+new-op 4 t0,t1 v8,v6 - 0 => made o7
+new-op 3 - v9 b4 0 => made o8
+block-back b3 r6 => done
+block-back b4 r6 => done
+block-back b5 r8 => done
+op-back o5 b3 => done
+op-back o6 b3 => done
+op-back o7 b3 => done
+op-back o8 b3 => done";
+
+// Begins a session, in which entities are erased in this order.
+fn start(rt: &impl Abort, lab: &mut Lab, erasures: &str) -> Result<(), LabError> {
+    for text in [BEGINNING, erasures, ENTITIES] {
+        if let Some(difference) = lab.follow(text)? {
+            assert!(rt; false, "{difference}");
+        }
+    }
+    Ok(())
+}
+
+// The answers to the edits of this seed. Want of memory ends the test.
+fn answers_to(lab: &mut Lab, seed: u64) -> Result<Vec<Answer>, LabError> {
+    let edits = random_list(lab.alloc(), seed, EDITS)?;
+    let answers = lab.run(edits)?;
+    if answers.contains(&Answer::Refused(Refused::Memory)) {
+        return Err(LabError::OutOfMemory);
+    }
+    Ok(answers)
+}
+
+// How many of the edits were accepted.
+fn accepted(answers: &[Answer]) -> usize {
+    let mut count = 0usize;
+    for answer in answers {
+        if !matches!(answer, Answer::Refused(_)) {
+            count = count.saturating_add(1);
+        }
+    }
+    count
+}
+
+// Does the edits of this seed in both sessions, and answers how many were accepted.
+fn run_both(
+    rt: &impl Abort,
+    first: &mut Lab,
+    second: &mut Lab,
+    seed: u64,
+) -> Result<usize, LabError> {
+    start(rt, first, FROM_THE_FIRST)?;
+    start(rt, second, FROM_THE_LAST)?;
+    let places = (first.edit("place o3")?, second.edit("place o3")?);
+    assert!(rt; places.0 != places.1);
+    let answers = answers_to(first, seed)?;
+    let again = answers_to(second, seed)?;
+    assert_eq!(rt; answers.as_slice(), again.as_slice(), "seed {seed}");
+    let shown = first.dump()?;
+    let shown_again = second.dump()?;
+    assert_eq!(rt; shown, shown_again, "seed {seed}");
+    Ok(accepted(&answers))
+}
+
+// The same in two new sessions.
+fn run_twice(rt: &impl Abort, alloc: Global, seed: u64) -> Result<usize, LabError> {
+    let few = Limits {
+        values: 500,
+        uses: 500,
+        slots: 200,
+        last_version: 3,
+    };
+    let Some(mut first) = Lab::new(alloc, Limits::default()) else {
+        return Ok(0);
+    };
+    let Some(mut second) = Lab::new(alloc, few) else {
+        first.finish();
+        return Ok(0);
+    };
+    let outcome = run_both(rt, &mut first, &mut second, seed);
+    second.finish();
+    first.finish();
+    outcome
+}
+
+// A thousand lists from this seed on, of whose edits more than a third are accepted, and more than a tenth refused.
+fn run_thousand(rt: &impl Abort, alloc: Global, from: u64) -> Result<(), LabError> {
+    let mut done = 0usize;
+    for seed in 0..1_000 {
+        done = done.saturating_add(run_twice(rt, alloc, from.wrapping_add(seed))?);
+    }
+    assert!(rt; done > 14_000, "{done} accepted");
+    assert!(rt; done < 36_000, "{done} accepted");
+    Ok(())
+}
+
+#[test]
+fn two_runs_show_the_same(rt: HostRuntime) -> Result<(), Fail> {
+    run_thousand(&rt, rt.alloc(), 0)?;
+    Ok(())
+}
+
+#[test]
+fn two_runs_show_the_same_again(rt: HostRuntime) -> Result<(), Fail> {
+    run_thousand(&rt, rt.alloc(), 1_000)?;
+    run_thousand(&rt, rt.alloc(), 2_000)?;
+    Ok(())
+}
+
+#[test]
+fn two_runs_show_the_same_further(rt: HostRuntime) -> Result<(), Fail> {
+    run_thousand(&rt, rt.alloc(), 3_000)?;
+    run_thousand(&rt, rt.alloc(), 4_000)?;
+    Ok(())
+}
