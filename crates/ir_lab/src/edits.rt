@@ -30,6 +30,20 @@ pub(crate) fn parse_edit(alloc: Global, line: &str) -> Result<Edit<Toy>, LabErro
     }
 }
 
+/// The edits of a text's lines, without those that are empty.
+///
+/// # Errors
+/// `Malformed` where a line has no form of an edit, and `OutOfMemory`.
+pub(crate) fn parse_edits(alloc: Global, text: &str) -> Result<Vec<Edit<Toy>>, LabError> {
+    let mut edits = Vec::new(alloc);
+    for line in text.split('\n') {
+        if !line.is_empty() {
+            edits.push(parse_edit(alloc, line)?)?;
+        }
+    }
+    Ok(edits)
+}
+
 // An edit that makes nothing of its own, or one thing in something else.
 fn change(word: &str, rest: &str) -> Option<Edit<Toy>> {
     if word.ends_with("-result") {

@@ -2,7 +2,7 @@
 
 use crate::answers::{answer_text, letter_of};
 use crate::dumps::dump;
-use crate::edits::parse_edit;
+use crate::edits::{parse_edit, parse_edits};
 use crate::error::LabError;
 use crate::places::{
     Place, block_place, blocks_of, blocks_of_back, op_place, ops_of, ops_of_back, parent_of_region,
@@ -77,6 +77,15 @@ impl Lab {
         let letter = letter_of(&edit);
         let answer = self.run_one(edit)?;
         Ok(answer_text(self.alloc(), letter, answer)?)
+    }
+
+    /// Carries the edits of a text out in order, which has lines of edits alone, and answers each.
+    ///
+    /// # Errors
+    /// `Malformed` where a line is no edit, and `OutOfMemory`.
+    pub fn run_text(&mut self, text: &str) -> Result<Vec<Answer>, LabError> {
+        let edits = parse_edits(self.alloc(), text)?;
+        Ok(self.run(edits)?)
     }
 
     /// All that is read of the session.
