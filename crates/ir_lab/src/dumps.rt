@@ -136,14 +136,15 @@ fn write_places(
 
 // Whether the second list is the first backward.
 fn is_backward(forward: &[usize], backward: &[usize]) -> bool {
-    let mut left = backward;
-    for number in forward {
-        match left {
-            [rest @ .., last] if *last == *number => left = rest,
-            _ => return false,
+    if forward.len() != backward.len() {
+        return false;
+    }
+    for (number, other) in forward.iter().zip(backward.iter().rev()) {
+        if *number != *other {
+            return false;
         }
     }
-    left.is_empty()
+    true
 }
 
 // Writes a list as it is walked forward, and where it doesn't agree how it is walked backward, and its ends.

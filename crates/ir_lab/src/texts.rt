@@ -5,6 +5,9 @@ use crate::lab::Lab;
 use ir_base::Limits;
 use std::alloc::{AllocError, Global};
 
+// What an edit is answered that memory refuses.
+const OUT_OF_MEMORY: &str = "refused memory";
+
 // Stands below an edit that changes nothing.
 const NOTHING: &str = "  nothing\n";
 
@@ -90,7 +93,7 @@ impl Lab {
         self.try_edit(head, line, wanted, below)
     }
 
-    // The same for an edit or a question. The session is shown only where something is said of what changes.
+    // The same for an edit or a question.
     fn try_edit(
         &mut self,
         head: &str,
@@ -98,12 +101,9 @@ impl Lab {
         wanted: &str,
         below: &str,
     ) -> Result<Option<String>, LabError> {
-        if below.is_empty() && !wanted.starts_with("refused") {
-            return self.try_answer(head, line, wanted);
-        }
         let before = self.dump()?;
-        let difference = self.try_answer(head, line, wanted)?;
-        if difference.is_some() {
+        let difference = self.try_answer(head, line, wanted, &before)?;
+        if difference.is_some() || (below.is_empty() && !wanted.starts_with("refused")) {
             return Ok(difference);
         }
         let after = self.dump()?;
@@ -112,19 +112,30 @@ impl Lab {
         self.compare(head, below, &changed)
     }
 
-    // The same for the answer alone.
+    // The same for the answer alone, where this was shown before.
     fn try_answer(
         &mut self,
         head: &str,
         line: &str,
         wanted: &str,
+        before: &str,
     ) -> Result<Option<String>, LabError> {
         match self.edit(line) {
             Ok(answer) if answer.as_str() == wanted => Ok(None),
+            Ok(answer) if answer.as_str() == OUT_OF_MEMORY => self.expect_unchanged(head, before),
             Ok(answer) => self.tell(head, &answer),
             Err(LabError::Malformed) => self.tell(head, "is no edit and no question"),
             Err(error) => Err(error),
         }
+    }
+
+    // An edit was refused for want of memory, which ends a text, and must have changed nothing.
+    fn expect_unchanged(&self, head: &str, before: &str) -> Result<Option<String>, LabError> {
+        let after = self.dump()?;
+        if after.as_str() == before {
+            return Err(LabError::OutOfMemory);
+        }
+        self.tell(head, "was refused, and changed something")
     }
 
     // A difference at this line.

@@ -1,4 +1,4 @@
-//! A plain model of a session over the dialect Toy, in which everything is found by searching, and random edits for it.
+//! A plain model of a session over the dialect Toy, in which everything is found by searching, and random edits for it. Of types it has integers alone, and slots are counted right where there is one slot, or each serves once, or none is ever spent.
 //!
 //! It supports tests, and promises nothing but safety: no contract says what a call answers.
 #![tactic(auto)]

@@ -10,4 +10,6 @@ mod model_tests;
 #[cfg(test)]
 mod random_lists;
 #[cfg(test)]
+mod seeds;
+#[cfg(test)]
 mod two_runs_tests;

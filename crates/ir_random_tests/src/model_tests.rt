@@ -1,10 +1,10 @@
 //! Sessions of random edits: after each edit the answer and the whole dump are those of the plain model.
 
+use crate::seeds::further;
 use ir_base::{Answer, Limits, Refused};
 use ir_lab::{Lab, LabError};
 use ir_plain::{CHOICES, Plain, RandomEdits};
-use std::alloc::{Alloc, AllocError, Global};
-use std::env::{self, Env};
+use std::alloc::{AllocError, Global};
 use std::process::Abort;
 use std::test::Fail;
 
@@ -161,11 +161,29 @@ fn expect_each_choice(rt: &impl Abort, tally: &Tally) {
     }
 }
 
+// Forty sessions with ample room. Each choice is accepted and refused in some.
+fn run_forty(rt: &impl Abort, alloc: Global, first: u64) -> Result<(), LabError> {
+    let tally = run_seeds(rt, alloc, Limits::default(), first, 40)?;
+    expect_sums(rt, &tally, 1_300, 1_300);
+    expect_each_choice(rt, &tally);
+    Ok(())
+}
+
 #[test]
 fn random_edits_agree(rt: HostRuntime) -> Result<(), Fail> {
-    let tally = run_seeds(&rt, rt.alloc(), Limits::default(), 1, 120)?;
-    expect_sums(&rt, &tally, 4_000, 4_000);
-    expect_each_choice(&rt, &tally);
+    run_forty(&rt, rt.alloc(), 1)?;
+    Ok(())
+}
+
+#[test]
+fn random_edits_of_other_seeds_agree(rt: HostRuntime) -> Result<(), Fail> {
+    run_forty(&rt, rt.alloc(), 101)?;
+    Ok(())
+}
+
+#[test]
+fn random_edits_of_third_seeds_agree(rt: HostRuntime) -> Result<(), Fail> {
+    run_forty(&rt, rt.alloc(), 201)?;
     Ok(())
 }
 
@@ -197,19 +215,10 @@ fn random_edits_agree_where_numbers_are_spent(rt: HostRuntime) -> Result<(), Fai
     Ok(())
 }
 
-// The number in an environment variable, or the other one where none is there.
-fn number_in<R: Env + Alloc>(rt: &R, name: &str, otherwise: u64) -> u64 {
-    match env::var(rt, name) {
-        Ok(text) => text.parse().unwrap_or(otherwise),
-        Err(_) => otherwise,
-    }
-}
-
-// Further sessions under all of the limits: as many as the environment's SEEDS says, from its FIRST_SEED on.
+// Further sessions under all of the limits, with the seeds that the environment asks for.
 #[test]
 fn further_seeds(rt: HostRuntime) -> Result<(), Fail> {
-    let first = number_in(&rt, "FIRST_SEED", 10_000);
-    let count = number_in(&rt, "SEEDS", 1);
+    let (first, count) = further(&rt);
     run_seeds(&rt, rt.alloc(), Limits::default(), first, count)?;
     run_seeds(&rt, rt.alloc(), few_slots(), first, count)?;
     run_seeds(&rt, rt.alloc(), spent_slots(), first, count)?;

@@ -1,14 +1,18 @@
 //! The law on two runs, tried from outside: the same random edits in two sessions, which have other limits and in which other slots were used, give the same answers and the same dump.
 
 use crate::random_lists::random_list;
+use crate::seeds::further;
 use ir_base::{Answer, Limits, Refused};
 use ir_lab::{Lab, LabError};
 use std::alloc::Global;
 use std::process::Abort;
 use std::test::Fail;
 
+// How many lists are done one after the other in two sessions.
+const LISTS: u64 = 4;
+
 // How many random edits a list has.
-const EDITS: usize = 40;
+const EDITS: usize = 10;
 
 // Types, and three operations and three blocks that are erased then.
 const BEGINNING: &str = "
@@ -87,7 +91,23 @@ fn accepted(answers: &[Answer]) -> usize {
 }
 
 // Does the edits of this seed in both sessions, and answers how many were accepted.
-fn run_both(
+fn run_list(
+    rt: &impl Abort,
+    first: &mut Lab,
+    second: &mut Lab,
+    seed: u64,
+) -> Result<usize, LabError> {
+    let answers = answers_to(first, seed)?;
+    let again = answers_to(second, seed)?;
+    assert_eq!(rt; answers.as_slice(), again.as_slice(), "seed {seed}");
+    let shown = first.dump()?;
+    let shown_again = second.dump()?;
+    assert_eq!(rt; shown, shown_again, "seed {seed}");
+    Ok(accepted(&answers))
+}
+
+// Does the lists from this seed on in both sessions, and answers how many edits were accepted.
+fn run_lists(
     rt: &impl Abort,
     first: &mut Lab,
     second: &mut Lab,
@@ -97,13 +117,12 @@ fn run_both(
     start(rt, second, FROM_THE_LAST)?;
     let places = (first.edit("place o3")?, second.edit("place o3")?);
     assert!(rt; places.0 != places.1);
-    let answers = answers_to(first, seed)?;
-    let again = answers_to(second, seed)?;
-    assert_eq!(rt; answers.as_slice(), again.as_slice(), "seed {seed}");
-    let shown = first.dump()?;
-    let shown_again = second.dump()?;
-    assert_eq!(rt; shown, shown_again, "seed {seed}");
-    Ok(accepted(&answers))
+    let mut done = 0usize;
+    for list in 0..LISTS {
+        let accepted = run_list(rt, first, second, seed.wrapping_add(list))?;
+        done = done.saturating_add(accepted);
+    }
+    Ok(done)
 }
 
 // The same in two new sessions.
@@ -121,7 +140,7 @@ fn run_twice(rt: &impl Abort, alloc: Global, seed: u64) -> Result<usize, LabErro
         first.finish();
         return Ok(0);
     };
-    let outcome = run_both(rt, &mut first, &mut second, seed);
+    let outcome = run_lists(rt, &mut first, &mut second, seed);
     second.finish();
     first.finish();
     outcome
@@ -130,11 +149,12 @@ fn run_twice(rt: &impl Abort, alloc: Global, seed: u64) -> Result<usize, LabErro
 // A thousand lists from this seed on, of whose edits more than a third are accepted, and more than a tenth refused.
 fn run_thousand(rt: &impl Abort, alloc: Global, from: u64) -> Result<(), LabError> {
     let mut done = 0usize;
-    for seed in 0..1_000 {
-        done = done.saturating_add(run_twice(rt, alloc, from.wrapping_add(seed))?);
+    for number in 0..250 {
+        let seed = from.wrapping_add(number * LISTS);
+        done = done.saturating_add(run_twice(rt, alloc, seed)?);
     }
-    assert!(rt; done > 14_000, "{done} accepted");
-    assert!(rt; done < 36_000, "{done} accepted");
+    assert!(rt; done > 3_400, "{done} accepted");
+    assert!(rt; done < 9_000, "{done} accepted");
     Ok(())
 }
 
@@ -145,15 +165,36 @@ fn two_runs_show_the_same(rt: HostRuntime) -> Result<(), Fail> {
 }
 
 #[test]
-fn two_runs_show_the_same_again(rt: HostRuntime) -> Result<(), Fail> {
+fn two_runs_of_a_second_thousand(rt: HostRuntime) -> Result<(), Fail> {
     run_thousand(&rt, rt.alloc(), 1_000)?;
+    Ok(())
+}
+
+#[test]
+fn two_runs_of_a_third_thousand(rt: HostRuntime) -> Result<(), Fail> {
     run_thousand(&rt, rt.alloc(), 2_000)?;
     Ok(())
 }
 
 #[test]
-fn two_runs_show_the_same_further(rt: HostRuntime) -> Result<(), Fail> {
+fn two_runs_of_a_fourth_thousand(rt: HostRuntime) -> Result<(), Fail> {
     run_thousand(&rt, rt.alloc(), 3_000)?;
+    Ok(())
+}
+
+#[test]
+fn two_runs_of_a_fifth_thousand(rt: HostRuntime) -> Result<(), Fail> {
     run_thousand(&rt, rt.alloc(), 4_000)?;
+    Ok(())
+}
+
+// Further lists: four for each of the seeds that the environment asks for.
+#[test]
+fn two_runs_of_further_seeds(rt: HostRuntime) -> Result<(), Fail> {
+    let (first, count) = further(&rt);
+    for number in 0..count {
+        let seed = first.wrapping_add(number.wrapping_mul(LISTS));
+        let _accepted = run_twice(&rt, rt.alloc(), seed)?;
+    }
     Ok(())
 }
