@@ -60,22 +60,22 @@ impl Lab {
     /// # Errors
     /// `OutOfMemory`.
     pub fn follow(&mut self, text: &str) -> Result<Option<String>, LabError> {
-        let mut head = "";
+        let mut head = String::new(self.alloc());
         let mut below = String::new(self.alloc());
         for line in text.split('\n') {
             if line.starts_with(' ') {
-                below.push_str(line)?;
-                below.push_str("\n")?;
+                write!(below, "{line}\n")?;
             } else {
-                let difference = self.try_line(head, &below)?;
+                let difference = self.try_line(&head, &below)?;
                 if difference.is_some() {
                     return Ok(difference);
                 }
-                head = line;
+                head.clear();
+                head.push_str(line)?;
                 below.clear();
             }
         }
-        self.try_line(head, &below)
+        self.try_line(&head, &below)
     }
 
     // The same for one line, and what stands below it.

@@ -32,6 +32,11 @@ impl RandomEdits {
             .unwrap_or(0)
     }
 
+    // A number below the bound, as one of 32 bits.
+    fn small(&mut self, bound: usize) -> u32 {
+        u32::try_from(self.below(bound)).unwrap_or(0)
+    }
+
     // The number of one of the last entries of a table, and now and then of one that isn't there.
     fn entry(&mut self, count: usize) -> usize {
         if self.below(24) == 0 {
@@ -121,7 +126,7 @@ impl RandomEdits {
     fn making(&mut self, plain: &Plain, choice: usize) -> Result<Edit<Toy>, AllocError> {
         Ok(match choice {
             0 => Edit::NewType(ToyType::Int {
-                width: self.below(4) as u32,
+                width: self.small(4),
             }),
             1..=6 => self.new_op(plain)?,
             _ => Edit::NewBlock {
@@ -158,7 +163,7 @@ impl RandomEdits {
     }
 
     fn new_op(&mut self, plain: &Plain) -> Result<Edit<Toy>, AllocError> {
-        let kind = self.below(9) as u32;
+        let kind = self.small(9);
         let types = self.types(plain)?;
         let mut operands = Vec::new(plain.alloc);
         for _operand in 0..self.below(3) {

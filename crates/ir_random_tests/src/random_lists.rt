@@ -21,6 +21,11 @@ impl RandomEdits {
             .unwrap_or(0)
     }
 
+    // A number below the bound, as one of 32 bits.
+    fn small(&mut self, bound: usize) -> u32 {
+        u32::try_from(self.below(bound)).unwrap_or(0)
+    }
+
     fn ty(&mut self) -> usize {
         let chosen = self.below(13);
         if chosen < 12 { chosen % 2 } else { 2 }
@@ -63,7 +68,7 @@ impl RandomEdits {
             successors.push(self.block())?;
         }
         Ok(Edit::NewOp {
-            kind: self.below(9) as u32,
+            kind: self.small(9),
             types,
             operands,
             successors,
@@ -75,7 +80,7 @@ impl RandomEdits {
     fn making(&mut self, choice: usize) -> Result<Edit<Toy>, AllocError> {
         Ok(match choice {
             0 => Edit::NewType(ToyType::Int {
-                width: self.below(4) as u32,
+                width: self.small(4),
             }),
             1 | 2 => Edit::NewBlock {
                 label: None,
