@@ -33,13 +33,17 @@ impl Tally {
 
     // Counts the answer to an edit of the choice.
     fn count(&mut self, choice: usize, answer: Answer) {
-        let counts = match answer {
-            Answer::Refused(_) => &mut self.refused,
-            _ => &mut self.accepted,
-        };
-        if let Some(count) = counts.get_mut(choice) {
-            *count = count.saturating_add(1);
+        match answer {
+            Answer::Refused(_) => count_one(&mut self.refused, choice),
+            _ => count_one(&mut self.accepted, choice),
         }
+    }
+}
+
+// Counts one more of the choice.
+fn count_one(counts: &mut Vec<usize>, choice: usize) {
+    if let Some(count) = counts.get_mut(choice) {
+        *count = count.saturating_add(1);
     }
 }
 
