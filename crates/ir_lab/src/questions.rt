@@ -1,0 +1,120 @@
+//! What is asked of a session beside its dump.
+
+use crate::error::LabError;
+use crate::fields::{number, take_field};
+use crate::tables::Tables;
+use ir_base::{Identifier, Ptr};
+use ir_names::Named;
+use ir_toy::Toy;
+use ir_view::{BasicBlock, BlockPtr, Context, OperationPtr, ValueQueries};
+use std::alloc::AllocError;
+
+/// The answer to a question; none where the line is none.
+pub(crate) fn question(
+    ctx: &Context<Toy>,
+    tables: &Tables,
+    line: &str,
+) -> Result<Option<String>, LabError> {
+    let Some((word, rest)) = take_field(line) else {
+        return Ok(None);
+    };
+    let mut text = String::new(ctx.alloc());
+    if word == "room" {
+        write_room(&mut text, ctx)?;
+    } else if word == "is-empty" {
+        let answer = if ctx.is_ir_empty() { "yes" } else { "no" };
+        text.push_str(answer)?;
+    } else if word == "place" {
+        write_place(&mut text, tables, rest)?;
+    } else if word == "deref" {
+        write_deref(&mut text, ctx, tables, rest)?;
+    } else if word == "find-index" {
+        write_index(&mut text, ctx, tables, rest)?;
+    } else if word == "id" {
+        write_id(&mut text, ctx, tables, rest)?;
+    } else {
+        return Ok(None);
+    }
+    Ok(Some(text))
+}
+
+// Writes how many numbers and slots are left.
+fn write_room(text: &mut String, ctx: &Context<Toy>) -> Result<(), AllocError> {
+    let room = ctx.room();
+    write!(text, "values {} uses {}", room.values, room.uses)?;
+    write!(text, " ops {} blocks {}", room.ops, room.blocks)?;
+    write!(text, " regions {}", room.regions)
+}
+
+// An item of a table by its name with the letter.
+fn named<T: Copy + Drop>(letter: char, table: &[T], name: &str) -> Option<T> {
+    table.get(number(letter, name)?).copied()
+}
+
+// Writes slot and version of an operation or a block.
+fn write_place(text: &mut String, tables: &Tables, name: &str) -> Result<(), LabError> {
+    if let Some(op) = named('o', &tables.ops, name) {
+        return Ok(write!(text, "{}", op.index())?);
+    }
+    match named('b', &tables.blocks, name) {
+        Some(block) => Ok(write!(text, "{}", block.index())?),
+        None => Err(LabError::Malformed),
+    }
+}
+
+// Writes whether the handle of an operation or a block leads to it.
+fn write_deref(
+    text: &mut String,
+    ctx: &Context<Toy>,
+    tables: &Tables,
+    name: &str,
+) -> Result<(), LabError> {
+    let fault = if let Some(op) = named('o', &tables.ops, name) {
+        op.try_deref(ctx).err()
+    } else if let Some(block) = named('b', &tables.blocks, name) {
+        block.try_deref(ctx).err()
+    } else {
+        return Err(LabError::Malformed);
+    };
+    match fault {
+        Some(fault) => Ok(write!(text, "{fault}")?),
+        None => Ok(text.push_str("live")?),
+    }
+}
+
+// Writes where a value stands, or why it stands nowhere.
+fn write_index(
+    text: &mut String,
+    ctx: &Context<Toy>,
+    tables: &Tables,
+    name: &str,
+) -> Result<(), LabError> {
+    let Some(value) = named('v', &tables.values, name) else {
+        return Err(LabError::Malformed);
+    };
+    match value.try_find_index(ctx) {
+        Ok(index) => Ok(write!(text, "{index}")?),
+        Err(fault) => Ok(write!(text, "{fault}")?),
+    }
+}
+
+// The id of a live block.
+fn block_id(ctx: &Context<Toy>, block: Ptr<BasicBlock<Toy>>) -> Result<Identifier, LabError> {
+    if !block.is_live(ctx) {
+        return Err(LabError::Malformed);
+    }
+    Ok(block.id(ctx)?)
+}
+
+// Writes the id of a live block.
+fn write_id(
+    text: &mut String,
+    ctx: &Context<Toy>,
+    tables: &Tables,
+    name: &str,
+) -> Result<(), LabError> {
+    let Some(block) = named('b', &tables.blocks, name) else {
+        return Err(LabError::Malformed);
+    };
+    Ok(write!(text, "{}", block_id(ctx, block)?)?)
+}

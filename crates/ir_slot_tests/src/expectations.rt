@@ -1,0 +1,20 @@
+//! What a session must do.
+
+use ir_base::Limits;
+use ir_lab::{LabError, first_difference};
+use std::alloc::Global;
+use std::process::Abort;
+
+/// Asserts that a session with these limits does what the beginning and then the text say.
+pub(crate) fn expect_within(
+    rt: &impl Abort,
+    alloc: Global,
+    limits: Limits,
+    beginning: &str,
+    text: &str,
+) -> Result<(), LabError> {
+    if let Some(difference) = first_difference(alloc, limits, beginning, text)? {
+        assert!(rt; false, "{difference}");
+    }
+    Ok(())
+}
