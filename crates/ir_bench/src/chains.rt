@@ -21,10 +21,11 @@ fn timed_unlinked<D: Dialects>(
 ) -> anyhow::Result<()> {
     let mut first = first;
     let mut second = second;
+    let successors = [];
     for _i in 0..count {
         let types = [ty];
         let operands = [first, second];
-        let op = new_op(ctx, 1, &types, &operands, &[], 0)?;
+        let op = new_op(ctx, 1, &types, &operands, &successors, 0)?;
         made.push(op)?;
         first = second;
         second = result(ctx, op, 0)?;
