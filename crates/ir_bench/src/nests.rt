@@ -98,8 +98,8 @@ pub(crate) fn module_erased<C: CpuClock, D: Dialects>(
     run_of(start, end, entities, entities as u64)
 }
 
-// Makes a nest so many levels deep, each of a region, a block and an operation, from the outermost on, and answers its ends: the outer one first.
-fn nest_from_above<D: Dialects>(
+/// Makes a nest so many levels deep, each of a region, a block and an operation, from the outermost on, and answers its ends: the outer one first.
+pub(crate) fn nest_from_above<D: Dialects>(
     ctx: &mut Context<D>,
     levels: usize,
 ) -> Result<(Ptr<Operation<D>>, Ptr<Operation<D>>), CheckedErr> {
@@ -163,8 +163,8 @@ fn timed_nest_below<D: Dialects>(ctx: &mut Context<D>, levels: usize) -> Result<
     Ok(is_below(ctx, inner, outer))
 }
 
-// What comes of a nest so many levels deep, built or asked from this time to that.
-fn nest_outcome(start: u64, end: u64, levels: usize) -> Run {
+/// What comes of a nest so many levels deep, built or asked from this time to that.
+pub(crate) fn nest_outcome(start: u64, end: u64, levels: usize) -> Run {
     let units = levels.wrapping_mul(3).wrapping_add(2);
     run_of(start, end, units, levels as u64)
 }

@@ -1,7 +1,7 @@
-//! A module that is verified.
+//! A module and a deep nest that are verified.
 
 use crate::building::{add_op, build};
-use crate::nests::{add_function, entities_of, with_block};
+use crate::nests::{add_function, entities_of, nest_from_above, nest_outcome, with_block};
 use crate::outcome::{Run, nanos_now, run_of};
 use anyhow::bail;
 use ir_base::{Dialects, Ptr, TypeHandle};
@@ -49,4 +49,16 @@ pub(crate) fn verifying<C: CpuClock>(
     }
     let entities = entities_of(count / 8);
     run_of(start, end, entities, entities as u64)
+}
+
+/// A nest N/3 deep is verified. Its building isn't timed. The units are the entities.
+pub(crate) fn verifying_deep<C: CpuClock>(rt: &C, ctx: &mut Context<Toy>, count: usize) -> Run {
+    let (outer, _inner) = nest_from_above(ctx, count / 3)?;
+    let start = nanos_now(rt)?;
+    let well = timed_verifying(ctx, outer);
+    let end = nanos_now(rt)?;
+    if !well {
+        bail!("something is wrong with the nest");
+    }
+    nest_outcome(start, end, count / 3)
 }

@@ -12,7 +12,7 @@ use crate::outcome::Run;
 use crate::sweeps::{sweep_back, sweep_front, sweep_none};
 use crate::types::interning;
 use crate::uses::{argument_users, replacing, replacing_in_one};
-use crate::verifying::verifying;
+use crate::verifying::{verifying, verifying_deep};
 use ir_checked::Context;
 use ir_toy_verifiers::{Toy, ToyType};
 use std::alloc::Global;
@@ -61,6 +61,8 @@ pub enum Workload {
     NestBelow,
     /// A module of N/8 functions is verified.
     Verifying,
+    /// A nest N/3 deep is verified.
+    VerifyingDeep,
     /// A dead chain of N operations, each of which uses the one before, is swept.
     SweepFront,
     /// The same, with each operation in front of the one that it uses.
@@ -81,7 +83,7 @@ pub enum Workload {
 
 impl Workload {
     /// All of them, in the order in which they are printed.
-    pub(crate) fn all() -> [Workload; 28] {
+    pub(crate) fn all() -> [Workload; 29] {
         [
             Workload::Unlinked,
             Workload::Building,
@@ -103,6 +105,7 @@ impl Workload {
             Workload::NestAbove,
             Workload::NestBelow,
             Workload::Verifying,
+            Workload::VerifyingDeep,
             Workload::SweepFront,
             Workload::SweepBack,
             Workload::SweepNone,
@@ -137,6 +140,7 @@ impl Workload {
             Workload::NestAbove => "nest_above",
             Workload::NestBelow => "nest_below",
             Workload::Verifying => "v",
+            Workload::VerifyingDeep => "v_deep",
             Workload::SweepFront => "sweep_front",
             Workload::SweepBack => "sweep_back",
             Workload::SweepNone => "sweep_none",
@@ -178,6 +182,7 @@ impl Workload {
             Workload::NestAbove => nest_above(rt, ctx, count),
             Workload::NestBelow => nest_below(rt, ctx, count),
             Workload::Verifying => verifying(rt, ctx, ty, count),
+            Workload::VerifyingDeep => verifying_deep(rt, ctx, count),
             Workload::SweepFront => sweep_front(rt, ctx, ty, count),
             Workload::SweepBack => sweep_back(rt, ctx, ty, count),
             Workload::SweepNone => sweep_none(rt, ctx, ty, count),
