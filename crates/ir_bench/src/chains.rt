@@ -11,7 +11,7 @@ use std::time::CpuClock;
 
 // Makes so many operations and puts their handles behind the others.
 #[inline(never)]
-fn timed_unlinked<D: Dialects>(
+fn timed_checked<D: Dialects>(
     ctx: &mut Context<D>,
     ty: TypeHandle,
     first: Value<D>,
@@ -33,14 +33,17 @@ fn timed_unlinked<D: Dialects>(
     Ok(())
 }
 
-// Makes an operation with one result of this type, and gives the result.
-fn new_value<D: Dialects>(ctx: &mut Context<D>, ty: TypeHandle) -> Result<Value<D>, CheckedErr> {
+/// Makes an operation with one result of this type, and gives the result.
+pub(crate) fn new_value<D: Dialects>(
+    ctx: &mut Context<D>,
+    ty: TypeHandle,
+) -> Result<Value<D>, CheckedErr> {
     let op = new_op(ctx, 0, &[ty], &[], &[], 0)?;
     result(ctx, op, 0)
 }
 
-/// N operations without a block.
-pub(crate) fn unlinked<C: CpuClock, D: Dialects>(
+/// N operations without a block, by calls whose conditions are tested.
+pub(crate) fn unlinked_checked<C: CpuClock, D: Dialects>(
     rt: &C,
     ctx: &mut Context<D>,
     ty: TypeHandle,
@@ -50,7 +53,7 @@ pub(crate) fn unlinked<C: CpuClock, D: Dialects>(
     let second = new_value(ctx, ty)?;
     let mut made = Vec::with_capacity(ctx.alloc(), count)?;
     let start = nanos_now(rt)?;
-    timed_unlinked(ctx, ty, first, second, count, &mut made)?;
+    timed_checked(ctx, ty, first, second, count, &mut made)?;
     let end = nanos_now(rt)?;
     run_of(start, end, count, uses_sum(ctx, made.as_slice())?)
 }

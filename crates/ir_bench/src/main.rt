@@ -14,6 +14,7 @@ mod operands;
 mod outcome;
 mod random;
 mod report;
+mod settled;
 mod sweeps;
 mod types;
 mod uses;

@@ -1,6 +1,6 @@
 //! What is timed. Each workload has functions named `timed_..` that are the timed part and nothing more.
 
-use crate::chains::{building, rebuilding, unlinked};
+use crate::chains::{building, rebuilding, unlinked_checked};
 use crate::definitions::{arguments_front, results_front};
 use crate::lists::{blocks, front_to_back, random_moves};
 use crate::nests::{deep, deep_asked, module_built, module_erased, nest_above, nest_below};
@@ -9,6 +9,7 @@ use crate::operands::{
     replacements,
 };
 use crate::outcome::Run;
+use crate::settled::unlinked;
 use crate::sweeps::{sweep_back, sweep_front, sweep_none};
 use crate::types::interning;
 use crate::uses::{argument_users, replacing, replacing_in_one};
@@ -23,6 +24,8 @@ use std::time::CpuClock;
 pub enum Workload {
     /// N operations without a block, each with one result and the results of the two before as operands.
     Unlinked,
+    /// The same by calls whose conditions are tested, as all workloads below are.
+    UnlinkedChecked,
     /// N such operations at the back of a block.
     Building,
     /// N uses of one value, each by an operation of its own, come to name another value, and back.
@@ -83,9 +86,10 @@ pub enum Workload {
 
 impl Workload {
     /// All of them, in the order in which they are printed.
-    pub(crate) fn all() -> [Workload; 29] {
+    pub(crate) fn all() -> [Workload; 30] {
         [
             Workload::Unlinked,
+            Workload::UnlinkedChecked,
             Workload::Building,
             Workload::Replacing,
             Workload::Rebuilding,
@@ -121,6 +125,7 @@ impl Workload {
     pub(crate) fn name(self) -> &'static str {
         match self {
             Workload::Unlinked => "unlinked",
+            Workload::UnlinkedChecked => "unlinked_checked",
             Workload::Building => "a",
             Workload::Replacing => "b",
             Workload::Rebuilding => "c",
@@ -163,6 +168,7 @@ impl Workload {
         let ty = ctx.instantiate_key(ToyType::Int { width: 32 })?;
         match self {
             Workload::Unlinked => unlinked(rt, ctx, ty, count),
+            Workload::UnlinkedChecked => unlinked_checked(rt, ctx, ty, count),
             Workload::Building => building(rt, ctx, ty, count),
             Workload::Replacing => replacing(rt, ctx, ty, count),
             Workload::Rebuilding => rebuilding(rt, ctx, ty, count),

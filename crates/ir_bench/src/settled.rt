@@ -1,0 +1,59 @@
+//! Operations that are made with nothing tested: each call settles what the next one asks, and that is proved.
+
+ghost use Rattle.std.specs.Prelude.{◌<◌, length};
+ghost use Rattle.ir_model.specs.Forest.{a_value};
+ghost use Rattle.ir_model.specs.Nesting.{IsLiveNamed};
+ghost use Rattle.ir_records.specs.Meaning.{value_of};
+ghost use Rattle.ir_view.specs.State.{forest_of, types_of};
+
+use crate::chains::new_value;
+use crate::outcome::{Run, nanos_now, run_of, uses_sum};
+use anyhow::bail;
+use ir_base::{CoreError, Dialects, Ptr, TypeHandle};
+use ir_view::{Context, NewOperation, Operation, OperationPtr, TypeQueries, Value, ValueQueries};
+use std::time::CpuClock;
+
+// Makes so many operations and puts their handles behind the others.
+#[inline(never)]
+fn timed_unlinked<D: Dialects>(
+    ctx: &mut Context<D>,
+    ty: TypeHandle,
+    mut first: Value<D>,
+    mut second: Value<D>,
+    count: usize,
+    made: &mut Vec<Ptr<Operation<D>>>,
+) -> Result<(), CoreError>
+    requires known { ty.place < length (types_of ctx.old) }
+    requires first { IsLiveNamed (forest_of ctx.old) (a_value (value_of first.index)) }
+    requires second { IsLiveNamed (forest_of ctx.old) (a_value (value_of second.index)) }
+{
+    let successors = [];
+    for _i in 0..count {
+        let types = [ty];
+        let operands = [first, second];
+        let op = Operation::new(ctx, 1, &types, &operands, &successors, 0)?;
+        made.push(op)?;
+        first = second;
+        second = op.deref(ctx).get_result(0);
+    }
+    Ok(())
+}
+
+/// N operations without a block.
+pub(crate) fn unlinked<C: CpuClock, D: Dialects>(
+    rt: &C,
+    ctx: &mut Context<D>,
+    ty: TypeHandle,
+    count: usize,
+) -> Run {
+    let first = new_value(ctx, ty)?;
+    let second = new_value(ctx, ty)?;
+    let mut made = Vec::with_capacity(ctx.alloc(), count)?;
+    if !ty.is_known(ctx) || !first.is_live(ctx) || !second.is_live(ctx) {
+        bail!("a type or a value is gone");
+    }
+    let start = nanos_now(rt)?;
+    timed_unlinked(ctx, ty, first, second, count, &mut made)?;
+    let end = nanos_now(rt)?;
+    run_of(start, end, count, uses_sum(ctx, made.as_slice())?)
+}
