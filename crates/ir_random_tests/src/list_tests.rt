@@ -1,7 +1,7 @@
 //! Random edits of lists and nesting: after each, what it touched is what the plain model has, and after each hundredth so is all.
 
 use crate::lists::expect_lists;
-use ir_base::{Answer, Limits};
+use ir_base::{Answer, Limits, Refused};
 use ir_lab::{Lab, LabError};
 use ir_plain::Plain;
 use ir_run::Edit;
@@ -120,6 +120,9 @@ fn edit(
 ) -> Result<bool, LabError> {
     let wanted = plain.step(&next)?;
     let answer = lab.run_one(next)?;
+    if answer == Answer::Refused(Refused::Memory) {
+        return Err(LabError::OutOfMemory);
+    }
     assert_eq!(rt; answer, wanted);
     Ok(!matches!(answer, Answer::Refused(_)))
 }

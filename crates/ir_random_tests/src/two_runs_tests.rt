@@ -64,6 +64,9 @@ op-back o8 b3";
 fn start(rt: &impl Abort, lab: &mut Lab, erasures: &str) -> Result<(), LabError> {
     for text in [BEGINNING, erasures, ENTITIES] {
         let answers = lab.run_text(text)?;
+        if answers.contains(&Answer::Refused(Refused::Memory)) {
+            return Err(LabError::OutOfMemory);
+        }
         assert_eq!(rt; accepted(&answers), answers.len());
     }
     Ok(())

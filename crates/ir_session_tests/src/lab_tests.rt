@@ -14,6 +14,9 @@ fn expect_difference(
     wanted: &str,
 ) -> Result<(), LabError> {
     match first_difference(alloc, Limits::default(), "new-block - - => made b0", text)? {
+        Some(difference) if difference.ends_with("\nrefused memory\n") => {
+            return Err(LabError::OutOfMemory);
+        }
         Some(difference) => assert_eq!(rt; difference.as_str(), wanted),
         None => assert!(rt; false, "{text}"),
     }

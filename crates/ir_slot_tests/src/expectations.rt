@@ -5,7 +5,13 @@ use ir_lab::{LabError, first_difference};
 use std::alloc::Global;
 use std::process::Abort;
 
+// The end of what is told of an edit that memory refused.
+const NO_MEMORY: &str = "\nrefused memory\n";
+
 /// Asserts that a session with these limits does what the beginning and then the text say.
+///
+/// # Errors
+/// `OutOfMemory`, also where it refused an edit.
 pub(crate) fn expect_within(
     rt: &impl Abort,
     alloc: Global,
@@ -14,6 +20,9 @@ pub(crate) fn expect_within(
     text: &str,
 ) -> Result<(), LabError> {
     if let Some(difference) = first_difference(alloc, limits, beginning, text)? {
+        if difference.ends_with(NO_MEMORY) {
+            return Err(LabError::OutOfMemory);
+        }
         assert!(rt; false, "{difference}");
     }
     Ok(())

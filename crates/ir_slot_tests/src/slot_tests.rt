@@ -116,6 +116,15 @@ fn room_for_operations(rt: HostRuntime) -> Result<(), Fail> {
     Ok(())
 }
 
+// The answer to a line. Want of memory ends the test.
+fn answer(lab: &mut Lab, line: &str) -> Result<String, LabError> {
+    let answer = lab.edit(line)?;
+    if answer.as_str() == "refused memory" {
+        return Err(LabError::OutOfMemory);
+    }
+    Ok(answer)
+}
+
 // Makes a block, asserts its id, and erases it.
 fn make_and_erase(
     rt: &impl Abort,
@@ -124,11 +133,11 @@ fn make_and_erase(
     version: usize,
 ) -> Result<(), LabError> {
     let alloc = lab.alloc();
-    let made = lab.edit("new-block - -")?;
+    let made = answer(lab, "new-block - -")?;
     assert_eq!(rt; made, format!(in alloc; "made b{number}")?);
-    let id = lab.edit(&format!(in alloc; "id b{number}")?)?;
+    let id = answer(lab, &format!(in alloc; "id b{number}")?)?;
     assert_eq!(rt; id, format!(in alloc; "block1v{version}")?);
-    let erased = lab.edit(&format!(in alloc; "erase-block b{number}")?)?;
+    let erased = answer(lab, &format!(in alloc; "erase-block b{number}")?)?;
     assert_eq!(rt; erased.as_str(), "done");
     Ok(())
 }
@@ -140,7 +149,7 @@ fn use_again(rt: &impl Abort, lab: &mut Lab) -> Result<(), LabError> {
         make_and_erase(rt, lab, number, version)?;
     }
     for number in 0..1000 {
-        let found = lab.edit(&format!(in alloc; "deref b{number}")?)?;
+        let found = answer(lab, &format!(in alloc; "deref b{number}")?)?;
         assert_eq!(rt; found.as_str(), "Attempt to dereference a dangling Ptr");
     }
     Ok(())
