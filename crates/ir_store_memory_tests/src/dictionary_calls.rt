@@ -69,7 +69,7 @@ fn sets(
     if dict.set(name, number(value)) == Err(CoreError::OutOfMemory) {
         let is_as_before = *dict == before;
         dict.set(again, number(value))?;
-        return Ok(is_as_before && dict.len() == before.len() + 1);
+        return Ok(is_as_before && dict.len() == before.len().wrapping_add(1));
     }
     let found = dict.get::<ToyInt>(&again);
     Ok(found.is_some_and(|number| number.value == value))
