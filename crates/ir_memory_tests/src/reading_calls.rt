@@ -132,11 +132,12 @@ fn block_place(ctx: &Context<Toy>, forest: &Forest) -> bool {
     if !block.is_live(ctx) {
         return false;
     }
-    block.get_next(ctx) == Some(forest.blocks.last)
+    let mut ops = block.iter(ctx);
+    ops.next() == Some(forest.users.jump)
+        && ops.next().is_none()
+        && block.get_next(ctx) == Some(forest.blocks.last)
         && block.get_prev(ctx) == Some(forest.blocks.entry)
         && block.get_parent_region(ctx) == Some(forest.body)
-        && block.get_head(ctx) == Some(forest.users.jump)
-        && block.iter(ctx).count() == 1
 }
 
 fn region_place(ctx: &Context<Toy>, forest: &Forest) -> bool {
@@ -144,11 +145,12 @@ fn region_place(ctx: &Context<Toy>, forest: &Forest) -> bool {
     if !region.is_live(ctx) {
         return false;
     }
-    region.get_head(ctx) == Some(forest.blocks.entry)
-        && region.get_tail(ctx) == Some(forest.blocks.last)
+    let mut blocks = region.iter(ctx);
+    blocks.next() == Some(forest.blocks.entry)
+        && blocks.next_back() == Some(forest.blocks.last)
+        && blocks.next() == Some(forest.blocks.exit)
         && region.find_index_in_parent(ctx) == 0
         && region.has_ssa_dominance(ctx)
-        && region.iter(ctx).count() == 3
 }
 
 fn of_value(ctx: &Context<Toy>, value: Value<Toy>, ty: TypeHandle) -> bool {
