@@ -1,38 +1,68 @@
 /* Loaded before the C library, it counts a program's requests for memory and refuses one of them.
  *
  * REFUSE is the number of the request that is refused, counted from 1; with 0 none is.
- * At the end the count is written to the file that REQUESTS names. */
+ * From a line `ready` on standard output to a line `done` the program means to ask for nothing.
+ * At the end three numbers are written to the file that REQUESTS names: all requests, those between such lines, and how often the one line came and then the other. */
 #define _GNU_SOURCE
 #include <dlfcn.h>
 #include <fcntl.h>
 #include <stdio.h>
 #include <stdlib.h>
+#include <string.h>
 #include <unistd.h>
 
-static long asked, refused;
+static long asked, refused, between, pairs;
+static int watching;
 
 __attribute__((constructor)) static void start(void) {
     const char *number = getenv("REFUSE");
     refused = number ? atol(number) : 0;
-    asked = 0;
+    asked = between = pairs = 0;
 }
 
 __attribute__((destructor)) static void end(void) {
     const char *path = getenv("REQUESTS");
     int file = path ? open(path, O_WRONLY | O_CREAT | O_TRUNC, 0600) : -1;
     if (file < 0) return;
-    dprintf(file, "%ld\n", asked);
+    dprintf(file, "%ld %ld %ld\n", asked, between, pairs);
     close(file);
+}
+
+static int is_refused(void) {
+    between += watching;
+    return ++asked == refused;
 }
 
 void *malloc(size_t size) {
     static void *(*next)(size_t);
     if (!next) next = (void *(*)(size_t))dlsym(RTLD_NEXT, "malloc");
-    return ++asked == refused ? NULL : next(size);
+    return is_refused() ? NULL : next(size);
 }
 
 void *realloc(void *old, size_t size) {
     static void *(*next)(void *, size_t);
     if (!next) next = (void *(*)(void *, size_t))dlsym(RTLD_NEXT, "realloc");
-    return ++asked == refused ? NULL : next(old, size);
+    return is_refused() ? NULL : next(old, size);
+}
+
+/* A line comes in one write, as the language writes it. The watch begins behind the first line, and ends before the other. */
+static ssize_t watched(ssize_t (*next)(int, const void *, size_t), int file, const void *text, size_t length) {
+    if (file != STDOUT_FILENO) return next(file, text, length);
+    if (watching && length == 5 && !memcmp(text, "done\n", 5)) {
+        watching = 0;
+        pairs++;
+    }
+    ssize_t written = next(file, text, length);
+    if (length == 6 && !memcmp(text, "ready\n", 6)) watching = 1;
+    return written;
+}
+
+ssize_t write(int file, const void *text, size_t length) {
+    static ssize_t (*next)(int, const void *, size_t);
+    if (!next) next = (ssize_t (*)(int, const void *, size_t))dlsym(RTLD_NEXT, "write");
+    return watched(next, file, text, length);
+}
+
+ssize_t __write(int file, const void *text, size_t length) {
+    return write(file, text, length);
 }
