@@ -1,0 +1,144 @@
+//! A nest 100,000 deep is made from above and from below, asked, and erased.
+
+use ir_base::{Dialects, Ptr};
+use ir_checked::{
+    CheckedErr, Context, Entity, Operation, block_at_back, can_erase, drop_op_uses, erase_op,
+    is_inside, new_block, new_op, op_at_back, region, result,
+};
+use ir_toy::{Toy, ToyType};
+use std::process::Abort;
+use std::test::Fail;
+
+const LEVELS: usize = 100000;
+
+// Puts an operation into a new block, and that into the region of the other one.
+fn wrap<D: Dialects>(
+    ctx: &mut Context<D>,
+    inner: Ptr<Operation<D>>,
+    outer: Ptr<Operation<D>>,
+) -> Result<(), CheckedErr> {
+    let block = new_block(ctx, None, &[])?;
+    op_at_back(ctx, inner, block)?;
+    let inside = region(ctx, outer, 0)?;
+    block_at_back(ctx, block, inside)
+}
+
+// Puts a new block into the region of an operation, and the other one into that.
+fn fill<D: Dialects>(
+    ctx: &mut Context<D>,
+    outer: Ptr<Operation<D>>,
+    inner: Ptr<Operation<D>>,
+) -> Result<(), CheckedErr> {
+    let block = new_block(ctx, None, &[])?;
+    let inside = region(ctx, outer, 0)?;
+    block_at_back(ctx, block, inside)?;
+    op_at_back(ctx, inner, block)
+}
+
+// A new operation with one region.
+fn with_region<D: Dialects>(ctx: &mut Context<D>) -> Result<Ptr<Operation<D>>, CheckedErr> {
+    new_op(ctx, 5, &[], &[], &[], 1)
+}
+
+// The innermost operation of a new nest under this one, made from above.
+fn nest_below<D: Dialects>(
+    ctx: &mut Context<D>,
+    outer: Ptr<Operation<D>>,
+) -> Result<Ptr<Operation<D>>, CheckedErr> {
+    let mut last = outer;
+    for _level in 0..LEVELS {
+        let next = with_region(ctx)?;
+        fill(ctx, last, next)?;
+        last = next;
+    }
+    Ok(last)
+}
+
+// The outermost operation of a new nest around this one, made from below.
+fn nest_around<D: Dialects>(
+    ctx: &mut Context<D>,
+    inner: Ptr<Operation<D>>,
+) -> Result<Ptr<Operation<D>>, CheckedErr> {
+    let mut last = inner;
+    for _level in 0..LEVELS {
+        let next = with_region(ctx)?;
+        wrap(ctx, last, next)?;
+        last = next;
+    }
+    Ok(last)
+}
+
+// Asserts that the one operation is inside the other, and not the other way round.
+fn expect_ends<D: Dialects>(
+    rt: &impl Abort,
+    ctx: &Context<D>,
+    outer: Ptr<Operation<D>>,
+    inner: Ptr<Operation<D>>,
+) {
+    assert!(rt; is_inside(ctx, Entity::Op(inner), Entity::Op(outer)));
+    assert!(rt; !is_inside(ctx, Entity::Op(outer), Entity::Op(inner)));
+}
+
+// Asserts that the nest can be erased once its uses were dropped, and that nothing is left then.
+fn expect_erased<D: Dialects>(
+    rt: &impl Abort,
+    ctx: &mut Context<D>,
+    outer: Ptr<Operation<D>>,
+) -> Result<(), CheckedErr> {
+    drop_op_uses(ctx, outer)?;
+    assert!(rt; can_erase(ctx, Entity::Op(outer))?);
+    erase_op(ctx, outer)?;
+    assert!(rt; ctx.is_ir_empty());
+    Ok(())
+}
+
+fn above<D: Dialects>(rt: &impl Abort, ctx: &mut Context<D>) -> Result<(), CheckedErr> {
+    let outer = with_region(ctx)?;
+    let inner = nest_below(ctx, outer)?;
+    expect_ends(rt, ctx, outer, inner);
+    expect_erased(rt, ctx, outer)
+}
+
+fn below<D: Dialects>(rt: &impl Abort, ctx: &mut Context<D>) -> Result<(), CheckedErr> {
+    let inner = with_region(ctx)?;
+    let outer = nest_around(ctx, inner)?;
+    expect_ends(rt, ctx, outer, inner);
+    expect_erased(rt, ctx, outer)
+}
+
+// A nest whose innermost result is used outside can be erased only once the user is gone.
+fn used<D: Dialects>(
+    rt: &impl Abort,
+    ctx: &mut Context<D>,
+    key: D::TypeKey,
+) -> Result<(), CheckedErr> {
+    let ty = ctx.instantiate_key(key)?;
+    let inner = new_op(ctx, 5, &[ty], &[], &[], 1)?;
+    let outer = nest_around(ctx, inner)?;
+    let value = result(ctx, inner, 0)?;
+    let user = new_op(ctx, 4, &[], &[value], &[], 0)?;
+    assert!(rt; !can_erase(ctx, Entity::Op(outer))?);
+    erase_op(ctx, user)?;
+    expect_erased(rt, ctx, outer)
+}
+
+#[test]
+fn nest_from_above(rt: HostRuntime) -> Result<(), Fail> {
+    let mut ctx: Context<Toy> = Context::new(rt.alloc());
+    above(&rt, &mut ctx)?;
+    Ok(())
+}
+
+#[test]
+fn nest_from_below(rt: HostRuntime) -> Result<(), Fail> {
+    let mut ctx: Context<Toy> = Context::new(rt.alloc());
+    below(&rt, &mut ctx)?;
+    Ok(())
+}
+
+#[test]
+fn used_nest(rt: HostRuntime) -> Result<(), Fail> {
+    let mut ctx: Context<Toy> = Context::new(rt.alloc());
+    used(&rt, &mut ctx, ToyType::Int { width: 32 })?;
+    Ok(())
+}
