@@ -50,7 +50,8 @@ pub(crate) fn push_linked<D: Dialects, N: Named<D>>(
     ensures rest { Rewrites N.with_places N.with_uses records.old records.new }
     ensures err { OnErr result (records.new ≡ records.old) }
 {
-    let place = N::push_use(records, names, UseIndex { user, number })?;
+    let end = N::place_count(records, user);
+    let place = N::push_use(records, names, UseIndex { user, number }, end)?;
     if N::push_place(records, user, number, names, place).is_err() {
         N::take_use(records, names, place);
         return Err(AllocError);

@@ -26,7 +26,7 @@ fn release<D: Dialects, N: Named<D>>(records: &mut Records<D>, named: N, index: 
     ensures rest { Rewrites N.with_places N.with_uses records.old records.new }
 {
     if let Some(moved) = N::take_use(records, named, index) {
-        N::set_place(records, moved, index);
+        N::set_place(records, moved.used(), moved.near(), index);
     }
 }
 
@@ -71,7 +71,7 @@ pub(crate) fn insert_linked<D: Dialects, N: Named<D>>(
     ensures rest { Rewrites N.with_places N.with_uses records.old records.new }
     ensures err { OnErr result (records.new ≡ records.old) }
 {
-    let place = N::push_use(records, names, UseIndex { user, number })?;
+    let place = N::push_use(records, names, UseIndex { user, number }, index)?;
     if N::insert_place(records, user, index, number, names, place).is_err() {
         N::take_use(records, names, place);
         return Err(AllocError);
@@ -99,7 +99,7 @@ pub(crate) fn replace_linked<D: Dialects, N: Named<D>>(
     ensures rest { Rewrites N.with_places N.with_uses records.old records.new }
     ensures err { OnErr result (records.new ≡ records.old) }
 {
-    let place = N::push_use(records, names, UseIndex { user, number })?;
+    let place = N::push_use(records, names, UseIndex { user, number }, index)?;
     let gone = N::replace_place(records, user, index, number, names, place);
     release::<D, N>(records, gone.names, gone.place);
     Ok(())

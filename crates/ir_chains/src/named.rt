@@ -15,7 +15,8 @@ ghost use Rattle.ir_records.specs.Table.{IsOp};
 use crate::use_lists::{push_use, take_use};
 use ir_base::{ArenaIndex, Dialects, Ptr};
 use ir_records::{
-    BasicBlock, BlockIndex, Definer, Records, UseIndex, UsePlace, Value, ValueIndex, find_place,
+    BasicBlock, BlockIndex, Definer, KeptUse, Records, UseIndex, UsePlace, Value, ValueIndex,
+    find_place_near,
 };
 use std::alloc::AllocError;
 use std::mem::replace;
@@ -140,21 +141,26 @@ pub trait Named<D: Dialects>: Copy + Drop {
         ensures gone { slice_get (places_at records.old user) index ≡ Some result }
         ensures records { records.new ≡ with_places records.old user (remove (places_at records.old user) index) };
 
-    // Gives the place of a use the index where that use stands now.
-    fn set_place(records: &mut Records<D>, moved: UseIndex, index: usize)
+    // Gives the place of a use, which was near an index once, the index where that use stands now.
+    fn set_place(records: &mut Records<D>, moved: UseIndex, near: usize, index: usize)
         requires live { IsLive records.old.ops moved.user }
         requires distinct { HaveDistinctUses (places_at records.old moved.user) }
         requires has { HasPlace (places_at records.old) moved }
         ensures { records.new ≡ with_places records.old moved.user (put_place (places_at records.old moved.user) moved.number index) };
 
-    // Puts a use at the end of those of what is live, and tells where it stands.
-    fn push_use(records: &mut Records<D>, named: Self, new: UseIndex) -> Result<usize, AllocError>
+    // Puts a use at the end of those of what is live, and tells where it stands. Its own place stands near an index.
+    fn push_use(
+        records: &mut Records<D>,
+        named: Self,
+        new: UseIndex,
+        near: usize,
+    ) -> Result<usize, AllocError>
         requires { IsNamed records.old named }
         ensures records { records.new ≡ (if is_ok result then with_uses records.old named (uses_at records.old named ++ new ∷ []) else records.old) }
         ensures place { IfOk result (λ place. place ≡ length (uses_at records.old named)) };
 
     // Takes the use at an index out. The last one moves there, and is given back.
-    fn take_use(records: &mut Records<D>, named: Self, index: usize) -> Option<UseIndex>
+    fn take_use(records: &mut Records<D>, named: Self, index: usize) -> Option<KeptUse>
         requires named { IsNamed records.old named }
         requires within { index < length (uses_at records.old named) }
         ensures records { (past : PlainUse) → records.new ≡ with_uses records.old named (swap_remove (uses_at records.old named) index past) }
@@ -262,9 +268,9 @@ impl<D: Dialects> Named<D> for ValueIndex {
             .remove(index)
     }
 
-    fn set_place(records: &mut Records<D>, moved: UseIndex, index: usize) {
+    fn set_place(records: &mut Records<D>, moved: UseIndex, near: usize, index: usize) {
         let operands = &mut records.ops.at_mut(Ptr::from_index(moved.user)).operands;
-        match find_place(operands.as_slice(), moved.number) {
+        match find_place_near(operands.as_slice(), moved.number, near) {
             Some(found) => operands.at_mut(found).place = index,
             None => unreachable!(),
         }
@@ -274,20 +280,21 @@ impl<D: Dialects> Named<D> for ValueIndex {
         records: &mut Records<D>,
         named: ValueIndex,
         new: UseIndex,
+        near: usize,
     ) -> Result<usize, AllocError> {
         match named.definer {
             Definer::Op(op) => {
                 let operation = records.ops.at_mut(Ptr::from_index(op));
-                push_use(operation.results.uses_mut(named.number), new)
+                push_use(operation.results.uses_mut(named.number), new, near)
             }
             Definer::Block(block) => {
                 let block = records.blocks.at_mut(Ptr::from_index(block));
-                push_use(block.arguments.uses_mut(named.number), new)
+                push_use(block.arguments.uses_mut(named.number), new, near)
             }
         }
     }
 
-    fn take_use(records: &mut Records<D>, named: ValueIndex, index: usize) -> Option<UseIndex> {
+    fn take_use(records: &mut Records<D>, named: ValueIndex, index: usize) -> Option<KeptUse> {
         match named.definer {
             Definer::Op(op) => {
                 let operation = records.ops.at_mut(Ptr::from_index(op));
@@ -400,9 +407,9 @@ impl<D: Dialects> Named<D> for BlockIndex {
             .remove(index)
     }
 
-    fn set_place(records: &mut Records<D>, moved: UseIndex, index: usize) {
+    fn set_place(records: &mut Records<D>, moved: UseIndex, near: usize, index: usize) {
         let successors = &mut records.ops.at_mut(Ptr::from_index(moved.user)).successors;
-        match find_place(successors.as_slice(), moved.number) {
+        match find_place_near(successors.as_slice(), moved.number, near) {
             Some(found) => successors.at_mut(found).place = index,
             None => unreachable!(),
         }
@@ -412,14 +419,16 @@ impl<D: Dialects> Named<D> for BlockIndex {
         records: &mut Records<D>,
         named: BlockIndex,
         new: UseIndex,
+        near: usize,
     ) -> Result<usize, AllocError> {
         push_use(
             &mut records.blocks.at_mut(Ptr::from_index(named.index)).uses,
             new,
+            near,
         )
     }
 
-    fn take_use(records: &mut Records<D>, named: BlockIndex, index: usize) -> Option<UseIndex> {
+    fn take_use(records: &mut Records<D>, named: BlockIndex, index: usize) -> Option<KeptUse> {
         take_use(
             &mut records.blocks.at_mut(Ptr::from_index(named.index)).uses,
             index,

@@ -4,25 +4,28 @@ ghost use Rattle.std.specs.Prelude.{◌≡◌, ◌<◌, ◌++◌, ◌∷◌, [],
 ghost use Rattle.std.specs.List.{swap_remove};
 ghost use Rattle.ir_records.specs.declared.record.UseIndex.{UseIndex as PlainUse};
 
-use ir_records::{UseIndex, Uses};
+use ir_records::{KeptUse, UseIndex, Uses};
 use std::alloc::AllocError;
 
-// Puts a use at the end, and tells where it stands.
-pub(crate) fn push_use(uses: &mut Uses, new: UseIndex) -> Result<usize, AllocError>
+// Puts a use whose place stands at about this index at the end, and tells where it stands itself.
+pub(crate) fn push_use(uses: &mut Uses, new: UseIndex, near: usize) -> Result<usize, AllocError>
     ensures uses { uses.new ≡ (if is_ok result then uses.old ++ new ∷ [] else uses.old) }
     ensures place { IfOk result (λ place. place ≡ length uses.old) }
 {
     let place = uses.len();
-    uses.push(new)?;
+    uses.push(KeptUse::new(new, near))?;
     Ok(place)
 }
 
 // Takes the use at a place out. The last one moves there, and is given back.
-pub(crate) fn take_use(uses: &mut Uses, place: usize) -> Option<UseIndex>
+pub(crate) fn take_use(uses: &mut Uses, place: usize) -> Option<KeptUse>
     requires { place < length uses.old }
     ensures uses { (past : PlainUse) → uses.new ≡ swap_remove uses.old place past }
     ensures moved { result ≡ slice_get uses.new place }
 {
     uses.swap_remove(place);
-    uses.get(place).copied()
+    match uses.get(place) {
+        Some(moved) => Some(moved.copy()),
+        None => None,
+    }
 }

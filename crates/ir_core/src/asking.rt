@@ -11,7 +11,7 @@ ghost use Rattle.ir_core.specs.State.{forest_of};
 
 use crate::context::Context;
 use ir_base::{ArenaIndex, CoreError, Dialects, Ptr};
-use ir_records::{BasicBlock, EntityIndex, Use, UseIndex, Value};
+use ir_records::{BasicBlock, EntityIndex, KeptUse, Use, Value};
 use ir_tree::parent_of;
 
 /// What stands for a context where a closure is handed one. Callers have no need of it: they write closures over `&Context<D>`.
@@ -56,7 +56,7 @@ impl<D: Dialects> ShownBlock<D> for Ptr<BasicBlock<D>> {
 // What the predicate answers for each of these uses, in their order.
 pub(crate) fn answers<D: Dialects, C: Shown<D>, P: Fn(&C, Use<Value<D>>) -> bool>(
     ctx: &Context<D>,
-    kept: &[UseIndex],
+    kept: &[KeptUse],
     pred: &P,
 ) -> Result<Vec<bool>, CoreError>
     requires { (context : _) (used : _) → C.shows context.now ctx.now → In used.index kept.now → P.pre pred.now context used }
@@ -65,7 +65,7 @@ pub(crate) fn answers<D: Dialects, C: Shown<D>, P: Fn(&C, Use<Value<D>>) -> bool
 {
     let mut answers = Vec::with_capacity(ctx.alloc(), kept.len())?;
     for index in kept {
-        let used = Use::from_index(*index);
+        let used = Use::from_index(index.used());
         answers.push(pred(C::of(ctx), used))?;
     }
     Ok(answers)
@@ -89,7 +89,7 @@ fn block_of_user<D: Dialects>(ctx: &Context<D>, user: ArenaIndex) -> ArenaIndex
 // What the predicate answers for the block that the user of each of these uses stands in, in their order.
 pub(crate) fn answers_for_blocks<D: Dialects, C: Shown<D>, B: ShownBlock<D>, P: Fn(&C, B) -> bool>(
     ctx: &Context<D>,
-    kept: &[UseIndex],
+    kept: &[KeptUse],
     pred: &P,
 ) -> Result<Vec<bool>, CoreError>
     requires linked { (used : _) → In used kept.now → IsLinked (forest_of ctx.now) (an_op used.user) }
@@ -99,7 +99,7 @@ pub(crate) fn answers_for_blocks<D: Dialects, C: Shown<D>, B: ShownBlock<D>, P: 
 {
     let mut answers = Vec::with_capacity(ctx.alloc(), kept.len())?;
     for index in kept {
-        let block = B::at(block_of_user(ctx, index.user));
+        let block = B::at(block_of_user(ctx, index.user()));
         answers.push(pred(C::of(ctx), block))?;
     }
     Ok(answers)

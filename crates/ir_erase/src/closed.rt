@@ -13,7 +13,7 @@ ghost use Rattle.ir_erase.specs.Closed.{EntityClosed};
 
 use crate::walk::{deepest, next_inside, subtrees_are_listed};
 use ir_base::{Dialects, Ptr};
-use ir_records::{Definition, EntityIndex, Records, UseIndex};
+use ir_records::{Definition, EntityIndex, KeptUse, Records};
 use ir_tree::{are_one, depths_follow, parent_of};
 
 // What an entity stands in, but no further out than the root.
@@ -63,7 +63,7 @@ fn are_users_inside<D: Dialects>(
     records: &Records<D>,
     root: EntityIndex,
     home: EntityIndex,
-    uses: &[UseIndex],
+    uses: &[KeptUse],
 ) -> bool
     requires nested { AreNested (tree_of records.now) }
     requires formed { Nested (forest_of records.now) }
@@ -71,7 +71,7 @@ fn are_users_inside<D: Dialects>(
     ensures { IsTrue result ↔ All (λ u. Inside (forest_of records.now) (entity_of root) (an_op u.user)) uses.now }
 {
     for used in uses {
-        if !climbs_into(records, root, home, EntityIndex::Op(used.user)) {
+        if !climbs_into(records, root, home, EntityIndex::Op(used.user())) {
             return false;
         }
     }

@@ -5,7 +5,7 @@ use denote.Param.{number}
 use Rattle.ir_arena.specs.contracts.short_seq.ShortSeq.{the_row as short_row}
 use Rattle.ir_records.specs.declared.record.UseIndex.{UseIndex}
 use Rattle.ir_records.specs.declared.record.Definition.{Definition}
-use Rattle.ir_records.specs.contracts.record.UseIndex.{the_row as use_row}
+use Rattle.ir_records.specs.contracts.kept_use.KeptUse.{the_row as use_row}
 use Rattle.ir_records.specs.contracts.definitions.Definitions.{the_row as definitions_row}
 use Rattle.ir_records.specs.Lists.{put_uses}
 

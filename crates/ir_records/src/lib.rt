@@ -7,6 +7,7 @@ mod basic_block;
 mod block_list;
 mod definitions;
 mod handles;
+mod kept_use;
 mod numbered;
 mod op_list;
 mod operation;
@@ -16,7 +17,8 @@ mod records;
 
 pub use definitions::Definitions;
 pub use handles::{DefiningEntity, Use, Value};
-pub use reads::{block_uses, definition, find_place, uses};
+pub use kept_use::KeptUse;
+pub use reads::{block_uses, definition, find_place, find_place_near, uses};
 pub use record::{
     BasicBlock, BasicBlockMut, BlockIndex, Definer, Definition, EntityIndex, Operands, Operation,
     OperationMut, Region, Successors, UseIndex, UsePlace, Uses, ValueIndex,

@@ -1,6 +1,6 @@
 //! Items of a list that are found by their numbers, of which no two are equal.
 //!
-//! A number is tried where it stands in an unbroken row, up or down, with the first item's and with the last item's: so it is found at once after items were put in, taken out or replaced one by one from either end. Where it stands at neither place, it is sought outward from the best guess, which is near where numbers are missing evenly. No answer depends on a guess.
+//! A number is tried where its item was when that was last known, if a caller knows it. Then it is tried where it stands in an unbroken row, up or down, with the first item's and with the last item's: so it is found at once after items were put in, taken out or replaced one by one from either end. Where it stands at none of these places, it is sought outward from two at once: from the best guess, which is near where numbers are missing evenly, and from where it was, which is near where few items came or went in front of it. No answer depends on a guess.
 
 ghost use Rattle.std.specs.Prelude.{◌≡◌, ◌↔◌, ℕ, ◌==◌, IsTrue, Some, map, position};
 ghost use Rattle.ir_model.specs.Ids.{Distinct};
@@ -87,8 +87,8 @@ fn is_at<T: Numbered>(items: &[T], place: usize, number: u64) -> bool
     }
 }
 
-// The place of the item with this number, sought from a place outward.
-fn find_outward<T: Numbered>(items: &[T], number: u64, place: usize) -> Option<usize>
+// The place of the item with this number, sought outward from two places at once.
+fn find_outward<T: Numbered>(items: &[T], number: u64, place: usize, near: usize) -> Option<usize>
     requires { Distinct (map (λ x. T.number_of x) items.now) }
     ensures { result ≡ position (λ x. T.number_of x == number) items.now }
 {
@@ -102,13 +102,21 @@ fn find_outward<T: Numbered>(items: &[T], number: u64, place: usize) -> Option<u
         if is_at(items, before, number) {
             return Some(before);
         }
+        let later = near.saturating_add(away);
+        if is_at(items, later, number) {
+            return Some(later);
+        }
+        let earlier = near.saturating_sub(away);
+        if is_at(items, earlier, number) {
+            return Some(earlier);
+        }
     }
     None
 }
 
-// The place of the item with this number. It is tried where it stands if numbers go on to the last item's, and then sought outward from the place, of all that were guessed, that has the nearest number.
+// The place of the item with this number. It is tried where it stands if numbers go on to the last item's, and then sought outward from where it was, and from the place, of all that were guessed, that has the nearest number.
 #[inline(never)]
-fn find_elsewhere<T: Numbered>(items: &[T], number: u64, first: usize) -> Option<usize>
+fn find_elsewhere<T: Numbered>(items: &[T], number: u64, first: usize, near: usize) -> Option<usize>
     requires { Distinct (map (λ x. T.number_of x) items.now) }
     ensures { result ≡ position (λ x. T.number_of x == number) items.now }
 {
@@ -118,7 +126,7 @@ fn find_elsewhere<T: Numbered>(items: &[T], number: u64, first: usize) -> Option
     }
     let end = nearer(items, number, first, last);
     let nearest = nearer(items, number, end, between(items, number));
-    find_outward(items, number, nearest)
+    find_outward(items, number, nearest, near)
 }
 
 // The place of the item with this number. It is first tried where it stands if numbers go on from the first item's, and the answer doesn't depend on that.
@@ -130,5 +138,20 @@ pub(crate) fn find_numbered<T: Numbered>(items: &[T], number: u64) -> Option<usi
     if is_at(items, first, number) {
         return Some(first);
     }
-    find_elsewhere(items, number, first)
+    find_elsewhere(items, number, first, first)
+}
+
+// The place of the item with this number, which was near a place once. It is first tried there, and the answer doesn't depend on that.
+pub(crate) fn find_near<T: Numbered>(items: &[T], number: u64, near: usize) -> Option<usize>
+    requires { Distinct (map (λ x. T.number_of x) items.now) }
+    ensures { result ≡ position (λ x. T.number_of x == number) items.now }
+{
+    if is_at(items, near, number) {
+        return Some(near);
+    }
+    let first = from_first(items, number);
+    if is_at(items, first, number) {
+        return Some(first);
+    }
+    find_elsewhere(items, number, first, near)
 }

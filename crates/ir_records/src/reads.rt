@@ -4,7 +4,7 @@ ghost use Rattle.std.specs.Prelude.{◌≡◌, ◌==◌, position};
 ghost use Rattle.ir_records.specs.Lists.{HaveDistinctUses, IsDefinition};
 ghost use Rattle.ir_records.specs.Table.{block_uses_at, definitions_at, uses_at, IsBlock, IsValue};
 
-use crate::numbered::find_numbered;
+use crate::numbered::{find_near, find_numbered};
 use crate::record::{BlockIndex, Definer, Definition, UsePlace, Uses, ValueIndex};
 use crate::records::Records;
 use ir_base::{Dialects, Ptr};
@@ -49,4 +49,12 @@ pub fn find_place<N>(places: &[UsePlace<N>], number: u64) -> Option<usize>
     ensures { result ≡ position (λ a. a.number == number) places.now }
 {
     find_numbered(places, number)
+}
+
+/// The index of the operand or successor with this number. It is first sought where it was near once, and the answer doesn't depend on that.
+pub fn find_place_near<N>(places: &[UsePlace<N>], number: u64, near: usize) -> Option<usize>
+    requires { HaveDistinctUses places.now }
+    ensures { result ≡ position (λ a. a.number == number) places.now }
+{
+    find_near(places, number, near)
 }

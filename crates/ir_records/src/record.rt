@@ -3,6 +3,7 @@
 //! Each definition keeps the list of its uses, and each place that names one the place of its use in that list. Lists of common sizes lie in the record itself.
 
 use crate::definitions::Definitions;
+use crate::kept_use::KeptUse;
 use ir_arena::Link;
 use ir_base::attribute::AttributeDict;
 use ir_base::{ArenaIndex, Dialects, Identifier, Seq, ShortSeq};
@@ -55,7 +56,7 @@ pub struct UseIndex {
 }
 
 /// The uses of a definition, in any order. Two of them take no allocation.
-pub type Uses = ShortSeq<UseIndex, 2>;
+pub type Uses = ShortSeq<KeptUse, 2>;
 
 /// An operand or a successor: a place that names a definition.
 #[derive(Clone, Copy, Drop)]

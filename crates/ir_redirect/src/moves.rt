@@ -33,16 +33,16 @@ pub(crate) fn redirect_use<D: Dialects, N: Renames<D>>(
     ensures err { OnErr result (records.new ≡ records.old) }
     ensures itself { (a : PlainPlace N) → IsPlaceOf (N.places_at records.old) used a → a.names ≡ to → IsOk result }
 {
-    let old = N::place_of(records, used);
+    let (old, near) = N::place_of(records, used);
     if old.names.is_same(to) {
         return Ok(());
     }
-    let place = N::push_use(records, to, used)?;
-    N::rename_place(records, used, to, place);
+    let place = N::push_use(records, to, used, near)?;
+    N::rename_place(records, used, near, to, place);
     let Some(moved) = N::take_use(records, old.names, old.place) else {
         return Ok(());
     };
-    N::rename_place(records, moved, old.names, old.place);
+    N::rename_place(records, moved.used(), moved.near(), old.names, old.place);
     Ok(())
 }
 
@@ -107,7 +107,8 @@ pub(crate) fn redirect_all<D: Dialects, N: Renames<D>>(
         return Err(AllocError);
     }
     for index in start..uses.len() {
-        N::rename_place(records, *uses.at(index), to, index);
+        let used = uses.at(index);
+        N::rename_place(records, used.used(), used.near(), to, index);
     }
     keep_both::<D, N>(records, from, Uses::new(alloc), to, uses);
     Ok(())
@@ -144,12 +145,12 @@ pub(crate) fn redirect_some<D: Dialects, N: Renames<D>>(
     let _end = uses.len();
     let mut moved = 0;
     for (index, answer) in answers.iter().enumerate() {
-        let used = *left.at(index);
+        let used = left.at(index);
         if *answer {
-            N::rename_place(records, used, to, start + moved);
+            N::rename_place(records, used.used(), used.near(), to, start + moved);
             moved += 1;
         } else {
-            N::rename_place(records, used, from, index - moved);
+            N::rename_place(records, used.used(), used.near(), from, index - moved);
         }
     }
     keep_others(&mut left, answers);

@@ -8,7 +8,9 @@ ghost use Rattle.ir_redirect.specs.Renamed.{put_name, IsPlaceOf};
 
 use ir_base::{ArenaIndex, Dialects, Ptr};
 use ir_chains::Named;
-use ir_records::{BlockIndex, Definer, Records, UseIndex, UsePlace, Uses, ValueIndex, find_place};
+use ir_records::{
+    BlockIndex, Definer, Records, UseIndex, UsePlace, Uses, ValueIndex, find_place, find_place_near,
+};
 use std::mem;
 
 /// What a place names, where the place can come to name another.
@@ -17,15 +19,21 @@ pub(crate) trait Renames<D: Dialects>: Named<D> {
     fn is_same(self, other: Self) -> bool
         ensures { IsTrue result ↔ (self ≡ other) };
 
-    // The place of a use.
-    fn place_of(records: &Records<D>, used: UseIndex) -> UsePlace<Self>
+    // The place of a use, and the index where it stands.
+    fn place_of(records: &Records<D>, used: UseIndex) -> (UsePlace<Self>, usize)
         requires live { IsLive records.now.ops used.user }
         requires distinct { HaveDistinctUses (Self.places_at records.now used.user) }
         requires has { HasPlace (Self.places_at records.now) used }
-        ensures { IsPlaceOf (Self.places_at records.now) used result };
+        ensures { IsPlaceOf (Self.places_at records.now) used result.0 };
 
-    // Lets the place of a use name another definition, among whose uses the use stands at `place`.
-    fn rename_place(records: &mut Records<D>, used: UseIndex, names: Self, place: usize)
+    // Lets the place of a use, which was near an index once, name another definition, among whose uses the use stands at `place`.
+    fn rename_place(
+        records: &mut Records<D>,
+        used: UseIndex,
+        near: usize,
+        names: Self,
+        place: usize,
+    )
         requires live { IsLive records.old.ops used.user }
         requires distinct { HaveDistinctUses (Self.places_at records.old used.user) }
         requires has { HasPlace (Self.places_at records.old) used }
@@ -43,18 +51,24 @@ impl<D: Dialects> Renames<D> for ValueIndex {
         self == other
     }
 
-    fn place_of(records: &Records<D>, used: UseIndex) -> UsePlace<ValueIndex> {
+    fn place_of(records: &Records<D>, used: UseIndex) -> (UsePlace<ValueIndex>, usize) {
         let operands = &records.ops.at(Ptr::from_index(used.user)).operands;
         match find_place(operands.as_slice(), used.number) {
-            Some(found) => *operands.at(found),
+            Some(found) => (*operands.at(found), found),
             None => unreachable!(),
         }
     }
 
-    fn rename_place(records: &mut Records<D>, used: UseIndex, names: ValueIndex, place: usize) {
+    fn rename_place(
+        records: &mut Records<D>,
+        used: UseIndex,
+        near: usize,
+        names: ValueIndex,
+        place: usize,
+    ) {
         let operands = &mut records.ops.at_mut(Ptr::from_index(used.user)).operands;
         let number = used.number;
-        match find_place(operands.as_slice(), number) {
+        match find_place_near(operands.as_slice(), number, near) {
             Some(found) => {
                 *operands.at_mut(found) = UsePlace {
                     number,
@@ -85,18 +99,24 @@ impl<D: Dialects> Renames<D> for BlockIndex {
         self == other
     }
 
-    fn place_of(records: &Records<D>, used: UseIndex) -> UsePlace<BlockIndex> {
+    fn place_of(records: &Records<D>, used: UseIndex) -> (UsePlace<BlockIndex>, usize) {
         let successors = &records.ops.at(Ptr::from_index(used.user)).successors;
         match find_place(successors.as_slice(), used.number) {
-            Some(found) => *successors.at(found),
+            Some(found) => (*successors.at(found), found),
             None => unreachable!(),
         }
     }
 
-    fn rename_place(records: &mut Records<D>, used: UseIndex, names: BlockIndex, place: usize) {
+    fn rename_place(
+        records: &mut Records<D>,
+        used: UseIndex,
+        near: usize,
+        names: BlockIndex,
+        place: usize,
+    ) {
         let successors = &mut records.ops.at_mut(Ptr::from_index(used.user)).successors;
         let number = used.number;
-        match find_place(successors.as_slice(), number) {
+        match find_place_near(successors.as_slice(), number, near) {
             Some(found) => {
                 *successors.at_mut(found) = UsePlace {
                     number,

@@ -4,8 +4,23 @@ ghost use Rattle.std.specs.Prelude.{◌≡◌, ◌+◌, ◌<◌, ◌≤◌, ◌+
 ghost use Rattle.ir_records.specs.declared.record.UseIndex.{UseIndex as PlainUse};
 ghost use Rattle.ir_redirect.specs.Chosen.{chosen, left_out, IfBack};
 
-use ir_records::{UseIndex, Uses};
+use ir_records::{KeptUse, Uses};
 use std::alloc::AllocError;
+
+// Puts copies of these uses behind the others, in one growth: all or none.
+fn append_copies(uses: &mut Uses, from: &[KeptUse]) -> Result<(), AllocError>
+    ensures { uses.new ≡ (if is_ok result then uses.old ++ from.now else uses.old) }
+{
+    let start = uses.len();
+    uses.reserve(from.len())?;
+    for used in from {
+        if uses.push(used.copy()).is_err() {
+            uses.truncate(start);
+            return Err(AllocError);
+        }
+    }
+    Ok(())
+}
 
 // Puts the uses behind the others, in one growth. Where there are no others it needs no memory, and where there is none, the uses are given back.
 pub(crate) fn append(uses: &mut Uses, moved: Uses) -> Result<(), Uses>
@@ -17,23 +32,27 @@ pub(crate) fn append(uses: &mut Uses, moved: Uses) -> Result<(), Uses>
         *uses = moved;
         return Ok(());
     }
-    if uses.extend(moved.as_slice()).is_err() {
+    if append_copies(uses, moved.as_slice()).is_err() {
         return Err(moved);
     }
     Ok(())
 }
 
 // Puts a use behind the others, if it is to be there.
-fn push_if(uses: &mut Uses, used: UseIndex, answer: bool) -> Result<(), AllocError>
-    ensures { uses.new ≡ (if is_ok result then uses.old ++ (if answer then used ∷ [] else []) else uses.old) }
+fn push_if(uses: &mut Uses, used: &KeptUse, answer: bool) -> Result<(), AllocError>
+    ensures { uses.new ≡ (if is_ok result then uses.old ++ (if answer then used.now ∷ [] else []) else uses.old) }
 {
-    if answer { uses.push(used) } else { Ok(()) }
+    if answer {
+        uses.push(used.copy())
+    } else {
+        Ok(())
+    }
 }
 
 // Puts the uses whose answer is yes behind the others: all or none.
 pub(crate) fn append_chosen(
     uses: &mut Uses,
-    from: &[UseIndex],
+    from: &[KeptUse],
     answers: &[bool],
 ) -> Result<(), AllocError>
     requires { length answers.now ≡ length from.now }
@@ -41,7 +60,7 @@ pub(crate) fn append_chosen(
 {
     let start = uses.len();
     for (index, used) in from.iter().enumerate() {
-        if push_if(uses, *used, answers[index]).is_err() {
+        if push_if(uses, used, answers[index]).is_err() {
             uses.truncate(start);
             return Err(AllocError);
         }
@@ -59,7 +78,7 @@ fn put_down(uses: &mut Uses, kept: usize, index: usize, answer: bool) -> usize
     if answer {
         return kept;
     }
-    let used = *uses.at(index);
+    let used = uses.at(index).copy();
     *uses.at_mut(kept) = used;
     // Its contract tells that so many can be counted.
     let _end = uses.len();

@@ -16,7 +16,7 @@ use std::alloc::Global;
 fn write_uses(alloc: Global, out: &mut String, uses: &Uses) -> Result<(), CoreError> {
     let mut numbers = Vec::with_capacity(alloc, uses.len())?;
     for used in uses.as_slice() {
-        numbers.push(used.number)?;
+        numbers.push(used.used().number)?;
     }
     numbers.sort()?;
     for number in numbers.as_slice() {

@@ -8,7 +8,7 @@ ghost use Rattle.std.specs.List.{flat_map, list_any};
 ghost use Rattle.ir_records.specs.Meaning.{use_of};
 
 use ir_base::Dialects;
-use ir_records::{Definition, Use, UseIndex, Value};
+use ir_records::{Definition, KeptUse, Use, Value};
 use std::marker::{Model, PhantomData};
 
 // How many uses the results have together.
@@ -35,7 +35,7 @@ pub(crate) fn has_any_use(results: &[Definition]) -> bool
 /// A contract sees it as the list of the uses that are left.
 pub struct OperationUses<'a, D: Dialects> {
     // The uses that are left of one result.
-    uses: &'a [UseIndex],
+    uses: &'a [KeptUse],
     // The results after that one.
     results: &'a [Definition],
     of: PhantomData<D>,
@@ -93,6 +93,6 @@ impl<'a, D: Dialects> Iterator for OperationUses<'a, D> {
         }
         let (first, others) = self.uses.split_first()?;
         self.uses = others;
-        Some(Use::from_index(*first))
+        Some(Use::from_index(first.used()))
     }
 }

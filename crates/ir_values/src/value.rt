@@ -18,8 +18,8 @@ use crate::error::{IndexErr, UseError, ValueError};
 use ir_base::{CoreError, Dialects, Ptr, TypeHandle};
 use ir_core::{Context, DanglingPtrDerefError};
 use ir_records::{
-    BasicBlock, Definer, Definitions, Records, Use, UseIndex, Value, ValueIndex, definition,
-    find_place, uses,
+    BasicBlock, Definer, Definitions, KeptUse, Records, Use, UseIndex, Value, ValueIndex,
+    definition, find_place, uses,
 };
 use std::alloc::Global;
 
@@ -45,13 +45,13 @@ fn missing(definer: Definer) -> ValueError
 }
 
 // Kept uses as handles, in the order in which they are kept.
-pub(crate) fn copy_uses<T>(alloc: Global, kept: &[UseIndex]) -> Result<Vec<Use<T>>, CoreError>
+pub(crate) fn copy_uses<T>(alloc: Global, kept: &[KeptUse]) -> Result<Vec<Use<T>>, CoreError>
     ensures kept { IfOk result (λ uses. map (λ u. use_of u.index) uses.items ≡ map use_of kept.now) }
     ensures memory { IfErr result (λ e. e ≡ CoreError.OutOfMemory) }
 {
     let mut uses = Vec::with_capacity(alloc, kept.len())?;
-    for index in kept {
-        uses.push(Use::from_index(*index))?;
+    for used in kept {
+        uses.push(Use::from_index(used.used()))?;
     }
     Ok(uses)
 }

@@ -18,12 +18,12 @@ ghost use Rattle.ir_walk.specs.State.{behaviour, block_uses_of, forest_of};
 
 use crate::forward_edges::{names_block, tail};
 use ir_base::{ArenaIndex, CoreError, Dialects, Ptr};
-use ir_records::{EntityIndex, block_uses};
+use ir_records::{EntityIndex, KeptUse, block_uses};
 use ir_tree::parent_of;
-use ir_walk::{BasicBlock, BlockIndex, Context, OperationPtr, UseIndex};
+use ir_walk::{BasicBlock, BlockIndex, Context, OperationPtr};
 
 // The kept uses of a live block.
-fn kept_uses<D: Dialects>(ctx: &Context<D>, block: Ptr<BasicBlock<D>>) -> &[UseIndex]
+fn kept_uses<D: Dialects>(ctx: &Context<D>, block: Ptr<BasicBlock<D>>) -> &[KeptUse]
     requires { IsLive (forest_of ctx.now) (a_block block.index) }
     ensures kept { map use_of result.now ≡ block_uses_of ctx.now block.index }
     ensures exact { AreUses (forest_of ctx.now) (the_block block.index) (map use_of result.now) }
@@ -66,17 +66,17 @@ fn is_linked<D: Dialects>(ctx: &Context<D>, op: ArenaIndex) -> bool
 }
 
 // Whether one of the users of these uses stands in a block.
-fn any_stands_in<D: Dialects>(ctx: &Context<D>, uses: &[UseIndex], block: ArenaIndex) -> bool
+fn any_stands_in<D: Dialects>(ctx: &Context<D>, uses: &[KeptUse], block: ArenaIndex) -> bool
     ensures { IsTrue result ↔ Any (λ u. In u.user (ops_of (forest_of ctx.now) block)) uses.now }
 {
-    uses.iter().any(|index| stands_in(ctx, index.user, block))
+    uses.iter().any(|used| stands_in(ctx, used.user(), block))
 }
 
 // Whether each of the users of these uses stands in a block.
-fn all_linked<D: Dialects>(ctx: &Context<D>, uses: &[UseIndex]) -> bool
+fn all_linked<D: Dialects>(ctx: &Context<D>, uses: &[KeptUse]) -> bool
     ensures { IsTrue result ↔ All (λ u. IsLinked (forest_of ctx.now) (an_op u.user)) uses.now }
 {
-    uses.iter().all(|index| is_linked(ctx, index.user))
+    uses.iter().all(|used| is_linked(ctx, used.user()))
 }
 
 // The block that a linked operation stands in.
@@ -94,7 +94,7 @@ fn linked_block<D: Dialects>(ctx: &Context<D>, op: ArenaIndex) -> Ptr<BasicBlock
 // The blocks that the users of these uses stand in, one for each use.
 fn blocks_of_users<D: Dialects>(
     ctx: &Context<D>,
-    uses: &[UseIndex],
+    uses: &[KeptUse],
 ) -> Result<Vec<Ptr<BasicBlock<D>>>, CoreError>
     requires { All (λ u. IsLinked (forest_of ctx.now) (an_op u.user)) uses.now }
     ensures found { IfOk result (λ blocks. AllZip (λ u p. In u.user (ops_of (forest_of ctx.now) p.index)) uses.now blocks.items) }
@@ -102,8 +102,8 @@ fn blocks_of_users<D: Dialects>(
     ensures memory { IfErr result (λ e. e ≡ CoreError.OutOfMemory) }
 {
     let mut blocks = Vec::with_capacity(ctx.alloc(), uses.len())?;
-    for index in uses {
-        blocks.push(linked_block(ctx, index.user))?;
+    for used in uses {
+        blocks.push(linked_block(ctx, used.user()))?;
     }
     Ok(blocks)
 }
@@ -172,7 +172,7 @@ impl<D: Dialects> BlockPredecessors<D> for Ptr<BasicBlock<D>> {
     fn get_pred(self, ctx: &Context<D>, index: usize) -> Ptr<BasicBlock<D>> {
         ctx.is_well_formed();
         let uses = kept_uses(ctx, self);
-        linked_block(ctx, uses[index].user)
+        linked_block(ctx, uses[index].user())
     }
 
     fn is_succ_of(self, ctx: &Context<D>, pred: Self) -> bool {

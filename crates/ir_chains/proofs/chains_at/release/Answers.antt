@@ -7,27 +7,27 @@ use Rattle.ir_chains.proofs.chains_at.release.Goals as goal
 pub set_place-requires-clause-live : goal.set_place-requires-clause-live
 set_place-requires-clause-live g c =
     let x : UseIndex = c.in-Some.moved in
-    taken_user g.met.N.Named.chain c.args.records.now c.take_use.new.records c.args.named c.args.index x c.requires.linked c.requires.named c.requires.within (c.take_use.ensures.records x) x (sym (c.take_use.ensures.moved x) ∙ c.in-Some.is)
+    rw c.used.ensures (taken_user g.met.N.Named.chain c.args.records.now c.take_use.new.records c.args.named c.args.index x c.requires.linked c.requires.named c.requires.within (c.take_use.ensures.records x) x (sym (c.take_use.ensures.moved x) ∙ c.in-Some.is))
 
 pub set_place-requires-clause-distinct : goal.set_place-requires-clause-distinct
 set_place-requires-clause-distinct g c =
     let x : UseIndex = c.in-Some.moved in
-    taken_distinct g.met.N.Named.chain c.args.records.now c.take_use.new.records c.args.named c.args.index x c.requires.linked c.requires.named c.requires.within (c.take_use.ensures.records x) x.user
+    rw c.used.ensures (taken_distinct g.met.N.Named.chain c.args.records.now c.take_use.new.records c.args.named c.args.index x c.requires.linked c.requires.named c.requires.within (c.take_use.ensures.records x) x.user)
 
 pub set_place-requires-clause-has : goal.set_place-requires-clause-has
 set_place-requires-clause-has g c =
     let x : UseIndex = c.in-Some.moved in
-    taken_place g.met.N.Named.chain c.args.records.now c.take_use.new.records c.args.named c.args.index x c.requires.linked c.requires.named c.requires.within (c.take_use.ensures.records x) x (sym (c.take_use.ensures.moved x) ∙ c.in-Some.is)
+    rw c.used.ensures (taken_place g.met.N.Named.chain c.args.records.now c.take_use.new.records c.args.named c.args.index x c.requires.linked c.requires.named c.requires.within (c.take_use.ensures.records x) x (sym (c.take_use.ensures.moved x) ∙ c.in-Some.is))
 
 pub returns-in-Some-clause-linked : goal.returns-in-Some-clause-linked
 returns-in-Some-clause-linked g c =
     let x : UseIndex = c.in-Some.moved in
-    placed_links g.met.N.Named.chain c.args.records.now c.take_use.new.records c.args.named c.args.index x c.requires.linked c.requires.named c.requires.within (c.take_use.ensures.records x) x (sym (c.take_use.ensures.moved x) ∙ c.in-Some.is) c.set_place.new.records c.set_place.ensures
+    placed_links g.met.N.Named.chain c.args.records.now c.take_use.new.records c.args.named c.args.index x c.requires.linked c.requires.named c.requires.within (c.take_use.ensures.records x) x (sym (c.take_use.ensures.moved x) ∙ c.in-Some.is) c.set_place.new.records (rw c.used.ensures at c.set_place.ensures)
 
 pub returns-in-Some-clause-names : goal.returns-in-Some-clause-names
 returns-in-Some-clause-names g c o =
     let x : UseIndex = c.in-Some.moved in
-    placed_names g.met.N.Named.chain c.args.records.now c.take_use.new.records c.args.named c.args.index x c.requires.linked c.requires.named c.requires.within (c.take_use.ensures.records x) x (sym (c.take_use.ensures.moved x) ∙ c.in-Some.is) c.set_place.new.records c.set_place.ensures o
+    placed_names g.met.N.Named.chain c.args.records.now c.take_use.new.records c.args.named c.args.index x c.requires.linked c.requires.named c.requires.within (c.take_use.ensures.records x) x (sym (c.take_use.ensures.moved x) ∙ c.in-Some.is) c.set_place.new.records (rw c.used.ensures at c.set_place.ensures) o
 
 pub returns-in-Some-clause-rest : goal.returns-in-Some-clause-rest
 returns-in-Some-clause-rest g c =

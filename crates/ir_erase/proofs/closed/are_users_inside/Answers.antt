@@ -13,4 +13,4 @@ loop-used-preserved g c =
     let uses = c.args.uses.now in
     let none : UseIndex = record { user = record { slot = 0; version = 0 }; number = 0 } in
     below_more (λ k. (d : UseIndex) → Inside f root (an_op (slice_index_or uses k d).user)) c.loop-used.used-index c.loop-used.invariant
-    (λ d. subst (λ (u : UseIndex). Inside f root (an_op u.user)) (or-same uses c.loop-used.used-index none d c.loop-used-test.true) (c.climbs_into.ensures.0 c.if-not-climbs_into.false))
+    (λ d. subst (λ (u : UseIndex). Inside f root (an_op u.user)) (or-same uses c.loop-used.used-index none d c.loop-used-test.true) (rw c.user.ensures at (c.climbs_into.ensures.0 c.if-not-climbs_into.false)))

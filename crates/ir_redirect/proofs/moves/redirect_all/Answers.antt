@@ -47,32 +47,32 @@ pub rename_place-requires-clause-live : goal.rename_place-requires-clause-live
 rename_place-requires-clause-live g c =
     let le : c.len-start.result ≤ c.loop-index.index = omega arith in
     let whole = c.in_default.ensures.done ∙ ap (λ (ys : List UseIndex). c.take_both-moved.result.1 ++ ys) c.take_both-moved.ensures.from in
-    let at = from_behind c.take_both-moved.result.1 (g.N.Named.uses_at c.args.records.now c.args.from) c.append.new.uses c.len-start.result c.loop-index.index c.at.result.now whole c.len-start.ensures le c.at.ensures in
-    next_live g.met.N.Named.chain c.args.records.now c.take_both-moved.new.records c.loop-index.records c.args.from (go_behind c.args.to c.len-start.result) (c.loop-index.index - c.len-start.result) c.requires.linked c.loop-index.invariant c.at.result.now at
+    let at = from_behind c.take_both-moved.result.1 (g.N.Named.uses_at c.args.records.now c.args.from) c.append.new.uses c.len-start.result c.loop-index.index c.at-used.result.now whole c.len-start.ensures le c.at-used.ensures in
+    rw c.used.ensures (next_live g.met.N.Named.chain c.args.records.now c.take_both-moved.new.records c.loop-index.records c.args.from (go_behind c.args.to c.len-start.result) (c.loop-index.index - c.len-start.result) c.requires.linked c.loop-index.invariant c.at-used.result.now at)
 
 pub rename_place-requires-clause-distinct : goal.rename_place-requires-clause-distinct
 rename_place-requires-clause-distinct g c =
     let le : c.len-start.result ≤ c.loop-index.index = omega arith in
     let whole = c.in_default.ensures.done ∙ ap (λ (ys : List UseIndex). c.take_both-moved.result.1 ++ ys) c.take_both-moved.ensures.from in
-    let at = from_behind c.take_both-moved.result.1 (g.N.Named.uses_at c.args.records.now c.args.from) c.append.new.uses c.len-start.result c.loop-index.index c.at.result.now whole c.len-start.ensures le c.at.ensures in
-    next_numbers g.met.N.Named.chain c.args.records.now c.take_both-moved.new.records c.loop-index.records c.args.from (go_behind c.args.to c.len-start.result) (c.loop-index.index - c.len-start.result) c.requires.linked c.loop-index.invariant c.at.result.now at
+    let at = from_behind c.take_both-moved.result.1 (g.N.Named.uses_at c.args.records.now c.args.from) c.append.new.uses c.len-start.result c.loop-index.index c.at-used.result.now whole c.len-start.ensures le c.at-used.ensures in
+    rw c.used.ensures (next_numbers g.met.N.Named.chain c.args.records.now c.take_both-moved.new.records c.loop-index.records c.args.from (go_behind c.args.to c.len-start.result) (c.loop-index.index - c.len-start.result) c.requires.linked c.loop-index.invariant c.at-used.result.now at)
 
 pub rename_place-requires-clause-has : goal.rename_place-requires-clause-has
 rename_place-requires-clause-has g c =
     let le : c.len-start.result ≤ c.loop-index.index = omega arith in
     let whole = c.in_default.ensures.done ∙ ap (λ (ys : List UseIndex). c.take_both-moved.result.1 ++ ys) c.take_both-moved.ensures.from in
-    let at = from_behind c.take_both-moved.result.1 (g.N.Named.uses_at c.args.records.now c.args.from) c.append.new.uses c.len-start.result c.loop-index.index c.at.result.now whole c.len-start.ensures le c.at.ensures in
-    next_has g.met.N.Named.chain c.args.records.now c.take_both-moved.new.records c.loop-index.records c.args.from (go_behind c.args.to c.len-start.result) (c.loop-index.index - c.len-start.result) c.requires.linked c.loop-index.invariant c.at.result.now at
+    let at = from_behind c.take_both-moved.result.1 (g.N.Named.uses_at c.args.records.now c.args.from) c.append.new.uses c.len-start.result c.loop-index.index c.at-used.result.now whole c.len-start.ensures le c.at-used.ensures in
+    rw c.used.ensures (next_has g.met.N.Named.chain c.args.records.now c.take_both-moved.new.records c.loop-index.records c.args.from (go_behind c.args.to c.len-start.result) (c.loop-index.index - c.len-start.result) c.requires.linked c.loop-index.invariant c.at-used.result.now at)
 
 pub loop-index-preserved : goal.loop-index-preserved
 loop-index-preserved g c =
     let le : c.len-start.result ≤ c.loop-index.index = omega arith in
     let whole = c.in_default.ensures.done ∙ ap (λ (ys : List UseIndex). c.take_both-moved.result.1 ++ ys) c.take_both-moved.ensures.from in
-    let at = from_behind c.take_both-moved.result.1 (g.N.Named.uses_at c.args.records.now c.args.from) c.append.new.uses c.len-start.result c.loop-index.index c.at.result.now whole c.len-start.ensures le c.at.ensures in
+    let at = from_behind c.take_both-moved.result.1 (g.N.Named.uses_at c.args.records.now c.args.from) c.append.new.uses c.len-start.result c.loop-index.index c.at-used.result.now whole c.len-start.ensures le c.at-used.ensures in
     let place : c.loop-index.index ≡ c.len-start.result + (c.loop-index.index - c.len-start.result) = omega (arith, le) in
     let next : c.loop-index.index - c.len-start.result + 1 ≡ c.loop-index.index + 1 - c.len-start.result = omega (arith, le) in
     subst (λ (k : ℕ). Renaming IsOp g.N.Named.places_at g.N.Named.with_places g.N.Named.uses_at g.N.Named.with_uses c.args.from (gone_to c.args.from (go_behind c.args.to c.len-start.result) k) c.args.records.now c.take_both-moved.new.records c.rename_place.new.records) next
-    (next_renamed g.met.N.Named.chain c.args.records.now c.take_both-moved.new.records c.loop-index.records c.args.from (go_behind c.args.to c.len-start.result) (c.loop-index.index - c.len-start.result) c.requires.linked c.loop-index.invariant c.at.result.now at c.rename_place.new.records (c.args.to, c.loop-index.index) (λ q. (c.args.to, place q)) c.rename_place.ensures)
+    (next_renamed g.met.N.Named.chain c.args.records.now c.take_both-moved.new.records c.loop-index.records c.args.from (go_behind c.args.to c.len-start.result) (c.loop-index.index - c.len-start.result) c.requires.linked c.loop-index.invariant c.at-used.result.now at c.rename_place.new.records (c.args.to, c.loop-index.index) (λ q. (c.args.to, place q)) (rw c.used.ensures at c.rename_place.ensures))
 
 pub keep_both-requires-2-clause-from : goal.keep_both-requires-2-clause-from
 keep_both-requires-2-clause-from g c = rewrites-has g.met.N.Named.chain c.args.records.now c.loop-index.records c.args.from c.loop-index.invariant.rest c.requires.old

@@ -64,17 +64,17 @@ overflow_add-start g c =
 pub rename_place-requires-clause-live : goal.rename_place-requires-clause-live
 rename_place-requires-clause-live g c =
     let at = ap (λ (ws : List UseIndex). slice_get ws c.loop-index.index) (sym c.take_both-left.ensures.from) ∙ c.at-used.ensures in
-    next_live g.met.N.Named.chain c.args.records.now c.take_both-left.new.records c.loop-index.records c.args.from (go_chosen c.args.from c.args.to c.len-start.result c.args.answers.now) c.loop-index.index c.requires.linked c.loop-index.invariant.going c.at-used.result.now at
+    rw c.used.ensures (next_live g.met.N.Named.chain c.args.records.now c.take_both-left.new.records c.loop-index.records c.args.from (go_chosen c.args.from c.args.to c.len-start.result c.args.answers.now) c.loop-index.index c.requires.linked c.loop-index.invariant.going c.at-used.result.now at)
 
 pub rename_place-requires-clause-distinct : goal.rename_place-requires-clause-distinct
 rename_place-requires-clause-distinct g c =
     let at = ap (λ (ws : List UseIndex). slice_get ws c.loop-index.index) (sym c.take_both-left.ensures.from) ∙ c.at-used.ensures in
-    next_numbers g.met.N.Named.chain c.args.records.now c.take_both-left.new.records c.loop-index.records c.args.from (go_chosen c.args.from c.args.to c.len-start.result c.args.answers.now) c.loop-index.index c.requires.linked c.loop-index.invariant.going c.at-used.result.now at
+    rw c.used.ensures (next_numbers g.met.N.Named.chain c.args.records.now c.take_both-left.new.records c.loop-index.records c.args.from (go_chosen c.args.from c.args.to c.len-start.result c.args.answers.now) c.loop-index.index c.requires.linked c.loop-index.invariant.going c.at-used.result.now at)
 
 pub rename_place-requires-clause-has : goal.rename_place-requires-clause-has
 rename_place-requires-clause-has g c =
     let at = ap (λ (ws : List UseIndex). slice_get ws c.loop-index.index) (sym c.take_both-left.ensures.from) ∙ c.at-used.ensures in
-    next_has g.met.N.Named.chain c.args.records.now c.take_both-left.new.records c.loop-index.records c.args.from (go_chosen c.args.from c.args.to c.len-start.result c.args.answers.now) c.loop-index.index c.requires.linked c.loop-index.invariant.going c.at-used.result.now at
+    rw c.used.ensures (next_has g.met.N.Named.chain c.args.records.now c.take_both-left.new.records c.loop-index.records c.args.from (go_chosen c.args.from c.args.to c.len-start.result c.args.answers.now) c.loop-index.index c.requires.linked c.loop-index.invariant.going c.at-used.result.now at)
 
 pub overflow_add-moved : goal.overflow_add-moved
 overflow_add-moved g c =
@@ -99,17 +99,17 @@ overflow_sub-index g c =
 pub rename_place-requires-else-answer-clause-live : goal.rename_place-requires-else-answer-clause-live
 rename_place-requires-else-answer-clause-live g c =
     let at = ap (λ (ws : List UseIndex). slice_get ws c.loop-index.index) (sym c.take_both-left.ensures.from) ∙ c.at-used.ensures in
-    next_live g.met.N.Named.chain c.args.records.now c.take_both-left.new.records c.loop-index.records c.args.from (go_chosen c.args.from c.args.to c.len-start.result c.args.answers.now) c.loop-index.index c.requires.linked c.loop-index.invariant.going c.at-used.result.now at
+    rw c.used-else-answer.ensures (next_live g.met.N.Named.chain c.args.records.now c.take_both-left.new.records c.loop-index.records c.args.from (go_chosen c.args.from c.args.to c.len-start.result c.args.answers.now) c.loop-index.index c.requires.linked c.loop-index.invariant.going c.at-used.result.now at)
 
 pub rename_place-requires-else-answer-clause-distinct : goal.rename_place-requires-else-answer-clause-distinct
 rename_place-requires-else-answer-clause-distinct g c =
     let at = ap (λ (ws : List UseIndex). slice_get ws c.loop-index.index) (sym c.take_both-left.ensures.from) ∙ c.at-used.ensures in
-    next_numbers g.met.N.Named.chain c.args.records.now c.take_both-left.new.records c.loop-index.records c.args.from (go_chosen c.args.from c.args.to c.len-start.result c.args.answers.now) c.loop-index.index c.requires.linked c.loop-index.invariant.going c.at-used.result.now at
+    rw c.used-else-answer.ensures (next_numbers g.met.N.Named.chain c.args.records.now c.take_both-left.new.records c.loop-index.records c.args.from (go_chosen c.args.from c.args.to c.len-start.result c.args.answers.now) c.loop-index.index c.requires.linked c.loop-index.invariant.going c.at-used.result.now at)
 
 pub rename_place-requires-else-answer-clause-has : goal.rename_place-requires-else-answer-clause-has
 rename_place-requires-else-answer-clause-has g c =
     let at = ap (λ (ws : List UseIndex). slice_get ws c.loop-index.index) (sym c.take_both-left.ensures.from) ∙ c.at-used.ensures in
-    next_has g.met.N.Named.chain c.args.records.now c.take_both-left.new.records c.loop-index.records c.args.from (go_chosen c.args.from c.args.to c.len-start.result c.args.answers.now) c.loop-index.index c.requires.linked c.loop-index.invariant.going c.at-used.result.now at
+    rw c.used-else-answer.ensures (next_has g.met.N.Named.chain c.args.records.now c.take_both-left.new.records c.loop-index.records c.args.from (go_chosen c.args.from c.args.to c.len-start.result c.args.answers.now) c.loop-index.index c.requires.linked c.loop-index.invariant.going c.at-used.result.now at)
 
 pub loop-index-preserved : goal.loop-index-preserved
 loop-index-preserved g c =
@@ -123,7 +123,7 @@ loop-index-preserved g c =
           let answer : slice_get c.args.answers.now c.loop-index.index ≡ Some true = there ∙ ap Some w.if-answer.true in
           record {
             going = next_renamed g.met.N.Named.chain c.args.records.now c.take_both-left.new.records c.loop-index.records c.args.from (go_chosen c.args.from c.args.to c.len-start.result c.args.answers.now) c.loop-index.index c.requires.linked c.loop-index.invariant.going c.at-used.result.now at c.if-answer.records (c.args.to, c.len-start.result + c.loop-index.moved)
-                ((λ q. (c.args.to, c.len-start.result + count q)) ∙ sym (goes-chosen c.args.from c.args.to c.len-start.result c.args.answers.now c.loop-index.index (Some true) answer)) (w.records-is ∙ w.rename_place.ensures);
+                ((λ q. (c.args.to, c.len-start.result + count q)) ∙ sym (goes-chosen c.args.from c.args.to c.len-start.result c.args.answers.now c.loop-index.index (Some true) answer)) (w.records-is ∙ (rw w.used.ensures at w.rename_place.ensures));
             count = w.moved-is ∙ ap (λ (n : ℕ). n + 1) count ∙ sym (count-more c.args.answers.now c.loop-index.index true answer);
           }
       | else-answer w ↦
@@ -131,7 +131,7 @@ loop-index-preserved g c =
           let place : c.loop-index.index - c.loop-index.moved ≡ count_no c.args.answers.now c.loop-index.index = omega (arith, count, both) in
           record {
             going = next_renamed g.met.N.Named.chain c.args.records.now c.take_both-left.new.records c.loop-index.records c.args.from (go_chosen c.args.from c.args.to c.len-start.result c.args.answers.now) c.loop-index.index c.requires.linked c.loop-index.invariant.going c.at-used.result.now at c.if-answer.records (c.args.from, c.loop-index.index - c.loop-index.moved)
-                ((λ q. (c.args.from, place q)) ∙ sym (goes-chosen c.args.from c.args.to c.len-start.result c.args.answers.now c.loop-index.index (Some false) answer)) (w.records-is ∙ w.rename_place-else-answer.ensures);
+                ((λ q. (c.args.from, place q)) ∙ sym (goes-chosen c.args.from c.args.to c.len-start.result c.args.answers.now c.loop-index.index (Some false) answer)) (w.records-is ∙ (rw w.used-else-answer.ensures at w.rename_place-else-answer.ensures));
             count = w.moved-is ∙ count ∙ sym (count-more c.args.answers.now c.loop-index.index false answer);
           }
     ]

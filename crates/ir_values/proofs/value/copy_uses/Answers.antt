@@ -6,5 +6,5 @@ use Rattle.ir_values.proofs.value.copy_uses.Goals as goal
 
 pub returns-clause-kept : goal.returns-clause-kept
 returns-clause-kept g c =
-    sym (map-map (λ u. u.index) use_of c.loop-index.uses.items)
-    ∙ ap (map use_of) (c.loop-index.invariant ∙ take_all c.loop-index.index-index c.args.kept.now c.loop-index-test.false)
+    sym (map-map (λ u. u.index) use_of c.loop-used.uses.items)
+    ∙ ap (map use_of) (c.loop-used.invariant ∙ take_all c.loop-used.used-index c.args.kept.now c.loop-used-test.false)

@@ -6,12 +6,12 @@ use Rattle.ir_view.proofs.Items.{zip-next, zip-second}
 use Rattle.ir_view.proofs.Stands.{stands-live}
 use Rattle.ir_view.proofs.backward_edges.blocks_of_users.Goals as goal
 
-pub loop-index-preserved : goal.loop-index-preserved
-loop-index-preserved g c =
-    zip-next (λ u p. In u.user (ops_of (forest_of c.args.ctx.now) p.index)) c.args.uses.now c.loop-index.blocks.items c.push.new.self.items c.loop-index.index-index _ c.linked_block.result
-    c.loop-index.invariant c.loop-index-test.true c.in_ok-push.ensures.items c.linked_block.ensures.found
+pub loop-used-preserved : goal.loop-used-preserved
+loop-used-preserved g c =
+    zip-next (λ u p. In u.user (ops_of (forest_of c.args.ctx.now) p.index)) c.args.uses.now c.loop-used.blocks.items c.push.new.self.items c.loop-used.used-index _ c.linked_block.result
+    c.loop-used.invariant c.loop-used-test.true c.in_ok-push.ensures.items c.linked_block.ensures.found
 
 pub returns-clause-live : goal.returns-clause-live
 returns-clause-live g c =
     zip-second (λ u p. In u.user (ops_of (forest_of c.args.ctx.now) p.index)) (λ p. IsLive (forest_of c.args.ctx.now) (a_block p.index)) (λ u p h. stands-live (forest_of c.args.ctx.now) u.user p.index h)
-    (take c.loop-index.index-index c.args.uses.now) c.loop-index.blocks.items c.loop-index.invariant
+    (take c.loop-used.used-index c.args.uses.now) c.loop-used.blocks.items c.loop-used.invariant
