@@ -90,6 +90,7 @@ pub trait IrType<D: Dialects>: Eq + Sized {
         ensures rest { SameButTypes (bare ctx.old) (bare ctx.new) }
         ensures memory { IfErr result (λ e. e ≡ OutOfMemory) }
         ensures err { OnErr result (ctx.new ≡ ctx.old) }
+        ensures only_new { OnErr result (type_place (behaviour D.TypeKey.eq D.first_body D.unknown D.op_impls_of) (types_of ctx.old) (key_of self) ≡ length (types_of ctx.old)) }
     {
         let handle = ctx.instantiate_key(self.to_key())?;
         Ok(TypedHandle::of_handle(handle))
