@@ -32,12 +32,13 @@ pub(crate) fn pop_linked<D: Dialects, N: Named<D>>(records: &mut Records<D>, use
     remove_linked::<D, N>(records, user, last)
 }
 
-// Puts the use into the list of what is named, and a place with a new number at the end: both or neither.
+// Puts the use into the list of what is named, and a place with a new number at the end, which is at about this index: both or neither.
 pub(crate) fn push_linked<D: Dialects, N: Named<D>>(
     records: &mut Records<D>,
     user: ArenaIndex,
     number: u64,
     names: N,
+    near: usize,
 ) -> Result<(), AllocError>
     requires linked { LinkedBut NoHole (N.places_at records.old) (N.uses_at records.old) }
     requires live { IsLive records.old.ops user }
@@ -50,8 +51,7 @@ pub(crate) fn push_linked<D: Dialects, N: Named<D>>(
     ensures rest { Rewrites N.with_places N.with_uses records.old records.new }
     ensures err { OnErr result (records.new ≡ records.old) }
 {
-    let end = N::place_count(records, user);
-    let place = N::push_use(records, names, UseIndex { user, number }, end)?;
+    let place = N::push_use(records, names, UseIndex { user, number }, near)?;
     if N::push_place(records, user, number, names, place).is_err() {
         N::take_use(records, names, place);
         return Err(AllocError);
@@ -95,7 +95,8 @@ pub(crate) fn link_all<D: Dialects, N: Named<D>, V: Names<N>>(
     N::reserve_places(records, user, named.len())?;
     let mut number = first;
     for item in named {
-        if push_linked::<D, N>(records, user, number, item.named_index()).is_err() {
+        let near = number.abs_diff(first) as usize;
+        if push_linked::<D, N>(records, user, number, item.named_index(), near).is_err() {
             unlink_all::<D, N>(records, user);
             return Err(AllocError);
         }

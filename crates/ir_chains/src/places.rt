@@ -11,7 +11,7 @@ ghost use Rattle.ir_records.specs.Chains.{chains_of, AreLinked};
 ghost use Rattle.ir_records.specs.Frames.{KeepsTree};
 
 use crate::chains;
-use crate::named::Names;
+use crate::named::{Named, Names};
 use ir_base::{ArenaIndex, Dialects};
 use ir_records::{BlockIndex, Records, ValueIndex};
 use std::alloc::AllocError;
@@ -35,7 +35,8 @@ pub fn push_operand<D: Dialects>(
     ensures forest { OnOk result (forest_of records.new ≡ on_op (forest_of records.old) user (on_operands (λ xs. xs ++ record { use_number = number; value = value_of value } ∷ []))) }
     ensures err { OnErr result (records.new ≡ records.old) }
 {
-    chains::push_linked::<D, ValueIndex>(records, user, number, value)
+    let end = ValueIndex::place_count(records, user);
+    chains::push_linked::<D, ValueIndex>(records, user, number, value, end)
 }
 
 /// Takes the last operand out, and its use with it. It tells what the operand named.
@@ -70,7 +71,8 @@ pub fn push_successor<D: Dialects>(
     ensures forest { OnOk result (forest_of records.new ≡ on_op (forest_of records.old) user (on_successors (λ xs. xs ++ record { use_number = number; block = block.index } ∷ []))) }
     ensures err { OnErr result (records.new ≡ records.old) }
 {
-    chains::push_linked::<D, BlockIndex>(records, user, number, block)
+    let end = BlockIndex::place_count(records, user);
+    chains::push_linked::<D, BlockIndex>(records, user, number, block, end)
 }
 
 /// Takes the last successor out, and its use with it. It tells what the successor named.

@@ -17,7 +17,7 @@ loop-index-init g c = (
 pub pred-requires : goal.pred-requires
 pred-requires g c =
     let at = slice_get-get_or c.args.kept.now c.loop-index.index-index _ c.loop-index-test.true in
-    c.requires _ _ c.of.ensures (subst (λ u. In u c.args.kept.now) (sym (c.from_index-used.ensures ∙ c.used.ensures)) (slice_get-in c.args.kept.now c.loop-index.index-index _ at))
+    c.requires _ _ c.of.ensures (subst (λ u. In u c.args.kept.now) (sym (c.from_index-used.ensures ∙ c.used.ensures ∙ c.index-item.is)) (slice_get-in c.args.kept.now c.loop-index.index-index _ at))
 
 pub loop-index-preserved : goal.loop-index-preserved
 loop-index-preserved g c =
@@ -25,7 +25,7 @@ loop-index-preserved g c =
     let more = c.in_ok-push.ensures.items in
     let count = c.loop-index.invariant.0 in
     let may : MayAnswer g.P.Fn (λ s. g.C.Shown.shows s c.args.ctx.now) (λ h w. use_of h.index ≡ w) c.args.pred.now (use_of (get_or c.args.kept.now c.loop-index.index-index _)) c.pred.result =
-    record { context = c.of.result; handle = _; is_shown = c.of.ensures; is = ap use_of (c.from_index-used.ensures ∙ c.used.ensures); says = c.pred.ensures } in (
+    record { context = c.of.result; handle = _; is_shown = c.of.ensures; is = ap use_of (c.from_index-used.ensures ∙ c.used.ensures ∙ c.index-item.is); says = c.pred.ensures } in (
       ap length more ∙ length-append c.loop-index.answers.items (c.pred.result ∷ []) ∙ ap (λ n. n + 1) count,
       λ k u answer here there. each-more (MayAnswer g.P.Fn (λ s. g.C.Shown.shows s c.args.ctx.now) (λ h w. use_of h.index ≡ w) c.args.pred.now) c.args.kept.now c.loop-index.answers.items _ c.pred.result
           (ap (λ n. slice_get c.args.kept.now n) count ∙ at) may c.loop-index.invariant.1 k u answer here (sym (ap (λ xs. slice_get xs k) more) ∙ there),

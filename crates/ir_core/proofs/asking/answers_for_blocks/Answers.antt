@@ -20,11 +20,11 @@ loop-index-init g c = (
 pub block_of_user-requires : goal.block_of_user-requires
 block_of_user-requires g c =
     let at = slice_get-get_or c.args.kept.now c.loop-index.index-index _ c.loop-index-test.true in
-    rw c.user.ensures (c.requires.linked _ (slice_get-in c.args.kept.now c.loop-index.index-index _ at))
+    rw (c.user.ensures, c.index-item.is) (c.requires.linked _ (slice_get-in c.args.kept.now c.loop-index.index-index _ at))
 
 pub pred-requires : goal.pred-requires
 pred-requires g c =
-    kept-at (forest_of c.args.ctx.now) c.args.kept.now c.loop-index.index-index _ c.loop-index-test.true (rw c.user.ensures at c.block_of_user.ensures) c.at-block.ensures
+    kept-at (forest_of c.args.ctx.now) c.args.kept.now c.loop-index.index-index _ c.loop-index-test.true (rw (c.user.ensures, c.index-item.is) at c.block_of_user.ensures) c.at-block.ensures
     (λ used at here stands. c.requires.callable c.of.result c.at-block.result used c.of.ensures here stands)
 
 pub loop-index-preserved : goal.loop-index-preserved
@@ -33,7 +33,7 @@ loop-index-preserved g c =
     let more = c.in_ok-push.ensures.items in
     let count = c.loop-index.invariant.0 in (
       ap length more ∙ length-append c.loop-index.answers.items (c.pred.result ∷ []) ∙ ap (λ n. n + 1) count,
-      λ k u answer here there. kept-at (forest_of c.args.ctx.now) c.args.kept.now c.loop-index.index-index _ c.loop-index-test.true (rw c.user.ensures at c.block_of_user.ensures) c.at-block.ensures
+      λ k u answer here there. kept-at (forest_of c.args.ctx.now) c.args.kept.now c.loop-index.index-index _ c.loop-index-test.true (rw (c.user.ensures, c.index-item.is) at c.block_of_user.ensures) c.at-block.ensures
           (λ used at in_kept stands. each-more may c.args.kept.now c.loop-index.answers.items used c.pred.result
           (ap (λ n. slice_get c.args.kept.now n) count ∙ at) (record { context = c.of.result; handle = c.at-block.result; is_shown = c.of.ensures; is = stands; says = c.pred.ensures })
           c.loop-index.invariant.1 k u answer here (sym (ap (λ xs. slice_get xs k) more) ∙ there)),
