@@ -130,6 +130,14 @@ impl Plain {
         }
     }
 
+    /// The regions of the operation with this number, none where it isn't live.
+    pub fn regions_of(&self, op: usize) -> &[usize] {
+        match self.op(op) {
+            Some(op) => &op.regions,
+            None => &[],
+        }
+    }
+
     /// The blocks of the region with this number, none where it isn't live.
     pub fn blocks_of(&self, region: usize) -> &[usize] {
         match self.region(region) {

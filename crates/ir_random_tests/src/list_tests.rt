@@ -1,6 +1,6 @@
-//! Random edits of lists and nesting: after each, what it touched is what the plain model has, and after each hundredth so is all.
+//! Random edits of lists and nesting: after each, what each operation, block and region stands in, the neighbours of each operation and block, and the walks of all blocks and regions from both ends are what the plain model has. After each hundredth so is all that can be read.
 
-use crate::lists::expect_lists;
+use crate::lists::{COUNT, expect_lists};
 use ir_base::{Answer, Limits, Refused};
 use ir_lab::{Lab, LabError};
 use ir_plain::Plain;
@@ -11,9 +11,6 @@ use rand_pcg::Pcg32;
 use std::alloc::{AllocError, Global};
 use std::process::Abort;
 use std::test::Fail;
-
-// How many operations, blocks and regions there are.
-const COUNT: usize = 7;
 
 // How many edits a test does.
 const EDITS: usize = 50_000;
@@ -149,7 +146,7 @@ fn edit_at_random(
         block_edit(named, choice)
     };
     let accepted = edit(rt, lab, plain, next)?;
-    expect_lists(rt, lab, plain, COUNT, [named.op, named.block, named.region])?;
+    expect_lists(rt, lab, plain)?;
     Ok(accepted)
 }
 

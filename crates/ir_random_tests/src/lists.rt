@@ -1,53 +1,71 @@
-//! Lists of operations and blocks: what a session shows of them, and what the plain model has.
+//! Where everything stands: what a session shows of all lists of operations and blocks and of all regions, and what the plain model has.
 
-use ir_lab::{Lab, LabError, Place};
+use ir_lab::{Lab, Place};
 use ir_plain::Plain;
+use std::alloc::AllocError;
 use std::process::Abort;
 
-// The neighbours of a number in a list; none where the list hasn't it.
-fn neighbours(list: &[usize], number: usize) -> Option<(Option<usize>, Option<usize>)> {
-    let mut before = None;
-    let mut found = None;
-    for other in list {
-        if let Some(previous) = found {
-            return Some((previous, Some(*other)));
+/// How many operations there are, and as many blocks and regions.
+pub(crate) const COUNT: usize = 7;
+
+// Notes the places of those in a list, which something has.
+fn note_places(places: &mut [Place], parent: usize, list: &[usize]) {
+    let mut previous = None;
+    for (index, number) in list.iter().enumerate() {
+        let next = list.get(index.saturating_add(1)).copied();
+        if let Some(place) = places.get_mut(*number) {
+            *place = Place {
+                parent: Some(parent),
+                previous,
+                next,
+            };
         }
-        if *other == number {
-            found = Some(before);
-        }
-        before = Some(*other);
+        previous = Some(*number);
     }
-    Some((found?, None))
 }
 
-// Where a number stands in a list that something has.
-fn place_in(list: &[usize], parent: usize, number: usize) -> Option<Place> {
-    let (previous, next) = neighbours(list, number)?;
-    Some(Place {
-        parent: Some(parent),
-        previous,
-        next,
-    })
+// Where each operation stands.
+fn plain_op_places(plain: &Plain) -> [Place; COUNT] {
+    let mut places = [Place::UNLINKED; COUNT];
+    for block in 0..COUNT {
+        note_places(&mut places, block, plain.ops_of(block));
+    }
+    places
 }
 
-// Where an operation stands, among so many blocks.
-fn plain_op_place(plain: &Plain, count: usize, op: usize) -> Place {
-    for block in 0..count {
-        if let Some(place) = place_in(plain.ops_of(block), block, op) {
-            return place;
-        }
+// Where each block stands.
+fn plain_block_places(plain: &Plain) -> [Place; COUNT] {
+    let mut places = [Place::UNLINKED; COUNT];
+    for region in 0..COUNT {
+        note_places(&mut places, region, plain.blocks_of(region));
     }
-    Place::UNLINKED
+    places
 }
 
-// Where a block stands, among so many regions.
-fn plain_block_place(plain: &Plain, count: usize, block: usize) -> Place {
-    for region in 0..count {
-        if let Some(place) = place_in(plain.blocks_of(region), region, block) {
-            return place;
+// The operation that each region belongs to.
+fn plain_parents(plain: &Plain) -> [Option<usize>; COUNT] {
+    let mut parents = [None; COUNT];
+    for op in 0..COUNT {
+        for region in plain.regions_of(op) {
+            if let Some(parent) = parents.get_mut(*region) {
+                *parent = Some(op);
+            }
         }
     }
-    Place::UNLINKED
+    parents
+}
+
+// Asserts where each operation, block and region stands.
+fn expect_places(rt: &impl Abort, lab: &Lab, plain: &Plain) {
+    for (op, place) in plain_op_places(plain).iter().enumerate() {
+        assert_eq!(rt; lab.op_place(op), *place, "o{op}");
+    }
+    for (block, place) in plain_block_places(plain).iter().enumerate() {
+        assert_eq!(rt; lab.block_place(block), *place, "b{block}");
+    }
+    for (region, parent) in plain_parents(plain).iter().enumerate() {
+        assert_eq!(rt; lab.parent_of_region(region), *parent, "r{region}");
+    }
 }
 
 // Asserts that a list is shown forward and backward.
@@ -59,23 +77,19 @@ fn expect_list(rt: &impl Abort, forward: &[usize], backward: &[usize], list: &[u
     }
 }
 
-/// Asserts where an operation and a block stand, and what stands in a block and a region; there are so many blocks and regions.
-pub(crate) fn expect_lists(
-    rt: &impl Abort,
-    lab: &Lab,
-    plain: &Plain,
-    count: usize,
-    numbers: [usize; 3],
-) -> Result<(), LabError> {
-    let [op, block, region] = numbers;
-    assert_eq!(rt; lab.op_place(op), plain_op_place(plain, count, op));
-    assert_eq!(rt;
-        lab.block_place(block),
-        plain_block_place(plain, count, block)
-    );
-    let (forward, backward) = (lab.ops_of(block)?, lab.ops_of_back(block)?);
-    expect_list(rt, &forward, &backward, plain.ops_of(block));
-    let (forward, backward) = (lab.blocks_of(region)?, lab.blocks_of_back(region)?);
-    expect_list(rt, &forward, &backward, plain.blocks_of(region));
+/// Asserts where each operation, block and region stands, and what stands in each block and region, walked from the front and from the back.
+///
+/// # Errors
+/// Where a growth was refused.
+pub(crate) fn expect_lists(rt: &impl Abort, lab: &Lab, plain: &Plain) -> Result<(), AllocError> {
+    expect_places(rt, lab, plain);
+    for block in 0..COUNT {
+        let (forward, backward) = (lab.ops_of(block)?, lab.ops_of_back(block)?);
+        expect_list(rt, &forward, &backward, plain.ops_of(block));
+    }
+    for region in 0..COUNT {
+        let (forward, backward) = (lab.blocks_of(region)?, lab.blocks_of_back(region)?);
+        expect_list(rt, &forward, &backward, plain.blocks_of(region));
+    }
     Ok(())
 }
