@@ -1,10 +1,12 @@
 //! The example's dialect: what it makes, how it is named, and what is read back.
 
+use crate::calls::end;
 use example::{Calc, CalcType, Constant, Less};
 use ir_base::interfaces::PureOpInterface;
-use ir_base::{CoreError, Dialects, Identifier};
+use ir_base::{CoreError, Dialects, Identifier, Ptr};
+use ir_checked::{CheckedErr, Context, Operation, OperationPtr, Value, ValueQueries};
 use ir_names::Named;
-use ir_view::{Context, Op, OperationKind, OperationPtr, op_impls_static};
+use ir_view::{Op, OperationKind, op_impls_static};
 use std::alloc::Global;
 use std::process::Abort;
 use std::test::Fail;
@@ -27,27 +29,58 @@ fn names_of_kinds(rt: HostRuntime) -> Result<(), Fail> {
     Ok(())
 }
 
-// The unique name of the answer to a live question.
-fn answer_name(
-    rt: &impl Abort,
-    ctx: &Context<Calc>,
-    less: &Less,
-) -> Result<Option<Identifier>, CoreError> {
-    assert!(rt; less.op.is_live(ctx));
-    match less.answer(ctx) {
-        Some(answer) => Ok(Some(answer.unique_name(ctx)?)),
-        None => Ok(None),
+// Whether a live operation is a comparison.
+fn is_less(ctx: &Context<Calc>, op: Ptr<Operation<Calc>>) -> Result<bool, CheckedErr> {
+    if !op.is_live(ctx) {
+        return Err(CheckedErr::Condition);
     }
+    Ok(op.is_op::<Less>(ctx))
+}
+
+// The sides of a live comparison.
+fn sides(ctx: &Context<Calc>, less: &Less) -> Result<Option<(u64, u64)>, CheckedErr> {
+    if !less.op.is_live(ctx) {
+        return Err(CheckedErr::Condition);
+    }
+    Ok(less.sides(ctx))
+}
+
+// The answer of a live comparison.
+fn answer(ctx: &Context<Calc>, less: &Less) -> Result<Option<Value<Calc>>, CheckedErr> {
+    if !less.op.is_live(ctx) {
+        return Err(CheckedErr::Condition);
+    }
+    Ok(less.answer(ctx))
+}
+
+// Whether a live value has the unique name.
+fn is_named<D: Dialects>(
+    ctx: &Context<D>,
+    value: Value<D>,
+    name: &str,
+) -> Result<bool, CheckedErr> {
+    if !value.is_live(ctx) {
+        return Err(CheckedErr::Condition);
+    }
+    Ok(value.unique_name(ctx)?.as_str() == name)
+}
+
+// A comparison that was made is read back, and its answer has a name.
+fn comparison(rt: &impl Abort, ctx: &mut Context<Calc>) -> Result<(), CheckedErr> {
+    let less = Less::compare(ctx, 16, 3, 5)?;
+    assert!(rt; is_less(ctx, less.op)?);
+    assert_eq!(rt; sides(ctx, &less)?, Some((3, 5)));
+    match answer(ctx, &less)? {
+        Some(answer) => assert!(rt; is_named(ctx, answer, "smaller_v2")?),
+        None => assert!(rt; false),
+    }
+    Ok(())
 }
 
 #[test]
 fn comparison_made_named_and_read_back(rt: HostRuntime) -> Result<(), Fail> {
     let mut ctx: Context<Calc> = Context::new(rt.alloc());
-    let less = Less::compare(&mut ctx, 16, 3, 5)?;
-    assert!(rt; less.op.is_live(&ctx));
-    assert!(rt; less.op.is_op::<Less>(&ctx));
-    assert_eq!(rt; less.sides(&ctx), Some((3, 5)));
-    let name = answer_name(&rt, &ctx, &less)?;
-    assert!(rt; name == Some(Identifier::new("smaller_v2")));
+    let outcome = comparison(&rt, &mut ctx);
+    end(ctx, outcome)?;
     Ok(())
 }

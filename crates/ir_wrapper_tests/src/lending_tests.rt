@@ -1,17 +1,19 @@
 //! What is written of operations and blocks: attributes over the dialect Calc, locations and labels over Toy.
 
+use crate::calls::{alone, end, expect_condition, set_loc};
 use example::{Calc, CalcType, Literal};
-use ir_base::{CoreError, Identifier, Ptr};
-use ir_toy::{Toy, ToyLoc};
-use ir_view::{
-    BasicBlock, BlockPtr, BlockPtrMut, Context, Entity, Erase, NewBlock, NewOperation,
-    OperandEdits, Operation, OperationList, OperationPlace, OperationPtr, OperationPtrMut,
-    TypeQueries, Value, ValueQueries, can_erase, is_inside,
+use ir_base::attribute::AttributeDict;
+use ir_base::{Dialects, Identifier, Ptr};
+use ir_checked::{
+    BasicBlock, BlockPtr, CheckedErr, Context, Operation, OperationPlace, OperationPtr,
+    erase_block, erase_op, new_block, new_op, op_at_back, push_operand, result, unlink_op,
 };
+use ir_toy::{Toy, ToyLoc};
+use ir_view::{BlockPtrMut, OperationPtrMut};
 use std::process::Abort;
 use std::test::Fail;
 
-/// Two operations and a block, each with a number under the key `size`.
+/// Two operations and a block, each of which may have a number under the key `size`.
 #[derive(Drop)]
 struct Made {
     maker: Ptr<Operation<Calc>>,
@@ -19,48 +21,49 @@ struct Made {
     block: Ptr<BasicBlock<Calc>>,
 }
 
-// Whether the operation could be given the number under the key `size`.
+// Sets the number under the key `size`.
+fn set_size(attributes: &mut AttributeDict<Calc>, value: u64) -> Result<(), CheckedErr> {
+    attributes.set(Identifier::new("size"), Literal { value })?;
+    Ok(())
+}
+
+// Gives the operation the number under the key `size`.
 fn write_op(
     ctx: &mut Context<Calc>,
     op: Ptr<Operation<Calc>>,
     value: u64,
-) -> Result<bool, CoreError> {
+) -> Result<(), CheckedErr> {
     match OperationPtrMut::try_deref_mut(ctx, op) {
-        Ok(written) => {
-            let size = Identifier::new("size");
-            written.attributes.set(size, Literal { value })?;
-            Ok(true)
-        }
-        Err(_) => Ok(false),
+        Ok(written) => set_size(&mut written.attributes, value),
+        Err(_) => Err(CheckedErr::Condition),
     }
 }
 
-// Whether the block could be given the number under the key `size`.
+// Gives the block the number under the key `size`.
 fn write_block(
     ctx: &mut Context<Calc>,
     block: Ptr<BasicBlock<Calc>>,
     value: u64,
-) -> Result<bool, CoreError> {
+) -> Result<(), CheckedErr> {
     match BlockPtrMut::try_deref_mut(ctx, block) {
-        Ok(written) => {
-            let size = Identifier::new("size");
-            written.attributes.set(size, Literal { value })?;
-            Ok(true)
-        }
-        Err(_) => Ok(false),
+        Ok(written) => set_size(&mut written.attributes, value),
+        Err(_) => Err(CheckedErr::Condition),
     }
+}
+
+// The number under the key `size`.
+fn size_in(attributes: &AttributeDict<Calc>) -> Option<u64> {
+    Some(attributes.get::<Literal>(&Identifier::new("size"))?.value)
 }
 
 // The number of the operation under the key `size`.
 fn size_of_op(ctx: &Context<Calc>, op: Ptr<Operation<Calc>>) -> Option<u64> {
-    let attributes = op.try_deref(ctx).ok()?.attributes();
-    Some(attributes.get::<Literal>(&Identifier::new("size"))?.value)
+    size_in(op.try_deref(ctx).ok()?.attributes())
 }
 
 // The number of the block under the key `size`.
 fn size_of_block(ctx: &Context<Calc>, block: Ptr<BasicBlock<Calc>>) -> Option<u64> {
-    let attributes = block.try_deref(ctx).ok()?.attributes();
-    Some(attributes.get::<Literal>(&Identifier::new("size"))?.value)
+    size_in(block.try_deref(ctx).ok()?.attributes())
 }
 
 // Asserts the three numbers.
@@ -72,140 +75,154 @@ fn expect_sizes(rt: &impl Abort, ctx: &Context<Calc>, made: &Made, sizes: [Optio
 }
 
 // An operation with a result, one without, and a block, none of which has an attribute.
-fn make(rt: &impl Abort, ctx: &mut Context<Calc>) -> Result<Made, CoreError> {
+fn make(rt: &impl Abort, ctx: &mut Context<Calc>) -> Result<Made, CheckedErr> {
     let ty = ctx.instantiate_key(CalcType::Truth)?;
-    let maker = Operation::new(ctx, 0, &[ty], &[], &[], 0)?;
-    let user = Operation::new(ctx, 1, &[], &[], &[], 0)?;
-    let block = BasicBlock::new(ctx, Some(Identifier::new("entry")), &[])?;
+    let maker = new_op(ctx, 0, &[ty], &[], &[], 0)?;
+    let user = alone(ctx, 1)?;
+    let block = new_block(ctx, Some(Identifier::new("entry")), &[])?;
     let made = Made { maker, user, block };
     expect_sizes(rt, ctx, &made, [None, None, None]);
     Ok(made)
 }
 
+// Asserts the kind of an operation with no location, and how many results it has.
+fn expect_op(
+    rt: &impl Abort,
+    ctx: &Context<Calc>,
+    op: Ptr<Operation<Calc>>,
+    kind: u32,
+    results: usize,
+) -> Result<(), CheckedErr> {
+    let Ok(record) = op.try_deref(ctx) else {
+        return Err(CheckedErr::Condition);
+    };
+    assert_eq!(rt; record.kind(), kind);
+    assert_eq!(rt; record.get_num_results(), results);
+    assert_eq!(rt; *record.loc(), 0);
+    Ok(())
+}
+
+// Asserts that the block has no location.
+fn expect_no_loc(
+    rt: &impl Abort,
+    ctx: &Context<Calc>,
+    block: Ptr<BasicBlock<Calc>>,
+) -> Result<(), CheckedErr> {
+    let Ok(record) = block.try_deref(ctx) else {
+        return Err(CheckedErr::Condition);
+    };
+    assert_eq!(rt; *record.loc(), 0);
+    Ok(())
+}
+
 // Asserts that nothing but attributes was written.
-fn expect_rest(rt: &impl Abort, ctx: &Context<Calc>, made: &Made) {
-    assert!(rt; made.maker.is_live(ctx));
-    assert!(rt; made.user.is_live(ctx));
-    assert!(rt; made.block.is_live(ctx));
-    let maker = made.maker.deref(ctx);
-    assert_eq!(rt; maker.kind(), 0);
-    assert_eq!(rt; maker.get_num_results(), 1);
-    assert_eq!(rt; *maker.loc(), 0);
-    assert_eq!(rt; made.user.deref(ctx).kind(), 1);
-    assert_eq!(rt; *made.block.deref(ctx).loc(), 0);
+fn expect_rest(rt: &impl Abort, ctx: &Context<Calc>, made: &Made) -> Result<(), CheckedErr> {
+    expect_op(rt, ctx, made.maker, 0, 1)?;
+    expect_op(rt, ctx, made.user, 1, 0)?;
+    expect_no_loc(rt, ctx, made.block)?;
     assert!(rt; !made.maker.is_linked(ctx));
+    Ok(())
+}
+
+fn one_by_one(rt: &impl Abort, ctx: &mut Context<Calc>) -> Result<(), CheckedErr> {
+    let made = make(rt, ctx)?;
+    write_op(ctx, made.maker, 5)?;
+    expect_sizes(rt, ctx, &made, [Some(5), None, None]);
+    write_block(ctx, made.block, 9)?;
+    write_op(ctx, made.maker, 7)?;
+    expect_sizes(rt, ctx, &made, [Some(7), None, Some(9)]);
+    expect_rest(rt, ctx, &made)
 }
 
 #[test]
 fn attributes_are_written_one_by_one(rt: HostRuntime) -> Result<(), Fail> {
     let mut ctx: Context<Calc> = Context::new(rt.alloc());
-    let made = make(&rt, &mut ctx)?;
-    assert!(rt; write_op(&mut ctx, made.maker, 5)?);
-    expect_sizes(&rt, &ctx, &made, [Some(5), None, None]);
-    assert!(rt; write_block(&mut ctx, made.block, 9)?);
-    assert!(rt; write_op(&mut ctx, made.maker, 7)?);
-    expect_sizes(&rt, &ctx, &made, [Some(7), None, Some(9)]);
-    expect_rest(&rt, &ctx, &made);
+    let outcome = one_by_one(&rt, &mut ctx);
+    end(ctx, outcome)?;
     Ok(())
-}
-
-// The first result of a live operation that has one.
-fn result_of(rt: &impl Abort, ctx: &Context<Calc>, op: Ptr<Operation<Calc>>) -> Value<Calc> {
-    assert!(rt; op.is_live(ctx));
-    let record = op.deref(ctx);
-    assert!(rt; record.get_num_results() > 0);
-    record.get_result(0)
 }
 
 // The user gets an operand, and is put into the block.
-fn edit(rt: &impl Abort, ctx: &mut Context<Calc>, made: &Made) -> Result<(), CoreError> {
-    let value = result_of(rt, ctx, made.maker);
-    assert!(rt; made.user.is_live(ctx));
-    assert!(rt; value.is_live(ctx));
-    made.user.push_operand(ctx, value)?;
-    assert!(rt; made.user.is_live(ctx));
-    assert!(rt; made.block.is_live(ctx));
-    assert!(rt; !made.user.is_linked(ctx));
-    assert!(rt; !is_inside(ctx, Entity::Block(made.block), Entity::Op(made.user)));
-    made.user.insert_at_back(made.block, ctx);
-    Ok(())
+fn edit<D: Dialects>(
+    ctx: &mut Context<D>,
+    maker: Ptr<Operation<D>>,
+    user: Ptr<Operation<D>>,
+    block: Ptr<BasicBlock<D>>,
+) -> Result<(), CheckedErr> {
+    let value = result(ctx, maker, 0)?;
+    push_operand(ctx, user, value)?;
+    op_at_back(ctx, user, block)
 }
 
-// The user is taken out of the block.
-fn edit_back(rt: &impl Abort, ctx: &mut Context<Calc>, made: &Made) {
-    assert!(rt; made.user.is_linked(ctx));
-    made.user.unlink(ctx);
+// The user is put into the block, and taken out again.
+fn edited(rt: &impl Abort, ctx: &mut Context<Calc>) -> Result<(), CheckedErr> {
+    let made = make(rt, ctx)?;
+    write_op(ctx, made.maker, 5)?;
+    write_op(ctx, made.user, 6)?;
+    write_block(ctx, made.block, 7)?;
+    let sizes = [Some(5), Some(6), Some(7)];
+    edit(ctx, made.maker, made.user, made.block)?;
+    expect_sizes(rt, ctx, &made, sizes);
+    unlink_op(ctx, made.user)?;
+    expect_sizes(rt, ctx, &made, sizes);
+    Ok(())
 }
 
 #[test]
 fn edits_keep_attributes(rt: HostRuntime) -> Result<(), Fail> {
     let mut ctx: Context<Calc> = Context::new(rt.alloc());
-    let made = make(&rt, &mut ctx)?;
-    assert!(rt; write_op(&mut ctx, made.maker, 5)?);
-    assert!(rt; write_op(&mut ctx, made.user, 6)?);
-    assert!(rt; write_block(&mut ctx, made.block, 7)?);
-    let sizes = [Some(5), Some(6), Some(7)];
-    edit(&rt, &mut ctx, &made)?;
-    expect_sizes(&rt, &ctx, &made, sizes);
-    edit_back(&rt, &mut ctx, &made);
-    expect_sizes(&rt, &ctx, &made, sizes);
+    let outcome = edited(&rt, &mut ctx);
+    end(ctx, outcome)?;
     Ok(())
 }
 
-// Whether the operation could be erased.
-fn erase_op(ctx: &mut Context<Calc>, op: Ptr<Operation<Calc>>) -> bool {
-    if !op.is_live(ctx) || !can_erase(ctx, Entity::Op(op)) {
-        return false;
-    }
-    op.erase(ctx);
-    true
-}
-
-// Whether the block could be erased.
-fn erase_block(ctx: &mut Context<Calc>, block: Ptr<BasicBlock<Calc>>) -> bool {
-    if !block.is_live(ctx) || !can_erase(ctx, Entity::Block(block)) {
-        return false;
-    }
-    block.erase(ctx);
-    true
-}
-
 // What is made in the slots of what was erased has no attributes.
-#[test]
-fn erasing_takes_attributes_along(rt: HostRuntime) -> Result<(), Fail> {
-    let mut ctx: Context<Calc> = Context::new(rt.alloc());
-    let made = make(&rt, &mut ctx)?;
-    assert!(rt; write_op(&mut ctx, made.user, 6)?);
-    assert!(rt; write_block(&mut ctx, made.block, 7)?);
-    assert!(rt; erase_op(&mut ctx, made.user));
-    assert!(rt; erase_block(&mut ctx, made.block));
-    expect_sizes(&rt, &ctx, &made, [None, None, None]);
-    assert!(rt; !write_op(&mut ctx, made.user, 6)?);
-    assert!(rt; !write_block(&mut ctx, made.block, 7)?);
-    let again = make(&rt, &mut ctx)?;
+fn erased(rt: &impl Abort, ctx: &mut Context<Calc>) -> Result<(), CheckedErr> {
+    let made = make(rt, ctx)?;
+    write_op(ctx, made.user, 6)?;
+    write_block(ctx, made.block, 7)?;
+    erase_op(ctx, made.user)?;
+    erase_block(ctx, made.block)?;
+    expect_sizes(rt, ctx, &made, [None, None, None]);
+    expect_condition(rt, write_op(ctx, made.user, 6));
+    expect_condition(rt, write_block(ctx, made.block, 7));
+    let again = make(rt, ctx)?;
     assert!(rt; made.user != again.user);
     Ok(())
 }
 
-// A live operation and a live block get locations, and the block gets and loses a label.
-fn place(
-    rt: &impl Abort,
-    ctx: &mut Context<Toy>,
-    op: Ptr<Operation<Toy>>,
-    block: Ptr<BasicBlock<Toy>>,
-) {
-    assert!(rt; op.is_live(ctx));
-    OperationPtrMut::deref_mut(ctx, op).set_loc(ToyLoc::Line(3));
-    assert!(rt; block.is_live(ctx));
-    let written = BlockPtrMut::deref_mut(ctx, block);
-    written.set_loc(ToyLoc::Line(4));
-    written.set_label(Some(Identifier::new("entry")));
+#[test]
+fn erasing_takes_attributes_along(rt: HostRuntime) -> Result<(), Fail> {
+    let mut ctx: Context<Calc> = Context::new(rt.alloc());
+    let outcome = erased(&rt, &mut ctx);
+    end(ctx, outcome)?;
+    Ok(())
 }
 
-// The label of a block is taken away.
-fn unlabel(rt: &impl Abort, ctx: &mut Context<Toy>, block: Ptr<BasicBlock<Toy>>) {
-    assert!(rt; block.is_live(ctx));
-    BlockPtrMut::deref_mut(ctx, block).set_label(None);
+// Gives the block the location.
+fn set_block_loc<D: Dialects>(
+    ctx: &mut Context<D>,
+    block: Ptr<BasicBlock<D>>,
+    loc: D::Loc,
+) -> Result<(), CheckedErr> {
+    if !block.is_live(ctx) {
+        return Err(CheckedErr::Condition);
+    }
+    BlockPtrMut::deref_mut(ctx, block).set_loc(loc);
+    Ok(())
+}
+
+// Gives the block the label, or takes it away.
+fn set_label<D: Dialects>(
+    ctx: &mut Context<D>,
+    block: Ptr<BasicBlock<D>>,
+    label: Option<Identifier>,
+) -> Result<(), CheckedErr> {
+    if !block.is_live(ctx) {
+        return Err(CheckedErr::Condition);
+    }
+    BlockPtrMut::deref_mut(ctx, block).set_label(label);
+    Ok(())
 }
 
 // Asserts the location of a block, and its label.
@@ -234,19 +251,28 @@ fn expect_loc(rt: &impl Abort, ctx: &Context<Toy>, op: Ptr<Operation<Toy>>, loc:
     assert!(rt; *record.loc() == loc);
 }
 
+// A location and a label that are written stand there alone, and the label can be taken away.
+fn written(rt: &impl Abort, ctx: &mut Context<Toy>) -> Result<(), CheckedErr> {
+    let op = alone(ctx, 0)?;
+    let block = new_block(ctx, None, &[])?;
+    let other = new_block(ctx, None, &[])?;
+    expect_loc(rt, ctx, op, ToyLoc::Unknown);
+    expect_block(rt, ctx, block, ToyLoc::Unknown, None);
+    set_loc(ctx, op, ToyLoc::Line(3))?;
+    set_block_loc(ctx, block, ToyLoc::Line(4))?;
+    set_label(ctx, block, Some(Identifier::new("entry")))?;
+    expect_loc(rt, ctx, op, ToyLoc::Line(3));
+    expect_block(rt, ctx, block, ToyLoc::Line(4), Some("entry"));
+    expect_block(rt, ctx, other, ToyLoc::Unknown, None);
+    set_label(ctx, block, None)?;
+    expect_block(rt, ctx, block, ToyLoc::Line(4), None);
+    Ok(())
+}
+
 #[test]
 fn locations_and_labels(rt: HostRuntime) -> Result<(), Fail> {
     let mut ctx: Context<Toy> = Context::new(rt.alloc());
-    let op = Operation::new(&mut ctx, 0, &[], &[], &[], 0)?;
-    let block = BasicBlock::new(&mut ctx, None, &[])?;
-    let other = BasicBlock::new(&mut ctx, None, &[])?;
-    expect_loc(&rt, &ctx, op, ToyLoc::Unknown);
-    expect_block(&rt, &ctx, block, ToyLoc::Unknown, None);
-    place(&rt, &mut ctx, op, block);
-    expect_loc(&rt, &ctx, op, ToyLoc::Line(3));
-    expect_block(&rt, &ctx, block, ToyLoc::Line(4), Some("entry"));
-    expect_block(&rt, &ctx, other, ToyLoc::Unknown, None);
-    unlabel(&rt, &mut ctx, block);
-    expect_block(&rt, &ctx, block, ToyLoc::Line(4), None);
+    let outcome = written(&rt, &mut ctx);
+    end(ctx, outcome)?;
     Ok(())
 }

@@ -4,6 +4,8 @@
 #[cfg(test)]
 mod calc_tests;
 #[cfg(test)]
+mod calls;
+#[cfg(test)]
 mod lending_tests;
 #[cfg(test)]
 mod toy_ops;
