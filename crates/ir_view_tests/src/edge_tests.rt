@@ -1,26 +1,15 @@
 //! Edges between blocks, forward by terminators and back by uses.
 
-use crate::checked::{new_block, new_branch, new_op, region_at};
-use ir_base::{CoreError, Dialects, Ptr};
-use ir_toy::Toy;
-use ir_view::{
-    BasicBlock, BlockPredecessors, BlockPtr, BlockSuccessors, BlockUses, Context, NewOperation,
-    Operation,
+use crate::edges::{
+    expect_num_succ, is_pred, is_succ, is_succ_of, num_preds, pred_at, preds, preds_are_linked,
+    succ_at, succs, terminator, uses_of,
 };
+use crate::making::{branch, end, two_blocks};
+use ir_base::{Dialects, Ptr};
+use ir_checked::{BasicBlock, CheckedErr, Context, new_op};
+use ir_toy::Toy;
 use std::process::Abort;
 use std::test::Fail;
-
-// Two blocks in a region of a new operation of kind 5.
-fn two_blocks<D: Dialects>(
-    rt: &impl Abort,
-    ctx: &mut Context<D>,
-) -> Result<[Ptr<BasicBlock<D>>; 2], CoreError> {
-    let parent = new_op(ctx, 5, 1)?;
-    let region = region_at(rt, ctx, parent, 0);
-    let a = new_block(rt, ctx, region)?;
-    let b = new_block(rt, ctx, region)?;
-    Ok([a, b])
-}
 
 // Asserts that the block has exactly these successors in this order, however they are read.
 fn expect_succs<D: Dialects>(
@@ -28,18 +17,16 @@ fn expect_succs<D: Dialects>(
     ctx: &Context<D>,
     block: Ptr<BasicBlock<D>>,
     expected: &[Ptr<BasicBlock<D>>],
-) -> Result<(), CoreError> {
-    assert!(rt; block.is_live(ctx));
-    let succs = block.succs(ctx)?;
-    assert!(rt; succs.as_slice() == expected);
-    assert_eq!(rt; block.num_succ(ctx), expected.len());
-    assert_eq!(rt; block.has_succ(ctx), !expected.is_empty());
+) -> Result<(), CheckedErr> {
+    let listed = succs(ctx, block)?;
+    assert!(rt; listed.as_slice() == expected);
+    expect_num_succ(rt, ctx, block, expected.len())?;
     for (index, succ) in expected.iter().enumerate() {
-        if index < block.num_succ(ctx) {
-            assert!(rt; block.get_succ(ctx, index) == *succ);
-        }
-        assert!(rt; block.is_succ(ctx, *succ));
+        let found = succ_at(ctx, block, index)?;
+        assert!(rt; found == *succ);
+        assert!(rt; is_succ(ctx, block, *succ)?);
     }
+    assert!(rt; succ_at(ctx, block, expected.len()) == Err(CheckedErr::Condition));
     Ok(())
 }
 
@@ -49,80 +36,77 @@ fn expect_preds<D: Dialects>(
     ctx: &Context<D>,
     block: Ptr<BasicBlock<D>>,
     expected: &[Ptr<BasicBlock<D>>],
-) -> Result<(), CoreError> {
-    assert!(rt; block.is_live(ctx));
-    assert!(rt; block.preds_are_linked(ctx));
-    let preds = block.preds(ctx)?;
-    assert!(rt; preds.as_slice() == expected);
-    assert_eq!(rt; block.num_preds(ctx), expected.len());
+) -> Result<(), CheckedErr> {
+    assert!(rt; preds_are_linked(ctx, block)?);
+    let listed = preds(ctx, block)?;
+    assert!(rt; listed.as_slice() == expected);
+    assert_eq!(rt; num_preds(ctx, block)?, expected.len());
     for (index, pred) in expected.iter().enumerate() {
-        if index < block.num_preds(ctx) {
-            assert!(rt; block.get_pred(ctx, index) == *pred);
-        }
-        assert!(rt; block.is_pred(ctx, *pred));
+        let found = pred_at(ctx, block, index)?;
+        assert!(rt; found == *pred);
+        assert!(rt; is_pred(ctx, block, *pred)?);
     }
+    assert!(rt; pred_at(ctx, block, expected.len()) == Err(CheckedErr::Condition));
     Ok(())
 }
 
 // An operation of kind 4, last in the block a, names b twice.
-fn name_twice<D: Dialects>(rt: &impl Abort, ctx: &mut Context<D>) -> Result<(), CoreError> {
-    let [a, b] = two_blocks(rt, ctx)?;
-    new_branch(rt, ctx, 4, [b, b], a)?;
+fn name_twice<D: Dialects>(rt: &impl Abort, ctx: &mut Context<D>) -> Result<(), CheckedErr> {
+    let [a, b] = two_blocks(ctx)?;
+    branch(ctx, 4, a, &[b, b])?;
     expect_preds(rt, ctx, b, &[a, a])?;
     expect_preds(rt, ctx, a, &[])?;
     expect_succs(rt, ctx, a, &[])?;
-    assert!(rt; a.is_live(ctx));
-    assert!(rt; b.is_live(ctx));
-    assert!(rt; b.is_succ_of(ctx, a));
-    assert!(rt; !a.is_succ_of(ctx, b));
-    assert!(rt; !a.is_succ(ctx, b));
-    assert!(rt; !b.is_pred(ctx, b));
-    assert!(rt; !a.is_pred(ctx, b));
-    assert!(rt; a.get_terminator(ctx).is_none());
+    assert!(rt; is_succ_of(ctx, b, a)?);
+    assert!(rt; !is_succ_of(ctx, a, b)?);
+    assert!(rt; !is_succ(ctx, a, b)?);
+    assert!(rt; !is_pred(ctx, b, b)?);
+    assert!(rt; !is_pred(ctx, a, b)?);
+    assert!(rt; terminator(ctx, a)?.is_none());
     Ok(())
 }
 
 #[test]
 fn preds_twice(rt: HostRuntime) -> Result<(), Fail> {
     let mut ctx: Context<Toy> = Context::new(rt.alloc());
-    name_twice(&rt, &mut ctx)?;
+    let outcome = name_twice(&rt, &mut ctx);
+    end(ctx, outcome)?;
     Ok(())
 }
 
 // A terminator, of kind 3, at the end of the block a names b and then a.
-fn end_by_branch<D: Dialects>(rt: &impl Abort, ctx: &mut Context<D>) -> Result<(), CoreError> {
-    let [a, b] = two_blocks(rt, ctx)?;
-    let branch = new_branch(rt, ctx, 3, [b, a], a)?;
+fn end_by_branch<D: Dialects>(rt: &impl Abort, ctx: &mut Context<D>) -> Result<(), CheckedErr> {
+    let [a, b] = two_blocks(ctx)?;
+    let last = branch(ctx, 3, a, &[b, a])?;
     expect_succs(rt, ctx, a, &[b, a])?;
     expect_succs(rt, ctx, b, &[])?;
     expect_preds(rt, ctx, a, &[a])?;
     expect_preds(rt, ctx, b, &[a])?;
-    assert!(rt; a.is_live(ctx));
-    assert!(rt; a.get_terminator(ctx) == Some(branch));
-    assert!(rt; a.is_succ_of(ctx, a));
+    assert!(rt; terminator(ctx, a)? == Some(last));
+    assert!(rt; is_succ_of(ctx, a, a)?);
     Ok(())
 }
 
 #[test]
 fn successors_of_a_terminator(rt: HostRuntime) -> Result<(), Fail> {
     let mut ctx: Context<Toy> = Context::new(rt.alloc());
-    end_by_branch(&rt, &mut ctx)?;
+    let outcome = end_by_branch(&rt, &mut ctx);
+    end(ctx, outcome)?;
     Ok(())
 }
 
 // An operation that stands in no block names b.
-fn name_unlinked<D: Dialects>(rt: &impl Abort, ctx: &mut Context<D>) -> Result<(), CoreError> {
-    let [a, b] = two_blocks(rt, ctx)?;
-    assert!(rt; b.is_live(ctx));
-    let user: Ptr<Operation<D>> = Operation::new(ctx, 4, &[], &[], &[b], 0)?;
-    assert!(rt; a.is_live(ctx));
-    assert!(rt; b.is_live(ctx));
-    assert!(rt; !b.is_pred(ctx, a));
-    assert!(rt; !b.is_pred(ctx, b));
-    assert!(rt; !b.preds_are_linked(ctx));
-    assert!(rt; a.preds_are_linked(ctx));
-    assert!(rt; !b.is_succ_of(ctx, a));
-    for used in b.uses(ctx)?.iter() {
+fn name_unlinked<D: Dialects>(rt: &impl Abort, ctx: &mut Context<D>) -> Result<(), CheckedErr> {
+    let [a, b] = two_blocks(ctx)?;
+    let user = new_op(ctx, 4, &[], &[], &[b], 0)?;
+    assert!(rt; !is_pred(ctx, b, a)?);
+    assert!(rt; !is_pred(ctx, b, b)?);
+    assert!(rt; !preds_are_linked(ctx, b)?);
+    assert!(rt; preds_are_linked(ctx, a)?);
+    assert!(rt; !is_succ_of(ctx, b, a)?);
+    let uses = uses_of(ctx, b)?;
+    assert_eq!(rt; uses.len(), 1);
+    for used in uses.iter() {
         assert!(rt; used.user_op() == user);
     }
     Ok(())
@@ -131,6 +115,7 @@ fn name_unlinked<D: Dialects>(rt: &impl Abort, ctx: &mut Context<D>) -> Result<(
 #[test]
 fn unlinked_user(rt: HostRuntime) -> Result<(), Fail> {
     let mut ctx: Context<Toy> = Context::new(rt.alloc());
-    name_unlinked(&rt, &mut ctx)?;
+    let outcome = name_unlinked(&rt, &mut ctx);
+    end(ctx, outcome)?;
     Ok(())
 }

@@ -1,13 +1,13 @@
 //! What stands in what, over several levels.
 
-use crate::checked::{new_block, new_op, put_op, region_at};
-use ir_base::{CoreError, Dialects, Ptr, TypeHandle};
-use ir_toy::{Toy, ToyType};
-use ir_view::{
-    BasicBlock, BlockPlace, BlockPtr, Context, Entity, NewBlock, NewOperation, Operation,
-    OperationPlace, OperationPtr, Region, RegionPlace, RegionPtr, TypeQueries, Value, ValuePlace,
-    ValueQueries, can_erase, is_inside,
+use crate::making::{bare_op, block_in, end, int};
+use crate::parents::{expect_block_in, expect_op_in, expect_region_in, expect_value_in};
+use ir_base::{Dialects, Ptr, TypeHandle};
+use ir_checked::{
+    BasicBlock, CheckedErr, Context, Entity, Operation, Region, Value, argument, can_erase,
+    is_inside, new_block, new_op, op_at_back, region, result,
 };
+use ir_toy::Toy;
 use std::process::Abort;
 use std::test::Fail;
 
@@ -21,68 +21,61 @@ struct Nest<D: Dialects> {
     inner_region: Ptr<Region>,
     inner_block: Ptr<BasicBlock<D>>,
     maker: Ptr<Operation<D>>,
+    value: Value<D>,
 }
 
-// Makes them.
+// Makes them. The maker has one result and no more.
 fn make_nest<D: Dialects>(
     rt: &impl Abort,
     ctx: &mut Context<D>,
     ty: TypeHandle,
-) -> Result<Nest<D>, CoreError> {
-    let outer = new_op(ctx, 5, 1)?;
-    let region = region_at(rt, ctx, outer, 0);
-    let block = new_block(rt, ctx, region)?;
-    let inner = new_op(ctx, 5, 1)?;
-    put_op(rt, ctx, inner, block);
-    let inner_region = region_at(rt, ctx, inner, 0);
-    let inner_block = new_block(rt, ctx, inner_region)?;
-    assert!(rt; ty.is_known(ctx));
-    let maker = Operation::new(ctx, 0, &[ty], &[], &[], 0)?;
-    put_op(rt, ctx, maker, inner_block);
+) -> Result<Nest<D>, CheckedErr> {
+    let outer = bare_op(ctx, 5, 1)?;
+    let outer_region = region(ctx, outer, 0)?;
+    let block = block_in(ctx, outer_region)?;
+    let inner = bare_op(ctx, 5, 1)?;
+    op_at_back(ctx, inner, block)?;
+    let inner_region = region(ctx, inner, 0)?;
+    let inner_block = block_in(ctx, inner_region)?;
+    let maker = new_op(ctx, 0, &[ty], &[], &[], 0)?;
+    op_at_back(ctx, maker, inner_block)?;
+    assert!(rt; result(ctx, maker, 1) == Err(CheckedErr::Condition));
     Ok(Nest {
         outer,
-        region,
+        region: outer_region,
         block,
         inner,
         inner_region,
         inner_block,
         maker,
+        value: result(ctx, maker, 0)?,
     })
 }
 
-// What the operations and blocks stand in.
-fn tell_parents<D: Dialects>(rt: &impl Abort, ctx: &Context<D>, nest: &Nest<D>) {
-    assert!(rt; nest.maker.is_live(ctx));
-    assert!(rt; nest.maker.get_parent_block(ctx) == Some(nest.inner_block));
-    assert!(rt; nest.maker.get_parent_region(ctx) == Some(nest.inner_region));
-    assert!(rt; nest.maker.get_parent_op(ctx) == Some(nest.inner));
-    assert!(rt; nest.inner_block.is_live(ctx));
-    assert!(rt; nest.inner_block.get_parent_region(ctx) == Some(nest.inner_region));
-    assert!(rt; nest.inner_block.get_parent_op(ctx) == Some(nest.inner));
-    assert!(rt; nest.inner.is_live(ctx));
-    assert!(rt; nest.inner.get_parent_op(ctx) == Some(nest.outer));
-    assert!(rt; nest.outer.is_live(ctx));
-    assert!(rt; nest.outer.get_parent_op(ctx).is_none());
-}
-
-// What the regions stand in.
-fn tell_regions<D: Dialects>(rt: &impl Abort, ctx: &Context<D>, nest: &Nest<D>) {
-    assert!(rt; nest.inner_region.is_live(ctx));
-    assert!(rt; nest.inner_region.get_parent_op(ctx) == nest.inner);
-    assert!(rt; nest.inner_region.get_parent_block(ctx) == Some(nest.block));
-    assert!(rt; nest.inner_region.get_parent_region(ctx) == Some(nest.region));
-    assert!(rt; nest.region.is_live(ctx));
-    assert!(rt; nest.region.get_parent_op(ctx) == nest.outer);
-    assert!(rt; nest.region.get_parent_block(ctx).is_none());
-    assert!(rt; nest.region.get_parent_region(ctx).is_none());
-}
-
-// The result of the maker.
-fn value_of_nest<D: Dialects>(rt: &impl Abort, ctx: &Context<D>, nest: &Nest<D>) -> Value<D> {
-    assert!(rt; nest.maker.is_live(ctx));
-    let maker = nest.maker.deref(ctx);
-    assert!(rt; maker.get_num_results() == 1);
-    maker.get_result(0)
+// What the operations, blocks and regions stand in.
+fn tell_parents<D: Dialects>(
+    rt: &impl Abort,
+    ctx: &Context<D>,
+    nest: &Nest<D>,
+) -> Result<(), CheckedErr> {
+    let inner_region = Some(nest.inner_region);
+    let inner_block = Some(nest.inner_block);
+    expect_op_in(
+        rt,
+        ctx,
+        nest.maker,
+        inner_block,
+        inner_region,
+        Some(nest.inner),
+    )?;
+    expect_block_in(rt, ctx, nest.inner_block, inner_region, Some(nest.inner))?;
+    let region = Some(nest.region);
+    let block = Some(nest.block);
+    expect_region_in(rt, ctx, nest.inner_region, nest.inner, block, region)?;
+    expect_op_in(rt, ctx, nest.inner, block, region, Some(nest.outer))?;
+    expect_block_in(rt, ctx, nest.block, region, Some(nest.outer))?;
+    expect_region_in(rt, ctx, nest.region, nest.outer, None, None)?;
+    expect_op_in(rt, ctx, nest.outer, None, None, None)
 }
 
 // What the value stands in, and an argument of a block of its own.
@@ -91,18 +84,28 @@ fn tell_values<D: Dialects>(
     ctx: &mut Context<D>,
     nest: &Nest<D>,
     ty: TypeHandle,
-) -> Result<(), CoreError> {
-    let value = value_of_nest(rt, ctx, nest);
-    assert!(rt; value.is_live(ctx));
-    assert!(rt; value.get_parent_block(ctx) == Some(nest.inner_block));
-    assert!(rt; value.get_parent_region(ctx) == Some(nest.inner_region));
-    assert!(rt; ty.is_known(ctx));
-    let block = BasicBlock::new(ctx, None, &[ty])?;
-    let argument = block.deref(ctx).get_argument(0);
-    assert!(rt; argument.is_live(ctx));
-    assert!(rt; argument.get_parent_block(ctx) == Some(block));
-    assert!(rt; argument.get_parent_region(ctx).is_none());
-    Ok(())
+) -> Result<(), CheckedErr> {
+    let block = Some(nest.inner_block);
+    expect_value_in(rt, ctx, nest.value, block, Some(nest.inner_region))?;
+    let alone = new_block(ctx, None, &[ty])?;
+    let value = argument(ctx, alone, 0)?;
+    expect_value_in(rt, ctx, value, Some(alone), None)
+}
+
+// Asserts whether the first entity is the second or stands inside it.
+fn expect_inside<D: Dialects>(
+    rt: &impl Abort,
+    ctx: &Context<D>,
+    inner: Entity<D>,
+    outer: Entity<D>,
+    expected: bool,
+) {
+    assert!(rt; is_inside(ctx, inner, outer) == expected);
+}
+
+// Asserts that the entities have two indices.
+fn expect_two<D: Dialects>(rt: &impl Abort, first: Entity<D>, second: Entity<D>) {
+    assert!(rt; first.index() != second.index());
 }
 
 // What is inside what.
@@ -113,16 +116,28 @@ fn tell_inside<D: Dialects>(rt: &impl Abort, ctx: &Context<D>, nest: &Nest<D>) {
     let region = Entity::Region(nest.inner_region);
     let maker = Entity::Op(nest.maker);
     for entity in [outer, inner, region, block, maker] {
-        assert!(rt; is_inside(ctx, entity, outer));
-        assert!(rt; is_inside(ctx, maker, entity));
-        assert!(rt; is_inside(ctx, entity, entity));
+        expect_inside(rt, ctx, entity, outer, true);
+        expect_inside(rt, ctx, maker, entity, true);
+        expect_inside(rt, ctx, entity, entity, true);
     }
-    assert!(rt; !is_inside(ctx, outer, inner));
-    assert!(rt; !is_inside(ctx, inner, region));
-    assert!(rt; !is_inside(ctx, region, block));
-    assert!(rt; !is_inside(ctx, block, maker));
-    assert!(rt; maker.index() != inner.index());
-    assert!(rt; block.index() != region.index());
+    expect_inside(rt, ctx, outer, inner, false);
+    expect_inside(rt, ctx, inner, region, false);
+    expect_inside(rt, ctx, region, block, false);
+    expect_inside(rt, ctx, block, maker, false);
+    expect_two(rt, maker, inner);
+    expect_two(rt, block, region);
+}
+
+// Asserts whether the entity can be erased.
+fn expect_erasable<D: Dialects>(
+    rt: &impl Abort,
+    ctx: &Context<D>,
+    entity: Entity<D>,
+    expected: bool,
+) -> Result<(), CheckedErr> {
+    let erasable = can_erase(ctx, entity)?;
+    assert!(rt; erasable == expected);
+    Ok(())
 }
 
 // An operation outside that names the value keeps the inner one from being erased.
@@ -130,37 +145,42 @@ fn tell_erasable<D: Dialects>(
     rt: &impl Abort,
     ctx: &mut Context<D>,
     nest: &Nest<D>,
-) -> Result<(), CoreError> {
-    assert!(rt; nest.inner.is_live(ctx));
-    assert!(rt; can_erase(ctx, Entity::Op(nest.inner)));
-    let value = value_of_nest(rt, ctx, nest);
-    assert!(rt; value.is_live(ctx));
-    let user: Ptr<Operation<D>> = Operation::new(ctx, 4, &[], &[value], &[], 0)?;
-    assert!(rt; nest.inner.is_live(ctx));
-    assert!(rt; !can_erase(ctx, Entity::Op(nest.inner)));
-    assert!(rt; user.is_live(ctx));
-    assert!(rt; can_erase(ctx, Entity::Op(user)));
-    put_op(rt, ctx, user, nest.inner_block);
-    assert!(rt; nest.inner.is_live(ctx));
-    assert!(rt; can_erase(ctx, Entity::Op(nest.inner)));
-    assert!(rt; nest.inner_region.is_live(ctx));
-    assert!(rt; can_erase(ctx, Entity::Region(nest.inner_region)));
-    assert!(rt; nest.inner_block.is_live(ctx));
-    assert!(rt; can_erase(ctx, Entity::Block(nest.inner_block)));
-    assert!(rt; nest.maker.is_live(ctx));
-    assert!(rt; !can_erase(ctx, Entity::Op(nest.maker)));
-    Ok(())
+) -> Result<(), CheckedErr> {
+    let inner = Entity::Op(nest.inner);
+    expect_erasable(rt, ctx, inner, true)?;
+    let user = new_op(ctx, 4, &[], &[nest.value], &[], 0)?;
+    expect_erasable(rt, ctx, inner, false)?;
+    expect_erasable(rt, ctx, Entity::Op(user), true)?;
+    op_at_back(ctx, user, nest.inner_block)?;
+    expect_erasable(rt, ctx, inner, true)?;
+    expect_erasable(rt, ctx, Entity::Region(nest.inner_region), true)?;
+    expect_erasable(rt, ctx, Entity::Block(nest.inner_block), true)?;
+    expect_erasable(rt, ctx, Entity::Op(nest.maker), false)
+}
+
+// A nest, and all that is told of it.
+fn tell_nest<D: Dialects>(
+    rt: &impl Abort,
+    ctx: &mut Context<D>,
+    ty: TypeHandle,
+) -> Result<(), CheckedErr> {
+    let nest = make_nest(rt, ctx, ty)?;
+    tell_parents(rt, ctx, &nest)?;
+    tell_values(rt, ctx, &nest, ty)?;
+    tell_inside(rt, ctx, &nest);
+    tell_erasable(rt, ctx, &nest)
+}
+
+// The same over the dialect Toy, with an integer type.
+fn tell_toy_nest(rt: &impl Abort, ctx: &mut Context<Toy>) -> Result<(), CheckedErr> {
+    let ty = int(ctx, 32)?;
+    tell_nest(rt, ctx, ty)
 }
 
 #[test]
 fn nested_entities(rt: HostRuntime) -> Result<(), Fail> {
     let mut ctx: Context<Toy> = Context::new(rt.alloc());
-    let ty = ctx.instantiate_key(ToyType::Int { width: 32 })?;
-    let nest = make_nest(&rt, &mut ctx, ty)?;
-    tell_parents(&rt, &ctx, &nest);
-    tell_regions(&rt, &ctx, &nest);
-    tell_values(&rt, &mut ctx, &nest, ty)?;
-    tell_inside(&rt, &ctx, &nest);
-    tell_erasable(&rt, &mut ctx, &nest)?;
+    let outcome = tell_toy_nest(&rt, &mut ctx);
+    end(ctx, outcome)?;
     Ok(())
 }

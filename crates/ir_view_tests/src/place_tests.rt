@@ -1,167 +1,283 @@
 //! Lists of operations and of blocks, read from both ends and from each node.
+//!
+//! Step by step they are sessions as texts: what these show of a list is how it is walked forward and backward, its ends, and the neighbours and the place of each node.
 
-use crate::checked::{new_op, put_op, unlink_op};
-use ir_base::{CoreError, Dialects, Ptr};
-use ir_toy::Toy;
-use ir_view::{
-    BasicBlock, BlockPlace, BlockPtr, Context, NewBlock, Operation, OperationPlace, OperationPtr,
-    Region, RegionPlace, RegionPtr,
+use crate::making::{bare_block, bare_op, block_in, end};
+use crate::parents::expect_op_in;
+use ir_base::{Dialects, Limits, Ptr};
+use ir_checked::{
+    BasicBlock, BlockPlace, BlockPtr, CheckedErr, Context, Operation, OperationPlace, OperationPtr,
+    Region, RegionPlace, RegionPtr, block_head, block_tail, op_at_back, region, region_head,
+    region_tail, unlink_block, unlink_op,
 };
+use ir_lab::{LabError, first_difference};
+use ir_toy::Toy;
+use std::alloc::Global;
 use std::process::Abort;
 use std::test::Fail;
 
-// Asserts that the operation stands in the block, right behind the other one or first.
-fn expect_op_after<D: Dialects>(
+// Asserts that a session does what the text says.
+fn expect_session(rt: &impl Abort, alloc: Global, text: &str) -> Result<(), LabError> {
+    match first_difference(alloc, Limits::default(), "", text)? {
+        Some(difference) if difference.ends_with("\nrefused memory\n") => {
+            return Err(LabError::OutOfMemory);
+        }
+        Some(difference) => assert!(rt; false, "{difference}"),
+        None => {}
+    }
+    Ok(())
+}
+
+// Of four operations the third isn't put into the block; then the second, the first and the last are taken out.
+const OPERATIONS: &str = "
+new-block - - => made b0
+new-op 0 - - - 0 => made o0
+new-op 0 - - - 0 => made o1
+new-op 0 - - - 0 => made o2
+new-op 0 - - - 0 => made o3
+dump
+  o0: 0
+  o1: 0
+  o2: 0
+  o3: 0
+  b0:
+op-back o0 b0 => done
+op-back o1 b0 => done
+op-back o3 b0 => done
+dump
+  o0: 0 in b0
+  o1: 0 in b0
+  o2: 0
+  o3: 0 in b0
+  b0: operations o0 o1 o3
+unlink-op o1 => done
+  o1: 0
+  b0: operations o0 o3
+unlink-op o0 => done
+  o0: 0
+  b0: operations o3
+unlink-op o3 => done
+  o3: 0
+  b0:
+dump
+  o0: 0
+  o1: 0
+  o2: 0
+  o3: 0
+  b0:";
+
+// Asserts whether the operation stands in a block, and what stands right before and right after it.
+fn expect_op<D: Dialects>(
     rt: &impl Abort,
     ctx: &Context<D>,
     op: Ptr<Operation<D>>,
+    linked: bool,
     previous: Option<Ptr<Operation<D>>>,
-    block: Ptr<BasicBlock<D>>,
-) {
-    assert!(rt; op.is_live(ctx));
-    assert!(rt; op.is_linked(ctx));
-    assert!(rt; op.get_parent_block(ctx) == Some(block));
+    next: Option<Ptr<Operation<D>>>,
+) -> Result<(), CheckedErr> {
+    if !op.is_live(ctx) {
+        return Err(CheckedErr::Condition);
+    }
+    assert!(rt; op.is_linked(ctx) == linked);
     assert!(rt; op.get_prev(ctx) == previous);
-    if let Some(previous) = previous {
-        assert!(rt; previous.is_live(ctx));
-        assert!(rt; previous.get_next(ctx) == Some(op));
-    }
+    assert!(rt; op.get_next(ctx) == next);
+    Ok(())
 }
 
-// Asserts that the block has exactly these operations in this order, however they are read.
-fn expect_ops<D: Dialects>(
-    rt: &impl Abort,
-    ctx: &Context<D>,
-    block: Ptr<BasicBlock<D>>,
-    expected: &[Ptr<Operation<D>>],
-) {
-    assert!(rt; block.is_live(ctx));
-    let mut forward = block.iter(ctx);
-    for op in expected {
-        assert!(rt; forward.next() == Some(*op));
-    }
-    assert!(rt; forward.next().is_none());
-    let mut back = block.iter(ctx);
-    for op in expected.iter().rev() {
-        assert!(rt; back.next_back() == Some(*op));
-    }
-    assert!(rt; back.next_back().is_none());
-    assert!(rt; block.get_head(ctx) == expected.first().copied());
-    assert!(rt; block.get_tail(ctx) == expected.last().copied());
-    let mut previous = None;
-    for op in expected {
-        expect_op_after(rt, ctx, *op, previous, block);
-        previous = Some(*op);
-    }
-    if let Some(last) = block.get_tail(ctx) {
-        assert!(rt; last.get_next(ctx).is_none());
-    }
-}
-
-// Asserts that the block stands in the region, right behind the other one or first.
-fn expect_block_after<D: Dialects>(
-    rt: &impl Abort,
-    ctx: &Context<D>,
-    block: Ptr<BasicBlock<D>>,
-    previous: Option<Ptr<BasicBlock<D>>>,
-    region: Ptr<Region>,
-) {
-    assert!(rt; block.is_live(ctx));
-    assert!(rt; block.is_linked(ctx));
-    assert!(rt; block.get_parent_region(ctx) == Some(region));
-    assert!(rt; block.get_prev(ctx) == previous);
-    if let Some(previous) = previous {
-        assert!(rt; previous.is_live(ctx));
-        assert!(rt; previous.get_next(ctx) == Some(block));
-    }
-}
-
-// Asserts that the region has exactly these blocks in this order, however they are read.
-fn expect_blocks<D: Dialects>(
-    rt: &impl Abort,
-    ctx: &Context<D>,
-    region: Ptr<Region>,
-    expected: &[Ptr<BasicBlock<D>>],
-) {
-    assert!(rt; region.is_live(ctx));
-    let mut forward = region.iter(ctx);
-    for block in expected {
-        assert!(rt; forward.next() == Some(*block));
-    }
-    assert!(rt; forward.next().is_none());
-    let mut back = region.iter(ctx);
-    for block in expected.iter().rev() {
-        assert!(rt; back.next_back() == Some(*block));
-    }
-    assert!(rt; back.next_back().is_none());
-    assert!(rt; region.get_head(ctx) == expected.first().copied());
-    assert!(rt; region.get_entry_block(ctx) == expected.first().copied());
-    assert!(rt; region.get_tail(ctx) == expected.last().copied());
-    let mut previous = None;
-    for block in expected {
-        expect_block_after(rt, ctx, *block, previous, region);
-        previous = Some(*block);
-    }
-    if let Some(last) = region.get_tail(ctx) {
-        assert!(rt; last.get_next(ctx).is_none());
-    }
-}
-
-// Asserts that the operation is live, and stands in no block.
-fn expect_unlinked<D: Dialects>(rt: &impl Abort, ctx: &Context<D>, op: Ptr<Operation<D>>) {
-    assert!(rt; op.is_live(ctx));
-    assert!(rt; !op.is_linked(ctx));
-    assert!(rt; op.get_parent_block(ctx).is_none());
-    assert!(rt; op.get_parent_region(ctx).is_none());
-    assert!(rt; op.get_parent_op(ctx).is_none());
-    assert!(rt; op.get_next(ctx).is_none());
-    assert!(rt; op.get_prev(ctx).is_none());
-}
-
-// Asserts that a walk from both ends by turns gives the first, the last and the middle one.
-fn expect_turns<D: Dialects>(
+// Asserts that a walk over the block from both ends by turns gives the first, the last and the middle one.
+fn expect_op_turns<D: Dialects>(
     rt: &impl Abort,
     ctx: &Context<D>,
     block: Ptr<BasicBlock<D>>,
     nodes: [Ptr<Operation<D>>; 3],
-) {
+) -> Result<(), CheckedErr> {
+    if !block.is_live(ctx) {
+        return Err(CheckedErr::Condition);
+    }
     let [first, middle, last] = nodes;
-    assert!(rt; block.is_live(ctx));
     let mut turns = block.iter(ctx);
     assert!(rt; turns.next() == Some(first));
     assert!(rt; turns.next_back() == Some(last));
     assert!(rt; turns.next() == Some(middle));
     assert!(rt; turns.next().is_none());
     assert!(rt; turns.next_back().is_none());
+    Ok(())
+}
+
+// Asserts that the block has these ends.
+fn expect_op_ends<D: Dialects>(
+    rt: &impl Abort,
+    ctx: &Context<D>,
+    block: Ptr<BasicBlock<D>>,
+    first: Option<Ptr<Operation<D>>>,
+    last: Option<Ptr<Operation<D>>>,
+) -> Result<(), CheckedErr> {
+    let head = block_head(ctx, block)?;
+    let tail = block_tail(ctx, block)?;
+    assert!(rt; head == first);
+    assert!(rt; tail == last);
+    Ok(())
 }
 
 // The operations 1, 2 and 4 are in a block, and 3 isn't; then 2, 1 and 4 are taken out.
-fn insert_and_unlink<D: Dialects>(rt: &impl Abort, ctx: &mut Context<D>) -> Result<(), CoreError> {
-    let root = BasicBlock::new(ctx, None, &[])?;
-    let n1 = new_op(ctx, 0, 0)?;
-    let n2 = new_op(ctx, 0, 0)?;
-    let n3 = new_op(ctx, 0, 0)?;
-    let n4 = new_op(ctx, 0, 0)?;
-    expect_ops(rt, ctx, root, &[]);
+fn insert_and_unlink<D: Dialects>(rt: &impl Abort, ctx: &mut Context<D>) -> Result<(), CheckedErr> {
+    let root = bare_block(ctx)?;
+    let n1 = bare_op(ctx, 0, 0)?;
+    let n2 = bare_op(ctx, 0, 0)?;
+    let n3 = bare_op(ctx, 0, 0)?;
+    let n4 = bare_op(ctx, 0, 0)?;
+    expect_op_ends(rt, ctx, root, None, None)?;
     for op in [n1, n2, n4] {
-        put_op(rt, ctx, op, root);
+        op_at_back(ctx, op, root)?;
     }
-    expect_ops(rt, ctx, root, &[n1, n2, n4]);
-    expect_turns(rt, ctx, root, [n1, n2, n4]);
-    expect_unlinked(rt, ctx, n3);
-    unlink_op(rt, ctx, n2);
-    expect_ops(rt, ctx, root, &[n1, n4]);
-    unlink_op(rt, ctx, n1);
-    expect_ops(rt, ctx, root, &[n4]);
-    unlink_op(rt, ctx, n4);
-    expect_ops(rt, ctx, root, &[]);
-    expect_unlinked(rt, ctx, n4);
+    expect_op_ends(rt, ctx, root, Some(n1), Some(n4))?;
+    expect_op_turns(rt, ctx, root, [n1, n2, n4])?;
+    expect_op(rt, ctx, n1, true, None, Some(n2))?;
+    expect_op(rt, ctx, n2, true, Some(n1), Some(n4))?;
+    expect_op(rt, ctx, n3, false, None, None)?;
+    expect_op(rt, ctx, n4, true, Some(n2), None)?;
+    for op in [n1, n2, n4] {
+        expect_op_in(rt, ctx, op, Some(root), None, None)?;
+    }
+    expect_op_in(rt, ctx, n3, None, None, None)?;
+    take_out(rt, ctx, root, [n1, n2, n4])
+}
+
+// The middle one, the first and the last of a block's three operations are taken out.
+fn take_out<D: Dialects>(
+    rt: &impl Abort,
+    ctx: &mut Context<D>,
+    root: Ptr<BasicBlock<D>>,
+    nodes: [Ptr<Operation<D>>; 3],
+) -> Result<(), CheckedErr> {
+    let [first, middle, last] = nodes;
+    unlink_op(ctx, middle)?;
+    expect_op(rt, ctx, first, true, None, Some(last))?;
+    expect_op(rt, ctx, last, true, Some(first), None)?;
+    unlink_op(ctx, first)?;
+    expect_op_ends(rt, ctx, root, Some(last), Some(last))?;
+    expect_op(rt, ctx, last, true, None, None)?;
+    unlink_op(ctx, last)?;
+    expect_op_ends(rt, ctx, root, None, None)?;
+    for op in nodes {
+        expect_op(rt, ctx, op, false, None, None)?;
+        expect_op_in(rt, ctx, op, None, None, None)?;
+    }
     Ok(())
 }
 
 #[test]
 fn operations_in_a_block(rt: HostRuntime) -> Result<(), Fail> {
+    expect_session(&rt, rt.alloc(), OPERATIONS)?;
     let mut ctx: Context<Toy> = Context::new(rt.alloc());
-    insert_and_unlink(&rt, &mut ctx)?;
+    let outcome = insert_and_unlink(&rt, &mut ctx);
+    end(ctx, outcome)?;
+    Ok(())
+}
+
+// Three blocks in a region; then the middle one, the first and the last are taken out.
+const BLOCKS: &str = "
+new-op 5 - - - 1 => made o0
+new-block - - => made b0
+new-block - - => made b1
+new-block - - => made b2
+block-back b0 r0 => done
+block-back b1 r0 => done
+block-back b2 r0 => done
+dump
+  o0: 5 regions r0
+  b0: in r0
+  b1: in r0
+  b2: in r0
+  r0: blocks b0 b1 b2 in o0
+unlink-block b1 => done
+  b1:
+  r0: blocks b0 b2 in o0
+unlink-block b0 => done
+  b0:
+  r0: blocks b2 in o0
+unlink-block b2 => done
+  b2:
+  r0: in o0";
+
+// Asserts which block is the region's entry, which is its first one, and which is its last.
+fn expect_entry<D: Dialects>(
+    rt: &impl Abort,
+    ctx: &Context<D>,
+    region: Ptr<Region>,
+    entry: Option<Ptr<BasicBlock<D>>>,
+    last: Option<Ptr<BasicBlock<D>>>,
+) -> Result<(), CheckedErr> {
+    let head = region_head(ctx, region)?;
+    let tail = region_tail(ctx, region)?;
+    assert!(rt; head == entry);
+    assert!(rt; tail == last);
+    if !region.is_live(ctx) {
+        return Err(CheckedErr::Condition);
+    }
+    assert!(rt; region.get_entry_block(ctx) == entry);
+    Ok(())
+}
+
+// Asserts whether the block stands in a region, and what stands right before and right after it.
+fn expect_block<D: Dialects>(
+    rt: &impl Abort,
+    ctx: &Context<D>,
+    block: Ptr<BasicBlock<D>>,
+    linked: bool,
+    previous: Option<Ptr<BasicBlock<D>>>,
+    next: Option<Ptr<BasicBlock<D>>>,
+) -> Result<(), CheckedErr> {
+    if !block.is_live(ctx) {
+        return Err(CheckedErr::Condition);
+    }
+    assert!(rt; block.is_linked(ctx) == linked);
+    assert!(rt; block.get_prev(ctx) == previous);
+    assert!(rt; block.get_next(ctx) == next);
+    Ok(())
+}
+
+// Asserts that a walk over the region from both ends by turns gives the first, the last and the middle one.
+fn expect_block_turns<D: Dialects>(
+    rt: &impl Abort,
+    ctx: &Context<D>,
+    region: Ptr<Region>,
+    nodes: [Ptr<BasicBlock<D>>; 3],
+) -> Result<(), CheckedErr> {
+    if !region.is_live(ctx) {
+        return Err(CheckedErr::Condition);
+    }
+    let [first, middle, last] = nodes;
+    let mut turns = region.iter(ctx);
+    assert!(rt; turns.next() == Some(first));
+    assert!(rt; turns.next_back() == Some(last));
+    assert!(rt; turns.next() == Some(middle));
+    assert!(rt; turns.next().is_none());
+    assert!(rt; turns.next_back().is_none());
+    Ok(())
+}
+
+// A region with three blocks, of which the first is then taken out.
+fn blocks_and_entry<D: Dialects>(rt: &impl Abort, ctx: &mut Context<D>) -> Result<(), CheckedErr> {
+    let parent = bare_op(ctx, 5, 1)?;
+    let root = region(ctx, parent, 0)?;
+    expect_entry(rt, ctx, root, None, None)?;
+    let n1 = block_in(ctx, root)?;
+    let n2 = block_in(ctx, root)?;
+    let n3 = block_in(ctx, root)?;
+    expect_entry(rt, ctx, root, Some(n1), Some(n3))?;
+    expect_block_turns(rt, ctx, root, [n1, n2, n3])?;
+    expect_block(rt, ctx, n2, true, Some(n1), Some(n3))?;
+    unlink_block(ctx, n1)?;
+    expect_entry(rt, ctx, root, Some(n2), Some(n3))?;
+    expect_block(rt, ctx, n1, false, None, None)
+}
+
+#[test]
+fn blocks_in_a_region(rt: HostRuntime) -> Result<(), Fail> {
+    expect_session(&rt, rt.alloc(), BLOCKS)?;
+    let mut ctx: Context<Toy> = Context::new(rt.alloc());
+    let outcome = blocks_and_entry(&rt, &mut ctx);
+    end(ctx, outcome)?;
     Ok(())
 }

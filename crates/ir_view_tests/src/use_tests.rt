@@ -1,23 +1,70 @@
 //! Uses of values and of blocks, and a refused operation that leaves them as they were.
 
+use crate::edges::num_preds;
+use crate::making::{bare_block, end, int};
 use ir_base::{CoreError, Dialects, Ptr, TypeHandle};
-use ir_toy::{Toy, ToyType};
-use ir_view::{
-    BasicBlock, BlockPtr, BlockUses, Context, NewBlock, NewOperation, Operation, OperationParts,
-    OperationPtr, ResultUses, TypeQueries, UseQueries, Value, ValueQueries,
+use ir_checked::{
+    BasicBlock, CheckedErr, Context, Operation, OperationPtr, Use, UseQueries, Value, ValueQueries,
+    new_op, num_uses, result,
 };
+use ir_toy::Toy;
+use ir_view::{OperationParts, ResultUses};
 use std::process::Abort;
 use std::test::Fail;
 
 // The result of a new operation.
-fn new_value<D: Dialects>(
+fn new_value<D: Dialects>(ctx: &mut Context<D>, ty: TypeHandle) -> Result<Value<D>, CheckedErr> {
+    let op = new_op(ctx, 0, &[ty], &[], &[], 0)?;
+    result(ctx, op, 0)
+}
+
+// The operands of an operation, as uses.
+fn operand_uses<D: Dialects>(
+    ctx: &Context<D>,
+    op: Ptr<Operation<D>>,
+) -> Result<Vec<Use<Value<D>>>, CheckedErr> {
+    let Ok(record) = op.try_deref(ctx) else {
+        return Err(CheckedErr::Condition);
+    };
+    let uses = record.operands_as_uses().collect(ctx.alloc());
+    Ok(uses.map_err(CoreError::from)?)
+}
+
+// The uses of a value.
+fn uses_of<D: Dialects>(
+    ctx: &Context<D>,
+    value: Value<D>,
+) -> Result<Vec<Use<Value<D>>>, CheckedErr> {
+    if !value.is_live(ctx) {
+        return Err(CheckedErr::Condition);
+    }
+    Ok(value.uses(ctx)?)
+}
+
+// Asserts whose operand the use is, and at which index.
+fn expect_use<D: Dialects>(
     rt: &impl Abort,
-    ctx: &mut Context<D>,
-    ty: TypeHandle,
-) -> Result<Value<D>, CoreError> {
-    assert!(rt; ty.is_known(ctx));
-    let op: Ptr<Operation<D>> = Operation::new(ctx, 0, &[ty], &[], &[], 0)?;
-    Ok(op.deref(ctx).get_result(0))
+    ctx: &Context<D>,
+    used: Use<Value<D>>,
+    user: Ptr<Operation<D>>,
+    index: usize,
+) {
+    assert!(rt; used.user_op() == user);
+    assert_eq!(rt; used.try_find_index(ctx), Ok(index));
+}
+
+// Asserts that no result of the operation has a use.
+fn expect_unused<D: Dialects>(
+    rt: &impl Abort,
+    ctx: &Context<D>,
+    op: Ptr<Operation<D>>,
+) -> Result<(), CheckedErr> {
+    if !op.is_live(ctx) {
+        return Err(CheckedErr::Condition);
+    }
+    assert!(rt; !op.has_use(ctx));
+    assert!(rt; op.uses(ctx).next().is_none());
+    Ok(())
 }
 
 // An operation with one result names a value twice, and nothing names the result.
@@ -25,28 +72,31 @@ fn name_twice<D: Dialects>(
     rt: &impl Abort,
     ctx: &mut Context<D>,
     ty: TypeHandle,
-) -> Result<(), CoreError> {
-    let value = new_value(rt, ctx, ty)?;
-    assert!(rt; value.is_live(ctx));
-    assert!(rt; ty.is_known(ctx));
-    let user = Operation::new(ctx, 4, &[ty], &[value, value], &[], 0)?;
-    assert!(rt; value.is_live(ctx));
-    assert_eq!(rt; value.num_uses(ctx), 2);
-    for (index, used) in user.deref(ctx).operands_as_uses().enumerate() {
-        assert!(rt; used.user_op() == user);
-        assert_eq!(rt; used.try_find_index(ctx), Ok(index));
-        assert!(rt; value.uses(ctx)?.contains(&used));
+) -> Result<(), CheckedErr> {
+    let value = new_value(ctx, ty)?;
+    let user = new_op(ctx, 4, &[ty], &[value, value], &[], 0)?;
+    assert_eq!(rt; num_uses(ctx, value)?, 2);
+    let uses = uses_of(ctx, value)?;
+    let operands = operand_uses(ctx, user)?;
+    assert_eq!(rt; operands.len(), 2);
+    for (index, used) in operands.iter().enumerate() {
+        expect_use(rt, ctx, *used, user, index);
+        assert!(rt; uses.contains(used));
     }
-    assert!(rt; !user.has_use(ctx));
-    assert!(rt; user.uses(ctx).next().is_none());
-    Ok(())
+    expect_unused(rt, ctx, user)
+}
+
+// The same over the dialect Toy, with an integer type.
+fn name_twice_in_toy(rt: &impl Abort, ctx: &mut Context<Toy>) -> Result<(), CheckedErr> {
+    let ty = int(ctx, 32)?;
+    name_twice(rt, ctx, ty)
 }
 
 #[test]
 fn two_uses(rt: HostRuntime) -> Result<(), Fail> {
     let mut ctx: Context<Toy> = Context::new(rt.alloc());
-    let ty = ctx.instantiate_key(ToyType::Int { width: 32 })?;
-    name_twice(&rt, &mut ctx, ty)?;
+    let outcome = name_twice_in_toy(&rt, &mut ctx);
+    end(ctx, outcome)?;
     Ok(())
 }
 
@@ -56,39 +106,38 @@ fn make_or_stay<D: Dialects>(
     ctx: &mut Context<D>,
     value: Value<D>,
     block: Ptr<BasicBlock<D>>,
-) -> Result<(), CoreError> {
-    assert!(rt; value.is_live(ctx));
-    assert!(rt; block.is_live(ctx));
-    let made = Operation::new(ctx, 5, &[], &[value, value, value], &[block, block], 2);
-    assert!(rt; value.is_live(ctx));
-    assert!(rt; block.is_live(ctx));
+) -> Result<(), CheckedErr> {
+    let made = new_op(ctx, 5, &[], &[value, value, value], &[block, block], 2);
     let (uses, preds) = if made.is_ok() { (4, 3) } else { (1, 1) };
-    assert_eq!(rt; value.num_uses(ctx), uses);
-    assert_eq!(rt; block.num_preds(ctx), preds);
+    assert_eq!(rt; num_uses(ctx, value)?, uses);
+    assert_eq!(rt; num_preds(ctx, block)?, preds);
     assert!(rt; !ctx.is_ir_empty());
     made?;
     Ok(())
 }
 
-// A value and a block, each of which is named once.
-fn named_once<D: Dialects>(
+// A value and a block are each named once, and then by an operation that may be refused.
+fn name_or_stay<D: Dialects>(
     rt: &impl Abort,
     ctx: &mut Context<D>,
     ty: TypeHandle,
-) -> Result<(Value<D>, Ptr<BasicBlock<D>>), CoreError> {
-    let value = new_value(rt, ctx, ty)?;
-    let block = BasicBlock::new(ctx, None, &[])?;
-    assert!(rt; value.is_live(ctx));
-    assert!(rt; block.is_live(ctx));
-    Operation::new(ctx, 3, &[], &[value], &[block], 0)?;
-    Ok((value, block))
+) -> Result<(), CheckedErr> {
+    let value = new_value(ctx, ty)?;
+    let block = bare_block(ctx)?;
+    new_op(ctx, 3, &[], &[value], &[block], 0)?;
+    make_or_stay(rt, ctx, value, block)
+}
+
+// The same over the dialect Toy, with an integer type.
+fn name_or_stay_in_toy(rt: &impl Abort, ctx: &mut Context<Toy>) -> Result<(), CheckedErr> {
+    let ty = int(ctx, 32)?;
+    name_or_stay(rt, ctx, ty)
 }
 
 #[test]
 fn new_operation_refused(rt: HostRuntime) -> Result<(), Fail> {
     let mut ctx: Context<Toy> = Context::new(rt.alloc());
-    let ty = ctx.instantiate_key(ToyType::Int { width: 32 })?;
-    let (value, block) = named_once(&rt, &mut ctx, ty)?;
-    make_or_stay(&rt, &mut ctx, value, block)?;
+    let outcome = name_or_stay_in_toy(&rt, &mut ctx);
+    end(ctx, outcome)?;
     Ok(())
 }

@@ -1,0 +1,147 @@
+//! What is asked of blocks about their edges. Each function tests the condition of one call, and makes it.
+
+use ir_base::{Dialects, Ptr};
+use ir_checked::{BasicBlock, BlockPtr, CheckedErr, Context, Operation, Use};
+use ir_view::{BlockPredecessors, BlockSuccessors, BlockUses};
+use std::process::Abort;
+
+/// The successors of the block.
+pub(crate) fn succs<D: Dialects>(
+    ctx: &Context<D>,
+    block: Ptr<BasicBlock<D>>,
+) -> Result<Vec<Ptr<BasicBlock<D>>>, CheckedErr> {
+    if !block.is_live(ctx) {
+        return Err(CheckedErr::Condition);
+    }
+    Ok(block.succs(ctx)?)
+}
+
+/// Asserts how many successors the block has.
+pub(crate) fn expect_num_succ<D: Dialects>(
+    rt: &impl Abort,
+    ctx: &Context<D>,
+    block: Ptr<BasicBlock<D>>,
+    count: usize,
+) -> Result<(), CheckedErr> {
+    if !block.is_live(ctx) {
+        return Err(CheckedErr::Condition);
+    }
+    assert_eq!(rt; block.num_succ(ctx), count);
+    assert_eq!(rt; block.has_succ(ctx), count > 0);
+    Ok(())
+}
+
+/// The successor of the block at the index.
+pub(crate) fn succ_at<D: Dialects>(
+    ctx: &Context<D>,
+    block: Ptr<BasicBlock<D>>,
+    index: usize,
+) -> Result<Ptr<BasicBlock<D>>, CheckedErr> {
+    if !block.is_live(ctx) || index >= block.num_succ(ctx) {
+        return Err(CheckedErr::Condition);
+    }
+    Ok(block.get_succ(ctx, index))
+}
+
+/// Whether the other block is a successor of the block.
+pub(crate) fn is_succ<D: Dialects>(
+    ctx: &Context<D>,
+    block: Ptr<BasicBlock<D>>,
+    other: Ptr<BasicBlock<D>>,
+) -> Result<bool, CheckedErr> {
+    if !block.is_live(ctx) {
+        return Err(CheckedErr::Condition);
+    }
+    Ok(block.is_succ(ctx, other))
+}
+
+/// Whether each operation that names the block stands in a block.
+pub(crate) fn preds_are_linked<D: Dialects>(
+    ctx: &Context<D>,
+    block: Ptr<BasicBlock<D>>,
+) -> Result<bool, CheckedErr> {
+    if !block.is_live(ctx) {
+        return Err(CheckedErr::Condition);
+    }
+    Ok(block.preds_are_linked(ctx))
+}
+
+/// The predecessors of the block, whose users are linked.
+pub(crate) fn preds<D: Dialects>(
+    ctx: &Context<D>,
+    block: Ptr<BasicBlock<D>>,
+) -> Result<Vec<Ptr<BasicBlock<D>>>, CheckedErr> {
+    if !block.is_live(ctx) || !block.preds_are_linked(ctx) {
+        return Err(CheckedErr::Condition);
+    }
+    Ok(block.preds(ctx)?)
+}
+
+/// How many successors name the block.
+pub(crate) fn num_preds<D: Dialects>(
+    ctx: &Context<D>,
+    block: Ptr<BasicBlock<D>>,
+) -> Result<usize, CheckedErr> {
+    if !block.is_live(ctx) {
+        return Err(CheckedErr::Condition);
+    }
+    Ok(block.num_preds(ctx))
+}
+
+/// The predecessor of the block at the index.
+pub(crate) fn pred_at<D: Dialects>(
+    ctx: &Context<D>,
+    block: Ptr<BasicBlock<D>>,
+    index: usize,
+) -> Result<Ptr<BasicBlock<D>>, CheckedErr> {
+    if !block.is_live(ctx) || !block.preds_are_linked(ctx) || index >= block.num_preds(ctx) {
+        return Err(CheckedErr::Condition);
+    }
+    Ok(block.get_pred(ctx, index))
+}
+
+/// Whether an operation in the other block names the block.
+pub(crate) fn is_pred<D: Dialects>(
+    ctx: &Context<D>,
+    block: Ptr<BasicBlock<D>>,
+    other: Ptr<BasicBlock<D>>,
+) -> Result<bool, CheckedErr> {
+    if !block.is_live(ctx) {
+        return Err(CheckedErr::Condition);
+    }
+    Ok(block.is_pred(ctx, other))
+}
+
+/// Whether the last operation of the other block names the block.
+pub(crate) fn is_succ_of<D: Dialects>(
+    ctx: &Context<D>,
+    block: Ptr<BasicBlock<D>>,
+    other: Ptr<BasicBlock<D>>,
+) -> Result<bool, CheckedErr> {
+    if !other.is_live(ctx) {
+        return Err(CheckedErr::Condition);
+    }
+    Ok(block.is_succ_of(ctx, other))
+}
+
+/// The terminator of the block, if it has one.
+pub(crate) fn terminator<D: Dialects>(
+    ctx: &Context<D>,
+    block: Ptr<BasicBlock<D>>,
+) -> Result<Option<Ptr<Operation<D>>>, CheckedErr> {
+    if !block.is_live(ctx) {
+        return Err(CheckedErr::Condition);
+    }
+    Ok(block.get_terminator(ctx))
+}
+
+/// The uses of the block as a successor.
+pub(crate) fn uses_of<D: Dialects>(
+    ctx: &Context<D>,
+    block: Ptr<BasicBlock<D>>,
+) -> Result<Vec<Use<Ptr<BasicBlock<D>>>>, CheckedErr> {
+    if !block.is_live(ctx) {
+        return Err(CheckedErr::Condition);
+    }
+    Ok(block.uses(ctx)?)
+}

@@ -1,0 +1,77 @@
+//! What operations, blocks, regions and values stand in.
+
+use ir_base::{Dialects, Ptr};
+use ir_checked::{
+    BasicBlock, BlockPlace, BlockPtr, CheckedErr, Context, Operation, OperationPlace, OperationPtr,
+    Region, RegionPlace, RegionPtr, Value, ValueQueries,
+};
+use ir_view::ValuePlace;
+use std::process::Abort;
+
+/// Asserts in which block, region and operation the operation stands.
+pub(crate) fn expect_op_in<D: Dialects>(
+    rt: &impl Abort,
+    ctx: &Context<D>,
+    op: Ptr<Operation<D>>,
+    block: Option<Ptr<BasicBlock<D>>>,
+    region: Option<Ptr<Region>>,
+    parent: Option<Ptr<Operation<D>>>,
+) -> Result<(), CheckedErr> {
+    if !op.is_live(ctx) {
+        return Err(CheckedErr::Condition);
+    }
+    assert!(rt; op.get_parent_block(ctx) == block);
+    assert!(rt; op.get_parent_region(ctx) == region);
+    assert!(rt; op.get_parent_op(ctx) == parent);
+    Ok(())
+}
+
+/// Asserts in which region and operation the block stands.
+pub(crate) fn expect_block_in<D: Dialects>(
+    rt: &impl Abort,
+    ctx: &Context<D>,
+    block: Ptr<BasicBlock<D>>,
+    region: Option<Ptr<Region>>,
+    parent: Option<Ptr<Operation<D>>>,
+) -> Result<(), CheckedErr> {
+    if !block.is_live(ctx) {
+        return Err(CheckedErr::Condition);
+    }
+    assert!(rt; block.get_parent_region(ctx) == region);
+    assert!(rt; block.get_parent_op(ctx) == parent);
+    Ok(())
+}
+
+/// Asserts to which operation the region belongs, and in which block and region that one stands.
+pub(crate) fn expect_region_in<D: Dialects>(
+    rt: &impl Abort,
+    ctx: &Context<D>,
+    region: Ptr<Region>,
+    op: Ptr<Operation<D>>,
+    block: Option<Ptr<BasicBlock<D>>>,
+    parent: Option<Ptr<Region>>,
+) -> Result<(), CheckedErr> {
+    if !region.is_live(ctx) {
+        return Err(CheckedErr::Condition);
+    }
+    assert!(rt; region.get_parent_op(ctx) == op);
+    assert!(rt; region.get_parent_block(ctx) == block);
+    assert!(rt; region.get_parent_region(ctx) == parent);
+    Ok(())
+}
+
+/// Asserts in which block and region the value stands.
+pub(crate) fn expect_value_in<D: Dialects>(
+    rt: &impl Abort,
+    ctx: &Context<D>,
+    value: Value<D>,
+    block: Option<Ptr<BasicBlock<D>>>,
+    region: Option<Ptr<Region>>,
+) -> Result<(), CheckedErr> {
+    if !value.is_live(ctx) {
+        return Err(CheckedErr::Condition);
+    }
+    assert!(rt; value.get_parent_block(ctx) == block);
+    assert!(rt; value.get_parent_region(ctx) == region);
+    Ok(())
+}
