@@ -1,8 +1,8 @@
-//! Tests of the edits of operands and successors, and of erasing, over the dialect Toy.
+//! Tests of the edits of operands and successors, and of erasing, over the dialect Toy and through the calls whose conditions are tested.
 #![tactic(auto)]
 
 #[cfg(test)]
-mod checked;
+mod calls;
 #[cfg(test)]
 mod erase_tests;
 #[cfg(test)]

@@ -1,159 +1,138 @@
 //! Operands put in, taken out and replaced one at a time.
 
-ghost use Rattle.std.specs.Prelude.{◌<◌, ◌≤◌, length, IfOk};
-ghost use Rattle.ir_model.specs.Forest.{a_value, an_op};
-ghost use Rattle.ir_model.specs.Nesting.{IsLive, IsLiveNamed};
-ghost use Rattle.ir_records.specs.Meaning.{value_of};
-ghost use Rattle.ir_view.specs.Calls.{StayLive};
-ghost use Rattle.ir_view.specs.State.{forest_of, types_of};
-
-use crate::checked::{
-    insert_operand, operand_use, pop_operand, push_operand, remove_operand, replace_operand,
-    result_at, use_count,
+use crate::calls::{
+    GONE, counts, end, expect_condition, expect_spent, expect_use, new_type, operand_use,
+    two_values, with_limits,
 };
-use ir_base::{CoreError, Dialects, Limits, Ptr, TypeHandle};
+use ir_base::{Dialects, Limits, Ptr};
+use ir_checked::{
+    CheckedErr, Context, Operation, Value, insert_operand, new_op, num_uses, operand, pop_operand,
+    push_operand, remove_operand, replace_operand, result,
+};
 use ir_toy::{Toy, ToyType};
-use ir_view::{
-    Context, IndexErr, NewOperation, Operation, OperationPtr, UseError, UseQueries, Value,
-};
-use std::alloc::Global;
 use std::process::Abort;
 use std::test::Fail;
 
-// A context over the dialect Toy with a type.
-pub(crate) fn with_type(
-    alloc: Global,
-    limits: Limits,
-) -> Result<(Context<Toy>, TypeHandle), CoreError>
-    requires slots { limits.slots < 4294967295 }
-    requires versions { 1 ≤ limits.last_version }
-    ensures { IfOk result (λ made. made.1.place < length (types_of made.0)) }
-{
-    let mut ctx: Context<Toy> = Context::with_limits(alloc, limits);
-    let ty = ctx.instantiate_key(ToyType::Int { width: 32 })?;
-    Ok((ctx, ty))
+// Asserts what the operand at the index names, and that its use finds this index.
+fn expect_operand<D: Dialects>(
+    rt: &impl Abort,
+    ctx: &Context<D>,
+    op: Ptr<Operation<D>>,
+    index: usize,
+    value: Value<D>,
+) -> Result<(), CheckedErr> {
+    assert!(rt; operand(ctx, op, index)? == value);
+    expect_use(rt, ctx, operand_use(ctx, op, index)?, Ok(index));
+    Ok(())
 }
 
-// The result of a new operation without operands.
-pub(crate) fn new_value<D: Dialects>(
-    ctx: &mut Context<D>,
-    ty: TypeHandle,
-) -> Result<Value<D>, CoreError>
-    requires { ty.place < length (types_of ctx.old) }
-    ensures live { IfOk result (λ v. IsLiveNamed (forest_of ctx.new) (a_value (value_of v.index))) }
-    ensures stay_live { StayLive (forest_of ctx.old) (forest_of ctx.new) }
-    ensures types_stay { length (types_of ctx.old) ≤ length (types_of ctx.new) }
-{
-    let op = Operation::new(ctx, 0, &[ty], &[], &[], 0)?;
-    Ok(op.deref(ctx).get_result(0))
-}
-
-// Asserts that the operation has exactly these operands, in this order, and that each use finds its index.
+/// Asserts that the operation has exactly these operands, in this order, and that each use finds its index.
 pub(crate) fn expect_operands<D: Dialects>(
     rt: &impl Abort,
     ctx: &Context<D>,
     op: Ptr<Operation<D>>,
     expected: &[Value<D>],
-) {
-    let Ok(record) = op.try_deref(ctx) else {
-        return assert!(rt; false);
-    };
-    assert_eq!(rt; record.get_num_operands(), expected.len());
+) -> Result<(), CheckedErr> {
+    let [operands, _successors, _regions] = counts(ctx, op)?;
+    assert_eq!(rt; operands, expected.len());
     for (index, value) in expected.iter().enumerate() {
-        if index < record.get_num_operands() {
-            assert!(rt; record.get_operand(index) == *value);
-            assert_eq!(rt;
-                record.get_operand_as_use(index).try_find_index(ctx),
-                Ok(index)
-            );
-        }
+        expect_operand(rt, ctx, op, index, *value)?;
     }
+    Ok(())
 }
 
-const GONE: Result<usize, IndexErr> = Err(IndexErr::UseError(UseError::OperandNotInUserOp));
+// An operation without operands gets four.
+fn put_in<D: Dialects>(
+    rt: &impl Abort,
+    ctx: &mut Context<D>,
+    op: Ptr<Operation<D>>,
+    [v, w]: [Value<D>; 2],
+) -> Result<(), CheckedErr> {
+    assert_eq!(rt; push_operand(ctx, op, v)?, 0);
+    assert_eq!(rt; push_operand(ctx, op, w)?, 1);
+    insert_operand(ctx, op, 0, w)?;
+    insert_operand(ctx, op, 3, v)?;
+    expect_condition(rt, insert_operand(ctx, op, 5, v));
+    expect_operands(rt, ctx, op, &[w, v, w, v])
+}
 
-// Each of the five edits once, with ample memory.
+// Of these four, the second comes to name another value.
+fn replace<D: Dialects>(
+    rt: &impl Abort,
+    ctx: &mut Context<D>,
+    op: Ptr<Operation<D>>,
+    [v, w]: [Value<D>; 2],
+) -> Result<(), CheckedErr> {
+    let old = operand_use(ctx, op, 1)?;
+    replace_operand(ctx, op, 1, w)?;
+    expect_condition(rt, replace_operand(ctx, op, 4, w));
+    expect_operands(rt, ctx, op, &[w, w, w, v])?;
+    expect_use(rt, ctx, old, GONE);
+    assert_eq!(rt; num_uses(ctx, w)?, 3);
+    assert_eq!(rt; num_uses(ctx, v)?, 1);
+    Ok(())
+}
+
+// And then the first and the last are taken out.
+fn take_out<D: Dialects>(
+    rt: &impl Abort,
+    ctx: &mut Context<D>,
+    op: Ptr<Operation<D>>,
+    [v, w]: [Value<D>; 2],
+) -> Result<(), CheckedErr> {
+    assert!(rt; remove_operand(ctx, op, 0)? == w);
+    expect_condition(rt, remove_operand(ctx, op, 3));
+    expect_operands(rt, ctx, op, &[w, w, v])?;
+    assert!(rt; pop_operand(ctx, op)? == v);
+    expect_operands(rt, ctx, op, &[w, w])?;
+    assert_eq!(rt; num_uses(ctx, v)?, 0);
+    Ok(())
+}
+
+// Each of the five edits, with ample memory.
 fn edit_each<D: Dialects>(
     rt: &impl Abort,
     ctx: &mut Context<D>,
-    v: Value<D>,
-    w: Value<D>,
-) -> Result<(), CoreError> {
-    let op = Operation::new(ctx, 4, &[], &[], &[], 0)?;
-    assert!(rt; push_operand(ctx, op, v)? == Some(0));
-    assert!(rt; push_operand(ctx, op, w)? == Some(1));
-    assert!(rt; insert_operand(ctx, op, 0, w)?);
-    assert!(rt; insert_operand(ctx, op, 3, v)?);
-    assert!(rt; !insert_operand(ctx, op, 5, v)?);
-    expect_operands(rt, ctx, op, &[w, v, w, v]);
-    let old = operand_use(ctx, op, 1);
-    assert!(rt; replace_operand(ctx, op, 1, w)?);
-    assert!(rt; !replace_operand(ctx, op, 4, w)?);
-    expect_operands(rt, ctx, op, &[w, w, w, v]);
-    assert!(rt; old.is_some_and(|used| used.try_find_index(ctx) == GONE));
-    assert!(rt; use_count(ctx, w) == Some(3));
-    assert!(rt; use_count(ctx, v) == Some(1));
-    assert!(rt; remove_operand(ctx, op, 0) == Some(w));
-    assert!(rt; remove_operand(ctx, op, 3).is_none());
-    expect_operands(rt, ctx, op, &[w, w, v]);
-    assert!(rt; pop_operand(ctx, op) == Some(v));
-    expect_operands(rt, ctx, op, &[w, w]);
-    assert!(rt; use_count(ctx, v) == Some(0));
-    Ok(())
+    key: D::TypeKey,
+) -> Result<(), CheckedErr> {
+    let values = two_values(ctx, key)?;
+    let op = new_op(ctx, 4, &[], &[], &[], 0)?;
+    put_in(rt, ctx, op, values)?;
+    replace(rt, ctx, op, values)?;
+    take_out(rt, ctx, op, values)
 }
 
 #[test]
 fn each_edit_of_operands(rt: HostRuntime) -> Result<(), Fail> {
-    let (mut ctx, ty) = with_type(rt.alloc(), Limits::default())?;
-    let v = new_value(&mut ctx, ty)?;
-    let w = result_of_another(&mut ctx)?;
-    if let Some(w) = w {
-        edit_each(&rt, &mut ctx, v, w)?;
-    }
-    assert!(rt; w.is_some());
+    let mut ctx: Context<Toy> = Context::new(rt.alloc());
+    let outcome = edit_each(&rt, &mut ctx, ToyType::Int { width: 32 });
+    end(ctx, outcome)?;
     Ok(())
-}
-
-// The result of another operation, of the first type.
-pub(crate) fn result_of_another<D: Dialects>(
-    ctx: &mut Context<D>,
-) -> Result<Option<Value<D>>, CoreError> {
-    let Some(ty) = ctx.type_at(0) else {
-        return Ok(None);
-    };
-    Ok(Some(new_value(ctx, ty)?))
 }
 
 // Operands v, v, v, w, of which the first is taken out.
 fn remove_the_first<D: Dialects>(
     rt: &impl Abort,
     ctx: &mut Context<D>,
-    v: Value<D>,
-    w: Value<D>,
-) -> Result<(), CoreError> {
-    let op = Operation::new(ctx, 4, &[], &[], &[], 0)?;
-    for value in [v, v, v, w] {
-        assert!(rt; push_operand(ctx, op, value)?.is_some());
-    }
-    let second = operand_use(ctx, op, 1);
-    let third = operand_use(ctx, op, 2);
-    assert!(rt; remove_operand(ctx, op, 0) == Some(v));
-    expect_operands(rt, ctx, op, &[v, v, w]);
-    assert!(rt; use_count(ctx, v) == Some(2));
-    assert!(rt; second.is_some_and(|used| used.try_find_index(ctx) == Ok(0)));
-    assert!(rt; third.is_some_and(|used| used.try_find_index(ctx) == Ok(1)));
+    key: D::TypeKey,
+) -> Result<(), CheckedErr> {
+    let [v, w] = two_values(ctx, key)?;
+    let op = new_op(ctx, 4, &[], &[v, v, v, w], &[], 0)?;
+    let second = operand_use(ctx, op, 1)?;
+    let third = operand_use(ctx, op, 2)?;
+    assert!(rt; remove_operand(ctx, op, 0)? == v);
+    expect_operands(rt, ctx, op, &[v, v, w])?;
+    assert_eq!(rt; num_uses(ctx, v)?, 2);
+    expect_use(rt, ctx, second, Ok(0));
+    expect_use(rt, ctx, third, Ok(1));
     Ok(())
 }
 
 #[test]
 fn removal_fills_the_place(rt: HostRuntime) -> Result<(), Fail> {
-    let (mut ctx, ty) = with_type(rt.alloc(), Limits::default())?;
-    let v = new_value(&mut ctx, ty)?;
-    let w = result_of_another(&mut ctx)?;
-    if let Some(w) = w {
-        remove_the_first(&rt, &mut ctx, v, w)?;
-    }
-    assert!(rt; w.is_some());
+    let mut ctx: Context<Toy> = Context::new(rt.alloc());
+    let outcome = remove_the_first(&rt, &mut ctx, ToyType::Int { width: 32 });
+    end(ctx, outcome)?;
     Ok(())
 }
 
@@ -161,28 +140,28 @@ fn removal_fills_the_place(rt: HostRuntime) -> Result<(), Fail> {
 fn move_results<D: Dialects>(
     rt: &impl Abort,
     ctx: &mut Context<D>,
-    op: Ptr<Operation<D>>,
-) -> Result<(), CoreError> {
-    let (Some(x), Some(y)) = (result_at(ctx, op, 0), result_at(ctx, op, 1)) else {
-        assert!(rt; false);
-        return Ok(());
-    };
+    key: D::TypeKey,
+) -> Result<(), CheckedErr> {
+    let ty = new_type(ctx, key)?;
+    let op = new_op(ctx, 4, &[ty, ty], &[], &[], 0)?;
+    let x = result(ctx, op, 0)?;
+    let y = result(ctx, op, 1)?;
     for value in [x, x, y] {
-        assert!(rt; push_operand(ctx, op, value)?.is_some());
+        push_operand(ctx, op, value)?;
     }
-    assert!(rt; replace_operand(ctx, op, 0, y)?);
-    assert!(rt; replace_operand(ctx, op, 1, y)?);
-    expect_operands(rt, ctx, op, &[y, y, y]);
-    assert!(rt; use_count(ctx, x) == Some(0));
-    assert!(rt; use_count(ctx, y) == Some(3));
+    replace_operand(ctx, op, 0, y)?;
+    replace_operand(ctx, op, 1, y)?;
+    expect_operands(rt, ctx, op, &[y, y, y])?;
+    assert_eq!(rt; num_uses(ctx, x)?, 0);
+    assert_eq!(rt; num_uses(ctx, y)?, 3);
     Ok(())
 }
 
 #[test]
 fn two_results_moved(rt: HostRuntime) -> Result<(), Fail> {
-    let (mut ctx, ty) = with_type(rt.alloc(), Limits::default())?;
-    let op = Operation::new(&mut ctx, 4, &[ty, ty], &[], &[], 0)?;
-    move_results(&rt, &mut ctx, op)?;
+    let mut ctx: Context<Toy> = Context::new(rt.alloc());
+    let outcome = move_results(&rt, &mut ctx, ToyType::Int { width: 32 });
+    end(ctx, outcome)?;
     Ok(())
 }
 
@@ -190,17 +169,18 @@ fn two_results_moved(rt: HostRuntime) -> Result<(), Fail> {
 fn spend_uses<D: Dialects>(
     rt: &impl Abort,
     ctx: &mut Context<D>,
-    v: Value<D>,
-) -> Result<(), CoreError> {
-    let op = Operation::new(ctx, 4, &[], &[], &[], 0)?;
-    assert!(rt; push_operand(ctx, op, v)? == Some(0));
-    assert!(rt; push_operand(ctx, op, v)? == Some(1));
-    assert!(rt; push_operand(ctx, op, v) == Err(CoreError::CounterSpent));
-    assert!(rt; insert_operand(ctx, op, 0, v) == Err(CoreError::CounterSpent));
-    assert!(rt; remove_operand(ctx, op, 1) == Some(v));
-    assert!(rt; replace_operand(ctx, op, 0, v) == Err(CoreError::CounterSpent));
-    expect_operands(rt, ctx, op, &[v]);
-    assert!(rt; use_count(ctx, v) == Some(1));
+    key: D::TypeKey,
+) -> Result<(), CheckedErr> {
+    let [v, _w] = two_values(ctx, key)?;
+    let op = new_op(ctx, 4, &[], &[], &[], 0)?;
+    assert_eq!(rt; push_operand(ctx, op, v)?, 0);
+    assert_eq!(rt; push_operand(ctx, op, v)?, 1);
+    expect_spent(rt, push_operand(ctx, op, v))?;
+    expect_spent(rt, insert_operand(ctx, op, 0, v))?;
+    assert!(rt; remove_operand(ctx, op, 1)? == v);
+    expect_spent(rt, replace_operand(ctx, op, 0, v))?;
+    expect_operands(rt, ctx, op, &[v])?;
+    assert_eq!(rt; num_uses(ctx, v)?, 1);
     Ok(())
 }
 
@@ -210,8 +190,8 @@ fn spent_uses(rt: HostRuntime) -> Result<(), Fail> {
         uses: 2,
         ..Limits::default()
     };
-    let (mut ctx, ty) = with_type(rt.alloc(), limits)?;
-    let v = new_value(&mut ctx, ty)?;
-    spend_uses(&rt, &mut ctx, v)?;
+    let mut ctx: Context<Toy> = with_limits(rt.alloc(), limits)?;
+    let outcome = spend_uses(&rt, &mut ctx, ToyType::Int { width: 32 });
+    end(ctx, outcome)?;
     Ok(())
 }

@@ -1,16 +1,30 @@
 //! Successors put in, taken out and replaced one at a time.
 
-use crate::checked::{
-    insert_successor, pop_successor, push_successor, remove_successor, replace_successor,
+use crate::calls::{
+    counts, end, expect_block_use, expect_condition, expect_spent, num_preds, successor_use,
+    with_limits,
 };
-use ir_base::{CoreError, Dialects, Limits, Ptr};
+use ir_base::{Dialects, Limits, Ptr};
+use ir_checked::{
+    BasicBlock, CheckedErr, Context, Operation, insert_successor, new_block, new_op, pop_successor,
+    push_successor, remove_successor, replace_successor, successor,
+};
 use ir_toy::Toy;
-use ir_view::{
-    BasicBlock, BlockPtr, BlockUseQueries, BlockUses, Context, NewBlock, NewOperation, Operation,
-    OperationPtr, UseQueries,
-};
 use std::process::Abort;
 use std::test::Fail;
+
+// Asserts what the successor at the index names, and that its use finds this index.
+fn expect_successor<D: Dialects>(
+    rt: &impl Abort,
+    ctx: &Context<D>,
+    op: Ptr<Operation<D>>,
+    index: usize,
+    block: Ptr<BasicBlock<D>>,
+) -> Result<(), CheckedErr> {
+    assert!(rt; successor(ctx, op, index)? == block);
+    expect_block_use(rt, ctx, successor_use(ctx, op, index)?, index);
+    Ok(())
+}
 
 // Asserts that the operation has exactly these successors, in this order, and that each use finds its index.
 fn expect_successors<D: Dialects>(
@@ -18,72 +32,86 @@ fn expect_successors<D: Dialects>(
     ctx: &Context<D>,
     op: Ptr<Operation<D>>,
     expected: &[Ptr<BasicBlock<D>>],
-) {
-    let Ok(record) = op.try_deref(ctx) else {
-        return assert!(rt; false);
-    };
-    assert_eq!(rt; record.get_num_successors(), expected.len());
+) -> Result<(), CheckedErr> {
+    let [_operands, successors, _regions] = counts(ctx, op)?;
+    assert_eq!(rt; successors, expected.len());
     for (index, block) in expected.iter().enumerate() {
-        if index < record.get_num_successors() {
-            assert!(rt; record.get_successor(index) == *block);
-            assert_eq!(rt;
-                record.get_successor_as_use(index).try_find_index(ctx),
-                Ok(index)
-            );
-        }
+        expect_successor(rt, ctx, op, index, *block)?;
     }
-}
-
-// How many uses a live block has as a successor.
-fn pred_count<D: Dialects>(ctx: &Context<D>, block: Ptr<BasicBlock<D>>) -> Option<usize> {
-    if block.is_live(ctx) {
-        Some(block.num_preds(ctx))
-    } else {
-        None
-    }
-}
-
-// Each of the five edits once, with ample memory.
-fn edit_each<D: Dialects>(rt: &impl Abort, ctx: &mut Context<D>) -> Result<(), CoreError> {
-    let op = Operation::new(ctx, 3, &[], &[], &[], 0)?;
-    let a = BasicBlock::new(ctx, None, &[])?;
-    let b = BasicBlock::new(ctx, None, &[])?;
-    assert!(rt; push_successor(ctx, op, a)? == Some(0));
-    assert!(rt; push_successor(ctx, op, b)? == Some(1));
-    assert!(rt; insert_successor(ctx, op, 0, b)?);
-    assert!(rt; insert_successor(ctx, op, 3, a)?);
-    assert!(rt; !insert_successor(ctx, op, 5, a)?);
-    expect_successors(rt, ctx, op, &[b, a, b, a]);
-    assert!(rt; replace_successor(ctx, op, 1, b)?);
-    assert!(rt; !replace_successor(ctx, op, 4, b)?);
-    expect_successors(rt, ctx, op, &[b, b, b, a]);
-    assert!(rt; pred_count(ctx, b) == Some(3));
-    assert!(rt; pred_count(ctx, a) == Some(1));
-    assert!(rt; remove_successor(ctx, op, 0) == Some(b));
-    assert!(rt; remove_successor(ctx, op, 3).is_none());
-    assert!(rt; pop_successor(ctx, op) == Some(a));
-    expect_successors(rt, ctx, op, &[b, b]);
-    assert!(rt; pred_count(ctx, a) == Some(0));
     Ok(())
+}
+
+// An operation without successors gets four.
+fn put_in<D: Dialects>(
+    rt: &impl Abort,
+    ctx: &mut Context<D>,
+    op: Ptr<Operation<D>>,
+    [a, b]: [Ptr<BasicBlock<D>>; 2],
+) -> Result<(), CheckedErr> {
+    assert_eq!(rt; push_successor(ctx, op, a)?, 0);
+    assert_eq!(rt; push_successor(ctx, op, b)?, 1);
+    insert_successor(ctx, op, 0, b)?;
+    insert_successor(ctx, op, 3, a)?;
+    expect_condition(rt, insert_successor(ctx, op, 5, a));
+    expect_successors(rt, ctx, op, &[b, a, b, a])
+}
+
+// Of these four, the second comes to name another block.
+fn replace<D: Dialects>(
+    rt: &impl Abort,
+    ctx: &mut Context<D>,
+    op: Ptr<Operation<D>>,
+    [a, b]: [Ptr<BasicBlock<D>>; 2],
+) -> Result<(), CheckedErr> {
+    replace_successor(ctx, op, 1, b)?;
+    expect_condition(rt, replace_successor(ctx, op, 4, b));
+    expect_successors(rt, ctx, op, &[b, b, b, a])?;
+    assert_eq!(rt; num_preds(ctx, b)?, 3);
+    assert_eq!(rt; num_preds(ctx, a)?, 1);
+    Ok(())
+}
+
+// And then the first and the last are taken out.
+fn take_out<D: Dialects>(
+    rt: &impl Abort,
+    ctx: &mut Context<D>,
+    op: Ptr<Operation<D>>,
+    [a, b]: [Ptr<BasicBlock<D>>; 2],
+) -> Result<(), CheckedErr> {
+    assert!(rt; remove_successor(ctx, op, 0)? == b);
+    expect_condition(rt, remove_successor(ctx, op, 3));
+    assert!(rt; pop_successor(ctx, op)? == a);
+    expect_successors(rt, ctx, op, &[b, b])?;
+    assert_eq!(rt; num_preds(ctx, a)?, 0);
+    Ok(())
+}
+
+// Each of the five edits, with ample memory.
+fn edit_each<D: Dialects>(rt: &impl Abort, ctx: &mut Context<D>) -> Result<(), CheckedErr> {
+    let op = new_op(ctx, 3, &[], &[], &[], 0)?;
+    let blocks = [new_block(ctx, None, &[])?, new_block(ctx, None, &[])?];
+    put_in(rt, ctx, op, blocks)?;
+    replace(rt, ctx, op, blocks)?;
+    take_out(rt, ctx, op, blocks)
 }
 
 #[test]
 fn each_edit_of_successors(rt: HostRuntime) -> Result<(), Fail> {
     let mut ctx: Context<Toy> = Context::new(rt.alloc());
-    edit_each(&rt, &mut ctx)?;
+    let outcome = edit_each(&rt, &mut ctx);
+    end(ctx, outcome)?;
     Ok(())
 }
 
 // With one use number, the second successor finds none.
-fn spend_uses<D: Dialects>(rt: &impl Abort, ctx: &mut Context<D>) -> Result<(), CoreError> {
-    let op = Operation::new(ctx, 3, &[], &[], &[], 0)?;
-    let a = BasicBlock::new(ctx, None, &[])?;
-    assert!(rt; push_successor(ctx, op, a)? == Some(0));
-    assert!(rt; push_successor(ctx, op, a) == Err(CoreError::CounterSpent));
-    assert!(rt; insert_successor(ctx, op, 0, a) == Err(CoreError::CounterSpent));
-    assert!(rt; replace_successor(ctx, op, 0, a) == Err(CoreError::CounterSpent));
-    expect_successors(rt, ctx, op, &[a]);
-    Ok(())
+fn spend_uses<D: Dialects>(rt: &impl Abort, ctx: &mut Context<D>) -> Result<(), CheckedErr> {
+    let op = new_op(ctx, 3, &[], &[], &[], 0)?;
+    let a = new_block(ctx, None, &[])?;
+    assert_eq!(rt; push_successor(ctx, op, a)?, 0);
+    expect_spent(rt, push_successor(ctx, op, a))?;
+    expect_spent(rt, insert_successor(ctx, op, 0, a))?;
+    expect_spent(rt, replace_successor(ctx, op, 0, a))?;
+    expect_successors(rt, ctx, op, &[a])
 }
 
 #[test]
@@ -92,7 +120,8 @@ fn spent_uses_of_blocks(rt: HostRuntime) -> Result<(), Fail> {
         uses: 1,
         ..Limits::default()
     };
-    let mut ctx: Context<Toy> = Context::with_limits(rt.alloc(), limits);
-    spend_uses(&rt, &mut ctx)?;
+    let mut ctx: Context<Toy> = with_limits(rt.alloc(), limits)?;
+    let outcome = spend_uses(&rt, &mut ctx);
+    end(ctx, outcome)?;
     Ok(())
 }
