@@ -1,41 +1,11 @@
 //! Auxiliary data: indices, names, and slots that are spent.
 
+use crate::aux_calls::{add, find, has, is_gone, name, set_name, slots_left, take, write};
+use crate::ending::end;
 use ir_core::{ArenaIndex, AuxDataIndex, Context, CoreError, Dialects, Identifier, Limits};
 use ir_toy::Toy;
 use std::process::Abort;
 use std::test::Fail;
-
-// The name that is given.
-fn name() -> Identifier {
-    Identifier::new("name")
-}
-
-// Stores a text under a new index.
-fn add<D: Dialects<Aux = String>>(
-    ctx: &mut Context<D>,
-    data: &str,
-) -> Result<AuxDataIndex, CoreError> {
-    let data = String::from_str(ctx.alloc(), data)?;
-    ctx.insert_aux(data)
-}
-
-// Asserts that this is the data under the index.
-fn expect_data<D: Dialects<Aux = String>>(
-    rt: &impl Abort,
-    ctx: &Context<D>,
-    index: AuxDataIndex,
-    expected: &str,
-) {
-    match ctx.get_aux(index) {
-        Some(data) => assert!(rt; data.as_str() == expected),
-        None => assert!(rt; false),
-    }
-}
-
-// Asserts that the name leads to the index.
-fn expect_found<D: Dialects>(rt: &impl Abort, ctx: &Context<D>, index: AuxDataIndex) {
-    assert!(rt; ctx.aux_by_name(&name()) == Some(index));
-}
 
 // Stores a text, to which the name leads from then on.
 fn add_named<D: Dialects<Aux = String>>(
@@ -44,16 +14,10 @@ fn add_named<D: Dialects<Aux = String>>(
     data: &str,
 ) -> Result<AuxDataIndex, CoreError> {
     let index = add(ctx, data)?;
-    ctx.set_aux_name(name(), index)?;
-    expect_found(rt, ctx, index);
-    expect_data(rt, ctx, index, data);
+    set_name(ctx, index)?;
+    assert!(rt; find(ctx, &name()) == Some(index));
+    assert!(rt; has(ctx, index, data));
     Ok(index)
-}
-
-// Takes the data under the index out. Then there is none.
-fn take<D: Dialects<Aux = String>>(rt: &impl Abort, ctx: &mut Context<D>, index: AuxDataIndex) {
-    assert!(rt; ctx.remove_aux(index).is_some());
-    assert!(rt; ctx.get_aux(index).is_none());
 }
 
 // The name outlives the data.
@@ -62,53 +26,41 @@ fn take_named<D: Dialects<Aux = String>>(
     ctx: &mut Context<D>,
 ) -> Result<(), CoreError> {
     let index = add_named(rt, ctx, "data")?;
-    assert!(rt; ctx.aux_by_name(&Identifier::new("other")).is_none());
-    take(rt, ctx, index);
-    expect_found(rt, ctx, index);
-    assert!(rt; ctx.remove_aux(index).is_none());
+    assert!(rt; find(ctx, &Identifier::new("other")).is_none());
+    assert!(rt; take(ctx, index));
+    assert!(rt; is_gone(ctx, index));
+    assert!(rt; find(ctx, &name()) == Some(index));
+    assert!(rt; !take(ctx, index));
     Ok(())
 }
 
 #[test]
 fn aux_names(rt: HostRuntime) -> Result<(), Fail> {
     let mut ctx: Context<Toy> = Context::new(rt.alloc());
-    take_named(&rt, &mut ctx)?;
+    let outcome = take_named(&rt, &mut ctx);
+    end(ctx, outcome)?;
     Ok(())
 }
 
-// Writes other data under an index, where there is some.
-fn rewrite<D: Dialects<Aux = String>>(
-    ctx: &mut Context<D>,
-    index: AuxDataIndex,
-    data: &str,
-) -> Result<(), CoreError> {
-    let data = String::from_str(ctx.alloc(), data)?;
-    if let Some(place) = ctx.get_aux_mut(index) {
-        *place = data;
-    }
-    Ok(())
-}
-
-// What is written under one index is there, and nothing else has changed.
-fn write_one<D: Dialects<Aux = String>>(
+// A name that is given again leads to the last index. What is written under one index is there, and nothing else has changed.
+fn name_twice<D: Dialects<Aux = String>>(
     rt: &impl Abort,
     ctx: &mut Context<D>,
-    first: AuxDataIndex,
-    second: AuxDataIndex,
 ) -> Result<(), CoreError> {
-    rewrite(ctx, second, "written")?;
-    expect_data(rt, ctx, second, "written");
-    expect_data(rt, ctx, first, "data");
+    let first = add_named(rt, ctx, "data")?;
+    let second = add_named(rt, ctx, "more")?;
+    assert!(rt; first != second);
+    assert!(rt; write(ctx, second, "written")?);
+    assert!(rt; has(ctx, second, "written"));
+    assert!(rt; has(ctx, first, "data"));
     Ok(())
 }
 
 #[test]
 fn names_lead_to_the_last_index(rt: HostRuntime) -> Result<(), Fail> {
     let mut ctx: Context<Toy> = Context::new(rt.alloc());
-    let first = add_named(&rt, &mut ctx, "data")?;
-    let second = add_named(&rt, &mut ctx, "more")?;
-    assert!(rt; first != second);
-    write_one(&rt, &mut ctx, first, second)?;
+    let outcome = name_twice(&rt, &mut ctx);
+    end(ctx, outcome)?;
     Ok(())
 }
 
@@ -117,10 +69,12 @@ fn spend_slot<D: Dialects<Aux = String>>(
     rt: &impl Abort,
     ctx: &mut Context<D>,
 ) -> Result<(), CoreError> {
+    assert_eq!(rt; slots_left(ctx), 1);
     let first = add(ctx, "first")?;
-    assert_eq!(rt; ctx.room().aux, 0);
-    take(rt, ctx, first);
-    assert_eq!(rt; ctx.room().aux, 0);
+    assert_eq!(rt; slots_left(ctx), 0);
+    assert!(rt; take(ctx, first));
+    assert!(rt; is_gone(ctx, first));
+    assert_eq!(rt; slots_left(ctx), 0);
     assert!(rt; add(ctx, "second") == Err(CoreError::SlotsSpent));
     Ok(())
 }
@@ -133,8 +87,8 @@ fn spent_slots_of_auxiliary_data(rt: HostRuntime) -> Result<(), Fail> {
         ..Limits::default()
     };
     let mut ctx: Context<Toy> = Context::with_limits(rt.alloc(), limits);
-    assert_eq!(rt; ctx.room().aux, 1);
-    spend_slot(&rt, &mut ctx)?;
+    let outcome = spend_slot(&rt, &mut ctx);
+    end(ctx, outcome)?;
     Ok(())
 }
 
@@ -150,10 +104,11 @@ fn use_again<D: Dialects<Aux = String>>(
 ) -> Result<(), CoreError> {
     let first = add(ctx, "first")?;
     expect_version(rt, first, 1);
-    take(rt, ctx, first);
+    assert!(rt; take(ctx, first));
+    assert!(rt; is_gone(ctx, first));
     let second = add(ctx, "second")?;
     expect_version(rt, second, 3);
-    assert!(rt; ctx.get_aux(first).is_none());
+    assert!(rt; is_gone(ctx, first));
     assert!(rt; ctx.is_ir_empty());
     Ok(())
 }
@@ -161,6 +116,7 @@ fn use_again<D: Dialects<Aux = String>>(
 #[test]
 fn indices_are_not_given_again(rt: HostRuntime) -> Result<(), Fail> {
     let mut ctx: Context<Toy> = Context::new(rt.alloc());
-    use_again(&rt, &mut ctx)?;
+    let outcome = use_again(&rt, &mut ctx);
+    end(ctx, outcome)?;
     Ok(())
 }

@@ -1,5 +1,6 @@
 //! What holds of every context, and of every type of saved values: each law can be called.
 
+use crate::ending::end;
 use ir_core::{Context, Dialects};
 use ir_saved::{SavedValue, equal_keys_for_equal_values, kinds_are_never_equal};
 use ir_toy::Toy;
@@ -24,5 +25,6 @@ fn laws_can_be_called(rt: HostRuntime) -> Result<(), Fail> {
     let ctx: Context<Toy> = Context::new(rt.alloc());
     call_laws(&ctx);
     call_saved_laws::<Toy, String, u64>();
+    end(ctx, Ok(()))?;
     Ok(())
 }

@@ -2,8 +2,14 @@
 #![tactic(auto)]
 
 #[cfg(test)]
+mod aux_calls;
+#[cfg(test)]
 mod aux_tests;
 #[cfg(test)]
+mod ending;
+#[cfg(test)]
 mod law_tests;
+#[cfg(test)]
+mod saved_calls;
 #[cfg(test)]
 mod saved_tests;

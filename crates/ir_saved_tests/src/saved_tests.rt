@@ -1,80 +1,50 @@
 //! Types, which are stored once and may have bodies, and saved values with their keys.
 
-use ir_core::{Context, CoreError, Dialects, Identifier, TypeHandle, TypeQueries};
-use ir_saved::{SavedValue, Uniqued, UniquedKey, get, save};
+use crate::ending::end;
+use crate::saved_calls::{
+    equals, find_type, has_body, has_key, leads_to, save_uniqued, save_value, set_body, store_type,
+};
+use ir_core::{Context, CoreError, Identifier};
+use ir_saved::{SavedValue, UniquedKey};
 use ir_toy::{Toy, ToyType};
 use std::process::Abort;
 use std::test::Fail;
 
-// Asserts that this is the type with the key, or that there is none.
-fn expect_found<D: Dialects>(
-    rt: &impl Abort,
-    ctx: &Context<D>,
-    key: &D::TypeKey,
-    ty: Option<TypeHandle>,
-) {
-    assert!(rt; ctx.find_type(key) == ty);
+// The key of the integer type with this width.
+fn int(width: u32) -> ToyType {
+    ToyType::Int { width }
+}
+
+// The key of the type with the name `list`.
+fn list() -> ToyType {
+    ToyType::Named(Identifier::new("list"))
 }
 
 // Types are stored once, by their keys.
 fn intern_types(rt: &impl Abort, ctx: &mut Context<Toy>) -> Result<(), CoreError> {
-    let first = ctx.instantiate_key(ToyType::Int { width: 32 })?;
-    let again = ctx.instantiate_key(ToyType::Int { width: 32 })?;
-    let other = ctx.instantiate_key(ToyType::Int { width: 64 })?;
+    let first = store_type(ctx, int(32))?;
+    let again = store_type(ctx, int(32))?;
+    let other = store_type(ctx, int(64))?;
     assert!(rt; first == again);
     assert!(rt; first != other);
-    expect_found(rt, ctx, &ToyType::Int { width: 64 }, Some(other));
-    expect_found(rt, ctx, &ToyType::Int { width: 16 }, None);
+    assert!(rt; find_type(ctx, &int(64)) == Some(other));
+    assert!(rt; find_type(ctx, &int(16)).is_none());
     Ok(())
-}
-
-// Asserts that the type has this key and this body.
-fn expect_type<D: Dialects>(
-    rt: &impl Abort,
-    ctx: &Context<D>,
-    ty: TypeHandle,
-    key: &D::TypeKey,
-    body: &D::TypeBody,
-)
-where
-    D::TypeBody: PartialEq,
-{
-    assert!(rt; ty.is_known(ctx));
-    assert!(rt; *ty.deref(ctx) == *key);
-    assert!(rt; *ty.body(ctx) == *body);
-}
-
-// Sets the body of a type to the type's own handle.
-fn name_itself(rt: &impl Abort, ctx: &mut Context<Toy>, ty: TypeHandle) {
-    assert!(rt; ty.is_known(ctx));
-    ty.set_body(ctx, Some(ty));
 }
 
 // A body is no part of a type's key: a type whose body is set keeps its handle and its key.
 fn set_bodies(rt: &impl Abort, ctx: &mut Context<Toy>) -> Result<(), CoreError> {
-    let list = ToyType::Named(Identifier::new("list"));
-    let named = ctx.instantiate_key(ToyType::Named(Identifier::new("list")))?;
-    expect_type(rt, ctx, named, &list, &None);
-    name_itself(rt, ctx, named);
-    expect_type(rt, ctx, named, &list, &Some(named));
-    assert!(rt; ctx.instantiate_key(list)? == named);
+    let named = store_type(ctx, list())?;
+    assert!(rt; has_key(ctx, named, &list()));
+    assert!(rt; has_body(ctx, named, &None));
+    assert!(rt; set_body(ctx, named, Some(named)));
+    assert!(rt; has_key(ctx, named, &list()));
+    assert!(rt; has_body(ctx, named, &Some(named)));
+    assert!(rt; store_type(ctx, list())? == named);
     Ok(())
 }
 
-// Saves a value, and asserts that its key leads to one that is equal to the other.
-fn save_one<D: Dialects, T: SavedValue<D>>(
-    rt: &impl Abort,
-    ctx: &mut Context<D>,
-    value: T,
-    equal: &T,
-) -> Result<UniquedKey<T>, CoreError> {
-    let key = save(ctx, value)?;
-    assert!(rt; key.is_known(ctx));
-    assert!(rt; *get(ctx, key) == *equal);
-    Ok(key)
-}
-
-// Saves a text.
+// Saves a text, to which its key leads.
 fn save_text(
     rt: &impl Abort,
     ctx: &mut Context<Toy>,
@@ -82,7 +52,9 @@ fn save_text(
 ) -> Result<UniquedKey<String>, CoreError> {
     let value = String::from_str(ctx.alloc(), text)?;
     let equal = String::from_str(ctx.alloc(), text)?;
-    save_one(rt, ctx, value, &equal)
+    let key = save_value(ctx, value)?;
+    assert!(rt; leads_to(ctx, key, &equal));
+    Ok(key)
 }
 
 // Equal values have one key, and others have others.
@@ -92,19 +64,19 @@ fn intern_values(rt: &impl Abort, ctx: &mut Context<Toy>) -> Result<(), CoreErro
     let world = save_text(rt, ctx, "World")?;
     assert!(rt; hello == again);
     assert!(rt; hello != world);
-    save_one(rt, ctx, 71_i64, &71)?;
+    let number = save_value(ctx, 71_i64)?;
+    assert!(rt; leads_to(ctx, number, &71));
     Ok(())
 }
 
-// Saves a number, and answers the index of its key.
+// Saves a number, which its key leads to, and answers the index of that.
 fn save_number<T: SavedValue<Toy> + Copy>(
     rt: &impl Abort,
     ctx: &mut Context<Toy>,
     number: T,
 ) -> Result<usize, CoreError> {
-    let saved = Uniqued::new(ctx, number)?;
-    assert!(rt; saved.key().is_known(ctx));
-    assert!(rt; *saved.get(ctx) == number);
+    let saved = save_uniqued(ctx, number)?;
+    assert!(rt; equals(ctx, saved, &number));
     Ok(saved.key().index())
 }
 
@@ -116,12 +88,18 @@ fn intern_numbers(rt: &impl Abort, ctx: &mut Context<Toy>) -> Result<(), CoreErr
     Ok(())
 }
 
+// Types and saved values in one context.
+fn intern(rt: &impl Abort, ctx: &mut Context<Toy>) -> Result<(), CoreError> {
+    intern_types(rt, ctx)?;
+    set_bodies(rt, ctx)?;
+    intern_values(rt, ctx)?;
+    intern_numbers(rt, ctx)
+}
+
 #[test]
 fn interning(rt: HostRuntime) -> Result<(), Fail> {
     let mut ctx: Context<Toy> = Context::new(rt.alloc());
-    intern_types(&rt, &mut ctx)?;
-    set_bodies(&rt, &mut ctx)?;
-    intern_values(&rt, &mut ctx)?;
-    intern_numbers(&rt, &mut ctx)?;
+    let outcome = intern(&rt, &mut ctx);
+    end(ctx, outcome)?;
     Ok(())
 }
