@@ -2,8 +2,8 @@
 
 use ir_base::{Dialects, Ptr};
 use ir_checked::{
-    CheckedErr, Context, Entity, Operation, block_at_back, can_erase, drop_op_uses, erase_op,
-    is_inside, new_block, new_op, op_at_back, region, result,
+    CheckedErr, Context, Entity, Operation, block_at_back, block_head, can_erase, drop_op_uses,
+    erase_op, is_inside, new_block, new_op, op_at_back, parent_block, region, result,
 };
 use ir_toy::{Toy, ToyType};
 use std::process::Abort;
@@ -79,6 +79,21 @@ fn expect_ends<D: Dialects>(
     assert!(rt; !is_inside(ctx, Entity::Op(outer), Entity::Op(inner)));
 }
 
+// Asserts that the outer operation stands in no block, and that the inner one is the first in a block.
+fn expect_blocks<D: Dialects>(
+    rt: &impl Abort,
+    ctx: &Context<D>,
+    outer: Ptr<Operation<D>>,
+    inner: Ptr<Operation<D>>,
+) -> Result<(), CheckedErr> {
+    assert!(rt; parent_block(ctx, outer)?.is_none());
+    match parent_block(ctx, inner)? {
+        Some(block) => assert!(rt; block_head(ctx, block)? == Some(inner)),
+        None => assert!(rt; false),
+    }
+    Ok(())
+}
+
 // Asserts that the nest can be erased once its uses were dropped, and that nothing is left then.
 fn expect_erased<D: Dialects>(
     rt: &impl Abort,
@@ -89,6 +104,7 @@ fn expect_erased<D: Dialects>(
     assert!(rt; can_erase(ctx, Entity::Op(outer))?);
     erase_op(ctx, outer)?;
     assert!(rt; ctx.is_ir_empty());
+    assert!(rt; matches!(parent_block(ctx, outer), Err(CheckedErr::Condition)));
     Ok(())
 }
 
@@ -96,6 +112,7 @@ fn above<D: Dialects>(rt: &impl Abort, ctx: &mut Context<D>) -> Result<(), Check
     let outer = with_region(ctx)?;
     let inner = nest_below(ctx, outer)?;
     expect_ends(rt, ctx, outer, inner);
+    expect_blocks(rt, ctx, outer, inner)?;
     expect_erased(rt, ctx, outer)
 }
 
@@ -103,6 +120,7 @@ fn below<D: Dialects>(rt: &impl Abort, ctx: &mut Context<D>) -> Result<(), Check
     let inner = with_region(ctx)?;
     let outer = nest_around(ctx, inner)?;
     expect_ends(rt, ctx, outer, inner);
+    expect_blocks(rt, ctx, outer, inner)?;
     expect_erased(rt, ctx, outer)
 }
 
