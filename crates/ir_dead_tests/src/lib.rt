@@ -2,6 +2,6 @@
 #![tactic(auto)]
 
 #[cfg(test)]
-mod checked;
+mod calls;
 #[cfg(test)]
 mod sweep_tests;
