@@ -10,7 +10,7 @@ pub enum LabError {
     /// There was no memory.
     #[error("out of memory")]
     OutOfMemory,
-    /// The line has no form of a line.
+    /// The line has no form of a line, or stands where it may not.
     #[error("malformed line")]
     Malformed,
 }

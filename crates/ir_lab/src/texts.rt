@@ -14,7 +14,7 @@ const NOTHING: &str = "  nothing\n";
 /// Where a session doesn't do what a text says, if it doesn't. The session has these limits, and follows the beginning first; where the text has an empty line, a new one does the same.
 ///
 /// # Errors
-/// `OutOfMemory`.
+/// `Malformed` where lines of a dump stand before the first edit, and `OutOfMemory`.
 pub fn first_difference(
     alloc: Global,
     limits: Limits,
@@ -58,7 +58,7 @@ impl Lab {
     /// Where this session doesn't do what a text without empty lines says, if it doesn't.
     ///
     /// # Errors
-    /// `OutOfMemory`.
+    /// `Malformed` where lines of a dump stand before the first edit, and `OutOfMemory`.
     pub fn follow(&mut self, text: &str) -> Result<Option<String>, LabError> {
         let mut head = String::new(self.alloc());
         let mut below = String::new(self.alloc());
@@ -80,6 +80,9 @@ impl Lab {
 
     // The same for one line, and what stands below it.
     fn try_line(&mut self, head: &str, below: &str) -> Result<Option<String>, LabError> {
+        if head.is_empty() && !below.is_empty() {
+            return Err(LabError::Malformed);
+        }
         if head.is_empty() {
             return Ok(None);
         }
