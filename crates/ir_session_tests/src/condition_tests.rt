@@ -1,7 +1,7 @@
 //! Edits whose condition doesn't hold: each is refused, and nothing changes. Each table begins with the edits by which o4, r2, b3, o6 and v3 go, and o7 comes to stand in no block.
 
-use crate::expectations::expect;
 use crate::sample_tests::SAMPLE;
+use ir_lab::expect;
 use std::test::Fail;
 
 const NEW_ENTITIES: &str = "
@@ -21,7 +21,7 @@ add-region o4 => refused condition";
 
 #[test]
 fn new_entities(rt: HostRuntime) -> Result<(), Fail> {
-    expect(&rt, rt.alloc(), SAMPLE, NEW_ENTITIES)?;
+    expect(rt.alloc(), SAMPLE, NEW_ENTITIES)?;
     Ok(())
 }
 
@@ -45,7 +45,7 @@ remove-result o1 0 => refused condition";
 
 #[test]
 fn results(rt: HostRuntime) -> Result<(), Fail> {
-    expect(&rt, rt.alloc(), SAMPLE, RESULTS)?;
+    expect(rt.alloc(), SAMPLE, RESULTS)?;
     Ok(())
 }
 
@@ -68,7 +68,7 @@ remove-argument b0 0 => refused condition";
 
 #[test]
 fn arguments(rt: HostRuntime) -> Result<(), Fail> {
-    expect(&rt, rt.alloc(), SAMPLE, ARGUMENTS)?;
+    expect(rt.alloc(), SAMPLE, ARGUMENTS)?;
     Ok(())
 }
 
@@ -97,7 +97,7 @@ replace-operand o2 0 v3 => refused condition";
 
 #[test]
 fn operands(rt: HostRuntime) -> Result<(), Fail> {
-    expect(&rt, rt.alloc(), SAMPLE, OPERANDS)?;
+    expect(rt.alloc(), SAMPLE, OPERANDS)?;
     Ok(())
 }
 
@@ -126,7 +126,7 @@ replace-successor o3 0 b3 => refused condition";
 
 #[test]
 fn successors(rt: HostRuntime) -> Result<(), Fail> {
-    expect(&rt, rt.alloc(), SAMPLE, SUCCESSORS)?;
+    expect(rt.alloc(), SAMPLE, SUCCESSORS)?;
     Ok(())
 }
 
@@ -149,7 +149,7 @@ retarget-all b4 b4 => refused condition";
 
 #[test]
 fn redirects(rt: HostRuntime) -> Result<(), Fail> {
-    expect(&rt, rt.alloc(), SAMPLE, REDIRECTS)?;
+    expect(rt.alloc(), SAMPLE, REDIRECTS)?;
     Ok(())
 }
 
@@ -174,7 +174,7 @@ unlink-op o8 => refused condition";
 
 #[test]
 fn operations_in_blocks(rt: HostRuntime) -> Result<(), Fail> {
-    expect(&rt, rt.alloc(), SAMPLE, OPERATIONS_IN_BLOCKS)?;
+    expect(rt.alloc(), SAMPLE, OPERATIONS_IN_BLOCKS)?;
     Ok(())
 }
 
@@ -200,7 +200,7 @@ op-after o8 o1 => refused condition";
 
 #[test]
 fn operations_at_marks(rt: HostRuntime) -> Result<(), Fail> {
-    expect(&rt, rt.alloc(), SAMPLE, OPERATIONS_AT_MARKS)?;
+    expect(rt.alloc(), SAMPLE, OPERATIONS_AT_MARKS)?;
     Ok(())
 }
 
@@ -224,7 +224,7 @@ unlink-block b4 => refused condition";
 
 #[test]
 fn blocks_in_regions(rt: HostRuntime) -> Result<(), Fail> {
-    expect(&rt, rt.alloc(), SAMPLE, BLOCKS_IN_REGIONS)?;
+    expect(rt.alloc(), SAMPLE, BLOCKS_IN_REGIONS)?;
     Ok(())
 }
 
@@ -247,7 +247,7 @@ block-after b4 b0 => refused condition";
 
 #[test]
 fn blocks_at_marks(rt: HostRuntime) -> Result<(), Fail> {
-    expect(&rt, rt.alloc(), SAMPLE, BLOCKS_AT_MARKS)?;
+    expect(rt.alloc(), SAMPLE, BLOCKS_AT_MARKS)?;
     Ok(())
 }
 
@@ -273,7 +273,7 @@ move-region r0 o8 => refused condition";
 
 #[test]
 fn joins_and_moves(rt: HostRuntime) -> Result<(), Fail> {
-    expect(&rt, rt.alloc(), SAMPLE, JOINS_AND_MOVES)?;
+    expect(rt.alloc(), SAMPLE, JOINS_AND_MOVES)?;
     Ok(())
 }
 
@@ -290,7 +290,7 @@ drop-region-uses r3 => refused condition";
 
 #[test]
 fn dropped_uses(rt: HostRuntime) -> Result<(), Fail> {
-    expect(&rt, rt.alloc(), SAMPLE, DROPPED_USES)?;
+    expect(rt.alloc(), SAMPLE, DROPPED_USES)?;
     Ok(())
 }
 
@@ -317,7 +317,7 @@ erase-region o1 0 => refused condition";
 
 #[test]
 fn erased_entities(rt: HostRuntime) -> Result<(), Fail> {
-    expect(&rt, rt.alloc(), SAMPLE, ERASED_ENTITIES)?;
+    expect(rt.alloc(), SAMPLE, ERASED_ENTITIES)?;
     Ok(())
 }
 
@@ -330,6 +330,6 @@ retarget-all b1 b1 => refused condition";
 
 #[test]
 fn redirects_from_unlinked_users(rt: HostRuntime) -> Result<(), Fail> {
-    expect(&rt, rt.alloc(), SAMPLE, REDIRECTS_FROM_UNLINKED_USERS)?;
+    expect(rt.alloc(), SAMPLE, REDIRECTS_FROM_UNLINKED_USERS)?;
     Ok(())
 }

@@ -1,8 +1,8 @@
 //! Edits that drop uses and that erase: the answer of each, and what it changes.
 
-use crate::expectations::{expect, expect_within};
 use crate::sample_tests::SAMPLE;
 use ir_base::Limits;
+use ir_lab::{expect, expect_within};
 use std::test::Fail;
 
 const USES_ARE_DROPPED: &str = "
@@ -34,7 +34,7 @@ drop-region-uses r1 => done
 
 #[test]
 fn uses_are_dropped(rt: HostRuntime) -> Result<(), Fail> {
-    expect(&rt, rt.alloc(), SAMPLE, USES_ARE_DROPPED)?;
+    expect(rt.alloc(), SAMPLE, USES_ARE_DROPPED)?;
     Ok(())
 }
 
@@ -66,7 +66,7 @@ erase-region o0 1 => done
 
 #[test]
 fn entities_are_erased(rt: HostRuntime) -> Result<(), Fail> {
-    expect(&rt, rt.alloc(), SAMPLE, ENTITIES_ARE_ERASED)?;
+    expect(rt.alloc(), SAMPLE, ENTITIES_ARE_ERASED)?;
     Ok(())
 }
 
@@ -87,7 +87,7 @@ deref o0 => Attempt to dereference a dangling Ptr";
 
 #[test]
 fn own_result(rt: HostRuntime) -> Result<(), Fail> {
-    expect(&rt, rt.alloc(), "", OWN_RESULT)?;
+    expect(rt.alloc(), "", OWN_RESULT)?;
     Ok(())
 }
 
@@ -126,7 +126,7 @@ fn outside_use_in_depth(rt: HostRuntime) -> Result<(), Fail> {
         slots: 9,
         ..Limits::default()
     };
-    expect_within(&rt, rt.alloc(), limits, "", OUTSIDE_USE_IN_DEPTH)?;
+    expect_within(rt.alloc(), limits, "", OUTSIDE_USE_IN_DEPTH)?;
     Ok(())
 }
 
@@ -143,6 +143,6 @@ is-empty => yes";
 
 #[test]
 fn erase_inner_successor(rt: HostRuntime) -> Result<(), Fail> {
-    expect(&rt, rt.alloc(), "", ERASE_INNER_SUCCESSOR)?;
+    expect(rt.alloc(), "", ERASE_INNER_SUCCESSOR)?;
     Ok(())
 }

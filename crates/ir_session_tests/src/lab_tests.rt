@@ -1,7 +1,7 @@
 //! That a session which doesn't do what a text says is told so.
 
 use ir_base::Limits;
-use ir_lab::{LabError, first_difference};
+use ir_lab::{LabError, Unmet, expect, expect_within, first_difference};
 use std::alloc::Global;
 use std::process::Abort;
 use std::test::Fail;
@@ -14,9 +14,6 @@ fn expect_difference(
     wanted: &str,
 ) -> Result<(), LabError> {
     match first_difference(alloc, Limits::default(), "new-block - - => made b0", text)? {
-        Some(difference) if difference.ends_with("\nrefused memory\n") => {
-            return Err(LabError::OutOfMemory);
-        }
         Some(difference) => assert_eq!(rt; difference.as_str(), wanted),
         None => assert!(rt; false, "{text}"),
     }
@@ -71,5 +68,64 @@ fn malformed_lines_are_told(rt: HostRuntime) -> Result<(), Fail> {
     expect_difference(&rt, rt.alloc(), "op-back o0 => done", told)?;
     let told = "unlink-op o0 b0 => done\nis no edit and no question\n";
     expect_difference(&rt, rt.alloc(), "unlink-op o0 b0 => done", told)?;
+    Ok(())
+}
+
+// Asserts that the text is refused.
+fn expect_malformed(rt: &impl Abort, alloc: Global, text: &str) -> Result<(), LabError> {
+    match first_difference(alloc, Limits::default(), "", text) {
+        Err(LabError::Malformed) => Ok(()),
+        Err(LabError::OutOfMemory) => Err(LabError::OutOfMemory),
+        Ok(_) => Ok(assert!(rt; false, "{text}")),
+    }
+}
+
+const LINES_BEFORE_ALL: &str = "
+  b0:
+new-block - - => made b0";
+
+const LINES_ALONE: &str = "  nothing";
+
+const LINES_BEFORE_A_LATER_PART: &str = "
+new-block - - => made b0
+  b0:
+
+  b0:
+new-block - - => made b0";
+
+#[test]
+fn lines_before_the_first_edit_are_refused(rt: HostRuntime) -> Result<(), Fail> {
+    expect_malformed(&rt, rt.alloc(), LINES_BEFORE_ALL)?;
+    expect_malformed(&rt, rt.alloc(), LINES_ALONE)?;
+    expect_malformed(&rt, rt.alloc(), LINES_BEFORE_A_LATER_PART)?;
+    Ok(())
+}
+
+// Asserts that an expectation isn't met, and what is found.
+fn expect_unmet(rt: &impl Abort, outcome: Result<(), Unmet>, wanted: &str) -> Result<(), LabError> {
+    match outcome {
+        Err(Unmet::Differs(difference)) => assert!(rt; difference.ends_with(wanted)),
+        Err(Unmet::Lab(fault)) => return Err(fault),
+        Ok(()) => assert!(rt; false, "{wanted}"),
+    }
+    Ok(())
+}
+
+// There is place for them only where there is ample room.
+const MANY_VALUES: &str = "
+new-type 32 => made t0
+new-block - t0,t0,t0,t0,t0,t0,t0,t0,t0,t0,t0,t0,t0,t0,t0,t0,t0,t0,t0,t0,t0 => made b0";
+
+#[test]
+fn unmet_expectations_are_told(rt: HostRuntime) -> Result<(), Fail> {
+    let alloc = rt.alloc();
+    let ample = Limits::default();
+    expect_unmet(
+        &rt,
+        expect_within(alloc, ample, "", WRONG_ANSWER),
+        "\nmade b0\n",
+    )?;
+    expect_within(alloc, ample, "", MANY_VALUES)?;
+    expect_unmet(&rt, expect(alloc, "", MANY_VALUES), "\nrefused counter\n")?;
     Ok(())
 }

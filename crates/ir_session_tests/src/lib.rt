@@ -6,8 +6,6 @@ mod condition_tests;
 #[cfg(test)]
 mod erase_tests;
 #[cfg(test)]
-mod expectations;
-#[cfg(test)]
 mod lab_tests;
 #[cfg(test)]
 mod list_tests;

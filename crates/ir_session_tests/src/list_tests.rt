@@ -1,7 +1,7 @@
 //! Edits of lists and nesting: the answer of each, and what it changes.
 
-use crate::expectations::expect;
 use crate::sample_tests::SAMPLE;
+use ir_lab::expect;
 use std::test::Fail;
 
 const OPERATIONS_ARE_PUT_IN: &str = "
@@ -27,7 +27,7 @@ op-after o4 o3 => done
 
 #[test]
 fn operations_are_put_in(rt: HostRuntime) -> Result<(), Fail> {
-    expect(&rt, rt.alloc(), SAMPLE, OPERATIONS_ARE_PUT_IN)?;
+    expect(rt.alloc(), SAMPLE, OPERATIONS_ARE_PUT_IN)?;
     Ok(())
 }
 
@@ -42,7 +42,7 @@ unlink-op o5 => done
 
 #[test]
 fn operations_are_taken_out(rt: HostRuntime) -> Result<(), Fail> {
-    expect(&rt, rt.alloc(), SAMPLE, OPERATIONS_ARE_TAKEN_OUT)?;
+    expect(rt.alloc(), SAMPLE, OPERATIONS_ARE_TAKEN_OUT)?;
     Ok(())
 }
 
@@ -65,7 +65,7 @@ block-after b2 b3 => done
 
 #[test]
 fn blocks_are_put_in(rt: HostRuntime) -> Result<(), Fail> {
-    expect(&rt, rt.alloc(), SAMPLE, BLOCKS_ARE_PUT_IN)?;
+    expect(rt.alloc(), SAMPLE, BLOCKS_ARE_PUT_IN)?;
     Ok(())
 }
 
@@ -80,7 +80,7 @@ unlink-block b3 => done
 
 #[test]
 fn blocks_are_taken_out(rt: HostRuntime) -> Result<(), Fail> {
-    expect(&rt, rt.alloc(), SAMPLE, BLOCKS_ARE_TAKEN_OUT)?;
+    expect(rt.alloc(), SAMPLE, BLOCKS_ARE_TAKEN_OUT)?;
     Ok(())
 }
 
@@ -108,7 +108,7 @@ append-blocks r2 r1 => done
 
 #[test]
 fn lists_are_joined(rt: HostRuntime) -> Result<(), Fail> {
-    expect(&rt, rt.alloc(), SAMPLE, LISTS_ARE_JOINED)?;
+    expect(rt.alloc(), SAMPLE, LISTS_ARE_JOINED)?;
     Ok(())
 }
 
@@ -128,7 +128,7 @@ move-region r0 o0 => done
 
 #[test]
 fn regions_are_moved(rt: HostRuntime) -> Result<(), Fail> {
-    expect(&rt, rt.alloc(), SAMPLE, REGIONS_ARE_MOVED)?;
+    expect(rt.alloc(), SAMPLE, REGIONS_ARE_MOVED)?;
     Ok(())
 }
 
@@ -147,7 +147,7 @@ op-front o3 b0 => done
 
 #[test]
 fn joined_lists_are_edited(rt: HostRuntime) -> Result<(), Fail> {
-    expect(&rt, rt.alloc(), SAMPLE, JOINED_LISTS_ARE_EDITED)?;
+    expect(rt.alloc(), SAMPLE, JOINED_LISTS_ARE_EDITED)?;
     Ok(())
 }
 
@@ -188,6 +188,6 @@ dump
 
 #[test]
 fn unlinked_nodes_go_back(rt: HostRuntime) -> Result<(), Fail> {
-    expect(&rt, rt.alloc(), SAMPLE, UNLINKED_NODES_GO_BACK)?;
+    expect(rt.alloc(), SAMPLE, UNLINKED_NODES_GO_BACK)?;
     Ok(())
 }

@@ -1,7 +1,7 @@
 //! Edits that make something, and those of results and arguments: the answer of each, and what it changes.
 
-use crate::expectations::expect;
 use crate::sample_tests::SAMPLE;
+use ir_lab::expect;
 use std::test::Fail;
 
 // A type that is stored already gets another number, and is the type of the first.
@@ -22,7 +22,7 @@ new-op 0 t3 - - 0 => made o7
 
 #[test]
 fn new_types(rt: HostRuntime) -> Result<(), Fail> {
-    expect(&rt, rt.alloc(), SAMPLE, NEW_TYPES)?;
+    expect(rt.alloc(), SAMPLE, NEW_TYPES)?;
     Ok(())
 }
 
@@ -41,7 +41,7 @@ new-op 99 - - - 0 => made o7
 
 #[test]
 fn new_operations(rt: HostRuntime) -> Result<(), Fail> {
-    expect(&rt, rt.alloc(), SAMPLE, NEW_OPERATIONS)?;
+    expect(rt.alloc(), SAMPLE, NEW_OPERATIONS)?;
     Ok(())
 }
 
@@ -52,7 +52,7 @@ new-block exit t1 => made b4
 
 #[test]
 fn new_blocks(rt: HostRuntime) -> Result<(), Fail> {
-    expect(&rt, rt.alloc(), SAMPLE, NEW_BLOCKS)?;
+    expect(rt.alloc(), SAMPLE, NEW_BLOCKS)?;
     Ok(())
 }
 
@@ -67,7 +67,7 @@ add-region o1 => made r3
 
 #[test]
 fn new_regions(rt: HostRuntime) -> Result<(), Fail> {
-    expect(&rt, rt.alloc(), SAMPLE, NEW_REGIONS)?;
+    expect(rt.alloc(), SAMPLE, NEW_REGIONS)?;
     Ok(())
 }
 
@@ -91,7 +91,7 @@ remove-result o2 1 => done
 
 #[test]
 fn results(rt: HostRuntime) -> Result<(), Fail> {
-    expect(&rt, rt.alloc(), SAMPLE, RESULTS)?;
+    expect(rt.alloc(), SAMPLE, RESULTS)?;
     Ok(())
 }
 
@@ -116,6 +116,6 @@ remove-argument b1 1 => done
 
 #[test]
 fn arguments(rt: HostRuntime) -> Result<(), Fail> {
-    expect(&rt, rt.alloc(), SAMPLE, ARGUMENTS)?;
+    expect(rt.alloc(), SAMPLE, ARGUMENTS)?;
     Ok(())
 }

@@ -1,7 +1,7 @@
 //! Edits by which something would come to stand inside itself, and others that are refused although all that they name is there.
 
-use crate::expectations::expect;
 use crate::sample_tests::SAMPLE;
+use ir_lab::expect;
 use std::test::Fail;
 
 // An operation isn't put into a block inside it, at either end or beside a mark.
@@ -20,7 +20,7 @@ op-after o0 o6 => refused condition";
 
 #[test]
 fn insert_into_itself(rt: HostRuntime) -> Result<(), Fail> {
-    expect(&rt, rt.alloc(), SAMPLE, INSERT_INTO_ITSELF)?;
+    expect(rt.alloc(), SAMPLE, INSERT_INTO_ITSELF)?;
     Ok(())
 }
 
@@ -35,7 +35,7 @@ block-after b0 b2 => refused condition";
 
 #[test]
 fn blocks_into_themselves(rt: HostRuntime) -> Result<(), Fail> {
-    expect(&rt, rt.alloc(), SAMPLE, BLOCKS_INTO_THEMSELVES)?;
+    expect(rt.alloc(), SAMPLE, BLOCKS_INTO_THEMSELVES)?;
     Ok(())
 }
 
@@ -52,7 +52,7 @@ move-region r2 o5 => refused condition";
 
 #[test]
 fn joins_and_moves_into_themselves(rt: HostRuntime) -> Result<(), Fail> {
-    expect(&rt, rt.alloc(), SAMPLE, JOINS_AND_MOVES_INTO_THEMSELVES)?;
+    expect(rt.alloc(), SAMPLE, JOINS_AND_MOVES_INTO_THEMSELVES)?;
     Ok(())
 }
 
@@ -75,7 +75,7 @@ move-region r2 o0 => done
 
 #[test]
 fn joins_and_moves_outwards(rt: HostRuntime) -> Result<(), Fail> {
-    expect(&rt, rt.alloc(), SAMPLE, JOINS_AND_MOVES_OUTWARDS)?;
+    expect(rt.alloc(), SAMPLE, JOINS_AND_MOVES_OUTWARDS)?;
     Ok(())
 }
 
@@ -95,7 +95,7 @@ erase-block b1 => refused condition";
 
 #[test]
 fn hostile_edits(rt: HostRuntime) -> Result<(), Fail> {
-    expect(&rt, rt.alloc(), SAMPLE, HOSTILE_EDITS)?;
+    expect(rt.alloc(), SAMPLE, HOSTILE_EDITS)?;
     Ok(())
 }
 
@@ -122,6 +122,6 @@ move-region r3 o1 => done
 
 #[test]
 fn region_moves(rt: HostRuntime) -> Result<(), Fail> {
-    expect(&rt, rt.alloc(), "", REGION_MOVES)?;
+    expect(rt.alloc(), "", REGION_MOVES)?;
     Ok(())
 }

@@ -1,6 +1,6 @@
 //! Lists of operations and of blocks, edited step by step.
 
-use crate::expectations::expect;
+use ir_lab::expect;
 use std::test::Fail;
 
 const LIST_INSERTS: &str = "
@@ -24,7 +24,7 @@ op-before o2 o3 => done
 
 #[test]
 fn list_inserts(rt: HostRuntime) -> Result<(), Fail> {
-    expect(&rt, rt.alloc(), "", LIST_INSERTS)?;
+    expect(rt.alloc(), "", LIST_INSERTS)?;
     Ok(())
 }
 
@@ -48,7 +48,7 @@ unlink-op o2 => done
 
 #[test]
 fn list_unlinks(rt: HostRuntime) -> Result<(), Fail> {
-    expect(&rt, rt.alloc(), "", LIST_UNLINKS)?;
+    expect(rt.alloc(), "", LIST_UNLINKS)?;
     Ok(())
 }
 
@@ -81,7 +81,7 @@ block-before b1 b1 => refused condition";
 
 #[test]
 fn list_conditions(rt: HostRuntime) -> Result<(), Fail> {
-    expect(&rt, rt.alloc(), "", LIST_CONDITIONS)?;
+    expect(rt.alloc(), "", LIST_CONDITIONS)?;
     Ok(())
 }
 
@@ -169,7 +169,7 @@ append-blocks r1 r0 => done
 
 #[test]
 fn list_append(rt: HostRuntime) -> Result<(), Fail> {
-    expect(&rt, rt.alloc(), "", LIST_APPEND)?;
-    expect(&rt, rt.alloc(), "", LIST_APPEND_OF_BLOCKS)?;
+    expect(rt.alloc(), "", LIST_APPEND)?;
+    expect(rt.alloc(), "", LIST_APPEND_OF_BLOCKS)?;
     Ok(())
 }

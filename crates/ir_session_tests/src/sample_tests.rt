@@ -1,6 +1,6 @@
 //! A session with a bit of everything, on which most tables of edits are tried.
 
-use crate::expectations::expect;
+use ir_lab::expect;
 use std::test::Fail;
 
 /// Makes the session.
@@ -56,6 +56,6 @@ dump
 
 #[test]
 fn sample_as_shown(rt: HostRuntime) -> Result<(), Fail> {
-    expect(&rt, rt.alloc(), SAMPLE, SHOWN)?;
+    expect(rt.alloc(), SAMPLE, SHOWN)?;
     Ok(())
 }

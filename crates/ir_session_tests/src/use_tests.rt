@@ -1,7 +1,7 @@
 //! Edits of operands and successors, and those that let uses name another definition: the answer of each, and what it changes.
 
-use crate::expectations::expect;
 use crate::sample_tests::SAMPLE;
+use ir_lab::expect;
 use std::test::Fail;
 
 const OPERANDS: &str = "
@@ -27,7 +27,7 @@ replace-operand o2 2 v0 => done
 
 #[test]
 fn operands(rt: HostRuntime) -> Result<(), Fail> {
-    expect(&rt, rt.alloc(), SAMPLE, OPERANDS)?;
+    expect(rt.alloc(), SAMPLE, OPERANDS)?;
     Ok(())
 }
 
@@ -53,7 +53,7 @@ replace-successor o3 0 b0 => done
 
 #[test]
 fn successors(rt: HostRuntime) -> Result<(), Fail> {
-    expect(&rt, rt.alloc(), SAMPLE, SUCCESSORS)?;
+    expect(rt.alloc(), SAMPLE, SUCCESSORS)?;
     Ok(())
 }
 
@@ -75,7 +75,7 @@ replace-successor o6 0 b3 => done
 
 #[test]
 fn places_at_the_end(rt: HostRuntime) -> Result<(), Fail> {
-    expect(&rt, rt.alloc(), SAMPLE, PLACES_AT_THE_END)?;
+    expect(rt.alloc(), SAMPLE, PLACES_AT_THE_END)?;
     Ok(())
 }
 
@@ -100,7 +100,7 @@ replace-all-uses v2 v4 => done
 
 #[test]
 fn all_uses_of_a_value(rt: HostRuntime) -> Result<(), Fail> {
-    expect(&rt, rt.alloc(), SAMPLE, ALL_USES_OF_A_VALUE)?;
+    expect(rt.alloc(), SAMPLE, ALL_USES_OF_A_VALUE)?;
     Ok(())
 }
 
@@ -123,6 +123,6 @@ retarget-all b0 b1 => done
 
 #[test]
 fn all_uses_of_a_block(rt: HostRuntime) -> Result<(), Fail> {
-    expect(&rt, rt.alloc(), SAMPLE, ALL_USES_OF_A_BLOCK)?;
+    expect(rt.alloc(), SAMPLE, ALL_USES_OF_A_BLOCK)?;
     Ok(())
 }

@@ -2,8 +2,6 @@
 #![tactic(auto)]
 
 #[cfg(test)]
-mod expectations;
-#[cfg(test)]
 mod room_tests;
 #[cfg(test)]
 mod slot_tests;

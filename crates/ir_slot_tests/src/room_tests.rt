@@ -1,10 +1,8 @@
 //! Edits of a session in which no number and no slot is left. A condition that doesn't hold comes first, then counters, then slots.
 
-use crate::expectations::expect_within;
 use ir_base::Limits;
-use ir_lab::LabError;
+use ir_lab::{Unmet, expect_within};
 use std::alloc::Global;
-use std::process::Abort;
 use std::test::Fail;
 
 // A type, o0 with the result v0 and two regions, b0 with the argument v1, b1, and o1, which names v0, b0 and b1. Nothing is left of any limit but versions.
@@ -15,15 +13,15 @@ new-block - t0 => made b0
 new-block - - => made b1
 new-op 3 - v0 b0,b1 0 => made o1";
 
-// Asserts that a session in which all is spent does what the text says.
-fn expect_spent(rt: &impl Abort, alloc: Global, text: &str) -> Result<(), LabError> {
+// Expects that a session in which all is spent does what the text says.
+fn expect_spent(alloc: Global, text: &str) -> Result<(), Unmet> {
     let limits = Limits {
         values: 2,
         uses: 3,
         slots: 2,
         ..Limits::default()
     };
-    expect_within(rt, alloc, limits, SPENT, text)
+    expect_within(alloc, limits, SPENT, text)
 }
 
 const NO_ROOM: &str = "
@@ -31,7 +29,7 @@ room => values 0 uses 0 ops 0 blocks 0 regions 0";
 
 #[test]
 fn no_room(rt: HostRuntime) -> Result<(), Fail> {
-    expect_spent(&rt, rt.alloc(), NO_ROOM)?;
+    expect_spent(rt.alloc(), NO_ROOM)?;
     Ok(())
 }
 
@@ -48,7 +46,7 @@ insert-argument b1 0 t0 => refused counter";
 
 #[test]
 fn counters_of_values(rt: HostRuntime) -> Result<(), Fail> {
-    expect_spent(&rt, rt.alloc(), COUNTERS_OF_VALUES)?;
+    expect_spent(rt.alloc(), COUNTERS_OF_VALUES)?;
     Ok(())
 }
 
@@ -64,7 +62,7 @@ replace-successor o1 0 b1 => refused counter";
 
 #[test]
 fn counters_of_uses(rt: HostRuntime) -> Result<(), Fail> {
-    expect_spent(&rt, rt.alloc(), COUNTERS_OF_USES)?;
+    expect_spent(rt.alloc(), COUNTERS_OF_USES)?;
     Ok(())
 }
 
@@ -77,7 +75,7 @@ add-region o1 => refused slots";
 
 #[test]
 fn slots(rt: HostRuntime) -> Result<(), Fail> {
-    expect_spent(&rt, rt.alloc(), SLOTS)?;
+    expect_spent(rt.alloc(), SLOTS)?;
     Ok(())
 }
 
@@ -97,7 +95,7 @@ insert-argument b0 2 t0 => refused condition";
 
 #[test]
 fn conditions_of_values_and_slots(rt: HostRuntime) -> Result<(), Fail> {
-    expect_spent(&rt, rt.alloc(), CONDITIONS_OF_VALUES_AND_SLOTS)?;
+    expect_spent(rt.alloc(), CONDITIONS_OF_VALUES_AND_SLOTS)?;
     Ok(())
 }
 
@@ -113,7 +111,7 @@ replace-successor o1 2 b0 => refused condition";
 
 #[test]
 fn conditions_of_uses(rt: HostRuntime) -> Result<(), Fail> {
-    expect_spent(&rt, rt.alloc(), CONDITIONS_OF_USES)?;
+    expect_spent(rt.alloc(), CONDITIONS_OF_USES)?;
     Ok(())
 }
 
@@ -135,7 +133,7 @@ add-region o0 => made r2";
 
 #[test]
 fn edits_that_need_no_room(rt: HostRuntime) -> Result<(), Fail> {
-    expect_spent(&rt, rt.alloc(), EDITS_THAT_NEED_NO_ROOM)?;
+    expect_spent(rt.alloc(), EDITS_THAT_NEED_NO_ROOM)?;
     Ok(())
 }
 
@@ -161,9 +159,9 @@ fn one_limit_alone(rt: HostRuntime) -> Result<(), Fail> {
     let made = "new-op 0 t0 v0 - 1 => made o1";
     let counter = "new-op 0 t0 v0 - 1 => refused counter";
     let few = "new-op 0 t0 v0 - 1 => refused slots";
-    expect_within(&rt, rt.alloc(), limits, ONE_MORE, made)?;
-    expect_within(&rt, rt.alloc(), values, ONE_MORE, counter)?;
-    expect_within(&rt, rt.alloc(), uses, ONE_MORE, counter)?;
-    expect_within(&rt, rt.alloc(), slots, ONE_MORE, few)?;
+    expect_within(rt.alloc(), limits, ONE_MORE, made)?;
+    expect_within(rt.alloc(), values, ONE_MORE, counter)?;
+    expect_within(rt.alloc(), uses, ONE_MORE, counter)?;
+    expect_within(rt.alloc(), slots, ONE_MORE, few)?;
     Ok(())
 }

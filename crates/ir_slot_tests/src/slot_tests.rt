@@ -1,8 +1,7 @@
 //! Slots that are used again or spent, numbers that are spent, and what is left of what is gone.
 
-use crate::expectations::expect_within;
 use ir_base::Limits;
-use ir_lab::{Lab, LabError};
+use ir_lab::{Lab, LabError, expect_within};
 use std::process::Abort;
 use std::test::Fail;
 
@@ -28,12 +27,12 @@ fn spent_slots_and_values(rt: HostRuntime) -> Result<(), Fail> {
         last_version: 3,
         ..Limits::default()
     };
-    expect_within(&rt, rt.alloc(), slots, "", TWO_VERSIONS)?;
+    expect_within(rt.alloc(), slots, "", TWO_VERSIONS)?;
     let values = Limits {
         values: 2,
         ..Limits::default()
     };
-    expect_within(&rt, rt.alloc(), values, "", TWO_VALUES)?;
+    expect_within(rt.alloc(), values, "", TWO_VALUES)?;
     Ok(())
 }
 
@@ -48,7 +47,7 @@ fn no_slots(rt: HostRuntime) -> Result<(), Fail> {
         slots: 0,
         ..Limits::default()
     };
-    expect_within(&rt, rt.alloc(), limits, "", NO_SLOT)?;
+    expect_within(rt.alloc(), limits, "", NO_SLOT)?;
     Ok(())
 }
 
@@ -78,17 +77,17 @@ fn versions_of_one_slot(rt: HostRuntime) -> Result<(), Fail> {
         last_version: 1,
         ..Limits::default()
     };
-    expect_within(&rt, rt.alloc(), limits, "", ONE_VERSION)?;
+    expect_within(rt.alloc(), limits, "", ONE_VERSION)?;
     let four = Limits {
         last_version: 4,
         ..limits
     };
-    expect_within(&rt, rt.alloc(), four, "", TWO_VERSIONS)?;
+    expect_within(rt.alloc(), four, "", TWO_VERSIONS)?;
     let five = Limits {
         last_version: 5,
         ..limits
     };
-    expect_within(&rt, rt.alloc(), five, "", THREE_VERSIONS)?;
+    expect_within(rt.alloc(), five, "", THREE_VERSIONS)?;
     Ok(())
 }
 
@@ -112,7 +111,7 @@ fn room_for_operations(rt: HostRuntime) -> Result<(), Fail> {
         slots: 2,
         last_version: 3,
     };
-    expect_within(&rt, rt.alloc(), limits, "", ROOM)?;
+    expect_within(rt.alloc(), limits, "", ROOM)?;
     Ok(())
 }
 
@@ -181,7 +180,7 @@ fn no_values(rt: HostRuntime) -> Result<(), Fail> {
         values: 0,
         ..Limits::default()
     };
-    expect_within(&rt, rt.alloc(), limits, "", NO_VALUE)?;
+    expect_within(rt.alloc(), limits, "", NO_VALUE)?;
     Ok(())
 }
 
@@ -198,7 +197,7 @@ fn three_uses_of_two(rt: HostRuntime) -> Result<(), Fail> {
         slots: 1,
         ..Limits::default()
     };
-    expect_within(&rt, rt.alloc(), limits, "", TWO_USES)?;
+    expect_within(rt.alloc(), limits, "", TWO_USES)?;
     Ok(())
 }
 
@@ -219,7 +218,7 @@ fn uses_that_were_taken_out_stay_counted(rt: HostRuntime) -> Result<(), Fail> {
         uses: 3,
         ..Limits::default()
     };
-    expect_within(&rt, rt.alloc(), limits, "", THREE_USES)?;
+    expect_within(rt.alloc(), limits, "", THREE_USES)?;
     Ok(())
 }
 
@@ -234,7 +233,7 @@ fn too_few_slots_for_regions(rt: HostRuntime) -> Result<(), Fail> {
         slots: 1,
         ..Limits::default()
     };
-    expect_within(&rt, rt.alloc(), limits, "", TWO_REGIONS)?;
+    expect_within(rt.alloc(), limits, "", TWO_REGIONS)?;
     Ok(())
 }
 
@@ -261,7 +260,7 @@ push-operand o1 v2 => done";
 
 #[test]
 fn values_that_are_gone(rt: HostRuntime) -> Result<(), Fail> {
-    expect_within(&rt, rt.alloc(), Limits::default(), "", GONE_VALUES)?;
+    expect_within(rt.alloc(), Limits::default(), "", GONE_VALUES)?;
     Ok(())
 }
 
@@ -291,13 +290,7 @@ fn two_limits_show_the_same(rt: HostRuntime) -> Result<(), Fail> {
         last_version: 1,
         ..Limits::default()
     };
-    expect_within(&rt, rt.alloc(), limits, REPLACED, "place o3 => 4v1")?;
-    expect_within(
-        &rt,
-        rt.alloc(),
-        Limits::default(),
-        REPLACED,
-        "place o3 => 1v3",
-    )?;
+    expect_within(rt.alloc(), limits, REPLACED, "place o3 => 4v1")?;
+    expect_within(rt.alloc(), Limits::default(), REPLACED, "place o3 => 1v3")?;
     Ok(())
 }
