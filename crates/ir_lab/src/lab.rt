@@ -2,6 +2,7 @@
 
 use crate::answers::{answer_text, letter_of};
 use crate::dumps::dump;
+use crate::edit_words::grows;
 use crate::edits::{parse_edit, parse_edits};
 use crate::error::LabError;
 use crate::places::{
@@ -44,6 +45,31 @@ impl Lab {
         self.session.run(edits)
     }
 
+    /// Carries the edits out in one run, and answers the first. The tables are read afterwards, by `read`.
+    pub(crate) fn carry_out_first(&mut self, edits: Vec<Edit<Toy>>) -> Result<Answer, CoreError> {
+        let answers = self.carry_out(edits)?;
+        Ok(answers.first().copied().unwrap_or(Answer::Done))
+    }
+
+    /// Reads what was made since the tables were read.
+    pub(crate) fn read(&mut self) -> Result<(), AllocError> {
+        self.tables.read(&self.session)
+    }
+
+    /// The answer to the question of a line; none where it is none.
+    pub(crate) fn ask(&self, line: &str) -> Result<Option<String>, LabError> {
+        question(self.session.ctx(), &self.tables, line)
+    }
+
+    /// Whether the edit may be refused for want of memory once its run has begun: where it may grow, and doesn't leave all as it is.
+    pub(crate) fn may_want_memory(&self, edit: &Edit<Toy>) -> bool {
+        match edit {
+            Edit::ReplaceAllUses { old, new } | Edit::RetargetAll { old, new } => *old != *new,
+            Edit::MoveRegion { region, op } => self.parent_of_region(*region) != Some(*op),
+            _ => grows(edit),
+        }
+    }
+
     /// Carries the edits out in order, and answers each.
     ///
     /// # Errors
@@ -70,7 +96,7 @@ impl Lab {
     /// # Errors
     /// `Malformed` where the line is neither, and `OutOfMemory`.
     pub fn edit(&mut self, line: &str) -> Result<String, LabError> {
-        if let Some(answer) = question(self.session.ctx(), &self.tables, line)? {
+        if let Some(answer) = self.ask(line)? {
             return Ok(answer);
         }
         let edit = parse_edit(self.alloc(), line)?;

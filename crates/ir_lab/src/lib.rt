@@ -7,7 +7,7 @@
 //! - `EDIT => ANSWER`, an edit that is done, and what it must be answered: `done`, `made` and the name of what was made, as `made o3`, or `refused condition`, `refused memory`, `refused counter` or `refused slots`.
 //! - `QUESTION => ANSWER`, something that is asked of the session.
 //! - `dump`, below which all lines of the dump stand, each behind two spaces.
-//! - A line behind two spaces below an edit: one of the lines of the dump that the edit changes or adds. All of them stand there in order, or `nothing` alone. Below an accepted edit they may be left out, and then nothing is said of what it changes. A refused edit must change nothing. Before the first edit no such line may stand.
+//! - A line behind two spaces below an edit: one of the lines of the dump that the edit changes or adds. All of them stand there in order, or `nothing` alone. Below an accepted edit they may be left out, and then nothing is said of what it changes. A refused edit must change nothing; where memory is refused, neither the edit nor its run may have changed anything, and only an edit that may grow is answered so. Before the first edit no such line may stand.
 //! - An empty line, from which on the text goes on in a new session, which begins as the first one did.
 //!
 //! Names are those of the session's tables: `t0` is the first type, `o0` the first operation, and `b`, `r` and `v` are blocks, regions and values. `TYPES` and the like are names with single commas between them, or `-`. `AT` and `COUNT` are numbers. A `KEY` is the width of an integer type, or the name of a named one; a `KIND` is the number of a kind of operations; a `LABEL` is an identifier, or `-`. The edits, each named as `Edit` names it:
@@ -30,6 +30,7 @@
 
 mod answers;
 mod dumps;
+mod edit_words;
 mod edits;
 mod error;
 mod expectations;
@@ -42,8 +43,9 @@ mod tables;
 mod texts;
 mod uses;
 
+pub use edit_words::{EDIT_WORDS, GROWING};
 pub use error::LabError;
 pub use expectations::{Unmet, expect, expect_within};
 pub use lab::Lab;
 pub use places::Place;
-pub use texts::first_difference;
+pub use texts::{difference_after, first_difference};

@@ -1,12 +1,17 @@
 //! Texts that a session must follow.
 
+use crate::answers::{answer_text, letter_of};
+use crate::edit_words::word_of;
+use crate::edits::parse_edit;
 use crate::error::LabError;
 use crate::lab::Lab;
-use ir_base::Limits;
+use ir_base::{Answer, Limits, Refused};
+use ir_run::Edit;
+use ir_toy::Toy;
 use std::alloc::{AllocError, Global};
 
-// What an edit is answered that memory refuses.
-const OUT_OF_MEMORY: &str = "refused memory";
+// What is told of a line that has no form of a line.
+const NO_LINE: &str = "is no edit and no question";
 
 // Stands below an edit that changes nothing.
 const NOTHING: &str = "  nothing\n";
@@ -43,6 +48,36 @@ fn part_difference(
     let difference = follow_both(&mut lab, beginning, part);
     lab.finish();
     difference
+}
+
+/// The same, where the session carries the edits of the beginning out in one run, and each must be accepted.
+///
+/// # Errors
+/// `OutOfMemory`.
+pub fn difference_after(
+    alloc: Global,
+    limits: Limits,
+    beginning: &str,
+    text: &str,
+) -> Result<Option<String>, LabError> {
+    let Some(mut lab) = Lab::new(alloc, limits) else {
+        return Ok(Some(String::from_str(alloc, "no such limits")?));
+    };
+    let difference = follow_after(&mut lab, beginning, text);
+    lab.finish();
+    difference
+}
+
+// The same in this session.
+fn follow_after(lab: &mut Lab, beginning: &str, text: &str) -> Result<Option<String>, LabError> {
+    for answer in lab.run_text(beginning)?.iter() {
+        match answer {
+            Answer::Refused(Refused::Memory) => return Err(LabError::OutOfMemory),
+            Answer::Refused(_) => return lab.tell(beginning, "was refused"),
+            Answer::Made(_) | Answer::Done => {}
+        }
+    }
+    lab.follow(text)
 }
 
 // The same for two texts in one session.
@@ -123,16 +158,72 @@ impl Lab {
         wanted: &str,
         before: &str,
     ) -> Result<Option<String>, LabError> {
-        match self.edit(line) {
-            Ok(answer) if answer.as_str() == wanted => Ok(None),
-            Ok(answer) if answer.as_str() == OUT_OF_MEMORY => self.expect_unchanged(head, before),
-            Ok(answer) => self.tell(head, &answer),
-            Err(LabError::Malformed) => self.tell(head, "is no edit and no question"),
+        match self.ask(line) {
+            Ok(Some(answer)) if answer.as_str() == wanted => Ok(None),
+            Ok(Some(answer)) => self.tell(head, &answer),
+            Ok(None) => self.try_word(head, line, wanted, before),
+            Err(LabError::Malformed) => self.tell(head, NO_LINE),
             Err(error) => Err(error),
         }
     }
 
-    // An edit was refused for want of memory, which ends a text, and must have changed nothing.
+    // The same for an edit, which must be the one that its word says.
+    fn try_word(
+        &mut self,
+        head: &str,
+        line: &str,
+        wanted: &str,
+        before: &str,
+    ) -> Result<Option<String>, LabError> {
+        match parse_edit(self.alloc(), line) {
+            Ok(edit) if line.starts_with(word_of(&edit)) => {
+                self.try_alone(head, edit, wanted, before)
+            }
+            Ok(_) => self.tell(head, "is another edit"),
+            Err(LabError::Malformed) => self.tell(head, NO_LINE),
+            Err(error) => Err(error),
+        }
+    }
+
+    // The same for an edit as the only one of a run.
+    fn try_alone(
+        &mut self,
+        head: &str,
+        edit: Edit<Toy>,
+        wanted: &str,
+        before: &str,
+    ) -> Result<Option<String>, LabError> {
+        let letter = letter_of(&edit);
+        let may_want_memory = self.may_want_memory(&edit);
+        let mut edits = Vec::new(self.alloc());
+        edits.push(edit)?;
+        let answer = self.carry_out_first(edits);
+        self.read()?;
+        match answer {
+            Err(_) => self.expect_unchanged(head, before),
+            Ok(Answer::Refused(Refused::Memory)) if may_want_memory => {
+                self.expect_unchanged(head, before)
+            }
+            Ok(answer) => self.compare_answer(head, letter, answer, wanted),
+        }
+    }
+
+    // A difference at this line, if this isn't the answer that was wanted.
+    fn compare_answer(
+        &self,
+        head: &str,
+        letter: char,
+        answer: Answer,
+        wanted: &str,
+    ) -> Result<Option<String>, LabError> {
+        let text = answer_text(self.alloc(), letter, answer)?;
+        if text.as_str() == wanted {
+            return Ok(None);
+        }
+        self.tell(head, &text)
+    }
+
+    // An edit or its run was refused for want of memory, which ends a text, and must have changed nothing.
     fn expect_unchanged(&self, head: &str, before: &str) -> Result<Option<String>, LabError> {
         let after = self.dump()?;
         if after.as_str() == before {

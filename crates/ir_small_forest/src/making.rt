@@ -9,7 +9,7 @@ use ir_checked::{
     op_at_back, region, result,
 };
 use ir_core::AuxDataIndex;
-use ir_saved::{UniquedKey, save};
+use ir_saved::{Uniqued, UniquedKey, save};
 use ir_toy::{Toy, ToyInt, ToyOutlined, ToyText, ToyType};
 use ir_view::{OperationPtrMut, ValueEdits, ValueQueries};
 use std::alloc::Global;
@@ -54,6 +54,8 @@ pub struct Users {
 pub struct Beside {
     /// The key of a saved text.
     pub key: UniquedKey<String>,
+    /// The same text, under the same key.
+    pub uniqued: Uniqued<String>,
     /// The index of auxiliary data, to which the name `data` leads.
     pub aux: AuxDataIndex,
 }
@@ -209,9 +211,10 @@ fn add_attributes(
 fn add_beside(ctx: &mut Context<Toy>) -> Result<Beside, CheckedErr> {
     let alloc = ctx.alloc();
     let key = save(ctx, text(alloc, "saved")?)?;
+    let uniqued = Uniqued::new(ctx, text(alloc, "saved")?)?;
     let aux = ctx.insert_aux(text(alloc, "beside")?)?;
     ctx.set_aux_name(owned(alloc, "data")?, aux)?;
-    Ok(Beside { key, aux })
+    Ok(Beside { key, uniqued, aux })
 }
 
 // A new operation of the kind with one region.

@@ -1,0 +1,158 @@
+//! How the calls with a name are tried.
+
+use ir_base::CoreError;
+use ir_checked::{CheckedErr, Context};
+use ir_memory_calls::{
+    AttributeCall, CheckCall, DefinitionCall, ForestCall, IdCall, NameCall, NewCall, OperandCall,
+    StoreCall as StoringOnForest, SuccessorCall, TypeCall, UseCall, VerifyCall, dump_marked,
+};
+use ir_small_dialect::{LabErr, MarkedForest, Small, make_marked};
+use ir_small_forest::{Forest, dump, make_forest};
+use ir_store_calls::{
+    DictionaryCall, IdentifierCall, LegaliserCall, ListCall, NameCall as NameMaking, StoreCall,
+    StoringCall,
+};
+use ir_toy::Toy;
+use std::alloc::Global;
+use std::process::Abort;
+
+// Makes the call on the forest. Where it wants memory, nothing has changed.
+fn try_call<C: ForestCall>(
+    rt: &impl Abort,
+    ctx: &mut Context<Toy>,
+    forest: &Forest,
+    call: C,
+) -> Result<(), CheckedErr> {
+    let before = dump(ctx, forest)?;
+    let answer = call.make(ctx, forest);
+    if answer == Err(CheckedErr::Core(CoreError::OutOfMemory)) {
+        let after = dump(ctx, forest)?;
+        assert!(rt; before == after, "{call:?}");
+    }
+    assert!(rt; answer?, "{call:?}");
+    Ok(())
+}
+
+// Makes each call of the group that has this name, on a forest of its own. Whether there is one.
+fn try_group<C: ForestCall>(
+    rt: &impl Abort,
+    alloc: Global,
+    group: &[C],
+    name: &str,
+) -> Result<bool, CheckedErr> {
+    let mut tried = false;
+    for call in group {
+        if call.name() == name {
+            let mut ctx: Context<Toy> = Context::new(alloc);
+            let forest = make_forest(&mut ctx)?;
+            try_call(rt, &mut ctx, &forest, *call)?;
+            tried = true;
+        }
+    }
+    Ok(tried)
+}
+
+// Makes the calls with this name that edit or read a forest. Whether there is one.
+fn try_on_forest(rt: &impl Abort, alloc: Global, name: &str) -> Result<bool, CheckedErr> {
+    let mut tried = try_group(rt, alloc, &NewCall::ALL, name)?;
+    tried |= try_group(rt, alloc, &DefinitionCall::ALL, name)?;
+    tried |= try_group(rt, alloc, &OperandCall::ALL, name)?;
+    tried |= try_group(rt, alloc, &SuccessorCall::ALL, name)?;
+    tried |= try_group(rt, alloc, &UseCall::ALL, name)?;
+    tried |= try_group(rt, alloc, &NameCall::ALL, name)?;
+    Ok(tried)
+}
+
+// Makes the calls with this name that store something beside a forest or verify it. Whether there is one.
+fn try_beside_forest(rt: &impl Abort, alloc: Global, name: &str) -> Result<bool, CheckedErr> {
+    let mut tried = try_group(rt, alloc, &StoringOnForest::ALL, name)?;
+    tried |= try_group(rt, alloc, &AttributeCall::ALL, name)?;
+    tried |= try_group(rt, alloc, &IdCall::ALL, name)?;
+    tried |= try_group(rt, alloc, &VerifyCall::ALL, name)?;
+    tried |= try_group(rt, alloc, &CheckCall::ALL, name)?;
+    Ok(tried)
+}
+
+// The forest over the small dialect.
+fn marked(ctx: &mut Context<Small>) -> Result<MarkedForest, CheckedErr> {
+    match make_marked(ctx) {
+        Ok(forest) => Ok(forest),
+        Err(LabErr::OutOfMemory) => Err(CheckedErr::Core(CoreError::OutOfMemory)),
+        Err(LabErr::Core(error)) => Err(CheckedErr::Core(error)),
+        Err(LabErr::Refused | LabErr::NoRoot) => Err(CheckedErr::Condition),
+    }
+}
+
+// Makes the call on the forest over the small dialect. Where it wants memory, nothing has changed.
+fn try_type_call(
+    rt: &impl Abort,
+    ctx: &mut Context<Small>,
+    forest: &MarkedForest,
+    call: TypeCall,
+) -> Result<(), CheckedErr> {
+    let before = dump_marked(ctx, forest)?;
+    let answer = call.make(ctx, forest);
+    if answer == Err(CheckedErr::Core(CoreError::OutOfMemory)) {
+        let after = dump_marked(ctx, forest)?;
+        assert!(rt; before == after, "{call:?}");
+    }
+    assert!(rt; answer?, "{call:?}");
+    Ok(())
+}
+
+// Makes each call on types with this name, on a forest of its own. Whether there is one.
+fn try_on_types(rt: &impl Abort, alloc: Global, name: &str) -> Result<bool, CheckedErr> {
+    let mut tried = false;
+    for call in TypeCall::ALL.iter() {
+        if call.name() == name {
+            let mut ctx: Context<Small> = Context::new(alloc);
+            let forest = marked(&mut ctx)?;
+            try_type_call(rt, &mut ctx, &forest, *call)?;
+            tried = true;
+        }
+    }
+    Ok(tried)
+}
+
+// Makes each call of the group that has this name. Whether there is one.
+fn try_stores<C: StoreCall>(
+    rt: &impl Abort,
+    alloc: Global,
+    group: &[C],
+    name: &str,
+) -> Result<bool, CoreError> {
+    let mut tried = false;
+    for call in group {
+        if call.name() == name {
+            assert!(rt; call.make(alloc)?, "{call:?}");
+            tried = true;
+        }
+    }
+    Ok(tried)
+}
+
+// Makes the calls with this name that need no context. Whether there is one.
+fn try_without_context(rt: &impl Abort, alloc: Global, name: &str) -> Result<bool, CoreError> {
+    let mut tried = try_stores(rt, alloc, &IdentifierCall::ALL, name)?;
+    tried |= try_stores(rt, alloc, &NameMaking::ALL, name)?;
+    tried |= try_stores(rt, alloc, &LegaliserCall::ALL, name)?;
+    tried |= try_stores(rt, alloc, &DictionaryCall::ALL, name)?;
+    tried |= try_stores(rt, alloc, &StoringCall::ALL, name)?;
+    tried |= try_stores(rt, alloc, &ListCall::ALL, name)?;
+    Ok(tried)
+}
+
+/// Makes the calls with each of these names. A name without a call fails.
+///
+/// # Errors
+/// Where a request for memory was refused, whether a call's or one before.
+pub(crate) fn try_named(rt: &impl Abort, alloc: Global, names: &[&str]) -> Result<(), CheckedErr> {
+    for name in names {
+        let mut tried = try_on_forest(rt, alloc, name)?;
+        tried |= try_beside_forest(rt, alloc, name)?;
+        tried |= try_on_types(rt, alloc, name)?;
+        tried |= try_without_context(rt, alloc, name)?;
+        assert!(rt; tried, "no call is named {name}");
+    }
+    Ok(())
+}
