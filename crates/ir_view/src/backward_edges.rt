@@ -72,11 +72,18 @@ fn any_stands_in<D: Dialects>(ctx: &Context<D>, uses: &[KeptUse], block: ArenaIn
     uses.iter().any(|used| stands_in(ctx, used.user(), block))
 }
 
+// Whether the user of a use stands in a block.
+fn is_user_linked<D: Dialects>(ctx: &Context<D>, used: &KeptUse) -> bool
+    ensures { IsTrue result ↔ IsLinked (forest_of ctx.now) (an_op used.now.user) }
+{
+    is_linked(ctx, used.user())
+}
+
 // Whether each of the users of these uses stands in a block.
 fn all_linked<D: Dialects>(ctx: &Context<D>, uses: &[KeptUse]) -> bool
     ensures { IsTrue result ↔ All (λ u. IsLinked (forest_of ctx.now) (an_op u.user)) uses.now }
 {
-    uses.iter().all(|used| is_linked(ctx, used.user()))
+    uses.iter().all(|used| is_user_linked(ctx, used))
 }
 
 // The block that a linked operation stands in.

@@ -6,10 +6,14 @@ use Rattle.ir_view.proofs.Items.{zip-next, zip-second}
 use Rattle.ir_view.proofs.Stands.{stands-live}
 use Rattle.ir_view.proofs.backward_edges.blocks_of_users.Goals as goal
 
+pub linked_block-requires : goal.linked_block-requires
+linked_block-requires g c =
+    rw (c.user.ensures, c.used-item.is) (c.requires c.loop-used.used-index c.used-item.result c.loop-used-test.true)
+
 pub loop-used-preserved : goal.loop-used-preserved
 loop-used-preserved g c =
     zip-next (λ u p. In u.user (ops_of (forest_of c.args.ctx.now) p.index)) c.args.uses.now c.loop-used.blocks.items c.push.new.self.items c.loop-used.used-index _ c.linked_block.result
-    c.loop-used.invariant c.loop-used-test.true c.in_ok-push.ensures.items c.linked_block.ensures.found
+    c.loop-used.invariant c.loop-used-test.true c.in_ok-push.ensures.items (rw (c.user.ensures, c.used-item.is) at c.linked_block.ensures.found)
 
 pub returns-clause-live : goal.returns-clause-live
 returns-clause-live g c =
