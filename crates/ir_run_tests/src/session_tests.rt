@@ -1,48 +1,23 @@
 //! Sessions under small limits, and what their tables give.
 
-ghost use Rattle.std.specs.Prelude.{◌<◌, ◌≤◌};
-
-use ir_base::{Answer, CoreError, Dialects, Limits, Refused};
-use ir_run::{Edit, Session, choices_unseen};
-use ir_toy::{Toy, ToyType};
-use std::alloc::{AllocError, Global};
+use ir_base::{Answer, Limits, Refused};
+use ir_lab::{Lab, LabError, expect_within};
+use ir_run::choices_unseen;
+use ir_toy::Toy;
+use std::alloc::Global;
 use std::process::Abort;
 use std::test::Fail;
 
-// An operation of kind 4 with so many results of the first type, uses of the first value, and regions.
-fn new_op(
-    alloc: Global,
-    results: usize,
-    uses: usize,
-    regions: usize,
-) -> Result<Edit<Toy>, AllocError> {
-    let types = vec![in alloc; 0; results]?;
-    let operands = vec![in alloc; 0; uses]?;
-    let successors = Vec::new(alloc);
-    Ok(Edit::NewOp {
-        kind: 4,
-        types,
-        operands,
-        successors,
-        regions,
-    })
-}
-
-// The answers to a type, an operation with one result, and an operation with so many uses of it and regions. Want of memory ends the test.
-fn answers(
-    alloc: Global,
-    session: &mut Session<Toy>,
-    uses: usize,
-    regions: usize,
-) -> Result<Vec<Answer>, CoreError> {
-    let edits = vec![in alloc;
-        Edit::NewType(ToyType::Int { width: 32 }),
-        new_op(alloc, 1, 0, 0)?,
-        new_op(alloc, 0, uses, regions)?,
-    ]?;
-    let answers = session.run(edits)?;
+// The answers to the edits of a text, done by one run in a new session with these limits. Want of memory ends the test.
+fn answers(alloc: Global, limits: Limits, text: &str) -> Result<Vec<Answer>, LabError> {
+    let Some(mut lab) = Lab::new(alloc, limits) else {
+        return Err(LabError::Malformed);
+    };
+    let outcome = lab.run_text(text);
+    lab.finish();
+    let answers = outcome?;
     if answers.contains(&Answer::Refused(Refused::Memory)) {
-        return Err(CoreError::OutOfMemory);
+        return Err(LabError::OutOfMemory);
     }
     Ok(answers)
 }
@@ -52,18 +27,31 @@ fn expect(
     rt: &impl Abort,
     alloc: Global,
     limits: Limits,
+    text: &str,
     wanted: [Answer; 3],
-    uses: usize,
-    regions: usize,
-) -> Result<(), CoreError>
-    requires slots { limits.slots < 4294967295 }
-    requires versions { 1 ≤ limits.last_version }
-{
-    let mut session: Session<Toy> = Session::new(alloc, limits);
-    let answers = answers(alloc, &mut session, uses, regions)?;
+) -> Result<(), LabError> {
+    let answers = answers(alloc, limits, text)?;
     assert_eq!(rt; answers.as_slice(), wanted.as_slice());
     Ok(())
 }
+
+// A type, an operation with one result, and one with three uses of it.
+const THREE_USES: &str = "
+new-type 32
+new-op 4 t0 - - 0
+new-op 4 - v0,v0,v0 - 0";
+
+// The same with two uses.
+const TWO_USES: &str = "
+new-type 32
+new-op 4 t0 - - 0
+new-op 4 - v0,v0 - 0";
+
+// The same with one use.
+const ONE_USE: &str = "
+new-type 32
+new-op 4 t0 - - 0
+new-op 4 - v0 - 0";
 
 #[test]
 fn refused_counters(rt: HostRuntime) -> Result<(), Fail> {
@@ -74,17 +62,35 @@ fn refused_counters(rt: HostRuntime) -> Result<(), Fail> {
         ..Limits::default()
     };
     let wanted = [Answer::Made(0), counter, condition];
-    expect(&rt, rt.alloc(), limits, wanted, 1, 0)?;
+    expect(&rt, rt.alloc(), limits, ONE_USE, wanted)?;
     let limits = Limits {
         uses: 2,
         ..Limits::default()
     };
     let wanted = [Answer::Made(0), Answer::Made(0), counter];
-    expect(&rt, rt.alloc(), limits, wanted, 3, 0)?;
+    expect(&rt, rt.alloc(), limits, THREE_USES, wanted)?;
     let wanted = [Answer::Made(0), Answer::Made(0), Answer::Made(1)];
-    expect(&rt, rt.alloc(), limits, wanted, 2, 0)?;
+    expect(&rt, rt.alloc(), limits, TWO_USES, wanted)?;
     Ok(())
 }
+
+// The last operation has one use and three regions.
+const THREE_REGIONS: &str = "
+new-type 32
+new-op 4 t0 - - 0
+new-op 4 - v0 - 3";
+
+// The same with two regions.
+const TWO_REGIONS: &str = "
+new-type 32
+new-op 4 t0 - - 0
+new-op 4 - v0 - 2";
+
+// A type, an operation with one result, and one with nothing.
+const TWO_OPERATIONS: &str = "
+new-type 32
+new-op 4 t0 - - 0
+new-op 4 - - - 0";
 
 #[test]
 fn refused_slots(rt: HostRuntime) -> Result<(), Fail> {
@@ -94,41 +100,49 @@ fn refused_slots(rt: HostRuntime) -> Result<(), Fail> {
         ..Limits::default()
     };
     let wanted = [Answer::Made(0), Answer::Made(0), slots];
-    expect(&rt, rt.alloc(), limits, wanted, 1, 3)?;
-    let wanted = [Answer::Made(0), Answer::Made(0), Answer::Made(1)];
-    expect(&rt, rt.alloc(), limits, wanted, 1, 2)?;
+    expect(&rt, rt.alloc(), limits, THREE_REGIONS, wanted)?;
+    let made = [Answer::Made(0), Answer::Made(0), Answer::Made(1)];
+    expect(&rt, rt.alloc(), limits, TWO_REGIONS, made)?;
     let limits = Limits {
         slots: 1,
         ..Limits::default()
     };
-    let wanted = [Answer::Made(0), Answer::Made(0), slots];
-    expect(&rt, rt.alloc(), limits, wanted, 0, 0)?;
+    expect(&rt, rt.alloc(), limits, TWO_OPERATIONS, wanted)?;
     Ok(())
 }
+
+// The last operation has two uses and a region.
+const USES_AND_REGION: &str = "
+new-type 32
+new-op 4 t0 - - 0
+new-op 4 - v0,v0 - 1";
 
 // Refuses a `run` that answers want of memory although it is there.
 #[test]
 fn run_always_memory(rt: HostRuntime) -> Result<(), Fail> {
     let wanted = [Answer::Made(0), Answer::Made(0), Answer::Made(1)];
-    expect(&rt, rt.alloc(), Limits::default(), wanted, 2, 1)?;
+    let limits = Limits::default();
+    expect(&rt, rt.alloc(), limits, USES_AND_REGION, wanted)?;
     Ok(())
 }
 
-// What the tables give after a type and two operations, of which the first has a result and the second two regions.
-fn tell_tables<D: Dialects>(rt: &impl Abort, session: &Session<D>) {
-    assert!(rt; session.ty(0).is_some() && session.ty(1).is_none());
-    assert!(rt; session.op(1).is_some() && session.op(2).is_none());
-    assert!(rt; session.value(0).is_some() && session.value(1).is_none());
-    assert!(rt; session.region(1).is_some() && session.region(2).is_none());
-    assert!(rt; !session.ctx().is_ir_empty());
-}
+// The tables have a type, two operations, of which the first has a result and the second two regions, and nothing else.
+const TABLES: &str = "
+new-type 32 => made t0
+new-op 4 t0 - - 0 => made o0
+new-op 4 - v0 - 2 => made o1
+dump
+  t0: i32
+  o0: 4 results v0
+  o1: 4 operands v0 regions r0 r1
+  r0: in o1
+  r1: in o1
+  v0: type t0 of o0.0 used by o1.0
+is-empty => no";
 
 #[test]
 fn tables(rt: HostRuntime) -> Result<(), Fail> {
-    let mut session: Session<Toy> = Session::new(rt.alloc(), Limits::default());
-    let answers = answers(rt.alloc(), &mut session, 1, 2)?;
-    assert_eq!(rt; answers.len(), 3);
-    tell_tables(&rt, &session);
+    expect_within(rt.alloc(), Limits::default(), "", TABLES)?;
     Ok(())
 }
 
