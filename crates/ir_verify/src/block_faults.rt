@@ -102,7 +102,7 @@ fn is_named_aside<D: Dialects>(block: Ptr<BasicBlock<D>>, ctx: &Context<D>) -> b
     ctx.uses_are_exact();
     let uses = block_uses(ctx.records(), BlockIndex { index: block.index });
     for index in uses.as_slice() {
-        if is_aside(Ptr::from_index(index.user), block, ctx) {
+        if is_aside(Ptr::from_index(index.user()), block, ctx) {
             return true;
         }
     }

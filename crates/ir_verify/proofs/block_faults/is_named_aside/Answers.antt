@@ -20,10 +20,10 @@ is_aside-requires-clause-names g c =
     let b = c.args.block.index in
     let kept = c.as_slice-index-items.result.now in
     let i = c.loop-index.index-index in
-    let u : UseIndex = get_or kept i (record { user = record { slot = 0; version = 0 }; number = 0 }) in
+    let u : UseIndex = get_or kept i c.index-item.result in
     let are : AreUses f (the_block b) (map use_of kept) = rw (c.as_slice-index-items.ensures, c.block_uses-uses.ensures, c.records.ensures) (c.uses_are_exact.ensures.blocks b c.requires) in
-    let named = kept-named f b kept are u (slice_get-in kept i u (slice_get-get_or kept i (record { user = record { slot = 0; version = 0 }; number = 0 }) c.loop-index-test.true)) in
-    rw c.from_index.ensures named
+    let named = kept-named f b kept are u (slice_get-in kept i u (slice_get-get_or kept i c.index-item.result c.loop-index-test.true)) in
+    rw (c.from_index.ensures ∙ c.user.ensures ∙ ap (λ (w : UseIndex). w.user) c.index-item.is) named
 
 pub is_aside-requires-clause-live : goal.is_aside-requires-clause-live
 is_aside-requires-clause-live g c =
@@ -32,10 +32,10 @@ is_aside-requires-clause-live g c =
     let b = c.args.block.index in
     let kept = c.as_slice-index-items.result.now in
     let i = c.loop-index.index-index in
-    let u : UseIndex = get_or kept i (record { user = record { slot = 0; version = 0 }; number = 0 }) in
+    let u : UseIndex = get_or kept i c.index-item.result in
     let are : AreUses f (the_block b) (map use_of kept) = rw (c.as_slice-index-items.ensures, c.block_uses-uses.ensures, c.records.ensures) (c.uses_are_exact.ensures.blocks b c.requires) in
-    let named = kept-named f b kept are u (slice_get-in kept i u (slice_get-get_or kept i (record { user = record { slot = 0; version = 0 }; number = 0 }) c.loop-index-test.true)) in
-    rw c.from_index.ensures (namer-live B f (length (types_of c.args.ctx.now)) c.is_well_formed.ensures (types_of c.args.ctx.now) b u.user named)
+    let named = kept-named f b kept are u (slice_get-in kept i u (slice_get-get_or kept i c.index-item.result c.loop-index-test.true)) in
+    rw (c.from_index.ensures ∙ c.user.ensures ∙ ap (λ (w : UseIndex). w.user) c.index-item.is) (namer-live B f (length (types_of c.args.ctx.now)) c.is_well_formed.ensures (types_of c.args.ctx.now) b u.user named)
 
 pub returns-then-is_aside : goal.returns-then-is_aside
 returns-then-is_aside g c =
@@ -43,10 +43,10 @@ returns-then-is_aside g c =
     let b = c.args.block.index in
     let kept = c.as_slice-index-items.result.now in
     let i = c.loop-index.index-index in
-    let u : UseIndex = get_or kept i (record { user = record { slot = 0; version = 0 }; number = 0 }) in
+    let u : UseIndex = get_or kept i c.index-item.result in
     let are : AreUses f (the_block b) (map use_of kept) = rw (c.as_slice-index-items.ensures, c.block_uses-uses.ensures, c.records.ensures) (c.uses_are_exact.ensures.blocks b c.requires) in
-    let named = kept-named f b kept are u (slice_get-in kept i u (slice_get-get_or kept i (record { user = record { slot = 0; version = 0 }; number = 0 }) c.loop-index-test.true)) in
-    (λ e. (c.from_index.result.index, rw c.from_index.ensures named, c.is_aside.ensures.0 c.if-is_aside.true), λ h. refl)
+    let named = kept-named f b kept are u (slice_get-in kept i u (slice_get-get_or kept i c.index-item.result c.loop-index-test.true)) in
+    (λ e. (c.from_index.result.index, rw (c.from_index.ensures ∙ c.user.ensures ∙ ap (λ (w : UseIndex). w.user) c.index-item.is) named, c.is_aside.ensures.0 c.if-is_aside.true), λ h. refl)
 
 pub loop-index-preserved : goal.loop-index-preserved
 loop-index-preserved g c =
@@ -56,9 +56,9 @@ loop-index-preserved g c =
     let b = c.args.block.index in
     let kept = c.as_slice-index-items.result.now in
     let i = c.loop-index.index-index in
-    let u : UseIndex = get_or kept i (record { user = record { slot = 0; version = 0 }; number = 0 }) in
-    before-more (λ x. IsAside B f s x.user b → ⊥) kept i u c.loop-index.invariant (slice_get-get_or kept i (record { user = record { slot = 0; version = 0 }; number = 0 }) c.loop-index-test.true)
-    (λ k. absurd (false≢true (sym c.if-is_aside.false ∙ c.is_aside.ensures.1 (subst (λ o. IsAside B f s o b) (sym c.from_index.ensures) k))))
+    let u : UseIndex = get_or kept i c.index-item.result in
+    before-more (λ x. IsAside B f s x.user b → ⊥) kept i u c.loop-index.invariant (slice_get-get_or kept i c.index-item.result c.loop-index-test.true)
+    (λ k. absurd (false≢true (sym c.if-is_aside.false ∙ c.is_aside.ensures.1 (subst (λ o. IsAside B f s o b) (sym (c.from_index.ensures ∙ c.user.ensures ∙ ap (λ (w : UseIndex). w.user) c.index-item.is)) k))))
 
 pub returns : goal.returns
 returns g c =
