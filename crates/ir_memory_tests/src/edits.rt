@@ -1,6 +1,6 @@
 //! The session on which each edit is tried, and each edit with its answer and what it changes.
 
-/// The edits that make the session. Each value and each block that is used is used twice, and each operation has two of its parts, so that a third one asks for memory.
+/// The edits that make the session. Each value and each block that is used is used twice, and an operation has two of its parts or none, so that one more asks for memory; of new types one of the first few does.
 ///
 /// It shows:
 ///
@@ -49,7 +49,15 @@ op-back o6 b1";
 /// The edits.
 pub(crate) const EDITS: [&str; 43] = [
     "new-type 64 => made t1
-  t1: i64",
+  t1: i64
+new-type 65 => made t2
+  t2: i65
+new-type 66 => made t3
+  t3: i66
+new-type 67 => made t4
+  t4: i67
+new-type 68 => made t5
+  t5: i68",
     "new-type list => made t1
   t1: list",
     "new-op 4 t0,t0,t0 v2,v2,v2 b1 2 => made o8
@@ -66,9 +74,9 @@ pub(crate) const EDITS: [&str; 43] = [
   v5: type t0 of b4.0
   v6: type t0 of b4.1
   v7: type t0 of b4.2",
-    "add-region o0 => made r2
-  o0: 5 regions r0 r2
-  r2: in o0",
+    "add-region o2 => made r2
+  o2: 4 operands v2 v2 regions r2 in b0
+  r2: in o2",
     "push-result o1 t0 => made v5
   o1: 0 results v2 v3 v5 in b0
   v5: type t0 of o1.2",
@@ -119,10 +127,10 @@ pub(crate) const EDITS: [&str; 43] = [
   b2: named by o4.0 o4.1 o6.0 o6.1",
     "retarget-all b1 b1 => done
   nothing",
-    "move-region r1 o0 => done
-  o0: 5 regions r0 r1
+    "move-region r1 o2 => done
+  o2: 4 operands v2 v2 regions r1 in b0
   o5: 5
-  r1: in o0",
+  r1: in o2",
     "move-region r1 o5 => done
   nothing",
     "remove-result o7 0 => done
