@@ -6,7 +6,7 @@ use crate::forest_call::ForestCall;
 use ir_base::attribute::{Attribute, AttributeDict};
 use ir_base::{AttrId, Identifier, OpId, Ptr};
 use ir_checked::{BasicBlock, BlockPtr, CheckedErr, Context, Operation, OperationPtr};
-use ir_small_forest::{Constant, Forest, owned, text};
+use ir_small_forest::{Constant, Forest};
 use ir_toy::{Toy, ToyInt, ToyText};
 use ir_view::{BlockPtrMut, Op, OperationKind, OperationPtrMut};
 use std::convert::AsStr;
@@ -158,29 +158,23 @@ impl ForestCall for IdCall {
 }
 
 // Puts a text at `more`.
-fn put(
-    attributes: &mut AttributeDict<Toy>,
-    key: Identifier,
-    value: String,
-) -> Result<(), CheckedErr> {
-    attributes.set(key, ToyText(value))?;
+fn put(attributes: &mut AttributeDict<Toy>, value: String) -> Result<(), CheckedErr> {
+    attributes.set(Identifier::new("more"), ToyText(value))?;
     Ok(())
 }
 
 fn set_on_op(ctx: &mut Context<Toy>, op: Ptr<Operation<Toy>>) -> Result<(), CheckedErr> {
-    let key = owned(ctx.alloc(), "more")?;
-    let value = text(ctx.alloc(), "new")?;
+    let value = String::new(ctx.alloc());
     match OperationPtrMut::try_deref_mut(ctx, op) {
-        Ok(written) => put(&mut written.attributes, key, value),
+        Ok(written) => put(&mut written.attributes, value),
         Err(_) => Err(CheckedErr::Condition),
     }
 }
 
 fn set_on_block(ctx: &mut Context<Toy>, block: Ptr<BasicBlock<Toy>>) -> Result<(), CheckedErr> {
-    let key = owned(ctx.alloc(), "more")?;
-    let value = text(ctx.alloc(), "new")?;
+    let value = String::new(ctx.alloc());
     match BlockPtrMut::try_deref_mut(ctx, block) {
-        Ok(written) => put(&mut written.attributes, key, value),
+        Ok(written) => put(&mut written.attributes, value),
         Err(_) => Err(CheckedErr::Condition),
     }
 }
@@ -188,7 +182,7 @@ fn set_on_block(ctx: &mut Context<Toy>, block: Ptr<BasicBlock<Toy>>) -> Result<(
 // Whether the text stands at `more`.
 fn has_more(attributes: &AttributeDict<Toy>) -> bool {
     match attributes.get::<ToyText>(&Identifier::new("more")) {
-        Some(text) => text.0.as_str() == "new",
+        Some(text) => text.0.is_empty(),
         None => false,
     }
 }

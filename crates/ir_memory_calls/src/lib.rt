@@ -27,6 +27,6 @@ pub use new_calls::NewCall;
 pub use operand_calls::OperandCall;
 pub use store_calls::StoreCall;
 pub use successor_calls::SuccessorCall;
-pub use type_calls::{TypeCall, dump_marked};
+pub use type_calls::{TypeCall, dump_marked, make_types};
 pub use use_calls::UseCall;
 pub use verify_calls::{CheckCall, VerifyCall};

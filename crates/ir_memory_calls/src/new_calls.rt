@@ -3,12 +3,12 @@
 ghost use Rattle.std.specs.Prelude.{◌≡◌};
 
 use crate::forest_call::ForestCall;
-use ir_base::Ptr;
+use ir_base::{Identifier, Ptr};
 use ir_checked::{
     BasicBlock, BlockPtr, CheckedErr, Context, Operation, OperationPtr, add_region, move_region,
     new_block, new_op, region,
 };
-use ir_small_forest::{Forest, owned};
+use ir_small_forest::Forest;
 use ir_toy::Toy;
 
 /// A call that makes or moves an entity.
@@ -61,12 +61,12 @@ impl ForestCall for NewCall {
             NewCall::Operation => operation(ctx, forest),
             NewCall::Block => block(ctx, forest),
             NewCall::Region => {
-                let made = add_region(ctx, forest.module)?;
-                Ok(region(ctx, forest.module, 1)? == made)
+                let made = add_region(ctx, forest.spare)?;
+                Ok(region(ctx, forest.spare, 0)? == made)
             }
             NewCall::MoveRegion => {
-                move_region(ctx, forest.inner, forest.module)?;
-                Ok(region(ctx, forest.module, 1)? == forest.inner)
+                move_region(ctx, forest.inner, forest.spare)?;
+                Ok(region(ctx, forest.spare, 0)? == forest.inner)
             }
         }
     }
@@ -101,7 +101,7 @@ fn has_arguments(ctx: &Context<Toy>, block: Ptr<BasicBlock<Toy>>, count: usize) 
 }
 
 fn block(ctx: &mut Context<Toy>, forest: &Forest) -> Result<bool, CheckedErr> {
-    let label = owned(ctx.alloc(), "label")?;
+    let label = Identifier::new("label");
     let made = new_block(ctx, Some(label), &[forest.ty, forest.ty])?;
     Ok(has_arguments(ctx, made, 2))
 }

@@ -6,7 +6,7 @@ use crate::forest_call::ForestCall;
 use ir_base::Identifier;
 use ir_checked::{CheckedErr, Context, TypeQueries};
 use ir_saved::{Uniqued, save};
-use ir_small_forest::{Forest, owned, text};
+use ir_small_forest::Forest;
 use ir_toy::{Toy, ToySaved, ToyType};
 
 /// A call that stores something beside the forest.
@@ -66,39 +66,29 @@ impl ForestCall for StoreCall {
 
     fn make(self, ctx: &mut Context<Toy>, forest: &Forest) -> Result<bool, CheckedErr> {
         match self {
-            StoreCall::InstantiateKey => instantiate_key(ctx, forest),
-            StoreCall::Save => {
-                let key = save(ctx, text(ctx.alloc(), "new")?)?;
-                Ok(key.index() == 1)
-            }
-            StoreCall::SaveValue => Ok(ctx.save_value(ToySaved::U64(9))? == 1),
-            StoreCall::Uniqued => {
-                let uniqued = Uniqued::new(ctx, text(ctx.alloc(), "new")?)?;
-                Ok(uniqued.key().index() == 1)
-            }
+            StoreCall::InstantiateKey => instantiate_key(ctx),
+            StoreCall::Save => Ok(save(ctx, 9u64)?.index() == 4),
+            StoreCall::SaveValue => Ok(ctx.save_value(ToySaved::U64(9))? == 4),
+            StoreCall::Uniqued => Ok(Uniqued::new(ctx, 9u64)?.key().index() == 4),
             StoreCall::InsertAux => insert_aux(ctx, forest),
             StoreCall::SetAuxName => set_aux_name(ctx, forest),
         }
     }
 }
 
-fn instantiate_key(ctx: &mut Context<Toy>, forest: &Forest) -> Result<bool, CheckedErr> {
-    let name = owned(ctx.alloc(), "named")?;
-    let ty = ctx.instantiate_key(ToyType::Named(name))?;
-    Ok(ty != forest.ty && ty.index() == 1 && ty.is_known(ctx))
+fn instantiate_key(ctx: &mut Context<Toy>) -> Result<bool, CheckedErr> {
+    let ty = ctx.instantiate_key(ToyType::Named(Identifier::new("named")))?;
+    Ok(ty.index() == 4 && ty.is_known(ctx))
 }
 
 fn insert_aux(ctx: &mut Context<Toy>, forest: &Forest) -> Result<bool, CheckedErr> {
-    let data = text(ctx.alloc(), "new")?;
+    let data = String::new(ctx.alloc());
     let index = ctx.insert_aux(data)?;
-    let found = ctx
-        .get_aux(index)
-        .is_some_and(|data| data.as_str() == "new");
+    let found = ctx.get_aux(index).is_some_and(|data| data.is_empty());
     Ok(found && index != forest.beside.aux)
 }
 
 fn set_aux_name(ctx: &mut Context<Toy>, forest: &Forest) -> Result<bool, CheckedErr> {
-    let name = owned(ctx.alloc(), "more")?;
-    ctx.set_aux_name(name, forest.beside.aux)?;
+    ctx.set_aux_name(Identifier::new("more"), forest.beside.aux)?;
     Ok(ctx.aux_by_name(&Identifier::new("more")) == Some(forest.beside.aux))
 }

@@ -6,7 +6,9 @@ use crate::asking::Asking;
 use crate::verify_calls::is_fine;
 use ir_base::CoreError;
 use ir_checked::{CheckedErr, Context};
-use ir_small_dialect::{ListedType, MarkedForest, SizedInterface, Small};
+use ir_small_dialect::{
+    LabErr, ListedType, MarkedForest, SizedInterface, Small, SmallType, make_marked,
+};
 use ir_small_forest::{write_block, write_counts, write_op, write_region, write_type};
 use ir_small_verifiers::{interface_found, typed_found};
 use ir_types::{IrType, TypeSig};
@@ -100,13 +102,29 @@ impl TypeCall {
     }
 }
 
-// Whether a new type gets the place behind the three that are stored, and is found there.
+/// Makes the forest, and a fourth type beside it, so that another one asks for memory.
+///
+/// # Errors
+/// Where a request for memory was refused.
+pub fn make_types(ctx: &mut Context<Small>) -> Result<MarkedForest, CheckedErr> {
+    match make_marked(ctx) {
+        Ok(forest) => {
+            ctx.instantiate_key(SmallType::Bare(4))?;
+            Ok(forest)
+        }
+        Err(LabErr::OutOfMemory) => Err(CheckedErr::Core(CoreError::OutOfMemory)),
+        Err(LabErr::Core(error)) => Err(CheckedErr::Core(error)),
+        Err(LabErr::Refused | LabErr::NoRoot) => Err(CheckedErr::Condition),
+    }
+}
+
+// Whether a new type gets the place behind the four that are stored, and is found there.
 fn instantiate(ctx: &mut Context<Small>) -> Result<bool, CheckedErr> {
     let made = ListedType { number: 9 }.instantiate(ctx)?;
     if !made.is_known(ctx) {
         return Ok(false);
     }
-    Ok(made.to_handle().index() == 3 && made.deref(ctx).number == 9)
+    Ok(made.to_handle().index() == 4 && made.deref(ctx).number == 9)
 }
 
 fn clone_signature(alloc: Global, forest: &MarkedForest) -> Result<bool, CheckedErr> {
@@ -141,7 +159,7 @@ pub fn dump_marked(ctx: &Context<Small>, forest: &MarkedForest) -> Result<String
         ctx.records().blocks.get(forest.block),
     )?;
     write_region(&mut out, ctx.records().regions.get(forest.region))?;
-    for place in 0..5 {
+    for place in 0..8 {
         write_type(ctx, &mut out, place)?;
     }
     Ok(out)

@@ -76,7 +76,13 @@ new-type 68 => made t5
   v7: type t0 of b4.2",
     "add-region o2 => made r2
   o2: 4 operands v2 v2 regions r2 in b0
-  r2: in o2",
+  r2: in o2
+add-region o2 => made r3
+  o2: 4 operands v2 v2 regions r2 r3 in b0
+  r3: in o2
+add-region o3 => made r4
+  o3: 4 operands v3 v3 regions r4 in b0
+  r4: in o3",
     "push-result o1 t0 => made v5
   o1: 0 results v2 v3 v5 in b0
   v5: type t0 of o1.2",

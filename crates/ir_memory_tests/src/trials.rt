@@ -5,8 +5,9 @@ use ir_checked::{CheckedErr, Context};
 use ir_memory_calls::{
     AttributeCall, CheckCall, DefinitionCall, ForestCall, IdCall, NameCall, NewCall, OperandCall,
     StoreCall as StoringOnForest, SuccessorCall, TypeCall, UseCall, VerifyCall, dump_marked,
+    make_types,
 };
-use ir_small_dialect::{LabErr, MarkedForest, Small, make_marked};
+use ir_small_dialect::{MarkedForest, Small};
 use ir_small_forest::{Forest, dump, make_forest};
 use ir_store_calls::{
     DictionaryCall, IdentifierCall, LegaliserCall, ListCall, NameCall as NameMaking, StoreCall,
@@ -73,16 +74,6 @@ fn try_beside_forest(rt: &impl Abort, alloc: Global, name: &str) -> Result<bool,
     Ok(tried)
 }
 
-// The forest over the small dialect.
-fn marked(ctx: &mut Context<Small>) -> Result<MarkedForest, CheckedErr> {
-    match make_marked(ctx) {
-        Ok(forest) => Ok(forest),
-        Err(LabErr::OutOfMemory) => Err(CheckedErr::Core(CoreError::OutOfMemory)),
-        Err(LabErr::Core(error)) => Err(CheckedErr::Core(error)),
-        Err(LabErr::Refused | LabErr::NoRoot) => Err(CheckedErr::Condition),
-    }
-}
-
 // Makes the call on the forest over the small dialect. Where it wants memory, nothing has changed.
 fn try_type_call(
     rt: &impl Abort,
@@ -106,7 +97,7 @@ fn try_on_types(rt: &impl Abort, alloc: Global, name: &str) -> Result<bool, Chec
     for call in TypeCall::ALL.iter() {
         if call.name() == name {
             let mut ctx: Context<Small> = Context::new(alloc);
-            let forest = marked(&mut ctx)?;
+            let forest = make_types(&mut ctx)?;
             try_type_call(rt, &mut ctx, &forest, *call)?;
             tried = true;
         }

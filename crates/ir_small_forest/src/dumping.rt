@@ -189,17 +189,27 @@ fn write_aux_name(
     Ok(())
 }
 
+// Auxiliary data and its names: what is there, and the name that there isn't yet.
+fn write_aux(ctx: &Context<Toy>, out: &mut String, forest: &Forest) -> Result<(), CoreError> {
+    let [first, second, third] = forest.beside.others;
+    for index in [forest.beside.aux, first, second, third] {
+        if let Some(data) = ctx.get_aux(index) {
+            write!(out, "\naux {}", data.as_str())?;
+        }
+    }
+    for name in ["data", "first", "second", "more"] {
+        write_aux_name(ctx, out, &Identifier::new(name))?;
+    }
+    Ok(())
+}
+
 // Types, saved values and auxiliary data: what is there, and the places behind.
 fn write_beside(ctx: &Context<Toy>, out: &mut String, forest: &Forest) -> Result<(), CoreError> {
-    for place in 0..4 {
+    for place in 0..8 {
         write_type(ctx, out, place)?;
         write_saved(ctx, out, place)?;
     }
-    if let Some(data) = ctx.get_aux(forest.beside.aux) {
-        write!(out, "\naux {}", data.as_str())?;
-    }
-    write_aux_name(ctx, out, &Identifier::new("data"))?;
-    write_aux_name(ctx, out, &Identifier::new("more"))
+    write_aux(ctx, out, forest)
 }
 
 /// Writes how many entities there are.
@@ -222,7 +232,8 @@ fn write_ops(ctx: &Context<Toy>, out: &mut String, forest: &Forest) -> Result<()
     write_op(alloc, out, ops.get(users.user))?;
     write_op(alloc, out, ops.get(users.other))?;
     write_op(alloc, out, ops.get(users.branch))?;
-    write_op(alloc, out, ops.get(users.jump))
+    write_op(alloc, out, ops.get(users.jump))?;
+    write_op(alloc, out, ops.get(forest.spare))
 }
 
 // The blocks, each behind the region that it was made in.
