@@ -197,22 +197,30 @@ fn parents(ctx: &Context<Toy>, forest: &Forest) -> bool {
         && block.get_parent_op(ctx) == Some(forest.module)
 }
 
-// The ends of the list of operations, and the walk from both, begun twice.
+// A walk over the operations begun twice, the second time from both ends: there are four.
+fn operations_again(ctx: &Context<Toy>, forest: &Forest) -> bool {
+    let block = forest.blocks.entry;
+    if !block.is_live(ctx) {
+        return false;
+    }
+    let ops = block.iter(ctx);
+    let Ok(mut again) = ops.clone() else {
+        return false;
+    };
+    again.next() == Some(forest.made.maker)
+        && again.next_back() == Some(forest.users.branch)
+        && again.next().is_some()
+        && again.next().is_some()
+        && again.next().is_none()
+}
+
+// The ends of the list of operations, and the walks over it.
 fn operations(ctx: &Context<Toy>, forest: &Forest) -> Result<bool, CheckedErr> {
     let block = forest.blocks.entry;
     let ends = (block_head(ctx, block)?, block_tail(ctx, block)?);
-    if !block.is_live(ctx) {
-        return Err(CheckedErr::Condition);
-    }
-    let mut ops = block.iter(ctx);
-    let Ok(again) = ops.clone() else {
-        return Ok(false);
-    };
     Ok(
         ends == (Some(forest.made.maker), Some(forest.users.branch))
-            && ops.next() == Some(forest.made.maker)
-            && ops.next_back() == Some(forest.users.branch)
-            && again.count() == 4,
+            && operations_again(ctx, forest),
     )
 }
 
