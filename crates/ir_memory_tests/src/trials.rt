@@ -1,6 +1,6 @@
 //! How the calls with a name are tried.
 
-use ir_base::CoreError;
+use ir_base::{CoreError, Dialects};
 use ir_checked::{CheckedErr, Context};
 use ir_memory_calls::{
     AttributeCall, CheckCall, DefinitionCall, ForestCall, IdCall, NameCall, NewCall, OperandCall,
@@ -34,7 +34,29 @@ fn try_call<C: ForestCall>(
     Ok(())
 }
 
-// Makes each call of the group that has this name, on a forest of its own. Whether there is one.
+// Makes the forest and then the call.
+fn make_and_try<C: ForestCall>(
+    rt: &impl Abort,
+    ctx: &mut Context<Toy>,
+    call: C,
+) -> Result<(), CheckedErr> {
+    let forest = make_forest(ctx)?;
+    try_call(rt, ctx, &forest, call)
+}
+
+// Lets go of a context, and answers how its test went. That all in a context is let go is so proved once, and for any dialect.
+fn end<D: Dialects>(_ctx: Context<D>, outcome: Result<(), CheckedErr>) -> Result<(), CheckedErr> {
+    outcome
+}
+
+// Makes the call on a forest of its own.
+fn try_alone<C: ForestCall>(rt: &impl Abort, alloc: Global, call: C) -> Result<(), CheckedErr> {
+    let mut ctx: Context<Toy> = Context::new(alloc);
+    let outcome = make_and_try(rt, &mut ctx, call);
+    end(ctx, outcome)
+}
+
+// Makes each call of the group that has this name. Whether there is one.
 fn try_group<C: ForestCall>(
     rt: &impl Abort,
     alloc: Global,
@@ -44,9 +66,7 @@ fn try_group<C: ForestCall>(
     let mut tried = false;
     for call in group {
         if call.name() == name {
-            let mut ctx: Context<Toy> = Context::new(alloc);
-            let forest = make_forest(&mut ctx)?;
-            try_call(rt, &mut ctx, &forest, *call)?;
+            try_alone(rt, alloc, *call)?;
             tried = true;
         }
     }
@@ -91,14 +111,24 @@ fn try_type_call(
     Ok(())
 }
 
+// Makes the forest over the small dialect and then the call.
+fn make_and_try_type(
+    rt: &impl Abort,
+    ctx: &mut Context<Small>,
+    call: TypeCall,
+) -> Result<(), CheckedErr> {
+    let forest = make_types(ctx)?;
+    try_type_call(rt, ctx, &forest, call)
+}
+
 // Makes each call on types with this name, on a forest of its own. Whether there is one.
 fn try_on_types(rt: &impl Abort, alloc: Global, name: &str) -> Result<bool, CheckedErr> {
     let mut tried = false;
     for call in TypeCall::ALL.iter() {
         if call.name() == name {
             let mut ctx: Context<Small> = Context::new(alloc);
-            let forest = make_types(&mut ctx)?;
-            try_type_call(rt, &mut ctx, &forest, *call)?;
+            let outcome = make_and_try_type(rt, &mut ctx, *call);
+            end(ctx, outcome)?;
             tried = true;
         }
     }

@@ -29,6 +29,8 @@ pub enum OpReading {
     Iterators,
     /// The iterators over its operands and successors as uses, and over types.
     OtherIterators,
+    /// An iterator, walked from both ends and begun twice.
+    Walk,
     /// Its location and its attributes.
     Rest,
     /// Its place in the list that it stands in.
@@ -43,7 +45,7 @@ pub enum OpReading {
 
 impl OpReading {
     /// All of them.
-    pub const ALL: [OpReading; 12] = [
+    pub const ALL: [OpReading; 13] = [
         OpReading::Handle,
         OpReading::Lent,
         OpReading::Counts,
@@ -51,6 +53,7 @@ impl OpReading {
         OpReading::UsesAndTypes,
         OpReading::Iterators,
         OpReading::OtherIterators,
+        OpReading::Walk,
         OpReading::Rest,
         OpReading::Neighbours,
         OpReading::Parents,
@@ -70,11 +73,12 @@ impl OpReading {
             OpReading::UsesAndTypes => OpReading::ALL[4],
             OpReading::Iterators => OpReading::ALL[5],
             OpReading::OtherIterators => OpReading::ALL[6],
-            OpReading::Rest => OpReading::ALL[7],
-            OpReading::Neighbours => OpReading::ALL[8],
-            OpReading::Parents => OpReading::ALL[9],
-            OpReading::ResultUses => OpReading::ALL[10],
-            OpReading::Kind => OpReading::ALL[11],
+            OpReading::Walk => OpReading::ALL[7],
+            OpReading::Rest => OpReading::ALL[8],
+            OpReading::Neighbours => OpReading::ALL[9],
+            OpReading::Parents => OpReading::ALL[10],
+            OpReading::ResultUses => OpReading::ALL[11],
+            OpReading::Kind => OpReading::ALL[12],
         }
     }
 }
@@ -112,6 +116,12 @@ impl QuietCall for OpReading {
                 "operands_as_uses",
                 "operand_types",
                 "successors_as_uses",
+            ],
+            OpReading::Walk => &[
+                "Parts::clone",
+                "Parts::next",
+                "Parts::next_back",
+                "Parts::len",
             ],
             OpReading::Rest => &["loc of Operation", "attributes of Operation"],
             OpReading::Neighbours => &[
@@ -157,6 +167,7 @@ impl QuietCall for OpReading {
                     && other_iterators(ctx, forest.users.user, [0, 2, 0])
                     && other_iterators(ctx, forest.users.branch, [0, 0, 2]),
             ),
+            OpReading::Walk => Ok(walk(ctx, maker)),
             OpReading::Rest => Ok(rest(ctx, maker)),
             OpReading::Neighbours => Ok(neighbours(ctx, forest)),
             OpReading::Parents => Ok(parents(ctx, forest)),
@@ -261,6 +272,18 @@ fn other_iterators(ctx: &Context<Toy>, op: Ptr<Operation<Toy>>, counts: [usize; 
         && record.operands_as_uses().count() == operands
         && record.operand_types(ctx).count() == operands
         && record.successors_as_uses().count() == successors
+}
+
+// The iterator over two results, walked from both ends and begun twice.
+fn walk(ctx: &Context<Toy>, op: Ptr<Operation<Toy>>) -> bool {
+    let Ok(record) = op.try_deref(ctx) else {
+        return false;
+    };
+    let mut results = record.results();
+    let Ok(again) = results.clone() else {
+        return false;
+    };
+    results.next().is_some() && results.next_back().is_some() && again.len() == 2
 }
 
 fn rest(ctx: &Context<Toy>, op: Ptr<Operation<Toy>>) -> bool {

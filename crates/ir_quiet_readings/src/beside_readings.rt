@@ -2,12 +2,13 @@
 
 ghost use Rattle.std.specs.Prelude.{◌≡◌};
 
-use ir_base::{Identifier, Limits, TypeHandle};
+use ir_base::{Dialects, Identifier, Limits, TypeHandle};
 use ir_checked::{CheckedErr, Context, TypeQueries};
 use ir_quiet_calls::QuietCall;
 use ir_saved::{UniquedKey, get};
 use ir_small_forest::Forest;
 use ir_toy::{Toy, ToyType};
+use std::alloc::Global;
 
 /// What is read of a context beside the forest.
 #[derive(Clone, Copy, Debug, Drop)]
@@ -96,7 +97,7 @@ impl QuietCall for BesideReading {
             ),
             BesideReading::AuxMut => Ok(ctx.get_aux_mut(forest.beside.aux).is_some()),
             BesideReading::Room => Ok(room(ctx)),
-            BesideReading::NewContexts => Ok(new_contexts(ctx)),
+            BesideReading::NewContexts => Ok(new_contexts::<Toy>(ctx.alloc())),
         }
     }
 }
@@ -136,15 +137,15 @@ fn room(ctx: &Context<Toy>) -> bool {
     room.values > 0 && room.aux > 0 && !ctx.is_ir_empty()
 }
 
-// Contexts with the default limits and with others.
-fn new_contexts(ctx: &Context<Toy>) -> bool {
-    let first: Context<Toy> = Context::new(ctx.alloc());
+// Whether a new context with the default limits is empty, and one with others.
+fn new_contexts<D: Dialects>(alloc: Global) -> bool {
+    let first: Context<D> = Context::new(alloc);
     let limits = Limits {
         values: 1,
         uses: 1,
         slots: 1,
         last_version: 1,
     };
-    let second: Context<Toy> = Context::with_limits(ctx.alloc(), limits);
+    let second: Context<D> = Context::with_limits(alloc, limits);
     first.is_ir_empty() && second.is_ir_empty()
 }

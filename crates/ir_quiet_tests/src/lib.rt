@@ -6,7 +6,7 @@
 #![tactic(auto)]
 
 #[cfg(test)]
-mod fixtures;
+mod ending;
 #[cfg(test)]
 mod quiet_tests;
 #[cfg(test)]

@@ -1,8 +1,7 @@
 //! Each call that the surface names is tried, and each call that is tried is named. The names end so that `tools/refuse-memory` knows them.
 
-use crate::fixtures::QuietOn;
 use crate::session_readings::SessionReading;
-use crate::store_readings::StoreReading;
+use crate::store_readings::{StoreReading, Stores};
 use crate::surface::{
     ATTRIBUTES, BLOCKS, CONTEXT, IDENTIFIERS, LISTS, OPERATIONS, RUN, STORES, VALUES, VERIFICATION,
     WRAPPERS, is_named,
@@ -85,12 +84,21 @@ fn run_without_memory(rt: HostRuntime) -> Result<(), Fail> {
     Ok(())
 }
 
+// The texts of an identifier, a name, an id and an index.
+#[test]
+fn texts_without_memory(rt: HostRuntime) -> Result<(), Fail> {
+    let stores = Stores::new(rt.alloc())?;
+    assert!(rt; println!(rt; "ready").is_ok());
+    let written = stores.write(&rt);
+    assert!(rt; println!(rt; "done").is_ok());
+    assert!(rt; written);
+    Ok(())
+}
+
 // Asserts that all that the group makes is named.
 fn expect_named<C: QuietCall>(rt: &impl Abort, group: &[C]) {
     for call in group {
-        for name in call.names() {
-            assert!(rt; is_named(name), "{name}");
-        }
+        expect_all_named(rt, call.names());
     }
 }
 
@@ -115,18 +123,22 @@ fn calls_beside_entities_are_named(rt: HostRuntime) {
     expect_named(&rt, &VerifyReading::ALL);
 }
 
-// Asserts that all that the group makes is named.
-fn expect_made_named<F, C: QuietOn<F>>(rt: &impl Abort, group: &[C]) {
-    for call in group {
-        for name in call.names() {
-            assert!(rt; is_named(name), "{name}");
-        }
+// Asserts that all of these are named.
+fn expect_all_named(rt: &impl Abort, names: &[&str]) {
+    for name in names {
+        assert!(rt; is_named(name), "{name}");
     }
 }
 
 #[test]
 fn calls_without_forest_are_named(rt: HostRuntime) {
-    expect_made_named(&rt, &StoreReading::ALL);
-    expect_made_named(&rt, &TypeReading::ALL);
-    expect_made_named(&rt, &SessionReading::ALL);
+    for reading in StoreReading::ALL.iter() {
+        expect_all_named(&rt, reading.names());
+    }
+    for reading in TypeReading::ALL.iter() {
+        expect_all_named(&rt, reading.names());
+    }
+    for reading in SessionReading::ALL.iter() {
+        expect_all_named(&rt, reading.names());
+    }
 }

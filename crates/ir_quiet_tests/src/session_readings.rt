@@ -2,11 +2,13 @@
 
 ghost use Rattle.std.specs.Prelude.{◌≡◌};
 
-use crate::fixtures::QuietOn;
-use ir_base::{CoreError, Limits};
+use crate::ending::end_session;
+use ir_base::{CoreError, Dialects, Limits};
+use ir_checked::CheckedErr;
 use ir_run::{Edit, Session, choices_unseen};
 use ir_toy::{Toy, ToyType};
 use std::alloc::Global;
+use std::process::Abort;
 
 // A type, an operation with a result and a region, and a block.
 fn edits(alloc: Global) -> Result<Vec<Edit<Toy>>, CoreError> {
@@ -24,19 +26,6 @@ fn edits(alloc: Global) -> Result<Vec<Edit<Toy>>, CoreError> {
         types: Vec::new(alloc),
     })?;
     Ok(edits)
-}
-
-/// A session with one of each.
-///
-/// # Errors
-/// Where a request for memory was refused.
-pub(crate) fn session(alloc: Global) -> Result<Session<Toy>, CoreError> {
-    let mut session = Session::new(alloc, Limits::default());
-    session.run(edits(alloc)?)?;
-    if session.block(0).is_none() {
-        return Err(CoreError::OutOfMemory);
-    }
-    Ok(session)
 }
 
 /// What is asked.
@@ -68,10 +57,9 @@ impl SessionReading {
             SessionReading::New => SessionReading::ALL[2],
         }
     }
-}
 
-impl QuietOn<Session<Toy>> for SessionReading {
-    fn names(self) -> &'static [&'static str] {
+    /// The names that the list of such calls gives to what it makes.
+    pub(crate) fn names(self) -> &'static [&'static str] {
         match self {
             SessionReading::Tables => &[
                 "Session::ty",
@@ -85,13 +73,46 @@ impl QuietOn<Session<Toy>> for SessionReading {
         }
     }
 
-    fn make(self, fixture: &mut Session<Toy>) -> bool {
+    // Asks. Whether the answers are right.
+    fn make(self, fixture: &Session<Toy>) -> bool {
         match self {
             SessionReading::Tables => tables(fixture),
             SessionReading::Context => !fixture.ctx().is_ir_empty(),
-            SessionReading::New => new(fixture.ctx().alloc()),
+            SessionReading::New => new::<Toy>(fixture.ctx().alloc()),
         }
     }
+}
+
+// Makes a session with one of each, and then the calls between two lines of output, so that whoever watches sees what they ask for.
+fn make_and_ask<R: Abort + Print>(
+    rt: &R,
+    alloc: Global,
+    session: &mut Session<Toy>,
+    reading: SessionReading,
+) -> Result<(), CheckedErr> {
+    session.run(edits(alloc)?)?;
+    if session.block(0).is_none() {
+        return Err(CheckedErr::Core(CoreError::OutOfMemory));
+    }
+    assert!(rt; println!(rt; "ready").is_ok());
+    let answer = reading.make(session);
+    assert!(rt; println!(rt; "done").is_ok());
+    assert!(rt; answer, "{reading:?}");
+    Ok(())
+}
+
+/// Makes the calls on a session of their own.
+///
+/// # Errors
+/// Where a request for memory was refused, before the calls.
+pub(crate) fn try_session_reading<R: Abort + Print>(
+    rt: &R,
+    alloc: Global,
+    reading: SessionReading,
+) -> Result<(), CheckedErr> {
+    let mut session: Session<Toy> = Session::new(alloc, Limits::default());
+    let outcome = make_and_ask(rt, alloc, &mut session, reading);
+    end_session(session, outcome)
 }
 
 fn tables(session: &Session<Toy>) -> bool {
@@ -103,8 +124,8 @@ fn tables(session: &Session<Toy>) -> bool {
 }
 
 // Whether a new session is empty.
-fn new(alloc: Global) -> bool {
-    choices_unseen::<Toy>();
-    let session: Session<Toy> = Session::new(alloc, Limits::default());
+fn new<D: Dialects>(alloc: Global) -> bool {
+    choices_unseen::<D>();
+    let session: Session<D> = Session::new(alloc, Limits::default());
     session.ctx().is_ir_empty()
 }

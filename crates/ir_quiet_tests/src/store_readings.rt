@@ -2,16 +2,16 @@
 
 ghost use Rattle.std.specs.Prelude.{◌≡◌};
 
-use crate::fixtures::QuietOn;
 use ir_base::attribute::AttributeDict;
 use ir_base::{
-    Arena, CoreError, DialectName, DictKeyId, DuplicateKey, IdentErr, Identifier, Legaliser, OpId,
-    OpName, Ptr, UniqueStore, verify_dict_keys,
+    Arena, CoreError, DialectName, Dialects, DictKeyId, DuplicateKey, IdentErr, Identifier,
+    Legaliser, OpId, OpName, Ptr, UniqueStore, verify_dict_keys,
 };
 use ir_toy::Toy;
 use std::alloc::Global;
 use std::convert::AsStr;
 use std::hash::{DefaultHasher, Hash, Hasher};
+use std::process::Abort;
 
 /// What the calls are made on.
 #[derive(Drop)]
@@ -82,6 +82,14 @@ impl Stores {
     }
 }
 
+impl Stores {
+    /// Writes an identifier, a name, an id and an index. Whether that was done.
+    pub(crate) fn write<R: Print>(&self, rt: &R) -> bool {
+        let index = self.first.index();
+        println!(rt; "{} {} {} {index}", self.identifier, self.id.name, self.id).is_ok()
+    }
+}
+
 /// What is asked or changed.
 #[derive(Clone, Copy, Debug, Drop)]
 pub(crate) enum StoreReading {
@@ -139,10 +147,9 @@ impl StoreReading {
             StoreReading::New => StoreReading::ALL[9],
         }
     }
-}
 
-impl QuietOn<Stores> for StoreReading {
-    fn names(self) -> &'static [&'static str] {
+    /// The names that the list of such calls gives to what it makes.
+    pub(crate) fn names(self) -> &'static [&'static str] {
         match self {
             StoreReading::Identifiers => &[
                 "Identifier::is_valid",
@@ -182,6 +189,7 @@ impl QuietOn<Stores> for StoreReading {
         }
     }
 
+    // Makes the calls. Whether they did what they say, or answered what is so.
     fn make(self, fixture: &mut Stores) -> bool {
         match self {
             StoreReading::Identifiers => identifiers(),
@@ -196,6 +204,18 @@ impl QuietOn<Stores> for StoreReading {
             StoreReading::New => new(fixture.alloc),
         }
     }
+}
+
+/// Makes the calls between two lines of output, so that whoever watches sees what they ask for.
+pub(crate) fn try_store_reading<R: Abort + Print>(
+    rt: &R,
+    stores: &mut Stores,
+    reading: StoreReading,
+) {
+    assert!(rt; println!(rt; "ready").is_ok());
+    let answer = reading.make(stores);
+    assert!(rt; println!(rt; "done").is_ok());
+    assert!(rt; answer, "{reading:?}");
 }
 
 fn identifiers() -> bool {
@@ -275,8 +295,13 @@ fn keys(keys: &[DictKeyId]) -> bool {
 fn new(alloc: Global) -> bool {
     let arena: Arena<u64> = Arena::new(alloc, 9, 9);
     let store: UniqueStore<u64> = UniqueStore::new(alloc);
-    let dict: AttributeDict<Toy> = AttributeDict::new(alloc);
     let _first = Legaliser::new(alloc);
     let _second = Legaliser::with_counter(alloc, 7);
-    arena.is_empty() && store.is_empty() && dict.is_empty()
+    arena.is_empty() && store.is_empty() && new_dictionary::<Toy>(alloc)
+}
+
+// Whether a new dictionary is empty.
+fn new_dictionary<D: Dialects>(alloc: Global) -> bool {
+    let attributes: AttributeDict<D> = AttributeDict::new(alloc);
+    attributes.is_empty()
 }

@@ -133,7 +133,7 @@ pub(crate) const VALUES: [&str; 29] = [
 ];
 
 /// Of operations.
-pub(crate) const OPERATIONS: [&str; 40] = [
+pub(crate) const OPERATIONS: [&str; 44] = [
     "remove_result",
     "pop_result",
     "remove_operand",
@@ -174,6 +174,10 @@ pub(crate) const OPERATIONS: [&str; 40] = [
     "get_op_dyn",
     "get_op",
     "is_op",
+    "Parts::clone",
+    "Parts::next",
+    "Parts::next_back",
+    "Parts::len",
 ];
 
 /// Of blocks and regions.

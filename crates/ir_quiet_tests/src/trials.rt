@@ -1,10 +1,10 @@
 //! How the calls with a name are tried.
 
-use crate::fixtures::QuietOn;
-use crate::session_readings::{SessionReading, session};
-use crate::store_readings::{StoreReading, Stores};
+use crate::ending::end;
+use crate::session_readings::{SessionReading, try_session_reading};
+use crate::store_readings::{StoreReading, Stores, try_store_reading};
 use crate::surface::has;
-use crate::type_readings::{TypeReading, Types};
+use crate::type_readings::{TypeReading, try_type_reading};
 use ir_checked::{CheckedErr, Context};
 use ir_quiet_calls::{
     BlockListCall, BlockReading, EraseCall, OpListCall, OpReading, QuietCall, RegionReading,
@@ -32,7 +32,28 @@ fn try_call<R: Abort + Print, C: QuietCall>(
     Ok(())
 }
 
-// Makes each call of the group that has this name, on a forest of its own. Whether there is one.
+// Makes the forest and then the call.
+fn make_and_try<R: Abort + Print, C: QuietCall>(
+    rt: &R,
+    ctx: &mut Context<Toy>,
+    call: C,
+) -> Result<(), CheckedErr> {
+    let forest = make_forest(ctx)?;
+    try_call(rt, ctx, &forest, call)
+}
+
+// Makes the call on a forest of its own.
+fn try_alone<R: Abort + Print, C: QuietCall>(
+    rt: &R,
+    alloc: Global,
+    call: C,
+) -> Result<(), CheckedErr> {
+    let mut ctx: Context<Toy> = Context::new(alloc);
+    let outcome = make_and_try(rt, &mut ctx, call);
+    end(ctx, outcome)
+}
+
+// Makes each call of the group that has this name. Whether there is one.
 fn try_group<R: Abort + Print, C: QuietCall>(
     rt: &R,
     alloc: Global,
@@ -42,9 +63,7 @@ fn try_group<R: Abort + Print, C: QuietCall>(
     let mut tried = false;
     for call in group {
         if has(call.names(), name) {
-            let mut ctx: Context<Toy> = Context::new(alloc);
-            let forest = make_forest(&mut ctx)?;
-            try_call(rt, &mut ctx, &forest, *call)?;
+            try_alone(rt, alloc, *call)?;
             tried = true;
         }
     }
@@ -79,20 +98,12 @@ fn try_beside<R: Abort + Print>(rt: &R, alloc: Global, name: &str) -> Result<boo
     Ok(tried)
 }
 
-// Makes the call on its fixture, between two lines of output.
-fn try_on<R: Abort + Print, F, C: QuietOn<F>>(rt: &R, fixture: &mut F, call: C) {
-    assert!(rt; println!(rt; "ready").is_ok());
-    let answer = call.make(fixture);
-    assert!(rt; println!(rt; "done").is_ok());
-    assert!(rt; answer, "{call:?}");
-}
-
 // Makes the calls with this name on identifiers, names, arenas, stores and keys. Whether there is one.
 fn try_stores<R: Abort + Print>(rt: &R, alloc: Global, name: &str) -> Result<bool, CheckedErr> {
     let mut tried = false;
     for call in StoreReading::ALL.iter() {
         if has(call.names(), name) {
-            try_on(rt, &mut Stores::new(alloc)?, *call);
+            try_store_reading(rt, &mut Stores::new(alloc)?, *call);
             tried = true;
         }
     }
@@ -104,7 +115,7 @@ fn try_types<R: Abort + Print>(rt: &R, alloc: Global, name: &str) -> Result<bool
     let mut tried = false;
     for call in TypeReading::ALL.iter() {
         if has(call.names(), name) {
-            try_on(rt, &mut Types::new(alloc)?, *call);
+            try_type_reading(rt, alloc, *call)?;
             tried = true;
         }
     }
@@ -116,7 +127,7 @@ fn try_sessions<R: Abort + Print>(rt: &R, alloc: Global, name: &str) -> Result<b
     let mut tried = false;
     for call in SessionReading::ALL.iter() {
         if has(call.names(), name) {
-            try_on(rt, &mut session(alloc)?, *call);
+            try_session_reading(rt, alloc, *call)?;
             tried = true;
         }
     }

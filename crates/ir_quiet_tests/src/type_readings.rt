@@ -2,39 +2,14 @@
 
 ghost use Rattle.std.specs.Prelude.{◌≡◌};
 
-use crate::fixtures::{QuietOn, no_memory};
-use ir_base::TypeHandle;
+use crate::ending::end;
+use ir_base::{CoreError, Dialects, TypeHandle};
 use ir_checked::{CheckedErr, Context, TypeQueries};
 use ir_small_dialect::{ListedType, MarkedForest, SizedInterface, Small, SmallType, make_marked};
 use ir_small_verifiers::{Judge, interface_found, typed_found};
 use ir_types::{IrType, TypeInterfaceHandle, Typed, TypedHandle, type_impls, type_impls_static};
 use std::alloc::Global;
-
-/// What the calls are made on.
-#[derive(Drop)]
-pub(crate) struct Types {
-    ctx: Context<Small>,
-    forest: MarkedForest,
-    // The listed type, in a box.
-    boxed: Box<TypeHandle>,
-}
-
-impl Types {
-    /// What the calls are made on.
-    ///
-    /// # Errors
-    /// Where a request for memory was refused.
-    pub(crate) fn new(alloc: Global) -> Result<Types, CheckedErr> {
-        let mut ctx: Context<Small> = Context::new(alloc);
-        let Ok(forest) = make_marked(&mut ctx) else {
-            return Err(no_memory());
-        };
-        let Ok(boxed) = Box::new(alloc, forest.types.listed) else {
-            return Err(no_memory());
-        };
-        Ok(Types { ctx, forest, boxed })
-    }
-}
+use std::process::Abort;
 
 /// What is asked.
 #[derive(Clone, Copy, Debug, Drop)]
@@ -77,10 +52,9 @@ impl TypeReading {
             TypeReading::Verified => TypeReading::ALL[5],
         }
     }
-}
 
-impl QuietOn<Types> for TypeReading {
-    fn names(self) -> &'static [&'static str] {
+    /// The names that the list of such calls gives to what it makes.
+    pub(crate) fn names(self) -> &'static [&'static str] {
         match self {
             TypeReading::Key => &[
                 "IrType::to_key",
@@ -105,16 +79,54 @@ impl QuietOn<Types> for TypeReading {
         }
     }
 
-    fn make(self, fixture: &mut Types) -> bool {
+    // Asks. Whether the answers are right. The listed type is given in a box too.
+    fn make(self, ctx: &Context<Small>, forest: &MarkedForest, in_box: &Box<TypeHandle>) -> bool {
+        let types = forest.types;
         match self {
-            TypeReading::Key => key(&fixture.ctx, &fixture.forest),
-            TypeReading::Typed => typed(&fixture.ctx, fixture.forest.types.listed),
-            TypeReading::Interface => interface(&fixture.ctx, fixture.forest.types.sized),
+            TypeReading::Key => key(ctx, forest),
+            TypeReading::Typed => typed(ctx, types.listed),
+            TypeReading::Interface => interface(ctx, types.sized),
             TypeReading::Tables => tables(),
-            TypeReading::Boxed => boxed(&fixture.ctx, &fixture.boxed, fixture.forest.types.listed),
-            TypeReading::Verified => verified(&fixture.ctx, &fixture.forest),
+            TypeReading::Boxed => boxed(ctx, in_box, types.listed),
+            TypeReading::Verified => verified(ctx, forest),
         }
     }
+}
+
+// Makes the forest, and then the calls between two lines of output, so that whoever watches sees what they ask for.
+fn make_and_ask<R: Abort + Print>(
+    rt: &R,
+    ctx: &mut Context<Small>,
+    reading: TypeReading,
+) -> Result<(), CheckedErr> {
+    let Ok(forest) = make_marked(ctx) else {
+        return Err(CheckedErr::Core(CoreError::OutOfMemory));
+    };
+    let in_box = boxed_type(ctx.alloc(), forest.types.listed)?;
+    assert!(rt; println!(rt; "ready").is_ok());
+    let answer = reading.make(ctx, &forest, &in_box);
+    assert!(rt; println!(rt; "done").is_ok());
+    assert!(rt; answer, "{reading:?}");
+    Ok(())
+}
+
+// The handle in a box.
+fn boxed_type(alloc: Global, ty: TypeHandle) -> Result<Box<TypeHandle>, CoreError> {
+    Ok(Box::new(alloc, ty)?)
+}
+
+/// Makes the calls on a forest of their own.
+///
+/// # Errors
+/// Where a request for memory was refused, before the calls.
+pub(crate) fn try_type_reading<R: Abort + Print>(
+    rt: &R,
+    alloc: Global,
+    reading: TypeReading,
+) -> Result<(), CheckedErr> {
+    let mut ctx: Context<Small> = Context::new(alloc);
+    let outcome = make_and_ask(rt, &mut ctx, reading);
+    end(ctx, outcome)
 }
 
 fn key(ctx: &Context<Small>, forest: &MarkedForest) -> bool {
@@ -161,11 +173,19 @@ fn tables() -> bool {
         && !type_impls_static::<ListedType, SizedInterface, Small>()
 }
 
-fn boxed(ctx: &Context<Small>, boxed: &Box<TypeHandle>, ty: TypeHandle) -> bool {
-    if !boxed.is_known(ctx) {
+// Whether what is live, or known, has this type.
+fn has_type<D: Dialects, T: Typed<D>>(item: &T, ctx: &Context<D>, ty: TypeHandle) -> bool
+    requires { T.IsThere ctx.now item.now }
+{
+    item.get_type(ctx) == ty
+}
+
+fn boxed(ctx: &Context<Small>, in_box: &Box<TypeHandle>, ty: TypeHandle) -> bool {
+    let held = **in_box;
+    if !held.is_known(ctx) {
         return false;
     }
-    boxed.get_type(ctx) == ty
+    has_type(in_box, ctx, ty)
 }
 
 fn verified(ctx: &Context<Small>, forest: &MarkedForest) -> bool {
