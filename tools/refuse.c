@@ -1,6 +1,6 @@
-/* Loaded before the C library, it counts a program's requests for memory and refuses one of them.
+/* Loaded before the C library, it counts a program's requests for memory and refuses one of them, or those that the program means not to make.
  *
- * REFUSE is the number of the request that is refused, counted from 1; with 0 none is.
+ * REFUSE is the number of the request that is refused, counted from 1; with 0 none is, and with `between` each one that is made between the lines.
  * From a line `ready` on standard output to a line `done` the program means to ask for nothing.
  * At the end three numbers are written to the file that REQUESTS names: all requests, those between such lines, and how often the one line came and then the other. */
 #define _GNU_SOURCE
@@ -12,10 +12,11 @@
 #include <unistd.h>
 
 static long asked, refused, between, pairs;
-static int watching;
+static int watching, refuses_between;
 
 __attribute__((constructor)) static void start(void) {
     const char *number = getenv("REFUSE");
+    refuses_between = number && !strcmp(number, "between");
     refused = number ? atol(number) : 0;
     asked = between = pairs = 0;
 }
@@ -29,8 +30,9 @@ __attribute__((destructor)) static void end(void) {
 }
 
 static int is_refused(void) {
+    asked++;
     between += watching;
-    return ++asked == refused;
+    return asked == refused || (watching && refuses_between);
 }
 
 void *malloc(size_t size) {

@@ -304,6 +304,18 @@ impl<T: LinkedList, C: ContainsLinkedList<T>> Lists<T, C> {
         true
     }
 
+    // Puts nodes in, each way, takes one out, puts it into another list and joins the lists. Whether each was done.
+    fn edit_each_way(&mut self, donee: Ptr<C>, donor: Ptr<C>, nodes: [Ptr<T>; 4]) -> bool {
+        let [n1, n2, n3, n4] = nodes;
+        self.put_front(n1, donee)
+            && self.put_back(n4, donee)
+            && self.put_after(n2, n1)
+            && self.put_before(n3, n4)
+            && self.take_out(n3)
+            && self.put_back(n3, donor)
+            && self.append(donee, donor)
+    }
+
     // Whether the container's list is this one from both ends, and each of its nodes names the container. It is not where the container is dead.
     fn is_list(&self, container: Ptr<C>, expected: &[Ptr<T>]) -> bool {
         if !self.containers.is_live(container) {
@@ -465,6 +477,23 @@ fn list_inserts_from_both_ends(rt: HostRuntime) -> Result<(), Fail> {
     assert!(rt; both.next().is_none());
     assert!(rt; both.next_back().is_none());
     assert!(rt; copy.next_back() == Some(n4));
+    Ok(())
+}
+
+// The list is edited between two lines of output, so that whoever watches sees that nothing is asked for.
+#[test]
+fn lists_without_memory(rt: HostRuntime) -> Result<(), Fail> {
+    let Fixture {
+        mut lists,
+        donee,
+        donor,
+        nodes: [n1, n2, n3, n4],
+    } = Fixture::new(rt.alloc())?;
+    assert!(rt; println!(rt; "ready").is_ok());
+    let edited = lists.edit_each_way(donee, donor, [n1, n2, n3, n4]);
+    let is_list = lists.is_list(donee, &[n1, n2, n4, n3]);
+    assert!(rt; println!(rt; "done").is_ok());
+    assert!(rt; edited && is_list);
     Ok(())
 }
 

@@ -1,39 +1,15 @@
-//! Tests of calls on a context while a request for memory may be refused, over the dialect Toy.
+//! Tests of the calls that may ask for memory, and of each edit of a session, while a request for memory may be refused.
 //!
-//! Each call that may ask for memory is made on a small forest of its own. Where it answers `OutOfMemory`, all that the context tells is as before; else its answer is the full one. Calls that ask for none are made between two lines of output, so that whoever watches the requests sees those in between. `tools/refuse-memory` refuses each request in turn, and watches.
+//! The list of the calls is `surface`. The calls with each name of the list are made, those on a context each on a small forest of its own. Where a call answers `OutOfMemory`, all that the context tells is as before; else its answer is the full one. A name without a call fails, and a call without a name. Each edit of a session is the only one of a run. `tools/refuse-memory` refuses each request in turn.
 #![tactic(auto)]
 
 #[cfg(test)]
-mod attribute_calls;
+mod edit_tests;
 #[cfg(test)]
-mod definition_calls;
-#[cfg(test)]
-mod list_calls;
-#[cfg(test)]
-mod marked;
+mod edits;
 #[cfg(test)]
 mod memory_tests;
 #[cfg(test)]
-mod name_calls;
+mod surface;
 #[cfg(test)]
-mod new_calls;
-#[cfg(test)]
-mod operand_calls;
-#[cfg(test)]
-mod quiet_tests;
-#[cfg(test)]
-mod reading_calls;
-#[cfg(test)]
-mod removal_calls;
-#[cfg(test)]
-mod setting_calls;
-#[cfg(test)]
-mod store_calls;
-#[cfg(test)]
-mod successor_calls;
-#[cfg(test)]
-mod unmarked;
-#[cfg(test)]
-mod use_calls;
-#[cfg(test)]
-mod verify_calls;
+mod trials;

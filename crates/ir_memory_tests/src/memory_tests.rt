@@ -1,85 +1,119 @@
-//! Each call that may ask for memory, in groups of a few.
+//! Each call that the surface names is tried, and each call that is tried is named.
 
-use crate::attribute_calls::AttributeCall;
-use crate::definition_calls::DefinitionCall;
-use crate::marked::{Call, Trial, try_alone};
-use crate::name_calls::NameCall;
-use crate::new_calls::NewCall;
-use crate::operand_calls::OperandCall;
-use crate::store_calls::StoreCall;
-use crate::successor_calls::SuccessorCall;
-use crate::use_calls::UseCall;
-use crate::verify_calls::VerifyCall;
+use crate::surface::{
+    ATTRIBUTES, BELOW, BLOCKS, CONTEXT, NAMED, NAMES, OPERATIONS, STORES, USES, VERIFICATION,
+    is_named,
+};
+use crate::trials::try_named;
+use ir_memory_calls::{
+    AttributeCall, CheckCall, DefinitionCall, ForestCall, IdCall, NameCall, NewCall, OperandCall,
+    StoreCall as StoringOnForest, SuccessorCall, TypeCall, UseCall, VerifyCall,
+};
+use ir_store_calls::{
+    DictionaryCall, IdentifierCall, LegaliserCall, ListCall, NameCall as NameMaking, StoreCall,
+    StoringCall,
+};
+use std::process::Abort;
 use std::test::Fail;
 
 #[test]
-fn entities(rt: HostRuntime) -> Result<(), Fail> {
-    for call in NewCall::ALL.iter() {
-        try_alone(&rt, rt.alloc(), Trial::Marked(Call::New(*call)))?;
-    }
+fn names(rt: HostRuntime) -> Result<(), Fail> {
+    try_named(&rt, rt.alloc(), &NAMES)?;
     Ok(())
 }
 
 #[test]
-fn definitions(rt: HostRuntime) -> Result<(), Fail> {
-    for call in DefinitionCall::ALL.iter() {
-        try_alone(&rt, rt.alloc(), Trial::Marked(Call::Definition(*call)))?;
-    }
-    Ok(())
-}
-
-#[test]
-fn operands(rt: HostRuntime) -> Result<(), Fail> {
-    for call in OperandCall::ALL.iter() {
-        try_alone(&rt, rt.alloc(), Trial::Marked(Call::Operand(*call)))?;
-    }
-    Ok(())
-}
-
-#[test]
-fn successors(rt: HostRuntime) -> Result<(), Fail> {
-    for call in SuccessorCall::ALL.iter() {
-        try_alone(&rt, rt.alloc(), Trial::Marked(Call::Successor(*call)))?;
-    }
+fn context(rt: HostRuntime) -> Result<(), Fail> {
+    try_named(&rt, rt.alloc(), &CONTEXT)?;
     Ok(())
 }
 
 #[test]
 fn uses(rt: HostRuntime) -> Result<(), Fail> {
-    for call in UseCall::ALL.iter() {
-        try_alone(&rt, rt.alloc(), Trial::Marked(Call::Use(*call)))?;
-    }
+    try_named(&rt, rt.alloc(), &USES)?;
     Ok(())
 }
 
 #[test]
-fn names(rt: HostRuntime) -> Result<(), Fail> {
-    for call in NameCall::ALL.iter() {
-        try_alone(&rt, rt.alloc(), Trial::Marked(Call::Name(*call)))?;
-    }
+fn operations(rt: HostRuntime) -> Result<(), Fail> {
+    try_named(&rt, rt.alloc(), &OPERATIONS)?;
+    Ok(())
+}
+
+#[test]
+fn blocks(rt: HostRuntime) -> Result<(), Fail> {
+    try_named(&rt, rt.alloc(), &BLOCKS)?;
     Ok(())
 }
 
 #[test]
 fn stores(rt: HostRuntime) -> Result<(), Fail> {
-    for call in StoreCall::ALL.iter() {
-        try_alone(&rt, rt.alloc(), Trial::Marked(Call::Store(*call)))?;
-    }
+    try_named(&rt, rt.alloc(), &STORES)?;
     Ok(())
 }
 
 #[test]
 fn attributes(rt: HostRuntime) -> Result<(), Fail> {
-    for call in AttributeCall::ALL.iter() {
-        try_alone(&rt, rt.alloc(), Trial::Marked(Call::Attribute(*call)))?;
-    }
+    try_named(&rt, rt.alloc(), &ATTRIBUTES)?;
+    Ok(())
+}
+
+#[test]
+fn named(rt: HostRuntime) -> Result<(), Fail> {
+    try_named(&rt, rt.alloc(), &NAMED)?;
     Ok(())
 }
 
 #[test]
 fn verification(rt: HostRuntime) -> Result<(), Fail> {
-    for call in VerifyCall::ALL.iter() {
-        try_alone(&rt, rt.alloc(), Trial::Marked(Call::Verify(*call)))?;
-    }
+    try_named(&rt, rt.alloc(), &VERIFICATION)?;
     Ok(())
+}
+
+#[test]
+fn below_the_surface(rt: HostRuntime) -> Result<(), Fail> {
+    try_named(&rt, rt.alloc(), &BELOW)?;
+    Ok(())
+}
+
+// Asserts that each call of the group is named.
+fn expect_named<C: ForestCall>(rt: &impl Abort, group: &[C]) {
+    for call in group {
+        assert!(rt; is_named(call.name()), "{call:?}");
+    }
+}
+
+// Asserts that each call of the group is named.
+fn expect_stores_named<C: StoreCall>(rt: &impl Abort, group: &[C]) {
+    for call in group {
+        assert!(rt; is_named(call.name()), "{call:?}");
+    }
+}
+
+#[test]
+fn calls_on_a_context_are_named(rt: HostRuntime) {
+    expect_named(&rt, &NewCall::ALL);
+    expect_named(&rt, &DefinitionCall::ALL);
+    expect_named(&rt, &OperandCall::ALL);
+    expect_named(&rt, &SuccessorCall::ALL);
+    expect_named(&rt, &UseCall::ALL);
+    expect_named(&rt, &NameCall::ALL);
+    expect_named(&rt, &StoringOnForest::ALL);
+    expect_named(&rt, &AttributeCall::ALL);
+    expect_named(&rt, &IdCall::ALL);
+    expect_named(&rt, &VerifyCall::ALL);
+    expect_named(&rt, &CheckCall::ALL);
+    for call in TypeCall::ALL.iter() {
+        assert!(rt; is_named(call.name()), "{call:?}");
+    }
+}
+
+#[test]
+fn calls_without_context_are_named(rt: HostRuntime) {
+    expect_stores_named(&rt, &IdentifierCall::ALL);
+    expect_stores_named(&rt, &NameMaking::ALL);
+    expect_stores_named(&rt, &LegaliserCall::ALL);
+    expect_stores_named(&rt, &DictionaryCall::ALL);
+    expect_stores_named(&rt, &StoringCall::ALL);
+    expect_stores_named(&rt, &ListCall::ALL);
 }

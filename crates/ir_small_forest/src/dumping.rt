@@ -1,16 +1,17 @@
 //! All that a context tells of the forest and of what is kept beside it, as a text.
 //!
-//! It is read from the records alone. Uses are listed by their numbers, in rising order.
+//! It is read from the records alone. Uses are listed by their numbers, in rising order. What is written of an entity or a type is written for any dialect whose parts have texts.
 
 use crate::making::{Blocks, Forest};
 use ir_arena::Link;
 use ir_base::attribute::AttributeDict;
-use ir_base::{CoreError, Identifier, TypeHandle};
+use ir_base::{CoreError, Dialects, Identifier, TypeHandle};
 use ir_checked::Context;
 use ir_records::{BasicBlock, Definition, Operation, Region, Uses};
-use ir_toy::{Toy, ToyAttr, ToyLoc, ToySaved, ToyType};
+use ir_toy::Toy;
 use ir_view::TypeQueries;
 use std::alloc::Global;
+use std::fmt::Debug;
 
 // The numbers of the uses, in rising order.
 fn write_uses(alloc: Global, out: &mut String, uses: &Uses) -> Result<(), CoreError> {
@@ -51,33 +52,21 @@ fn write_link(out: &mut String, name: &str, link: Link) -> Result<(), CoreError>
 }
 
 // The attributes in their order.
-fn write_attributes(out: &mut String, attributes: &AttributeDict<Toy>) -> Result<(), CoreError> {
+fn write_attributes<D: Dialects>(
+    out: &mut String,
+    attributes: &AttributeDict<D>,
+) -> Result<(), CoreError>
+where
+    D::Attr: Debug,
+{
     for (key, attr) in attributes.iter() {
-        write!(out, "\n {} = ", key.as_str())?;
-        write_attribute(out, attr)?;
-    }
-    Ok(())
-}
-
-fn write_attribute(out: &mut String, attr: &ToyAttr) -> Result<(), CoreError> {
-    match attr {
-        ToyAttr::Int(number) => write!(out, "int {} t{}", number.value, number.ty.index())?,
-        ToyAttr::Text(text) => write!(out, "text {}", text.0.as_str())?,
-        ToyAttr::Outlined(text) => write!(out, "outlined {}", text.0.as_str())?,
-    }
-    Ok(())
-}
-
-fn write_loc(out: &mut String, loc: &ToyLoc) -> Result<(), CoreError> {
-    match loc {
-        ToyLoc::Unknown => write!(out, " unknown")?,
-        ToyLoc::Line(line) => write!(out, " line {line}")?,
+        write!(out, "\n {} = {attr:?}", key.as_str())?;
     }
     Ok(())
 }
 
 // The operands, successors and regions, in order.
-fn write_parts(out: &mut String, op: &Operation<Toy>) -> Result<(), CoreError> {
+fn write_parts<D: Dialects>(out: &mut String, op: &Operation<D>) -> Result<(), CoreError> {
     for operand in op.operands.as_slice() {
         write!(
             out,
@@ -95,13 +84,20 @@ fn write_parts(out: &mut String, op: &Operation<Toy>) -> Result<(), CoreError> {
     Ok(())
 }
 
-// An operation, if it is live.
-fn write_op(alloc: Global, out: &mut String, op: Option<&Operation<Toy>>) -> Result<(), CoreError> {
+/// Writes an operation, if it is live.
+pub fn write_op<D: Dialects>(
+    alloc: Global,
+    out: &mut String,
+    op: Option<&Operation<D>>,
+) -> Result<(), CoreError>
+where
+    D::Attr: Debug,
+    D::Loc: Debug,
+{
     let Some(op) = op else {
         return Ok(out.push_str("\ndead op")?);
     };
-    write!(out, "\nop {} kind {}", op.index, op.kind)?;
-    write_loc(out, &op.rest.loc)?;
+    write!(out, "\nop {} kind {} {:?}", op.index, op.kind, op.rest.loc)?;
     write_link(out, "next", op.next)?;
     write_link(out, "prev", op.prev)?;
     write_link(out, "parent", op.parent)?;
@@ -110,32 +106,43 @@ fn write_op(alloc: Global, out: &mut String, op: Option<&Operation<Toy>>) -> Res
     write_attributes(out, &op.rest.attributes)
 }
 
-// A block, if it is live.
-fn write_block(
-    alloc: Global,
-    out: &mut String,
-    block: Option<&BasicBlock<Toy>>,
-) -> Result<(), CoreError> {
-    let Some(block) = block else {
-        return Ok(out.push_str("\ndead block")?);
-    };
-    write!(out, "\nblock {}", block.index)?;
+// A block's number, its label, its location and what it is linked to.
+fn write_block_head<D: Dialects>(out: &mut String, block: &BasicBlock<D>) -> Result<(), CoreError>
+where
+    D::Loc: Debug,
+{
+    write!(out, "\nblock {} {:?}", block.index, block.rest.loc)?;
     if let Some(label) = &block.rest.label {
         write!(out, " {}", label.as_str())?;
     }
-    write_loc(out, &block.rest.loc)?;
     write_link(out, "next", block.next)?;
     write_link(out, "prev", block.prev)?;
     write_link(out, "parent", block.parent)?;
     write_link(out, "first", block.first)?;
-    write_link(out, "last", block.last)?;
+    write_link(out, "last", block.last)
+}
+
+/// Writes a block, if it is live.
+pub fn write_block<D: Dialects>(
+    alloc: Global,
+    out: &mut String,
+    block: Option<&BasicBlock<D>>,
+) -> Result<(), CoreError>
+where
+    D::Attr: Debug,
+    D::Loc: Debug,
+{
+    let Some(block) = block else {
+        return Ok(out.push_str("\ndead block")?);
+    };
+    write_block_head(out, block)?;
     write_uses(alloc, out, &block.uses)?;
     write_definitions(alloc, out, block.arguments.as_slice())?;
     write_attributes(out, &block.rest.attributes)
 }
 
-// A region, if it is live.
-fn write_region(out: &mut String, region: Option<&Region>) -> Result<(), CoreError> {
+/// Writes a region, if it is live.
+pub fn write_region(out: &mut String, region: Option<&Region>) -> Result<(), CoreError> {
     let Some(region) = region else {
         return Ok(out.push_str("\ndead region")?);
     };
@@ -144,29 +151,28 @@ fn write_region(out: &mut String, region: Option<&Region>) -> Result<(), CoreErr
     write_link(out, "last", region.last)
 }
 
-// The type at the place, if there is one.
-fn write_type(ctx: &Context<Toy>, out: &mut String, place: usize) -> Result<(), CoreError> {
+/// Writes the type at the place, if there is one.
+pub fn write_type<D: Dialects>(
+    ctx: &Context<D>,
+    out: &mut String,
+    place: usize,
+) -> Result<(), CoreError>
+where
+    D::TypeKey: Debug,
+    D::TypeBody: Debug,
+{
     let ty = TypeHandle::at(place);
-    if !ty.is_known(ctx) {
-        return Ok(());
-    }
-    match ty.deref(ctx) {
-        ToyType::Int { width } => write!(out, "\ntype int {width}")?,
-        ToyType::Named(name) => write!(out, "\ntype named {}", name.as_str())?,
-    }
-    if let Some(body) = ty.body(ctx) {
-        write!(out, " body t{}", body.index())?;
+    if ty.is_known(ctx) {
+        let (key, body) = (ty.deref(ctx), ty.body(ctx));
+        write!(out, "\ntype {key:?} body {body:?}")?;
     }
     Ok(())
 }
 
 // The saved value at the place, if there is one.
 fn write_saved(ctx: &Context<Toy>, out: &mut String, place: usize) -> Result<(), CoreError> {
-    match ctx.saved_at(place) {
-        Some(ToySaved::Text(text)) => write!(out, "\nsaved {}", text.as_str())?,
-        Some(ToySaved::U64(number)) => write!(out, "\nsaved {number}")?,
-        Some(ToySaved::I64(number)) => write!(out, "\nsaved signed {number}")?,
-        None => {}
+    if let Some(saved) = ctx.saved_at(place) {
+        write!(out, "\nsaved {saved:?}")?;
     }
     Ok(())
 }
@@ -183,21 +189,31 @@ fn write_aux_name(
     Ok(())
 }
 
+// Auxiliary data and its names: what is there, and the name that there isn't yet.
+fn write_aux(ctx: &Context<Toy>, out: &mut String, forest: &Forest) -> Result<(), CoreError> {
+    let [first, second, third] = forest.beside.others;
+    for index in [forest.beside.aux, first, second, third] {
+        if let Some(data) = ctx.get_aux(index) {
+            write!(out, "\naux {}", data.as_str())?;
+        }
+    }
+    for name in ["data", "first", "second", "more"] {
+        write_aux_name(ctx, out, &Identifier::new(name))?;
+    }
+    Ok(())
+}
+
 // Types, saved values and auxiliary data: what is there, and the places behind.
 fn write_beside(ctx: &Context<Toy>, out: &mut String, forest: &Forest) -> Result<(), CoreError> {
-    for place in 0..4 {
+    for place in 0..8 {
         write_type(ctx, out, place)?;
         write_saved(ctx, out, place)?;
     }
-    if let Some(data) = ctx.get_aux(forest.beside.aux) {
-        write!(out, "\naux {}", data.as_str())?;
-    }
-    write_aux_name(ctx, out, &Identifier::new("data"))?;
-    write_aux_name(ctx, out, &Identifier::new("more"))
+    write_aux(ctx, out, forest)
 }
 
-// How many entities there are, and how much auxiliary data.
-fn write_counts(ctx: &Context<Toy>, out: &mut String) -> Result<(), CoreError> {
+/// Writes how many entities there are.
+pub fn write_counts<D: Dialects>(ctx: &Context<D>, out: &mut String) -> Result<(), CoreError> {
     let records = ctx.records();
     write!(out, "{} ops", records.ops.len())?;
     write!(out, " {} blocks", records.blocks.len())?;
@@ -216,7 +232,8 @@ fn write_ops(ctx: &Context<Toy>, out: &mut String, forest: &Forest) -> Result<()
     write_op(alloc, out, ops.get(users.user))?;
     write_op(alloc, out, ops.get(users.other))?;
     write_op(alloc, out, ops.get(users.branch))?;
-    write_op(alloc, out, ops.get(users.jump))
+    write_op(alloc, out, ops.get(users.jump))?;
+    write_op(alloc, out, ops.get(forest.spare))
 }
 
 // The blocks, each behind the region that it was made in.

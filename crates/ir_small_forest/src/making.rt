@@ -1,6 +1,8 @@
 //! The forest that each call is made on.
 //!
-//! A module has a region with the blocks `entry`, `exit` and `last`, and a function one with the block `open`. In `entry` stand an operation with the results v and w, one with the operands v and v, one with w and w, and one with the successors `exit` and `exit`; in `exit` one with the successors `last` and `last`. Two uses lie in the record of what is used, so the third one asks for memory; so do a third operand and a third result.
+//! A module has a region with the blocks `entry`, `exit` and `last`, and a function one with the block `open`. In `entry` stand an operation with the results v and w, one with the operands v and v, one with w and w, and one with the successors `exit` and `exit`; in `exit` one with the successors `last` and `last`. Two uses lie in the record of what is used, so the third one asks for memory; so do a third operand and a third result. One operation stands alone, without parts.
+//!
+//! Four of each lie in what is asked for first: so many regions, blocks, types and saved values there are and so much auxiliary data, twice as many operations, and three names beside. So another one asks for memory.
 
 use ir_base::attribute::AttributeDict;
 use ir_base::{CoreError, IdentErr, Identifier, Ptr, TypeHandle};
@@ -9,8 +11,8 @@ use ir_checked::{
     op_at_back, region, result,
 };
 use ir_core::AuxDataIndex;
-use ir_saved::{UniquedKey, save};
-use ir_toy::{Toy, ToyInt, ToyOutlined, ToyText, ToyType};
+use ir_saved::{Uniqued, UniquedKey, save};
+use ir_toy::{Toy, ToyInt, ToyOutlined, ToySaved, ToyText, ToyType};
 use ir_view::{OperationPtrMut, ValueEdits, ValueQueries};
 use std::alloc::Global;
 
@@ -54,8 +56,12 @@ pub struct Users {
 pub struct Beside {
     /// The key of a saved text.
     pub key: UniquedKey<String>,
+    /// The same text, under the same key.
+    pub uniqued: Uniqued<String>,
     /// The index of auxiliary data, to which the name `data` leads.
     pub aux: AuxDataIndex,
+    /// The indices of more of it, to two of which a name leads.
+    pub others: [AuxDataIndex; 3],
 }
 
 /// All that was made.
@@ -65,11 +71,11 @@ pub struct Forest {
     pub ty: TypeHandle,
     /// An operation of kind 5 with one region.
     pub module: Ptr<Operation<Toy>>,
-    /// An operation of kind 6 with one region.
+    /// An operation of kind 6 with three regions, of which the last two are empty.
     pub func: Ptr<Operation<Toy>>,
     /// The region of the module.
     pub body: Ptr<Region>,
-    /// The region of the function.
+    /// The first region of the function.
     pub inner: Ptr<Region>,
     /// The block of the function, which has no terminator.
     pub open: Ptr<BasicBlock<Toy>>,
@@ -79,6 +85,8 @@ pub struct Forest {
     pub made: Made,
     /// The operations that name something.
     pub users: Users,
+    /// An operation of kind 4 that stands alone and has no parts.
+    pub spare: Ptr<Operation<Toy>>,
     /// What is kept beside.
     pub beside: Beside,
 }
@@ -205,21 +213,55 @@ fn add_attributes(
     }
 }
 
-// A saved text, and auxiliary data with a name.
-fn add_beside(ctx: &mut Context<Toy>) -> Result<Beside, CheckedErr> {
-    let alloc = ctx.alloc();
-    let key = save(ctx, text(alloc, "saved")?)?;
-    let aux = ctx.insert_aux(text(alloc, "beside")?)?;
-    ctx.set_aux_name(owned(alloc, "data")?, aux)?;
-    Ok(Beside { key, aux })
+// Three types behind the first one.
+fn add_types(ctx: &mut Context<Toy>) -> Result<(), CoreError> {
+    for width in [8, 16, 64] {
+        ctx.instantiate_key(ToyType::Int { width })?;
+    }
+    Ok(())
 }
 
-// A new operation of the kind with one region.
+// A text under two keys, and three numbers.
+fn add_saved(ctx: &mut Context<Toy>) -> Result<(UniquedKey<String>, Uniqued<String>), CoreError> {
+    let alloc = ctx.alloc();
+    let key = save(ctx, text(alloc, "saved")?)?;
+    let uniqued = Uniqued::new(ctx, text(alloc, "saved")?)?;
+    for number in [1, 2, 3] {
+        ctx.save_value(ToySaved::U64(number))?;
+    }
+    Ok((key, uniqued))
+}
+
+// New auxiliary data, to which the name leads.
+fn add_named(ctx: &mut Context<Toy>, name: &str) -> Result<AuxDataIndex, CheckedErr> {
+    let alloc = ctx.alloc();
+    let index = ctx.insert_aux(text(alloc, name)?)?;
+    ctx.set_aux_name(owned(alloc, name)?, index)?;
+    Ok(index)
+}
+
+// Saved and auxiliary data.
+fn add_beside(ctx: &mut Context<Toy>) -> Result<Beside, CheckedErr> {
+    let (key, uniqued) = add_saved(ctx)?;
+    let aux = add_named(ctx, "data")?;
+    let first = add_named(ctx, "first")?;
+    let second = add_named(ctx, "second")?;
+    let third = ctx.insert_aux(text(ctx.alloc(), "third")?)?;
+    Ok(Beside {
+        key,
+        uniqued,
+        aux,
+        others: [first, second, third],
+    })
+}
+
+// A new operation of the kind with so many regions, and its first region.
 fn add_outer(
     ctx: &mut Context<Toy>,
     kind: u32,
+    regions: usize,
 ) -> Result<(Ptr<Operation<Toy>>, Ptr<Region>), CheckedErr> {
-    let op = new_op(ctx, kind, &[], &[], &[], 1)?;
+    let op = new_op(ctx, kind, &[], &[], &[], regions)?;
     let region = region(ctx, op, 0)?;
     Ok((op, region))
 }
@@ -230,14 +272,16 @@ fn add_outer(
 /// Where a request for memory was refused.
 pub fn make_forest(ctx: &mut Context<Toy>) -> Result<Forest, CheckedErr> {
     let ty = ctx.instantiate_key(ToyType::Int { width: 32 })?;
-    let (module, body) = add_outer(ctx, 5)?;
-    let (func, inner) = add_outer(ctx, 6)?;
+    add_types(ctx)?;
+    let (module, body) = add_outer(ctx, 5, 1)?;
+    let (func, inner) = add_outer(ctx, 6, 3)?;
     let blocks = add_blocks(ctx, body, ty)?;
     let open = add_block(ctx, inner, "open", &[])?;
     let made = add_maker(ctx, blocks.entry, ty)?;
     let users = add_users(ctx, blocks, made)?;
     name_value(ctx, made.v, "first")?;
     add_attributes(ctx, made.maker, ty)?;
+    let spare = new_op(ctx, 4, &[], &[], &[], 0)?;
     let beside = add_beside(ctx)?;
     Ok(Forest {
         ty,
@@ -249,6 +293,7 @@ pub fn make_forest(ctx: &mut Context<Toy>) -> Result<Forest, CheckedErr> {
         blocks,
         made,
         users,
+        spare,
         beside,
     })
 }

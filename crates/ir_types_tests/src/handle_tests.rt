@@ -178,6 +178,25 @@ fn conversions(rt: HostRuntime) -> Result<(), Fail> {
     Ok(())
 }
 
+// Turns the handle of a new integer type between two lines of output, so that whoever watches sees that nothing is asked for.
+fn turn_quietly<R: Abort + Print>(rt: &R, ctx: &mut Context<Small>) -> Result<(), CoreError> {
+    let typed: TypedHandle<IntType, Small> = int(8).instantiate(ctx)?;
+    assert!(rt; println!(rt; "ready").is_ok());
+    let sized: TypeInterfaceHandle<SizedType, Small> = typed.into();
+    let is_same = sized.to_handle() == typed.to_handle();
+    assert!(rt; println!(rt; "done").is_ok());
+    assert!(rt; is_same);
+    Ok(())
+}
+
+#[test]
+fn conversions_without_memory(rt: HostRuntime) -> Result<(), Fail> {
+    let mut ctx: Context<Small> = Context::new(rt.alloc());
+    let outcome = turn_quietly(&rt, &mut ctx);
+    end(ctx, outcome)?;
+    Ok(())
+}
+
 // Asserts that both handles of a type are known, or that neither is.
 fn expect_known<D: Dialects, I: TypeInterfaceMarker, T: IrType<D>>(
     rt: &impl Abort,

@@ -1,0 +1,86 @@
+//! Results and arguments, put in.
+
+ghost use Rattle.std.specs.Prelude.{◌≡◌};
+
+use crate::forest_call::ForestCall;
+use ir_checked::{
+    CheckedErr, Context, Value, ValueQueries, argument, insert_argument, insert_result,
+    push_argument, push_result, result,
+};
+use ir_small_forest::Forest;
+use ir_toy::Toy;
+
+/// A call that puts a definition in.
+#[derive(Clone, Copy, Debug, Drop)]
+pub enum DefinitionCall {
+    /// `push_result`.
+    PushResult,
+    /// `insert_result`.
+    InsertResult,
+    /// `push_argument`.
+    PushArgument,
+    /// `insert_argument`.
+    InsertArgument,
+}
+
+impl DefinitionCall {
+    /// All of them.
+    pub const ALL: [DefinitionCall; 4] = [
+        DefinitionCall::PushResult,
+        DefinitionCall::InsertResult,
+        DefinitionCall::PushArgument,
+        DefinitionCall::InsertArgument,
+    ];
+
+    /// The call as `ALL` has it.
+    pub fn listed(self) -> DefinitionCall
+        ensures { result ≡ self }
+    {
+        match self {
+            DefinitionCall::PushResult => DefinitionCall::ALL[0],
+            DefinitionCall::InsertResult => DefinitionCall::ALL[1],
+            DefinitionCall::PushArgument => DefinitionCall::ALL[2],
+            DefinitionCall::InsertArgument => DefinitionCall::ALL[3],
+        }
+    }
+}
+
+impl ForestCall for DefinitionCall {
+    fn name(self) -> &'static str {
+        match self {
+            DefinitionCall::PushResult => "push_result",
+            DefinitionCall::InsertResult => "insert_result",
+            DefinitionCall::PushArgument => "push_argument",
+            DefinitionCall::InsertArgument => "insert_argument",
+        }
+    }
+
+    fn make(self, ctx: &mut Context<Toy>, forest: &Forest) -> Result<bool, CheckedErr> {
+        let maker = forest.made.maker;
+        let entry = forest.blocks.entry;
+        match self {
+            DefinitionCall::PushResult => {
+                let index = push_result(ctx, maker, forest.ty)?;
+                Ok(index == 2 && is_at(ctx, result(ctx, maker, 2)?, 2))
+            }
+            DefinitionCall::InsertResult => {
+                insert_result(ctx, maker, 0, forest.ty)?;
+                Ok(is_at(ctx, result(ctx, maker, 0)?, 0) && is_at(ctx, forest.made.v, 1))
+            }
+            DefinitionCall::PushArgument => {
+                let index = push_argument(ctx, entry, forest.ty)?;
+                Ok(index == 2 && is_at(ctx, argument(ctx, entry, 2)?, 2))
+            }
+            DefinitionCall::InsertArgument => {
+                let before = argument(ctx, entry, 0)?;
+                insert_argument(ctx, entry, 0, forest.ty)?;
+                Ok(is_at(ctx, before, 1))
+            }
+        }
+    }
+}
+
+// Whether the value stands there among the results or arguments.
+fn is_at(ctx: &Context<Toy>, value: Value<Toy>, place: usize) -> bool {
+    value.try_find_index(ctx) == Ok(place)
+}

@@ -1,0 +1,147 @@
+//! Operands put in and replaced, and uses of values that move.
+
+ghost use Rattle.std.specs.Prelude.{◌≡◌};
+
+use crate::forest_call::ForestCall;
+use ir_base::Ptr;
+use ir_checked::{
+    CheckedErr, Context, Operation, OperationPtr, Use, UseQueries, Value, ValueQueries,
+    insert_operand, num_uses, operand, push_operand, replace_all_uses, replace_operand,
+    replace_use,
+};
+use ir_small_forest::Forest;
+use ir_toy::Toy;
+use ir_view::ValueEdits;
+
+/// A call that puts an operand in, or lets one name another value.
+#[derive(Clone, Copy, Debug, Drop)]
+pub enum OperandCall {
+    /// `push_operand`.
+    Push,
+    /// `insert_operand`.
+    Insert,
+    /// `replace_operand`.
+    Replace,
+    /// `replace_all_uses_with`.
+    ReplaceAllUses,
+    /// `replace_some_uses_with`.
+    ReplaceSomeUses,
+    /// `replace_use_with`.
+    ReplaceUse,
+}
+
+impl OperandCall {
+    /// All of them.
+    pub const ALL: [OperandCall; 6] = [
+        OperandCall::Push,
+        OperandCall::Insert,
+        OperandCall::Replace,
+        OperandCall::ReplaceAllUses,
+        OperandCall::ReplaceSomeUses,
+        OperandCall::ReplaceUse,
+    ];
+
+    /// The call as `ALL` has it.
+    pub fn listed(self) -> OperandCall
+        ensures { result ≡ self }
+    {
+        match self {
+            OperandCall::Push => OperandCall::ALL[0],
+            OperandCall::Insert => OperandCall::ALL[1],
+            OperandCall::Replace => OperandCall::ALL[2],
+            OperandCall::ReplaceAllUses => OperandCall::ALL[3],
+            OperandCall::ReplaceSomeUses => OperandCall::ALL[4],
+            OperandCall::ReplaceUse => OperandCall::ALL[5],
+        }
+    }
+}
+
+impl ForestCall for OperandCall {
+    fn name(self) -> &'static str {
+        match self {
+            OperandCall::Push => "push_operand",
+            OperandCall::Insert => "insert_operand",
+            OperandCall::Replace => "replace_operand",
+            OperandCall::ReplaceAllUses => "replace_all_uses_with",
+            OperandCall::ReplaceSomeUses => "replace_some_uses_with",
+            OperandCall::ReplaceUse => "replace_use_with",
+        }
+    }
+
+    fn make(self, ctx: &mut Context<Toy>, forest: &Forest) -> Result<bool, CheckedErr> {
+        let user = forest.users.user;
+        let v = forest.made.v;
+        let w = forest.made.w;
+        match self {
+            OperandCall::Push => {
+                let index = push_operand(ctx, user, v)?;
+                Ok(index == 2 && operand(ctx, user, 2)? == v && have_uses(ctx, forest, 3, 2)?)
+            }
+            OperandCall::Insert => {
+                insert_operand(ctx, user, 0, w)?;
+                Ok(operand(ctx, user, 0)? == w && have_uses(ctx, forest, 2, 3)?)
+            }
+            OperandCall::Replace => {
+                replace_operand(ctx, user, 1, w)?;
+                Ok(operand(ctx, user, 1)? == w && have_uses(ctx, forest, 1, 3)?)
+            }
+            OperandCall::ReplaceAllUses => {
+                replace_all_uses(ctx, v, w)?;
+                have_uses(ctx, forest, 0, 4)
+            }
+            OperandCall::ReplaceSomeUses => {
+                let first = operand_use(ctx, user, 0)?;
+                replace_one(ctx, v, first, w)?;
+                Ok(operand(ctx, user, 0)? == w && have_uses(ctx, forest, 1, 3)?)
+            }
+            OperandCall::ReplaceUse => {
+                let second = operand_use(ctx, user, 1)?;
+                replace_use(ctx, second, w)?;
+                Ok(operand(ctx, user, 1)? == w && have_uses(ctx, forest, 1, 3)?)
+            }
+        }
+    }
+}
+
+// Whether the two results have so many uses.
+fn have_uses(
+    ctx: &Context<Toy>,
+    forest: &Forest,
+    of_v: usize,
+    of_w: usize,
+) -> Result<bool, CheckedErr> {
+    Ok(num_uses(ctx, forest.made.v)? == of_v && num_uses(ctx, forest.made.w)? == of_w)
+}
+
+/// The operand at the index, as a use.
+pub fn operand_use(
+    ctx: &Context<Toy>,
+    op: Ptr<Operation<Toy>>,
+    index: usize,
+) -> Result<Use<Value<Toy>>, CheckedErr> {
+    let Ok(record) = op.try_deref(ctx) else {
+        return Err(CheckedErr::Condition);
+    };
+    if index >= record.get_num_operands() {
+        return Err(CheckedErr::Condition);
+    }
+    Ok(record.get_operand_as_use(index))
+}
+
+// Of the uses of the value the predicate chooses the one, which comes to name the other value.
+fn replace_one(
+    ctx: &mut Context<Toy>,
+    value: Value<Toy>,
+    chosen: Use<Value<Toy>>,
+    other: Value<Toy>,
+) -> Result<(), CheckedErr> {
+    if !value.is_live(ctx) || !other.is_live(ctx) {
+        return Err(CheckedErr::Condition);
+    }
+    value.replace_some_uses_with(
+        ctx,
+        |_shown: &Context<Toy>, used: Use<Value<Toy>>| used == chosen,
+        other,
+    )?;
+    Ok(())
+}

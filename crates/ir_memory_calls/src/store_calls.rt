@@ -1,0 +1,94 @@
+//! Types, saved values and auxiliary data, stored.
+
+ghost use Rattle.std.specs.Prelude.{◌≡◌};
+
+use crate::forest_call::ForestCall;
+use ir_base::Identifier;
+use ir_checked::{CheckedErr, Context, TypeQueries};
+use ir_saved::{Uniqued, save};
+use ir_small_forest::Forest;
+use ir_toy::{Toy, ToySaved, ToyType};
+
+/// A call that stores something beside the forest.
+#[derive(Clone, Copy, Debug, Drop)]
+pub enum StoreCall {
+    /// `instantiate_key`.
+    InstantiateKey,
+    /// `save`.
+    Save,
+    /// `save_value`.
+    SaveValue,
+    /// `Uniqued::new`.
+    Uniqued,
+    /// `insert_aux`.
+    InsertAux,
+    /// `set_aux_name`.
+    SetAuxName,
+}
+
+impl StoreCall {
+    /// All of them.
+    pub const ALL: [StoreCall; 6] = [
+        StoreCall::InstantiateKey,
+        StoreCall::Save,
+        StoreCall::SaveValue,
+        StoreCall::Uniqued,
+        StoreCall::InsertAux,
+        StoreCall::SetAuxName,
+    ];
+
+    /// The call as `ALL` has it.
+    pub fn listed(self) -> StoreCall
+        ensures { result ≡ self }
+    {
+        match self {
+            StoreCall::InstantiateKey => StoreCall::ALL[0],
+            StoreCall::Save => StoreCall::ALL[1],
+            StoreCall::SaveValue => StoreCall::ALL[2],
+            StoreCall::Uniqued => StoreCall::ALL[3],
+            StoreCall::InsertAux => StoreCall::ALL[4],
+            StoreCall::SetAuxName => StoreCall::ALL[5],
+        }
+    }
+}
+
+impl ForestCall for StoreCall {
+    fn name(self) -> &'static str {
+        match self {
+            StoreCall::InstantiateKey => "instantiate_key",
+            StoreCall::Save => "save",
+            StoreCall::SaveValue => "save_value",
+            StoreCall::Uniqued => "Uniqued::new",
+            StoreCall::InsertAux => "insert_aux",
+            StoreCall::SetAuxName => "set_aux_name",
+        }
+    }
+
+    fn make(self, ctx: &mut Context<Toy>, forest: &Forest) -> Result<bool, CheckedErr> {
+        match self {
+            StoreCall::InstantiateKey => instantiate_key(ctx),
+            StoreCall::Save => Ok(save(ctx, 9u64)?.index() == 4),
+            StoreCall::SaveValue => Ok(ctx.save_value(ToySaved::U64(9))? == 4),
+            StoreCall::Uniqued => Ok(Uniqued::new(ctx, 9u64)?.key().index() == 4),
+            StoreCall::InsertAux => insert_aux(ctx, forest),
+            StoreCall::SetAuxName => set_aux_name(ctx, forest),
+        }
+    }
+}
+
+fn instantiate_key(ctx: &mut Context<Toy>) -> Result<bool, CheckedErr> {
+    let ty = ctx.instantiate_key(ToyType::Named(Identifier::new("named")))?;
+    Ok(ty.index() == 4 && ty.is_known(ctx))
+}
+
+fn insert_aux(ctx: &mut Context<Toy>, forest: &Forest) -> Result<bool, CheckedErr> {
+    let data = String::new(ctx.alloc());
+    let index = ctx.insert_aux(data)?;
+    let found = ctx.get_aux(index).is_some_and(|data| data.is_empty());
+    Ok(found && index != forest.beside.aux)
+}
+
+fn set_aux_name(ctx: &mut Context<Toy>, forest: &Forest) -> Result<bool, CheckedErr> {
+    ctx.set_aux_name(Identifier::new("more"), forest.beside.aux)?;
+    Ok(ctx.aux_by_name(&Identifier::new("more")) == Some(forest.beside.aux))
+}

@@ -1,0 +1,150 @@
+//! Successors put in and replaced, and uses of blocks that move.
+
+ghost use Rattle.std.specs.Prelude.{◌≡◌};
+
+use crate::forest_call::ForestCall;
+use ir_base::Ptr;
+use ir_checked::{
+    BasicBlock, BlockPtr, CheckedErr, Context, Operation, OperationPtr, Use, insert_successor,
+    push_successor, replace_successor, retarget_all, retarget_pred, successor,
+};
+use ir_small_forest::Forest;
+use ir_toy::Toy;
+use ir_view::{BlockPredecessors, BlockUses, Retarget};
+
+/// A call that puts a successor in, or lets one name another block.
+#[derive(Clone, Copy, Debug, Drop)]
+pub enum SuccessorCall {
+    /// `push_successor`.
+    Push,
+    /// `insert_successor`.
+    Insert,
+    /// `replace_successor`.
+    Replace,
+    /// `retarget_all_preds_to`.
+    RetargetAll,
+    /// `retarget_some_preds_to`.
+    RetargetSome,
+    /// `retarget_pred_to`.
+    RetargetPred,
+}
+
+impl SuccessorCall {
+    /// All of them.
+    pub const ALL: [SuccessorCall; 6] = [
+        SuccessorCall::Push,
+        SuccessorCall::Insert,
+        SuccessorCall::Replace,
+        SuccessorCall::RetargetAll,
+        SuccessorCall::RetargetSome,
+        SuccessorCall::RetargetPred,
+    ];
+
+    /// The call as `ALL` has it.
+    pub fn listed(self) -> SuccessorCall
+        ensures { result ≡ self }
+    {
+        match self {
+            SuccessorCall::Push => SuccessorCall::ALL[0],
+            SuccessorCall::Insert => SuccessorCall::ALL[1],
+            SuccessorCall::Replace => SuccessorCall::ALL[2],
+            SuccessorCall::RetargetAll => SuccessorCall::ALL[3],
+            SuccessorCall::RetargetSome => SuccessorCall::ALL[4],
+            SuccessorCall::RetargetPred => SuccessorCall::ALL[5],
+        }
+    }
+}
+
+impl ForestCall for SuccessorCall {
+    fn name(self) -> &'static str {
+        match self {
+            SuccessorCall::Push => "push_successor",
+            SuccessorCall::Insert => "insert_successor",
+            SuccessorCall::Replace => "replace_successor",
+            SuccessorCall::RetargetAll => "retarget_all_preds_to",
+            SuccessorCall::RetargetSome => "retarget_some_preds_to",
+            SuccessorCall::RetargetPred => "retarget_pred_to",
+        }
+    }
+
+    fn make(self, ctx: &mut Context<Toy>, forest: &Forest) -> Result<bool, CheckedErr> {
+        let branch = forest.users.branch;
+        let exit = forest.blocks.exit;
+        let last = forest.blocks.last;
+        match self {
+            SuccessorCall::Push => {
+                let index = push_successor(ctx, branch, exit)?;
+                Ok(index == 2 && successor(ctx, branch, 2)? == exit && have_uses(ctx, forest, 3, 2))
+            }
+            SuccessorCall::Insert => {
+                insert_successor(ctx, branch, 0, last)?;
+                Ok(successor(ctx, branch, 0)? == last && have_uses(ctx, forest, 2, 3))
+            }
+            SuccessorCall::Replace => {
+                replace_successor(ctx, branch, 1, last)?;
+                Ok(successor(ctx, branch, 1)? == last && have_uses(ctx, forest, 1, 3))
+            }
+            SuccessorCall::RetargetAll => {
+                retarget_all(ctx, exit, last)?;
+                Ok(have_uses(ctx, forest, 0, 4))
+            }
+            SuccessorCall::RetargetSome => {
+                retarget_from(ctx, exit, forest.blocks.entry, last)?;
+                Ok(have_uses(ctx, forest, 0, 4))
+            }
+            SuccessorCall::RetargetPred => {
+                let second = successor_use(ctx, branch, 1)?;
+                retarget_pred(ctx, second, last)?;
+                Ok(successor(ctx, branch, 1)? == last && have_uses(ctx, forest, 1, 3))
+            }
+        }
+    }
+}
+
+// Whether `exit` and `last` are named so often.
+fn have_uses(ctx: &Context<Toy>, forest: &Forest, of_exit: usize, of_last: usize) -> bool {
+    pred_count(ctx, forest.blocks.exit) == Some(of_exit)
+        && pred_count(ctx, forest.blocks.last) == Some(of_last)
+}
+
+// How often a live block is named.
+fn pred_count(ctx: &Context<Toy>, block: Ptr<BasicBlock<Toy>>) -> Option<usize> {
+    if block.is_live(ctx) {
+        Some(block.num_preds(ctx))
+    } else {
+        None
+    }
+}
+
+// The successor at the index, as a use.
+fn successor_use(
+    ctx: &Context<Toy>,
+    op: Ptr<Operation<Toy>>,
+    index: usize,
+) -> Result<Use<Ptr<BasicBlock<Toy>>>, CheckedErr> {
+    let Ok(record) = op.try_deref(ctx) else {
+        return Err(CheckedErr::Condition);
+    };
+    if index >= record.get_num_successors() {
+        return Err(CheckedErr::Condition);
+    }
+    Ok(record.get_successor_as_use(index))
+}
+
+// What names the block from inside the chosen one comes to name the other.
+fn retarget_from(
+    ctx: &mut Context<Toy>,
+    block: Ptr<BasicBlock<Toy>>,
+    chosen: Ptr<BasicBlock<Toy>>,
+    other: Ptr<BasicBlock<Toy>>,
+) -> Result<(), CheckedErr> {
+    if !block.is_live(ctx) || !other.is_live(ctx) || !block.preds_are_linked(ctx) {
+        return Err(CheckedErr::Condition);
+    }
+    block.retarget_some_preds_to(
+        ctx,
+        |_shown: &Context<Toy>, pred: Ptr<BasicBlock<Toy>>| pred == chosen,
+        other,
+    )?;
+    Ok(())
+}

@@ -1,0 +1,125 @@
+//! Lists of uses and of neighbours among blocks, read.
+
+ghost use Rattle.std.specs.Prelude.{◌≡◌};
+
+use crate::forest_call::ForestCall;
+use ir_base::Ptr;
+use ir_checked::{BasicBlock, BlockPtr, CheckedErr, Context, Use, Value, ValueQueries};
+use ir_small_forest::Forest;
+use ir_toy::Toy;
+use ir_view::{BlockPredecessors, BlockSuccessors, BlockUses};
+
+/// A call that lists uses or blocks.
+#[derive(Clone, Copy, Debug, Drop)]
+pub enum UseCall {
+    /// `uses` of a value.
+    OfValue,
+    /// `uses` of a block.
+    OfBlock,
+    /// `preds`.
+    Preds,
+    /// `succs`.
+    Succs,
+}
+
+impl UseCall {
+    /// All of them.
+    pub const ALL: [UseCall; 4] = [
+        UseCall::OfValue,
+        UseCall::OfBlock,
+        UseCall::Preds,
+        UseCall::Succs,
+    ];
+
+    /// The call as `ALL` has it.
+    pub fn listed(self) -> UseCall
+        ensures { result ≡ self }
+    {
+        match self {
+            UseCall::OfValue => UseCall::ALL[0],
+            UseCall::OfBlock => UseCall::ALL[1],
+            UseCall::Preds => UseCall::ALL[2],
+            UseCall::Succs => UseCall::ALL[3],
+        }
+    }
+}
+
+impl ForestCall for UseCall {
+    fn name(self) -> &'static str {
+        match self {
+            UseCall::OfValue => "Value::uses",
+            UseCall::OfBlock => "BasicBlock::uses",
+            UseCall::Preds => "preds",
+            UseCall::Succs => "succs",
+        }
+    }
+
+    fn make(self, ctx: &mut Context<Toy>, forest: &Forest) -> Result<bool, CheckedErr> {
+        let entry = forest.blocks.entry;
+        let exit = forest.blocks.exit;
+        match self {
+            UseCall::OfValue => {
+                let uses = value_uses(ctx, forest.made.v)?;
+                Ok(uses.len() == 2 && uses.iter().all(|used| used.user_op() == forest.users.user))
+            }
+            UseCall::OfBlock => {
+                let uses = block_uses(ctx, exit)?;
+                Ok(
+                    uses.len() == 2
+                        && uses
+                            .iter()
+                            .all(|used| used.user_op() == forest.users.branch),
+                )
+            }
+            UseCall::Preds => {
+                let blocks = preds(ctx, exit)?;
+                Ok(blocks.len() == 2 && blocks.iter().all(|block| *block == entry))
+            }
+            UseCall::Succs => {
+                let blocks = succs(ctx, entry)?;
+                Ok(blocks.len() == 2 && blocks.iter().all(|block| *block == exit))
+            }
+        }
+    }
+}
+
+fn value_uses(ctx: &Context<Toy>, value: Value<Toy>) -> Result<Vec<Use<Value<Toy>>>, CheckedErr> {
+    if !value.is_live(ctx) {
+        return Err(CheckedErr::Condition);
+    }
+    let uses = value.uses(ctx)?;
+    Ok(uses)
+}
+
+fn block_uses(
+    ctx: &Context<Toy>,
+    block: Ptr<BasicBlock<Toy>>,
+) -> Result<Vec<Use<Ptr<BasicBlock<Toy>>>>, CheckedErr> {
+    if !block.is_live(ctx) {
+        return Err(CheckedErr::Condition);
+    }
+    let uses = block.uses(ctx)?;
+    Ok(uses)
+}
+
+fn preds(
+    ctx: &Context<Toy>,
+    block: Ptr<BasicBlock<Toy>>,
+) -> Result<Vec<Ptr<BasicBlock<Toy>>>, CheckedErr> {
+    if !block.is_live(ctx) || !block.preds_are_linked(ctx) {
+        return Err(CheckedErr::Condition);
+    }
+    let blocks = block.preds(ctx)?;
+    Ok(blocks)
+}
+
+fn succs(
+    ctx: &Context<Toy>,
+    block: Ptr<BasicBlock<Toy>>,
+) -> Result<Vec<Ptr<BasicBlock<Toy>>>, CheckedErr> {
+    if !block.is_live(ctx) {
+        return Err(CheckedErr::Condition);
+    }
+    let blocks = block.succs(ctx)?;
+    Ok(blocks)
+}

@@ -1,0 +1,179 @@
+//! How the calls with a name are tried.
+
+use ir_base::{CoreError, Dialects};
+use ir_checked::{CheckedErr, Context};
+use ir_memory_calls::{
+    AttributeCall, CheckCall, DefinitionCall, ForestCall, IdCall, NameCall, NewCall, OperandCall,
+    StoreCall as StoringOnForest, SuccessorCall, TypeCall, UseCall, VerifyCall, dump_marked,
+    make_types,
+};
+use ir_small_dialect::{MarkedForest, Small};
+use ir_small_forest::{Forest, dump, make_forest};
+use ir_store_calls::{
+    DictionaryCall, IdentifierCall, LegaliserCall, ListCall, NameCall as NameMaking, StoreCall,
+    StoringCall,
+};
+use ir_toy::Toy;
+use std::alloc::Global;
+use std::process::Abort;
+
+// Makes the call on the forest. Where it wants memory, nothing has changed.
+fn try_call<C: ForestCall>(
+    rt: &impl Abort,
+    ctx: &mut Context<Toy>,
+    forest: &Forest,
+    call: C,
+) -> Result<(), CheckedErr> {
+    let before = dump(ctx, forest)?;
+    let answer = call.make(ctx, forest);
+    if answer == Err(CheckedErr::Core(CoreError::OutOfMemory)) {
+        let after = dump(ctx, forest)?;
+        assert!(rt; before == after, "{call:?}");
+    }
+    assert!(rt; answer?, "{call:?}");
+    Ok(())
+}
+
+// Makes the forest and then the call.
+fn make_and_try<C: ForestCall>(
+    rt: &impl Abort,
+    ctx: &mut Context<Toy>,
+    call: C,
+) -> Result<(), CheckedErr> {
+    let forest = make_forest(ctx)?;
+    try_call(rt, ctx, &forest, call)
+}
+
+// Lets go of a context, and answers how its test went. That all in a context is let go is so proved once, and for any dialect.
+fn end<D: Dialects>(_ctx: Context<D>, outcome: Result<(), CheckedErr>) -> Result<(), CheckedErr> {
+    outcome
+}
+
+// Makes the call on a forest of its own.
+fn try_alone<C: ForestCall>(rt: &impl Abort, alloc: Global, call: C) -> Result<(), CheckedErr> {
+    let mut ctx: Context<Toy> = Context::new(alloc);
+    let outcome = make_and_try(rt, &mut ctx, call);
+    end(ctx, outcome)
+}
+
+// Makes each call of the group that has this name. Whether there is one.
+fn try_group<C: ForestCall>(
+    rt: &impl Abort,
+    alloc: Global,
+    group: &[C],
+    name: &str,
+) -> Result<bool, CheckedErr> {
+    let mut tried = false;
+    for call in group {
+        if call.name() == name {
+            try_alone(rt, alloc, *call)?;
+            tried = true;
+        }
+    }
+    Ok(tried)
+}
+
+// Makes the calls with this name that edit or read a forest. Whether there is one.
+fn try_on_forest(rt: &impl Abort, alloc: Global, name: &str) -> Result<bool, CheckedErr> {
+    let mut tried = try_group(rt, alloc, &NewCall::ALL, name)?;
+    tried |= try_group(rt, alloc, &DefinitionCall::ALL, name)?;
+    tried |= try_group(rt, alloc, &OperandCall::ALL, name)?;
+    tried |= try_group(rt, alloc, &SuccessorCall::ALL, name)?;
+    tried |= try_group(rt, alloc, &UseCall::ALL, name)?;
+    tried |= try_group(rt, alloc, &NameCall::ALL, name)?;
+    Ok(tried)
+}
+
+// Makes the calls with this name that store something beside a forest or verify it. Whether there is one.
+fn try_beside_forest(rt: &impl Abort, alloc: Global, name: &str) -> Result<bool, CheckedErr> {
+    let mut tried = try_group(rt, alloc, &StoringOnForest::ALL, name)?;
+    tried |= try_group(rt, alloc, &AttributeCall::ALL, name)?;
+    tried |= try_group(rt, alloc, &IdCall::ALL, name)?;
+    tried |= try_group(rt, alloc, &VerifyCall::ALL, name)?;
+    tried |= try_group(rt, alloc, &CheckCall::ALL, name)?;
+    Ok(tried)
+}
+
+// Makes the call on the forest over the small dialect. Where it wants memory, nothing has changed.
+fn try_type_call(
+    rt: &impl Abort,
+    ctx: &mut Context<Small>,
+    forest: &MarkedForest,
+    call: TypeCall,
+) -> Result<(), CheckedErr> {
+    let before = dump_marked(ctx, forest)?;
+    let answer = call.make(ctx, forest);
+    if answer == Err(CheckedErr::Core(CoreError::OutOfMemory)) {
+        let after = dump_marked(ctx, forest)?;
+        assert!(rt; before == after, "{call:?}");
+    }
+    assert!(rt; answer?, "{call:?}");
+    Ok(())
+}
+
+// Makes the forest over the small dialect and then the call.
+fn make_and_try_type(
+    rt: &impl Abort,
+    ctx: &mut Context<Small>,
+    call: TypeCall,
+) -> Result<(), CheckedErr> {
+    let forest = make_types(ctx)?;
+    try_type_call(rt, ctx, &forest, call)
+}
+
+// Makes each call on types with this name, on a forest of its own. Whether there is one.
+fn try_on_types(rt: &impl Abort, alloc: Global, name: &str) -> Result<bool, CheckedErr> {
+    let mut tried = false;
+    for call in TypeCall::ALL.iter() {
+        if call.name() == name {
+            let mut ctx: Context<Small> = Context::new(alloc);
+            let outcome = make_and_try_type(rt, &mut ctx, *call);
+            end(ctx, outcome)?;
+            tried = true;
+        }
+    }
+    Ok(tried)
+}
+
+// Makes each call of the group that has this name. Whether there is one.
+fn try_stores<C: StoreCall>(
+    rt: &impl Abort,
+    alloc: Global,
+    group: &[C],
+    name: &str,
+) -> Result<bool, CoreError> {
+    let mut tried = false;
+    for call in group {
+        if call.name() == name {
+            assert!(rt; call.make(alloc)?, "{call:?}");
+            tried = true;
+        }
+    }
+    Ok(tried)
+}
+
+// Makes the calls with this name that need no context. Whether there is one.
+fn try_without_context(rt: &impl Abort, alloc: Global, name: &str) -> Result<bool, CoreError> {
+    let mut tried = try_stores(rt, alloc, &IdentifierCall::ALL, name)?;
+    tried |= try_stores(rt, alloc, &NameMaking::ALL, name)?;
+    tried |= try_stores(rt, alloc, &LegaliserCall::ALL, name)?;
+    tried |= try_stores(rt, alloc, &DictionaryCall::ALL, name)?;
+    tried |= try_stores(rt, alloc, &StoringCall::ALL, name)?;
+    tried |= try_stores(rt, alloc, &ListCall::ALL, name)?;
+    Ok(tried)
+}
+
+/// Makes the calls with each of these names. A name without a call fails.
+///
+/// # Errors
+/// Where a request for memory was refused, whether a call's or one before.
+pub(crate) fn try_named(rt: &impl Abort, alloc: Global, names: &[&str]) -> Result<(), CheckedErr> {
+    for name in names {
+        let mut tried = try_on_forest(rt, alloc, name)?;
+        tried |= try_beside_forest(rt, alloc, name)?;
+        tried |= try_on_types(rt, alloc, name)?;
+        tried |= try_without_context(rt, alloc, name)?;
+        assert!(rt; tried, "no call is named {name}");
+    }
+    Ok(())
+}

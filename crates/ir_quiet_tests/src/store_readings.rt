@@ -1,0 +1,307 @@
+//! Identifiers, names, arenas, stores and dictionary keys, asked and changed without memory.
+
+ghost use Rattle.std.specs.Prelude.{◌≡◌};
+
+use ir_base::attribute::AttributeDict;
+use ir_base::{
+    Arena, CoreError, DialectName, Dialects, DictKeyId, DuplicateKey, IdentErr, Identifier,
+    Legaliser, OpId, OpName, Ptr, UniqueStore, verify_dict_keys,
+};
+use ir_toy::Toy;
+use std::alloc::Global;
+use std::convert::AsStr;
+use std::hash::{DefaultHasher, Hash, Hasher};
+use std::process::Abort;
+
+/// What the calls are made on.
+#[derive(Drop)]
+pub(crate) struct Stores {
+    alloc: Global,
+    // The text `abc`, thrice.
+    texts: [String; 3],
+    // The same as an identifier.
+    identifier: Identifier,
+    // The id `toy.add`.
+    id: OpId,
+    // The keys a, b and a.
+    keys: [DictKeyId; 3],
+    // An arena with the number 7.
+    arena: Arena<u64>,
+    // Where it is.
+    first: Ptr<u64>,
+    // A store with the number 7.
+    store: UniqueStore<u64>,
+}
+
+fn text(alloc: Global) -> Result<String, CoreError> {
+    Ok(String::from_str(alloc, "abc")?)
+}
+
+// An identifier in memory of its own.
+fn owned(alloc: Global, text: &str) -> Result<Identifier, CoreError> {
+    match Identifier::from_text(alloc, text) {
+        Ok(identifier) => Ok(identifier),
+        Err(IdentErr::OutOfMemory) => Err(CoreError::OutOfMemory),
+        Err(IdentErr::MalformedIdentifierErr(_)) => Err(CoreError::CounterSpent),
+    }
+}
+
+// A dictionary key with this name.
+fn key(alloc: Global, name: &str) -> Result<DictKeyId, CoreError> {
+    Ok(DictKeyId {
+        id: owned(alloc, name)?,
+        file: "file",
+        line: 1,
+        column: 1,
+    })
+}
+
+impl Stores {
+    /// What the calls are made on.
+    ///
+    /// # Errors
+    /// Where a request for memory was refused.
+    pub(crate) fn new(alloc: Global) -> Result<Stores, CoreError> {
+        let mut arena = Arena::new(alloc, 9, 9);
+        let first = arena.insert_with(move |_: Ptr<u64>| 7)?;
+        let mut store = UniqueStore::new(alloc);
+        store.get_or_create_unique(7)?;
+        Ok(Stores {
+            alloc,
+            texts: [text(alloc)?, text(alloc)?, text(alloc)?],
+            identifier: owned(alloc, "abc")?,
+            id: OpId {
+                dialect: DialectName::from(owned(alloc, "toy")?),
+                name: OpName::from(owned(alloc, "add")?),
+            },
+            keys: [key(alloc, "a")?, key(alloc, "b")?, key(alloc, "a")?],
+            arena,
+            first,
+            store,
+        })
+    }
+}
+
+impl Stores {
+    /// Writes an identifier, a name, an id and an index. Whether that was done.
+    pub(crate) fn write<R: Print>(&self, rt: &R) -> bool {
+        let index = self.first.index();
+        println!(rt; "{} {} {} {index}", self.identifier, self.id.name, self.id).is_ok()
+    }
+}
+
+/// What is asked or changed.
+#[derive(Clone, Copy, Debug, Drop)]
+pub(crate) enum StoreReading {
+    /// Whether a text is an identifier, and identifiers of texts that never go.
+    Identifiers,
+    /// Identifiers of texts that are handed over.
+    OfTexts,
+    /// Identifiers compared.
+    Compared,
+    /// Names of identifiers, and back.
+    Names,
+    /// Names and ids compared.
+    NamesCompared,
+    /// An arena, asked.
+    Arena,
+    /// An arena, lent for writing and taken out of.
+    ArenaTaken,
+    /// A store of distinct values.
+    Store,
+    /// Whether dictionary keys differ.
+    Keys,
+    /// What allocates nothing when it is made.
+    New,
+}
+
+impl StoreReading {
+    /// All of them.
+    pub(crate) const ALL: [StoreReading; 10] = [
+        StoreReading::Identifiers,
+        StoreReading::OfTexts,
+        StoreReading::Compared,
+        StoreReading::Names,
+        StoreReading::NamesCompared,
+        StoreReading::Arena,
+        StoreReading::ArenaTaken,
+        StoreReading::Store,
+        StoreReading::Keys,
+        StoreReading::New,
+    ];
+
+    /// The one as `ALL` has it.
+    pub(crate) fn listed(self) -> StoreReading
+        ensures { result ≡ self }
+    {
+        match self {
+            StoreReading::Identifiers => StoreReading::ALL[0],
+            StoreReading::OfTexts => StoreReading::ALL[1],
+            StoreReading::Compared => StoreReading::ALL[2],
+            StoreReading::Names => StoreReading::ALL[3],
+            StoreReading::NamesCompared => StoreReading::ALL[4],
+            StoreReading::Arena => StoreReading::ALL[5],
+            StoreReading::ArenaTaken => StoreReading::ALL[6],
+            StoreReading::Store => StoreReading::ALL[7],
+            StoreReading::Keys => StoreReading::ALL[8],
+            StoreReading::New => StoreReading::ALL[9],
+        }
+    }
+
+    /// The names that the list of such calls gives to what it makes.
+    pub(crate) fn names(self) -> &'static [&'static str] {
+        match self {
+            StoreReading::Identifiers => &[
+                "Identifier::is_valid",
+                "Identifier::new",
+                "Identifier::as_str",
+            ],
+            StoreReading::OfTexts => &[
+                "Identifier::try_new",
+                "Identifier::try_from",
+                "Name::try_from",
+            ],
+            StoreReading::Compared => &["Identifier::eq", "Identifier::cmp", "Identifier::hash"],
+            StoreReading::Names => &[
+                "Name::from",
+                "Name::as_ref",
+                "Name::as_str",
+                "Identifier::from",
+            ],
+            StoreReading::NamesCompared => &["Name::eq", "Name::hash", "Id::eq", "Id::hash"],
+            StoreReading::Arena => &[
+                "Arena::is_live",
+                "Arena::get",
+                "Arena::len",
+                "Arena::is_empty",
+                "Arena::room",
+            ],
+            StoreReading::ArenaTaken => &["Arena::get_mut", "Arena::remove"],
+            StoreReading::Store => &["UniqueStore::get", "UniqueStore::get_index"],
+            StoreReading::Keys => &["verify_dict_keys"],
+            StoreReading::New => &[
+                "Arena::new",
+                "UniqueStore::new",
+                "AttributeDict::new",
+                "Legaliser::new",
+                "Legaliser::with_counter",
+            ],
+        }
+    }
+
+    // Makes the calls. Whether they did what they say, or answered what is so.
+    fn make(self, fixture: &mut Stores) -> bool {
+        match self {
+            StoreReading::Identifiers => identifiers(),
+            StoreReading::OfTexts => of_texts(fixture),
+            StoreReading::Compared => compared(&fixture.identifier),
+            StoreReading::Names => names(&fixture.identifier),
+            StoreReading::NamesCompared => names_compared(&fixture.id),
+            StoreReading::Arena => arena(fixture),
+            StoreReading::ArenaTaken => arena_taken(fixture),
+            StoreReading::Store => store(&fixture.store),
+            StoreReading::Keys => keys(&fixture.keys),
+            StoreReading::New => new(fixture.alloc),
+        }
+    }
+}
+
+/// Makes the calls between two lines of output, so that whoever watches sees what they ask for.
+pub(crate) fn try_store_reading<R: Abort + Print>(
+    rt: &R,
+    stores: &mut Stores,
+    reading: StoreReading,
+) {
+    assert!(rt; println!(rt; "ready").is_ok());
+    let answer = reading.make(stores);
+    assert!(rt; println!(rt; "done").is_ok());
+    assert!(rt; answer, "{reading:?}");
+}
+
+fn identifiers() -> bool {
+    Identifier::is_valid("abc")
+        && !Identifier::is_valid("1b")
+        && Identifier::new("abc").as_str() == "abc"
+}
+
+// A text, handed over, and another in its place.
+fn hand_over(text: &mut String, alloc: Global) -> String {
+    std::mem::replace(text, String::new(alloc))
+}
+
+fn of_texts(stores: &mut Stores) -> bool {
+    let alloc = stores.alloc;
+    let [first, second, third] = &mut stores.texts;
+    let first = Identifier::try_new(hand_over(first, alloc));
+    let second = Identifier::try_from(hand_over(second, alloc));
+    let third = DialectName::try_from(hand_over(third, alloc));
+    first.is_ok() && second.is_ok() && third.is_ok()
+}
+
+// What an item hashes to.
+fn hash_of<T: Hash>(item: &T) -> u64 {
+    let mut hasher = DefaultHasher::default();
+    item.hash(&mut hasher);
+    hasher.finish()
+}
+
+fn compared(identifier: &Identifier) -> bool {
+    let same = Identifier::new("abc");
+    *identifier == same
+        && *identifier < Identifier::new("abd")
+        && hash_of(identifier) == hash_of(&same)
+}
+
+fn names(identifier: &Identifier) -> bool {
+    let name = OpName::from(Identifier::new("abc"));
+    let inner: &Identifier = name.as_ref();
+    let is_same = *inner == *identifier && name.as_str() == "abc";
+    is_same && Identifier::from(name) == *identifier
+}
+
+fn names_compared(id: &OpId) -> bool {
+    id.name == OpName::from(Identifier::new("add"))
+        && *id == *id
+        && hash_of(&id.name) == hash_of(&id.name)
+        && hash_of(id) == hash_of(id)
+}
+
+fn arena(stores: &Stores) -> bool {
+    let arena = &stores.arena;
+    arena.is_live(stores.first)
+        && arena.get(stores.first) == Some(&7)
+        && arena.len() == 1
+        && !arena.is_empty()
+        && arena.room() == 8
+}
+
+fn arena_taken(stores: &mut Stores) -> bool {
+    let first = stores.first;
+    stores.arena.get_mut(first).is_some() && stores.arena.remove(first) == Some(7)
+}
+
+fn store(store: &UniqueStore<u64>) -> bool {
+    store.get(&7) == Some(0) && store.get_index(0) == Some(&7) && store.len() == 1
+}
+
+fn keys(keys: &[DictKeyId]) -> bool {
+    verify_dict_keys(keys)
+        == Err(DuplicateKey {
+            first: 0,
+            second: 2,
+        })
+}
+
+fn new(alloc: Global) -> bool {
+    let arena: Arena<u64> = Arena::new(alloc, 9, 9);
+    let store: UniqueStore<u64> = UniqueStore::new(alloc);
+    let _first = Legaliser::new(alloc);
+    let _second = Legaliser::with_counter(alloc, 7);
+    arena.is_empty() && store.is_empty() && new_dictionary::<Toy>(alloc)
+}
+
+// Whether a new dictionary is empty.
+fn new_dictionary<D: Dialects>(alloc: Global) -> bool {
+    let attributes: AttributeDict<D> = AttributeDict::new(alloc);
+    attributes.is_empty()
+}
