@@ -5,6 +5,7 @@
 
 mod argument_calls;
 mod block_calls;
+mod contexts;
 mod erase_calls;
 mod error;
 mod new_calls;
@@ -20,6 +21,7 @@ mod value_calls;
 
 pub use argument_calls::{insert_argument, pop_argument, push_argument, remove_argument};
 pub use block_calls::{block_after, block_at_back, block_at_front, block_before, unlink_block};
+pub use contexts::{end, new_type, with_limits};
 pub use erase_calls::{
     can_erase, drop_block_uses, drop_op_uses, drop_region_uses, erase_block, erase_op, erase_region,
 };

@@ -1,19 +1,23 @@
-//! Blocks, their arguments, successors and uses as successors, regions that are added, and what is lent, over the dialect Toy.
+//! Blocks, their arguments, successors and uses as successors, regions that are added, and the texts of faults, over the dialect Toy.
 
-ghost use Rattle.std.specs.Prelude.{◌<◌, ◌≤◌, length, IfOk};
-ghost use Rattle.ir_model.specs.Forest.{a_value};
-ghost use Rattle.ir_model.specs.Nesting.{IsLiveNamed};
-ghost use Rattle.ir_records.specs.Meaning.{value_of};
-ghost use Rattle.ir_view.specs.State.{forest_of, types_of};
-
-use ir_base::{ArenaIndex, CoreError, Dialects, Identifier, Limits, Ptr, TypeHandle};
+use crate::block_questions::{
+    block_uses, expect_block, expect_label, expect_no_block, expect_successor, has_pred, num_preds,
+    successor_use, used_block,
+};
+use crate::contexts::{call_laws, expect_empty, refusal, room};
+use crate::op_questions::{counts, expect_region};
+use crate::value_questions::{expect_live_value, expect_place, place, uses, value_loc, value_type};
+use ir_base::{ArenaIndex, CoreError, Dialects, Identifier, Limits, Ptr};
+use ir_checked::{
+    BasicBlock, CheckedErr, Context, Operation, Use, Value, add_region, argument, end, new_block,
+    new_op, new_type, num_uses, operand, region, successor, with_limits,
+};
 use ir_toy::{Toy, ToyType};
 use ir_view::{
-    AddRegion, BasicBlock, BlockPtr, BlockUseQueries, BlockUses, Context, DanglingPtrDerefError,
-    DefiningEntity, IndexErr, NewBlock, NewOperation, Operation, OperationPtr, RegionPtr, Use,
-    UseError, UseIndex, UseQueries, Value, ValueError, ValueIndex, ValueQueries,
+    DanglingPtrDerefError, DefiningEntity, IndexErr, UseError, UseIndex, ValueError, ValueIndex,
 };
 use std::alloc::Global;
+use std::fmt::Display;
 use std::process::Abort;
 use std::test::Fail;
 
@@ -26,14 +30,15 @@ struct Branch<D: Dialects> {
 }
 
 // Makes the block and the operation.
-fn make_branch<D: Dialects>(ctx: &mut Context<D>, ty: TypeHandle) -> Result<Branch<D>, CoreError>
-    requires { ty.place < length (types_of ctx.old) }
-    ensures { IfOk result (λ made. IsLiveNamed (forest_of ctx.new) (a_value (value_of made.argument.index))) }
-{
+fn make_branch<D: Dialects>(
+    ctx: &mut Context<D>,
+    key: D::TypeKey,
+) -> Result<Branch<D>, CheckedErr> {
+    let ty = new_type(ctx, key)?;
     let label = Some(Identifier::new("entry"));
-    let block = BasicBlock::new(ctx, label, &[ty, ty])?;
-    let argument = block.deref(ctx).get_argument(1);
-    let op = Operation::new(ctx, 3, &[], &[argument], &[block, block], 0)?;
+    let block = new_block(ctx, label, &[ty, ty])?;
+    let argument = argument(ctx, block, 1)?;
+    let op = new_op(ctx, 3, &[], &[argument], &[block, block], 0)?;
     Ok(Branch {
         block,
         argument,
@@ -42,168 +47,164 @@ fn make_branch<D: Dialects>(ctx: &mut Context<D>, ty: TypeHandle) -> Result<Bran
 }
 
 // What the block tells of itself.
-fn tell_block<D: Dialects, A: Abort>(rt: &A, ctx: &Context<D>, made: &Branch<D>) {
-    let Ok(block) = made.block.try_deref(ctx) else {
-        return assert!(rt; false);
-    };
-    assert!(rt; block.get_self_ptr() == made.block);
-    assert_eq!(rt; block.get_num_arguments(), 2);
-    if block.get_num_arguments() == 2 {
-        assert!(rt; block.get_argument(0) != block.get_argument(1));
-        assert!(rt; block.get_argument(1) == made.argument);
-    }
-    assert!(rt; block.label().is_some_and(|label| label.as_str() == "entry"));
-    assert!(rt; block.attributes().is_empty());
-    let _loc = block.loc();
+fn tell_block<D: Dialects>(
+    rt: &impl Abort,
+    ctx: &Context<D>,
+    made: &Branch<D>,
+) -> Result<(), CheckedErr> {
+    expect_block(rt, ctx, made.block, 2)?;
+    expect_label(rt, ctx, made.block, "entry")?;
+    let first = argument(ctx, made.block, 0)?;
+    let second = argument(ctx, made.block, 1)?;
+    assert!(rt; first != second);
+    assert!(rt; second == made.argument);
+    Ok(())
 }
 
 // What the second argument tells of itself.
-fn tell_argument<D: Dialects, A: Abort>(
-    rt: &A,
+fn tell_argument<D: Dialects>(
+    rt: &impl Abort,
     ctx: &Context<D>,
     made: &Branch<D>,
-) -> Result<(), CoreError> {
+) -> Result<(), CheckedErr> {
     let value = made.argument;
     assert!(rt; value.defining_entity() == DefiningEntity::Block(made.block));
     assert!(rt; value.defining_block() == Some(made.block));
     assert!(rt; value.defining_op().is_none());
-    assert_eq!(rt; value.try_find_index(ctx), Ok(1));
-    if !value.is_live(ctx) {
-        assert!(rt; false);
-        return Ok(());
-    }
-    assert_eq!(rt; value.find_index(ctx), 1);
-    assert_eq!(rt; value.num_uses(ctx), 1);
-    assert_eq!(rt; value.get_type(ctx).index(), 0);
-    for used in value.uses(ctx)?.iter() {
+    expect_place(rt, ctx, value, Ok(1));
+    assert_eq!(rt; place(ctx, value)?, 1);
+    assert_eq!(rt; num_uses(ctx, value)?, 1);
+    assert_eq!(rt; value_type(ctx, value)?, 0);
+    let _loc = value_loc(ctx, value)?;
+    for used in uses(ctx, value)?.iter() {
         assert!(rt; used.user_op() == made.op);
     }
-    let _loc = value.loc(ctx);
     Ok(())
 }
 
-// What the operation tells of its successors.
-fn tell_successors<D: Dialects, A: Abort>(rt: &A, ctx: &Context<D>, made: &Branch<D>) {
-    let Ok(op) = made.op.try_deref(ctx) else {
-        return assert!(rt; false);
-    };
-    assert_eq!(rt; op.get_num_successors(), 2);
-    assert_eq!(rt; op.get_num_operands(), 1);
-    if op.get_num_successors() == 2 {
-        assert!(rt; op.get_successor(0) == made.block);
-        assert!(rt; op.get_successor(1) == made.block);
-        assert!(rt; op.get_successor_as_use(0) != op.get_successor_as_use(1));
-        let used = op.get_successor_as_use(1);
-        assert!(rt; used.user_op() == made.op);
-        assert_eq!(rt; used.try_find_index(ctx), Ok(1));
-        assert!(rt; used.get_def(ctx) == made.block);
-    }
-}
-
-// What the block tells of those that name it.
-fn tell_predecessors<D: Dialects, A: Abort>(
-    rt: &A,
+// What the operation tells of its parts.
+fn tell_parts<D: Dialects>(
+    rt: &impl Abort,
     ctx: &Context<D>,
     made: &Branch<D>,
-) -> Result<(), CoreError> {
-    if !made.block.is_live(ctx) {
-        assert!(rt; false);
-        return Ok(());
-    }
-    assert!(rt; made.block.has_pred(ctx));
-    assert_eq!(rt; made.block.num_preds(ctx), 2);
-    let uses = made.block.uses(ctx)?;
-    assert_eq!(rt; uses.len(), 2);
-    let mut stand = [false, false];
-    for used in uses.iter() {
-        assert!(rt; used.user_op() == made.op);
-        if let Ok(index) = used.try_find_index(ctx) {
-            if index < 2 {
-                stand[index] = true;
-            }
-        }
-    }
-    assert_eq!(rt; stand, [true, true]);
+) -> Result<(), CheckedErr> {
+    assert_eq!(rt; counts(ctx, made.op)?, [0, 1, 2, 0]);
+    assert!(rt; operand(ctx, made.op, 0)? == made.argument);
+    assert!(rt; successor(ctx, made.op, 0)? == made.block);
+    assert!(rt; successor(ctx, made.op, 1)? == made.block);
     Ok(())
 }
 
-// What handles that this context never gave answer.
-fn tell_strangers<D: Dialects, A: Abort>(rt: &A, ctx: &Context<D>, made: &Branch<D>) {
+// What the use of the successor at the index tells of itself.
+fn tell_use<D: Dialects>(
+    rt: &impl Abort,
+    ctx: &Context<D>,
+    made: &Branch<D>,
+    index: usize,
+) -> Result<Use<Ptr<BasicBlock<D>>>, CheckedErr> {
+    let used = successor_use(ctx, made.op, index)?;
+    assert!(rt; used.user_op() == made.op);
+    expect_successor(rt, ctx, used, Ok(index));
+    assert!(rt; used_block(ctx, used)? == made.block);
+    Ok(used)
+}
+
+// The two uses of the block are those of the two successors.
+fn tell_predecessors<D: Dialects>(
+    rt: &impl Abort,
+    ctx: &Context<D>,
+    made: &Branch<D>,
+) -> Result<(), CheckedErr> {
+    assert!(rt; has_pred(ctx, made.block)?);
+    assert_eq!(rt; num_preds(ctx, made.block)?, 2);
+    let first = tell_use(rt, ctx, made, 0)?;
+    let second = tell_use(rt, ctx, made, 1)?;
+    assert!(rt; first != second);
+    let uses = block_uses(ctx, made.block)?;
+    assert_eq!(rt; uses.len(), 2);
+    assert!(rt; uses.contains(&first) && uses.contains(&second));
+    Ok(())
+}
+
+// What a handle, a value and a use answer that this context never gave.
+fn tell_strangers<D: Dialects>(rt: &impl Abort, ctx: &Context<D>, made: &Branch<D>) {
     let gone: Ptr<BasicBlock<D>> = Ptr::from_index(ArenaIndex {
         slot: 9,
         version: 1,
     });
-    assert!(rt; !gone.is_live(ctx));
-    assert!(rt; matches!(gone.try_deref(ctx), Err(DanglingPtrDerefError)));
+    expect_no_block(rt, ctx, gone);
     let value: Value<D> = Value::from_index(ValueIndex {
         number: 9,
         ..made.argument.index
     });
-    assert!(rt; !value.is_live(ctx));
-    let missing = Err(IndexErr::ValueError(ValueError::NotInBlockArgument));
-    assert_eq!(rt; value.try_find_index(ctx), missing);
+    expect_live_value(rt, ctx, value, false);
+    let missing = IndexErr::ValueError(ValueError::NotInBlockArgument);
+    expect_place(rt, ctx, value, Err(missing));
     let used: Use<Ptr<BasicBlock<D>>> = Use::from_index(UseIndex {
         user: made.op.index,
         number: 9,
     });
-    let missing = Err(IndexErr::UseError(UseError::SuccessorNotInUserOp));
-    assert_eq!(rt; used.try_find_index(ctx), missing);
+    let missing = IndexErr::UseError(UseError::SuccessorNotInUserOp);
+    expect_successor(rt, ctx, used, Err(missing));
 }
 
-// A context over the dialect Toy with a type.
-fn with_type(alloc: Global, limits: Limits) -> Result<(Context<Toy>, TypeHandle), CoreError>
-    requires slots { limits.slots < 4294967295 }
-    requires versions { 1 ≤ limits.last_version }
-    ensures { IfOk result (λ made. made.1.place < length (types_of made.0)) }
-{
-    let mut ctx: Context<Toy> = Context::with_limits(alloc, limits);
-    let ty = ctx.instantiate_key(ToyType::Int { width: 32 })?;
-    Ok((ctx, ty))
+// Makes the block and the operation, and asks both.
+fn tell_all<D: Dialects>(
+    rt: &impl Abort,
+    ctx: &mut Context<D>,
+    key: D::TypeKey,
+) -> Result<(), CheckedErr> {
+    let made = make_branch(ctx, key)?;
+    tell_block(rt, ctx, &made)?;
+    tell_argument(rt, ctx, &made)?;
+    tell_parts(rt, ctx, &made)?;
+    tell_predecessors(rt, ctx, &made)?;
+    tell_strangers(rt, ctx, &made);
+    call_laws(ctx);
+    expect_empty(rt, ctx, false);
+    Ok(())
 }
 
 #[test]
 fn blocks_arguments_and_successors(rt: HostRuntime) -> Result<(), Fail> {
-    let (mut ctx, ty) = with_type(rt.alloc(), Limits::default())?;
-    let made = make_branch(&mut ctx, ty)?;
-    tell_block(&rt, &ctx, &made);
-    tell_argument(&rt, &ctx, &made)?;
-    tell_successors(&rt, &ctx, &made);
-    tell_predecessors(&rt, &ctx, &made)?;
-    tell_strangers(&rt, &ctx, &made);
-    ctx.is_well_formed();
-    ctx.uses_are_exact();
-    assert!(rt; !ctx.is_ir_empty());
+    let mut ctx: Context<Toy> = Context::new(rt.alloc());
+    let outcome = tell_all(&rt, &mut ctx, ToyType::Int { width: 32 });
+    end(ctx, outcome)?;
+    Ok(())
+}
+
+// Adds a region to an operation that has one.
+fn add_one_region<D: Dialects>(rt: &impl Abort, ctx: &mut Context<D>) -> Result<(), CheckedErr> {
+    let op = new_op(ctx, 5, &[], &[], &[], 1)?;
+    let added = add_region(ctx, op)?;
+    expect_region(rt, ctx, added, op);
+    assert_eq!(rt; counts(ctx, op)?, [0, 0, 0, 2]);
+    assert!(rt; region(ctx, op, 1)? == added);
+    assert_eq!(rt; room(ctx).regions, u32::MAX - 3);
     Ok(())
 }
 
 #[test]
 fn regions_are_added(rt: HostRuntime) -> Result<(), Fail> {
     let mut ctx: Context<Toy> = Context::new(rt.alloc());
-    let op: Ptr<Operation<Toy>> = Operation::new(&mut ctx, 5, &[], &[], &[], 1)?;
-    let region = op.add_region(&mut ctx)?;
-    assert!(rt; region.is_live(&ctx));
-    assert!(rt; region.get_parent_op(&ctx) == op);
-    let record = op.deref(&ctx);
-    assert_eq!(rt; record.num_regions(), 2);
-    assert!(rt; record.num_regions() == 2 && record.get_region(1) == region);
-    assert_eq!(rt; ctx.room().regions, u32::MAX - 3);
+    let outcome = add_one_region(&rt, &mut ctx);
+    end(ctx, outcome)?;
     Ok(())
 }
 
-// Makes a block with an argument, and an operation that uses it three times: the refusal.
-fn three_uses_of_an_argument<D: Dialects>(
+// Asserts how an operation is answered that uses the argument of a new block three times.
+fn use_an_argument<D: Dialects>(
+    rt: &impl Abort,
     ctx: &mut Context<D>,
-    ty: TypeHandle,
-) -> Result<Option<CoreError>, CoreError>
-    requires { ty.place < length (types_of ctx.old) }
-{
-    let block = BasicBlock::new(ctx, None, &[ty])?;
-    let value = block.deref(ctx).get_argument(0);
-    match Operation::new(ctx, 4, &[], &[value, value, value], &[], 0) {
-        Ok(_) => Ok(None),
-        Err(CoreError::OutOfMemory) => Err(CoreError::OutOfMemory),
-        Err(error) => Ok(Some(error)),
-    }
+    key: D::TypeKey,
+    wanted: Option<CoreError>,
+) -> Result<(), CheckedErr> {
+    let ty = new_type(ctx, key)?;
+    let block = new_block(ctx, None, &[ty])?;
+    let value = argument(ctx, block, 0)?;
+    let refused = refusal(new_op(ctx, 4, &[], &[value, value, value], &[], 0))?;
+    assert_eq!(rt; refused, wanted);
+    Ok(())
 }
 
 #[test]
@@ -213,34 +214,38 @@ fn uses_of_an_argument_are_counted(rt: HostRuntime) -> Result<(), Fail> {
         slots: 1,
         ..Limits::default()
     };
-    let (mut ctx, ty) = with_type(rt.alloc(), limits)?;
-    let refused = three_uses_of_an_argument(&mut ctx, ty)?;
-    assert_eq!(rt; refused, Some(CoreError::CounterSpent));
+    let mut ctx: Context<Toy> = with_limits(rt.alloc(), limits)?;
+    let spent = Some(CoreError::CounterSpent);
+    let outcome = use_an_argument(&rt, &mut ctx, ToyType::Int { width: 32 }, spent);
+    end(ctx, outcome)?;
     let limits = Limits { uses: 3, ..limits };
-    let (mut ctx, ty) = with_type(rt.alloc(), limits)?;
-    assert_eq!(rt; three_uses_of_an_argument(&mut ctx, ty)?, None);
+    let mut ctx: Context<Toy> = with_limits(rt.alloc(), limits)?;
+    let outcome = use_an_argument(&rt, &mut ctx, ToyType::Int { width: 32 }, None);
+    end(ctx, outcome)?;
     Ok(())
 }
 
-// The refusal of a block with so many arguments, in a new context under these limits.
-fn block_refusal(
-    alloc: Global,
-    limits: Limits,
-    arguments: usize,
-) -> Result<Option<CoreError>, CoreError>
-    requires slots { limits.slots < 4294967295 }
-    requires versions { 1 ≤ limits.last_version }
-{
-    let (mut ctx, ty) = with_type(alloc, limits)?;
-    let made = match arguments {
-        0 => BasicBlock::new(&mut ctx, None, &[]),
-        _ => BasicBlock::new(&mut ctx, None, &[ty, ty]),
-    };
-    match made {
-        Ok(_) => Ok(None),
-        Err(CoreError::OutOfMemory) => Err(CoreError::OutOfMemory),
-        Err(error) => Ok(Some(error)),
-    }
+// Asserts how a block with two arguments is answered.
+fn make_with_arguments<D: Dialects>(
+    rt: &impl Abort,
+    ctx: &mut Context<D>,
+    key: D::TypeKey,
+    wanted: Option<CoreError>,
+) -> Result<(), CheckedErr> {
+    let ty = new_type(ctx, key)?;
+    let refused = refusal(new_block(ctx, None, &[ty, ty]))?;
+    assert_eq!(rt; refused, wanted);
+    Ok(())
+}
+
+// Asserts that a block without arguments is refused for slots.
+fn make_without_slots<D: Dialects>(
+    rt: &impl Abort,
+    ctx: &mut Context<D>,
+) -> Result<(), CheckedErr> {
+    let refused = refusal(new_block(ctx, None, &[]))?;
+    assert_eq!(rt; refused, Some(CoreError::SlotsSpent));
+    Ok(())
 }
 
 #[test]
@@ -250,37 +255,65 @@ fn blocks_without_room(rt: HostRuntime) -> Result<(), Fail> {
         values: 1,
         ..Limits::default()
     };
-    let counter = block_refusal(rt.alloc(), limits, 2)?;
-    assert_eq!(rt; counter, Some(CoreError::CounterSpent));
-    let slots = block_refusal(rt.alloc(), limits, 0)?;
-    assert_eq!(rt; slots, Some(CoreError::SlotsSpent));
+    let mut ctx: Context<Toy> = with_limits(rt.alloc(), limits)?;
+    let spent = Some(CoreError::CounterSpent);
+    let outcome = make_with_arguments(&rt, &mut ctx, ToyType::Int { width: 32 }, spent);
+    end(ctx, outcome)?;
+    let mut ctx: Context<Toy> = with_limits(rt.alloc(), limits)?;
+    let outcome = make_without_slots(&rt, &mut ctx);
+    end(ctx, outcome)?;
+    Ok(())
+}
+
+#[test]
+fn blocks_with_room(rt: HostRuntime) -> Result<(), Fail> {
     let limits = Limits {
         slots: 1,
         values: 2,
         ..Limits::default()
     };
-    assert_eq!(rt; block_refusal(rt.alloc(), limits, 2)?, None);
+    let mut ctx: Context<Toy> = with_limits(rt.alloc(), limits)?;
+    let outcome = make_with_arguments(&rt, &mut ctx, ToyType::Int { width: 32 }, None);
+    end(ctx, outcome)?;
     Ok(())
 }
 
+// Asserts that a fault is told by this text.
+fn expect_text<T: Display>(
+    rt: &impl Abort,
+    alloc: Global,
+    fault: &T,
+    text: &str,
+) -> Result<(), CoreError> {
+    assert!(rt; format!(in alloc; "{fault}")?.as_str() == text);
+    Ok(())
+}
+
+const DANGLING: &str = "Attempt to dereference a dangling Ptr";
+
+const NO_RESULT: &str =
+    "Invalid Value: Defining operation has no result corresponding to this value";
+
+const NO_ARGUMENT: &str =
+    "Invalid Value: Defining block has no argument corresponding to this value";
+
+const NO_OPERAND: &str = "Use does not correspond to any operand of its user operation";
+
+const NO_SUCCESSOR: &str = "Use does not correspond to any successor of its user operation";
+
 #[test]
 fn fault_texts(rt: HostRuntime) -> Result<(), Fail> {
-    let dangling = "Attempt to dereference a dangling Ptr";
-    let error = DanglingPtrDerefError;
-    assert_eq!(rt; format!(in rt.alloc(); "{error}")?.as_str(), dangling);
-    let error = IndexErr::DanglingPtrDerefError(error);
-    assert_eq!(rt; format!(in rt.alloc(); "{error}")?.as_str(), dangling);
-    let error = IndexErr::ValueError(ValueError::NotInOpResult);
-    let text = "Invalid Value: Defining operation has no result corresponding to this value";
-    assert_eq!(rt; format!(in rt.alloc(); "{error}")?.as_str(), text);
-    let error = IndexErr::ValueError(ValueError::NotInBlockArgument);
-    let text = "Invalid Value: Defining block has no argument corresponding to this value";
-    assert_eq!(rt; format!(in rt.alloc(); "{error}")?.as_str(), text);
-    let error = IndexErr::UseError(UseError::OperandNotInUserOp);
-    let text = "Use does not correspond to any operand of its user operation";
-    assert_eq!(rt; format!(in rt.alloc(); "{error}")?.as_str(), text);
-    let error = IndexErr::UseError(UseError::SuccessorNotInUserOp);
-    let text = "Use does not correspond to any successor of its user operation";
-    assert_eq!(rt; format!(in rt.alloc(); "{error}")?.as_str(), text);
+    let fault = DanglingPtrDerefError;
+    expect_text(&rt, rt.alloc(), &fault, DANGLING)?;
+    let fault = IndexErr::DanglingPtrDerefError(fault);
+    expect_text(&rt, rt.alloc(), &fault, DANGLING)?;
+    let fault = IndexErr::ValueError(ValueError::NotInOpResult);
+    expect_text(&rt, rt.alloc(), &fault, NO_RESULT)?;
+    let fault = IndexErr::ValueError(ValueError::NotInBlockArgument);
+    expect_text(&rt, rt.alloc(), &fault, NO_ARGUMENT)?;
+    let fault = IndexErr::UseError(UseError::OperandNotInUserOp);
+    expect_text(&rt, rt.alloc(), &fault, NO_OPERAND)?;
+    let fault = IndexErr::UseError(UseError::SuccessorNotInUserOp);
+    expect_text(&rt, rt.alloc(), &fault, NO_SUCCESSOR)?;
     Ok(())
 }

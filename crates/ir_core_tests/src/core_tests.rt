@@ -1,461 +1,293 @@
 //! The calls of contexts, operations, values and uses, over the dialect Toy.
 
-ghost use Rattle.std.specs.Prelude.{◌≡◌, ◌<◌, ◌≤◌, length, IfOk};
-ghost use Rattle.ir_model.specs.Forest.{a_value};
-ghost use Rattle.ir_model.specs.Nesting.{IsLiveNamed};
-ghost use Rattle.ir_view.specs.Calls.{LeadsToLive};
-ghost use Rattle.ir_records.specs.Meaning.{value_of};
-ghost use Rattle.ir_view.specs.State.{forest_of, types_of};
-
+use crate::contexts::{call_laws, expect_empty, room};
+use crate::op_questions::{
+    count_result_uses, counts, expect_gone, expect_kind, expect_live, expect_only_user,
+    expect_region, has_result_use, num_result_uses, operand_use, result_type,
+};
+use crate::value_questions::{
+    expect_live_value, expect_operand, expect_place, is_used, operand_place, place, used_type,
+    used_value, uses, value_type,
+};
 use example::chain;
-use ir_base::{ArenaIndex, CoreError, Dialects, Limits, Ptr, Room, TypeHandle};
+use ir_base::{ArenaIndex, Dialects, Ptr, TypeHandle};
+use ir_checked::{
+    CheckedErr, Context, Operation, TypeQueries, Use, Value, end, new_op, new_type, num_uses,
+    operand, region, result,
+};
 use ir_toy::{Toy, ToyType};
 use ir_view::{
-    Context, DanglingPtrDerefError, DefiningEntity, IndexErr, NewOperation, Operation,
-    OperationPtr, RegionPtr, ResultUses, TypeQueries, Use, UseError, UseIndex, UseQueries, Value,
-    ValueError, ValueIndex, ValueQueries,
+    DanglingPtrDerefError, DefiningEntity, IndexErr, UseError, UseIndex, ValueError, ValueIndex,
 };
-use std::alloc::Global;
 use std::process::Abort;
 use std::test::Fail;
 
 /// An operation with one result, and one that uses this value twice.
 #[derive(Drop)]
-struct TwoUses<D: Dialects> {
-    maker: Ptr<Operation<D>>,
-    user: Ptr<Operation<D>>,
-    value: Value<D>,
+pub(crate) struct TwoUses<D: Dialects> {
+    pub(crate) maker: Ptr<Operation<D>>,
+    pub(crate) user: Ptr<Operation<D>>,
+    pub(crate) value: Value<D>,
 }
 
-// Makes the two operations.
-fn two_uses<D: Dialects>(ctx: &mut Context<D>, ty: TypeHandle) -> Result<TwoUses<D>, CoreError>
-    requires { ty.place < length (types_of ctx.old) }
-    ensures live { IfOk result (λ made. IsLiveNamed (forest_of ctx.new) (a_value (value_of made.value.index))) }
-    ensures types { types_of ctx.new ≡ types_of ctx.old }
-{
-    let maker = Operation::new(ctx, 0, &[ty], &[], &[], 0)?;
-    let value = maker.deref(ctx).get_result(0);
-    let user = Operation::new(ctx, 4, &[ty], &[value, value], &[], 0)?;
+/// Makes the two operations, with results of the type.
+pub(crate) fn two_uses<D: Dialects>(
+    ctx: &mut Context<D>,
+    ty: TypeHandle,
+) -> Result<TwoUses<D>, CheckedErr> {
+    let maker = new_op(ctx, 0, &[ty], &[], &[], 0)?;
+    let value = result(ctx, maker, 0)?;
+    let user = new_op(ctx, 4, &[ty], &[value, value], &[], 0)?;
     Ok(TwoUses { maker, user, value })
 }
 
 // What the operations tell of themselves.
-fn tell_operations<D: Dialects, A: Abort>(rt: &A, ctx: &Context<D>, made: &TwoUses<D>) {
-    assert!(rt; made.maker.is_live(ctx));
+fn tell_operations<D: Dialects>(
+    rt: &impl Abort,
+    ctx: &Context<D>,
+    made: &TwoUses<D>,
+) -> Result<(), CheckedErr> {
     assert!(rt; made.maker != made.user);
-    let Ok(user) = made.user.try_deref(ctx) else {
-        return assert!(rt; false);
-    };
-    assert!(rt; user.get_self_ptr() == made.user);
-    assert_eq!(rt; user.kind(), 4);
-    assert_eq!(rt; user.get_num_results(), 1);
-    assert_eq!(rt; user.get_num_operands(), 2);
-    assert_eq!(rt; user.get_num_successors(), 0);
-    assert_eq!(rt; user.num_regions(), 0);
-    if user.get_num_results() == 1 {
-        assert_eq!(rt; user.get_type(0).index(), 0);
-        assert!(rt; user.get_result(0) != made.value);
-    }
-    if user.get_num_operands() == 2 {
-        assert!(rt; user.get_operand(0) == made.value);
-        assert!(rt; user.get_operand(1) == made.value);
-        assert!(rt; user.get_operand_as_use(0) != user.get_operand_as_use(1));
-        assert!(rt; user.get_operand_as_use(1).user_op() == made.user);
-    }
+    expect_live(rt, ctx, made.maker);
+    expect_kind(rt, ctx, made.user, 4)?;
+    assert_eq!(rt; counts(ctx, made.user)?, [1, 2, 0, 0]);
+    assert_eq!(rt; result_type(ctx, made.user, 0)?, 0);
+    assert!(rt; result(ctx, made.user, 0)? != made.value);
+    assert!(rt; operand(ctx, made.user, 0)? == made.value);
+    assert!(rt; operand(ctx, made.user, 1)? == made.value);
+    Ok(())
 }
 
 // What the operations tell of the uses of their results.
-fn tell_result_uses<D: Dialects, A: Abort>(rt: &A, ctx: &Context<D>, made: &TwoUses<D>) {
-    assert!(rt; made.maker.is_live(ctx) && made.user.is_live(ctx));
-    if made.maker.is_live(ctx) {
-        assert!(rt; made.maker.has_use(ctx));
-        assert_eq!(rt; made.maker.num_uses(ctx), 2);
-        assert_eq!(rt; made.maker.uses(ctx).count(), 2);
-        for used in made.maker.uses(ctx) {
-            assert!(rt; used.user_op() == made.user);
-        }
-    }
-    if made.user.is_live(ctx) {
-        assert!(rt; !made.user.has_use(ctx));
-        assert_eq!(rt; made.user.num_uses(ctx), 0);
-    }
+fn tell_result_uses<D: Dialects>(
+    rt: &impl Abort,
+    ctx: &Context<D>,
+    made: &TwoUses<D>,
+) -> Result<(), CheckedErr> {
+    assert!(rt; has_result_use(ctx, made.maker)?);
+    assert_eq!(rt; num_result_uses(ctx, made.maker)?, 2);
+    assert_eq!(rt; count_result_uses(ctx, made.maker)?, 2);
+    expect_only_user(rt, ctx, made.maker, made.user)?;
+    assert!(rt; !has_result_use(ctx, made.user)?);
+    assert_eq!(rt; num_result_uses(ctx, made.user)?, 0);
+    Ok(())
 }
 
 // What the value tells of itself.
-fn tell_value<D: Dialects, A: Abort>(
-    rt: &A,
+fn tell_value<D: Dialects>(
+    rt: &impl Abort,
     ctx: &Context<D>,
     made: &TwoUses<D>,
-) -> Result<(), CoreError> {
+) -> Result<(), CheckedErr> {
     let value = made.value;
     assert!(rt; value.defining_entity() == DefiningEntity::Op(made.maker));
     assert!(rt; value.defining_op() == Some(made.maker));
     assert!(rt; value.defining_block().is_none());
-    assert_eq!(rt; value.try_find_index(ctx), Ok(0));
-    if value.is_live(ctx) {
-        assert_eq!(rt; value.find_index(ctx), 0);
-        assert_eq!(rt; value.num_uses(ctx), 2);
-        assert!(rt; value.is_used(ctx));
-        assert_eq!(rt; value.uses(ctx)?.len(), 2);
-        assert_eq!(rt; value.get_type(ctx).index(), 0);
-        return Ok(());
-    }
-    assert!(rt; false);
+    expect_place(rt, ctx, value, Ok(0));
+    assert_eq!(rt; place(ctx, value)?, 0);
+    assert_eq!(rt; num_uses(ctx, value)?, 2);
+    assert!(rt; is_used(ctx, value)?);
+    assert_eq!(rt; value_type(ctx, value)?, 0);
     Ok(())
 }
 
-// What one use tells of itself: the index where it stands.
-fn tell_use<D: Dialects, A: Abort>(
-    rt: &A,
+// What the use of the operand at the index tells of itself.
+fn tell_use<D: Dialects>(
+    rt: &impl Abort,
     ctx: &Context<D>,
     made: &TwoUses<D>,
-    used: Use<Value<D>>,
-) -> usize {
+    index: usize,
+) -> Result<Use<Value<D>>, CheckedErr> {
+    let used = operand_use(ctx, made.user, index)?;
     assert!(rt; used.user_op() == made.user);
-    let Ok(index) = used.try_find_index(ctx) else {
-        assert!(rt; false);
-        return 0;
-    };
-    assert_eq!(rt; used.find_index(ctx), index);
-    assert!(rt; used.get_def(ctx) == made.value);
-    assert_eq!(rt; used.get_type(ctx).index(), 0);
-    index
+    expect_operand(rt, ctx, used, Ok(index));
+    assert_eq!(rt; operand_place(ctx, used)?, index);
+    assert!(rt; used_value(ctx, used)? == made.value);
+    assert_eq!(rt; used_type(ctx, used)?, 0);
+    Ok(used)
 }
 
-// The two uses of the value tell of the two operands.
-fn tell_uses<D: Dialects, A: Abort>(
-    rt: &A,
+// The two uses of the value are those of the two operands.
+fn tell_uses<D: Dialects>(
+    rt: &impl Abort,
     ctx: &Context<D>,
     made: &TwoUses<D>,
-) -> Result<(), CoreError> {
-    if !made.value.is_live(ctx) {
-        assert!(rt; false);
-        return Ok(());
-    }
-    let uses = made.value.uses(ctx)?;
-    let mut stand = [false, false];
-    for used in uses.iter() {
-        let index = tell_use(rt, ctx, made, *used);
-        if index < 2 {
-            stand[index] = true;
-        }
-    }
-    assert_eq!(rt; stand, [true, true]);
+) -> Result<(), CheckedErr> {
+    let first = tell_use(rt, ctx, made, 0)?;
+    let second = tell_use(rt, ctx, made, 1)?;
+    assert!(rt; first != second);
+    let uses = uses(ctx, made.value)?;
+    assert_eq!(rt; uses.len(), 2);
+    assert!(rt; uses.contains(&first) && uses.contains(&second));
     Ok(())
 }
 
-// What handles that this context never gave answer.
-fn tell_strangers<D: Dialects, A: Abort>(rt: &A, ctx: &Context<D>, made: &TwoUses<D>) {
+// What the handle of an operation answers that this context never gave, and a use that it would have.
+fn tell_strange_op<D: Dialects>(rt: &impl Abort, ctx: &Context<D>) {
     let gone: Ptr<Operation<D>> = Ptr::from_index(ArenaIndex {
         slot: 9,
         version: 1,
     });
-    assert!(rt; !gone.is_live(ctx));
-    assert!(rt; matches!(gone.try_deref(ctx), Err(DanglingPtrDerefError)));
-    let dangling = Err(IndexErr::DanglingPtrDerefError(DanglingPtrDerefError));
-    let value = ValueIndex {
-        number: 9,
-        ..made.value.index
-    };
-    let value: Value<D> = Value::from_index(value);
-    assert!(rt; !value.is_live(ctx));
-    let missing = Err(IndexErr::ValueError(ValueError::NotInOpResult));
-    assert_eq!(rt; value.try_find_index(ctx), missing);
-    let used: Use<Value<D>> = Use::from_index(UseIndex {
-        user: made.user.index,
-        number: 9,
-    });
-    let missing = Err(IndexErr::UseError(UseError::OperandNotInUserOp));
-    assert_eq!(rt; used.try_find_index(ctx), missing);
+    expect_gone(rt, ctx, gone);
     let used: Use<Value<D>> = Use::from_index(UseIndex {
         user: gone.index,
         number: 0,
     });
-    assert_eq!(rt; used.try_find_index(ctx), dangling);
+    let dangling = IndexErr::DanglingPtrDerefError(DanglingPtrDerefError);
+    expect_operand(rt, ctx, used, Err(dangling));
 }
 
-// A context over the dialect Toy with a type.
-fn with_type(alloc: Global, limits: Limits) -> Result<(Context<Toy>, TypeHandle), CoreError>
-    requires slots { limits.slots < 4294967295 }
-    requires versions { 1 ≤ limits.last_version }
-    ensures { IfOk result (λ made. made.1.place < length (types_of made.0)) }
-{
-    let mut ctx: Context<Toy> = Context::with_limits(alloc, limits);
-    let ty = ctx.instantiate_key(ToyType::Int { width: 32 })?;
-    Ok((ctx, ty))
+// What a value and a use answer whose numbers their operations never had.
+fn tell_strange_numbers<D: Dialects>(rt: &impl Abort, ctx: &Context<D>, made: &TwoUses<D>) {
+    let value: Value<D> = Value::from_index(ValueIndex {
+        number: 9,
+        ..made.value.index
+    });
+    expect_live_value(rt, ctx, value, false);
+    let missing = IndexErr::ValueError(ValueError::NotInOpResult);
+    expect_place(rt, ctx, value, Err(missing));
+    let used: Use<Value<D>> = Use::from_index(UseIndex {
+        user: made.user.index,
+        number: 9,
+    });
+    let missing = IndexErr::UseError(UseError::OperandNotInUserOp);
+    expect_operand(rt, ctx, used, Err(missing));
 }
 
 // Makes the two operations, and asks all of them.
-fn tell_all<D: Dialects, A: Abort>(
-    rt: &A,
+fn tell_all<D: Dialects>(
+    rt: &impl Abort,
     ctx: &mut Context<D>,
-    ty: TypeHandle,
-) -> Result<(), CoreError>
-    requires { ty.place < length (types_of ctx.old) }
-{
-    assert!(rt; ctx.is_ir_empty());
+    key: D::TypeKey,
+) -> Result<(), CheckedErr> {
+    expect_empty(rt, ctx, true);
+    let ty = new_type(ctx, key)?;
     let made = two_uses(ctx, ty)?;
-    assert!(rt; !ctx.is_ir_empty());
-    tell_operations(rt, ctx, &made);
-    tell_result_uses(rt, ctx, &made);
+    expect_empty(rt, ctx, false);
+    tell_operations(rt, ctx, &made)?;
+    tell_result_uses(rt, ctx, &made)?;
     tell_value(rt, ctx, &made)?;
     tell_uses(rt, ctx, &made)?;
-    tell_strangers(rt, ctx, &made);
-    ctx.is_well_formed();
-    ctx.uses_are_exact();
+    tell_strange_op(rt, ctx);
+    tell_strange_numbers(rt, ctx, &made);
+    call_laws(ctx);
     Ok(())
 }
 
 #[test]
 fn operations_values_and_uses(rt: HostRuntime) -> Result<(), Fail> {
-    let (mut ctx, ty) = with_type(rt.alloc(), Limits::default())?;
-    tell_all(&rt, &mut ctx, ty)?;
+    let mut ctx: Context<Toy> = Context::new(rt.alloc());
+    let outcome = tell_all(&rt, &mut ctx, ToyType::Int { width: 32 });
+    end(ctx, outcome)?;
     Ok(())
 }
 
 // Makes an operation with two regions, and asks it for them.
-fn tell_regions<D: Dialects, A: Abort>(rt: &A, ctx: &mut Context<D>) -> Result<(), CoreError> {
-    let made = Operation::new(ctx, 7, &[], &[], &[], 2)?;
-    let op = made.deref(ctx);
-    assert_eq!(rt; op.num_regions(), 2);
-    let region = op.get_region(1);
-    assert!(rt; op.get_region(0) != region);
-    assert!(rt; region.is_live(ctx));
-    assert!(rt; region.get_parent_op(ctx) == made);
-    let _loc = op.loc();
-    assert_eq!(rt; ctx.room().regions, u32::MAX - 3);
+fn tell_regions<D: Dialects>(rt: &impl Abort, ctx: &mut Context<D>) -> Result<(), CheckedErr> {
+    let op = new_op(ctx, 7, &[], &[], &[], 2)?;
+    expect_kind(rt, ctx, op, 7)?;
+    assert_eq!(rt; counts(ctx, op)?, [0, 0, 0, 2]);
+    let first = region(ctx, op, 0)?;
+    let second = region(ctx, op, 1)?;
+    assert!(rt; first != second);
+    expect_region(rt, ctx, first, op);
+    expect_region(rt, ctx, second, op);
+    assert_eq!(rt; room(ctx).regions, u32::MAX - 3);
     Ok(())
 }
 
 #[test]
 fn operation_with_regions(rt: HostRuntime) -> Result<(), Fail> {
     let mut ctx: Context<Toy> = Context::new(rt.alloc());
-    tell_regions(&rt, &mut ctx)?;
+    let outcome = tell_regions(&rt, &mut ctx);
+    end(ctx, outcome)?;
     Ok(())
+}
+
+// Asserts that the handle is known, and leads to this key.
+fn expect_key<D: Dialects>(
+    rt: &impl Abort,
+    ctx: &Context<D>,
+    ty: TypeHandle,
+    key: &D::TypeKey,
+) -> Result<(), CheckedErr> {
+    if !ty.is_known(ctx) {
+        return Err(CheckedErr::Condition);
+    }
+    assert!(rt; *ty.deref(ctx) == *key);
+    Ok(())
+}
+
+// Asserts which type has the place, and whether there is one.
+fn expect_type_at<D: Dialects>(
+    rt: &impl Abort,
+    ctx: &Context<D>,
+    place: usize,
+    ty: Option<TypeHandle>,
+) {
+    assert_eq!(rt; ctx.type_at(place), ty);
+    assert_eq!(rt; TypeHandle::at(place).is_known(ctx), ty.is_some());
+}
+
+// Makes a type, another one, and the first again.
+fn tell_types(rt: &impl Abort, ctx: &mut Context<Toy>) -> Result<(), CheckedErr> {
+    let ty = new_type(ctx, ToyType::Int { width: 32 })?;
+    let other = new_type(ctx, ToyType::Int { width: 64 })?;
+    let again = new_type(ctx, ToyType::Int { width: 32 })?;
+    assert!(rt; ty == again && ty != other);
+    expect_type_at(rt, ctx, 1, Some(other));
+    expect_type_at(rt, ctx, 2, None);
+    call_laws(ctx);
+    expect_key(rt, ctx, again, &ToyType::Int { width: 32 })?;
+    expect_key(rt, ctx, other, &ToyType::Int { width: 64 })
 }
 
 #[test]
 fn types_of_a_context(rt: HostRuntime) -> Result<(), Fail> {
-    let (mut ctx, ty) = with_type(rt.alloc(), Limits::default())?;
-    let other = ctx.instantiate_key(ToyType::Int { width: 64 })?;
-    let again = ctx.instantiate_key(ToyType::Int { width: 32 })?;
-    assert!(rt; ty == again && ty != other);
-    assert_eq!(rt; ctx.type_at(1), Some(other));
-    assert_eq!(rt; ctx.type_at(2), None);
-    assert!(rt; !TypeHandle::at(2).is_known(&ctx));
-    ctx.types_are_exact();
-    assert!(rt; other.is_known(&ctx));
-    assert!(rt; *again.deref(&ctx) == ToyType::Int { width: 32 });
+    let mut ctx: Context<Toy> = Context::new(rt.alloc());
+    let outcome = tell_types(&rt, &mut ctx);
+    end(ctx, outcome)?;
     Ok(())
 }
 
-// Makes an operation with so many results, none or one, and regions: whether it is live, and what is left.
-fn make<D: Dialects>(
+// A chain of ten operations names each of its values but the last.
+fn tell_chain<D: Dialects>(
+    rt: &impl Abort,
     ctx: &mut Context<D>,
-    ty: TypeHandle,
-    results: usize,
-    regions: usize,
-) -> Result<(bool, Room), CoreError>
-    requires { ty.place < length (types_of ctx.old) }
-{
-    let made = match results {
-        0 => Operation::new(ctx, 0, &[], &[], &[], regions),
-        _ => Operation::new(ctx, 0, &[ty], &[], &[], regions),
-    };
-    match made {
-        Ok(op) => Ok((op.is_live(ctx), ctx.room())),
-        Err(error) => {
-            if ctx.is_ir_empty() {
-                return Err(error);
-            }
-            Ok((false, ctx.room()))
-        }
-    }
-}
-
-// The refusal, if there was one; want of memory ends the test.
-fn refusal(answer: Result<(bool, Room), CoreError>) -> Result<Option<CoreError>, CoreError> {
-    match answer {
-        Ok(_) => Ok(None),
-        Err(CoreError::OutOfMemory) => Err(CoreError::OutOfMemory),
-        Err(error) => Ok(Some(error)),
-    }
-}
-
-// The outcome of an operation with so many results and regions, in a new context under these limits.
-fn outcome(
-    alloc: Global,
-    limits: Limits,
-    results: usize,
-    regions: usize,
-) -> Result<(bool, Room), CoreError>
-    requires slots { limits.slots < 4294967295 }
-    requires versions { 1 ≤ limits.last_version }
-{
-    let (mut ctx, ty) = with_type(alloc, limits)?;
-    make(&mut ctx, ty, results, regions)
-}
-
-#[test]
-fn no_slots(rt: HostRuntime) -> Result<(), Fail> {
-    let limits = Limits {
-        slots: 0,
-        ..Limits::default()
-    };
-    let answer = refusal(outcome(rt.alloc(), limits, 0, 0))?;
-    assert_eq!(rt; answer, Some(CoreError::SlotsSpent));
-    Ok(())
-}
-
-#[test]
-fn no_values(rt: HostRuntime) -> Result<(), Fail> {
-    let limits = Limits {
-        values: 0,
-        ..Limits::default()
-    };
-    let answer = refusal(outcome(rt.alloc(), limits, 1, 0))?;
-    assert_eq!(rt; answer, Some(CoreError::CounterSpent));
-    let (made, room) = outcome(rt.alloc(), limits, 0, 0)?;
-    assert!(rt; made);
-    assert_eq!(rt; room.values, 0);
-    Ok(())
-}
-
-#[test]
-fn one_slot_and_two_regions(rt: HostRuntime) -> Result<(), Fail> {
-    let limits = Limits {
-        slots: 1,
-        ..Limits::default()
-    };
-    let answer = refusal(outcome(rt.alloc(), limits, 0, 2))?;
-    assert_eq!(rt; answer, Some(CoreError::SlotsSpent));
-    let (made, room) = outcome(rt.alloc(), limits, 0, 1)?;
-    assert!(rt; made);
-    assert_eq!(rt; (room.ops, room.regions), (0, 0));
-    Ok(())
-}
-
-// Makes an operation with three operands and two regions. Where that is refused, the value has the uses that it had.
-fn make_or_stay<D: Dialects, A: Abort>(
-    rt: &A,
-    ctx: &mut Context<D>,
-    value: Value<D>,
-) -> Result<(), CoreError>
-    requires { IsLiveNamed (forest_of ctx.old) (a_value (value_of value.index)) }
-{
-    let made = Operation::new(ctx, 5, &[], &[value, value, value], &[], 2);
-    let wanted = if made.is_ok() { 5 } else { 2 };
-    assert!(rt; !ctx.is_ir_empty());
-    assert_eq!(rt; value.num_uses(ctx), wanted);
-    made?;
-    Ok(())
-}
-
-// Makes the two operations, and then a third that may be refused.
-fn make_or_stay_after<D: Dialects, A: Abort>(
-    rt: &A,
-    ctx: &mut Context<D>,
-    ty: TypeHandle,
-) -> Result<(), CoreError>
-    requires { ty.place < length (types_of ctx.old) }
-{
-    let made = two_uses(ctx, ty)?;
-    make_or_stay(rt, ctx, made.value)
-}
-
-#[test]
-fn new_operation_refused(rt: HostRuntime) -> Result<(), Fail> {
-    let (mut ctx, ty) = with_type(rt.alloc(), Limits::default())?;
-    make_or_stay_after(&rt, &mut ctx, ty)?;
-    Ok(())
-}
-
-// Makes the two operations, after which no use is left.
-fn spend_uses<D: Dialects, A: Abort>(
-    rt: &A,
-    ctx: &mut Context<D>,
-    ty: TypeHandle,
-) -> Result<Option<CoreError>, CoreError>
-    requires { ty.place < length (types_of ctx.old) }
-{
-    let made = two_uses(ctx, ty)?;
-    assert_eq!(rt; ctx.room().uses, 0);
-    match Operation::new(ctx, 4, &[], &[made.value], &[], 0) {
-        Ok(_) => Ok(None),
-        Err(error) => Ok(Some(error)),
-    }
-}
-
-#[test]
-fn three_uses_of_two(rt: HostRuntime) -> Result<(), Fail> {
-    let limits = Limits {
-        uses: 2,
-        ..Limits::default()
-    };
-    let (mut ctx, ty) = with_type(rt.alloc(), limits)?;
-    let refused = spend_uses(&rt, &mut ctx, ty)?;
-    assert_eq!(rt; refused, Some(CoreError::CounterSpent));
+    key: D::TypeKey,
+) -> Result<(), CheckedErr> {
+    let last = chain(ctx, key, 10)?;
+    expect_live_value(rt, ctx, last, true);
+    assert!(rt; !is_used(ctx, last)?);
+    assert_eq!(rt; room(ctx).uses, u64::MAX - 10);
     Ok(())
 }
 
 #[test]
 fn the_last_of_a_chain_has_no_use(rt: HostRuntime) -> Result<(), Fail> {
     let mut ctx: Context<Toy> = Context::new(rt.alloc());
-    let last = chain(&mut ctx, ToyType::Int { width: 32 }, 10)?;
-    assert!(rt; last.is_live(&ctx));
-    assert!(rt; !last.is_used(&ctx));
-    assert_eq!(rt; ctx.room().uses, u64::MAX - 10);
+    let outcome = tell_chain(&rt, &mut ctx, ToyType::Int { width: 32 });
+    end(ctx, outcome)?;
+    Ok(())
+}
+
+// Makes the two operations.
+fn make_both<D: Dialects>(
+    rt: &impl Abort,
+    ctx: &mut Context<D>,
+    key: D::TypeKey,
+) -> Result<(), CheckedErr> {
+    let ty = new_type(ctx, key)?;
+    let made = two_uses(ctx, ty)?;
+    expect_live(rt, ctx, made.user);
     Ok(())
 }
 
 // Refuses an `Operation::new` that answers want of memory although it is there.
 #[test]
 fn new_always_memory(rt: HostRuntime) -> Result<(), Fail> {
-    let (mut ctx, ty) = with_type(rt.alloc(), Limits::default())?;
-    let made = two_uses(&mut ctx, ty)?;
-    assert!(rt; made.user.is_live(&ctx));
-    Ok(())
-}
-
-// Walks from an operation to all that it leads to: none of it is asked whether it is live. Answers how often its operands are used.
-fn walk<D: Dialects>(ctx: &Context<D>, op: &Operation<D>) -> usize
-    requires { LeadsToLive (forest_of ctx.now) (length (types_of ctx.now)) op.now }
-{
-    for index in 0..op.get_num_results() {
-        let _uses = op.get_result(index).is_used(ctx);
-        let _key = op.get_type(index).deref(ctx);
-    }
-    for index in 0..op.num_regions() {
-        let _op = op.get_region(index).get_parent_op(ctx).deref(ctx);
-    }
-    let mut uses = 0_usize;
-    for index in 0..op.get_num_operands() {
-        let value = op.get_operand(index);
-        let _key = value.get_type(ctx).deref(ctx);
-        if let Some(maker) = value.defining_op() {
-            let _kind = maker.deref(ctx).kind();
-        }
-        let used = op.get_operand_as_use(index);
-        let _kind = used.user_op().deref(ctx).kind();
-        uses = uses.saturating_add(used.get_def(ctx).num_uses(ctx));
-    }
-    uses
-}
-
-#[test]
-fn what_live_operations_give_is_live(rt: HostRuntime) -> Result<(), Fail> {
-    let (mut ctx, ty) = with_type(rt.alloc(), Limits::default())?;
-    let made = two_uses(&mut ctx, ty)?;
-    let last = Operation::new(&mut ctx, 5, &[ty], &[made.value], &[], 2)?;
-    assert_eq!(rt; walk(&ctx, last.deref(&ctx)), 3);
-    Ok(())
-}
-
-#[test]
-fn calls_over_one_dialect(rt: HostRuntime) -> Result<(), Fail> {
     let mut ctx: Context<Toy> = Context::new(rt.alloc());
-    let last: Ptr<Operation<Toy>> = Operation::new(&mut ctx, 5, &[], &[], &[], 1)?;
-    assert!(rt; last.is_live(&ctx) && !last.has_use(&ctx));
-    assert_eq!(rt; last.deref(&ctx).num_regions(), 1);
+    let outcome = make_both(&rt, &mut ctx, ToyType::Int { width: 32 });
+    end(ctx, outcome)?;
     Ok(())
 }

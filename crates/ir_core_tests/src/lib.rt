@@ -1,7 +1,19 @@
-//! Tests of the calls of a context, over the dialect Toy.
+//! Tests of the calls of a context, over the dialect Toy. Most calls are made through `ir_checked`, and what a test asks beside them by functions that make one call each.
 #![tactic(auto)]
 
 #[cfg(test)]
+mod block_questions;
+#[cfg(test)]
 mod block_tests;
 #[cfg(test)]
+mod caller_tests;
+#[cfg(test)]
+mod contexts;
+#[cfg(test)]
 mod core_tests;
+#[cfg(test)]
+mod limit_tests;
+#[cfg(test)]
+mod op_questions;
+#[cfg(test)]
+mod value_questions;

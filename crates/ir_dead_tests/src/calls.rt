@@ -8,14 +8,6 @@ use ir_checked::{
 use ir_dead::sweep;
 use std::process::Abort;
 
-/// Lets go of a test's context, and answers how the test went. That all in a context is let go is so proved once, and for any dialect.
-pub(crate) fn end<D: Dialects>(
-    _ctx: Context<D>,
-    outcome: Result<(), CheckedErr>,
-) -> Result<(), CheckedErr> {
-    outcome
-}
-
 /// A new operation of the kind at the back of the block, with a result of the type, which names these values.
 pub(crate) fn put<D: Dialects>(
     ctx: &mut Context<D>,

@@ -1,9 +1,9 @@
 //! The sweep of a block: what goes, what stays, and how many the answer says.
 
-use crate::calls::{block_inside, end, expect_sweep, put};
+use crate::calls::{block_inside, expect_sweep, put};
 use ir_base::Dialects;
 use ir_checked::{
-    BlockPtr, CheckedErr, Context, OperationPtr, new_block, new_op, op_at_front, push_operand,
+    BlockPtr, CheckedErr, Context, OperationPtr, end, new_block, new_op, op_at_front, push_operand,
     result,
 };
 use ir_toy::{Toy, ToyType};

@@ -3,7 +3,7 @@
 use ir_base::{Dialects, Ptr};
 use ir_checked::{
     CheckedErr, Context, Entity, Operation, block_at_back, block_head, can_erase, drop_op_uses,
-    erase_op, is_inside, new_block, new_op, op_at_back, parent_block, region, result,
+    end, erase_op, is_inside, new_block, new_op, op_at_back, parent_block, region, result,
 };
 use ir_toy::{Toy, ToyType};
 use std::process::Abort;
@@ -143,20 +143,23 @@ fn used<D: Dialects>(
 #[test]
 fn nest_from_above(rt: HostRuntime) -> Result<(), Fail> {
     let mut ctx: Context<Toy> = Context::new(rt.alloc());
-    above(&rt, &mut ctx)?;
+    let outcome = above(&rt, &mut ctx);
+    end(ctx, outcome)?;
     Ok(())
 }
 
 #[test]
 fn nest_from_below(rt: HostRuntime) -> Result<(), Fail> {
     let mut ctx: Context<Toy> = Context::new(rt.alloc());
-    below(&rt, &mut ctx)?;
+    let outcome = below(&rt, &mut ctx);
+    end(ctx, outcome)?;
     Ok(())
 }
 
 #[test]
 fn used_nest(rt: HostRuntime) -> Result<(), Fail> {
     let mut ctx: Context<Toy> = Context::new(rt.alloc());
-    used(&rt, &mut ctx, ToyType::Int { width: 32 })?;
+    let outcome = used(&rt, &mut ctx, ToyType::Int { width: 32 });
+    end(ctx, outcome)?;
     Ok(())
 }

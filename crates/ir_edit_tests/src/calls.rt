@@ -1,49 +1,17 @@
 //! What the tests make, ask and expect, each with the condition of its call tested.
 
-use ir_base::{CoreError, Dialects, Limits, Ptr, TypeHandle};
+use ir_base::{CoreError, Dialects, Ptr};
 use ir_checked::{
     BasicBlock, BlockPtr, CheckedErr, Context, Operation, OperationPtr, Region, RegionPtr, Use,
-    UseQueries, Value, new_op, result,
+    UseQueries, Value, new_op, new_type, result,
 };
 use ir_view::{BlockUseQueries, BlockUses, DanglingPtrDerefError, IndexErr, UseError};
-use std::alloc::Global;
 use std::process::Abort;
 
 /// What the use of an operand that is gone is answered.
 pub(crate) const GONE: Result<usize, IndexErr> = Err(IndexErr::UseError(
     UseError::OperandNotInUserOp,
 ));
-
-/// A context with these limits.
-///
-/// # Errors
-/// `Condition` where there may be more slots than by default, or a slot may have no version.
-pub(crate) fn with_limits<D: Dialects>(
-    alloc: Global,
-    limits: Limits,
-) -> Result<Context<D>, CheckedErr> {
-    if limits.slots == u32::MAX || limits.last_version == 0 {
-        return Err(CheckedErr::Condition);
-    }
-    Ok(Context::with_limits(alloc, limits))
-}
-
-/// Lets go of a test's context, and answers how the test went. That all in a context is let go is so proved once, and for any dialect.
-pub(crate) fn end<D: Dialects>(
-    _ctx: Context<D>,
-    outcome: Result<(), CheckedErr>,
-) -> Result<(), CheckedErr> {
-    outcome
-}
-
-/// The type with this key.
-pub(crate) fn new_type<D: Dialects>(
-    ctx: &mut Context<D>,
-    key: D::TypeKey,
-) -> Result<TypeHandle, CheckedErr> {
-    let ty = ctx.instantiate_key(key)?;
-    Ok(ty)
-}
 
 /// The results of two new operations without operands.
 pub(crate) fn two_values<D: Dialects>(

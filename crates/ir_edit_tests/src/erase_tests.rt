@@ -1,16 +1,16 @@
 //! Erasing, and dropping uses.
 
 use crate::calls::{
-    GONE, counts, end, expect_block, expect_condition, expect_dangling, expect_op, expect_region,
-    expect_use, new_type, operand_use, slots_left, two_values,
+    GONE, counts, expect_block, expect_condition, expect_dangling, expect_op, expect_region,
+    expect_use, operand_use, slots_left, two_values,
 };
 use crate::operand_tests::expect_operands;
 use ir_base::{Dialects, Ptr};
 use ir_checked::{
     BasicBlock, CheckedErr, Context, Entity, Operation, Value, add_region, block_at_back,
-    can_erase, drop_block_uses, drop_op_uses, drop_region_uses, erase_block, erase_op,
-    erase_region, new_block, new_op, num_uses, op_at_back, push_operand, push_successor, region,
-    replace_operand, result,
+    can_erase, drop_block_uses, drop_op_uses, drop_region_uses, end, erase_block, erase_op,
+    erase_region, new_block, new_op, new_type, num_uses, op_at_back, push_operand, push_successor,
+    region, replace_operand, result,
 };
 use ir_toy::{Toy, ToyType};
 use std::process::Abort;

@@ -1,13 +1,12 @@
 //! Operands put in, taken out and replaced one at a time.
 
 use crate::calls::{
-    GONE, counts, end, expect_condition, expect_spent, expect_use, new_type, operand_use,
-    two_values, with_limits,
+    GONE, counts, expect_condition, expect_spent, expect_use, operand_use, two_values,
 };
 use ir_base::{Dialects, Limits, Ptr};
 use ir_checked::{
-    CheckedErr, Context, Operation, Value, insert_operand, new_op, num_uses, operand, pop_operand,
-    push_operand, remove_operand, replace_operand, result,
+    CheckedErr, Context, Operation, Value, end, insert_operand, new_op, new_type, num_uses,
+    operand, pop_operand, push_operand, remove_operand, replace_operand, result, with_limits,
 };
 use ir_toy::{Toy, ToyType};
 use std::process::Abort;

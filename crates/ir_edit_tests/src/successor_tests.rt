@@ -1,13 +1,12 @@
 //! Successors put in, taken out and replaced one at a time.
 
 use crate::calls::{
-    counts, end, expect_block_use, expect_condition, expect_spent, num_preds, successor_use,
-    with_limits,
+    counts, expect_block_use, expect_condition, expect_spent, num_preds, successor_use,
 };
 use ir_base::{Dialects, Limits, Ptr};
 use ir_checked::{
-    BasicBlock, CheckedErr, Context, Operation, insert_successor, new_block, new_op, pop_successor,
-    push_successor, remove_successor, replace_successor, successor,
+    BasicBlock, CheckedErr, Context, Operation, end, insert_successor, new_block, new_op,
+    pop_successor, push_successor, remove_successor, replace_successor, successor, with_limits,
 };
 use ir_toy::Toy;
 use std::process::Abort;

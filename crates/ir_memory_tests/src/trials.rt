@@ -1,7 +1,7 @@
 //! How the calls with a name are tried.
 
-use ir_base::{CoreError, Dialects};
-use ir_checked::{CheckedErr, Context};
+use ir_base::CoreError;
+use ir_checked::{CheckedErr, Context, end};
 use ir_memory_calls::{
     AttributeCall, CheckCall, DefinitionCall, ForestCall, IdCall, NameCall, NewCall, OperandCall,
     StoreCall as StoringOnForest, SuccessorCall, TypeCall, UseCall, VerifyCall, dump_marked,
@@ -42,11 +42,6 @@ fn make_and_try<C: ForestCall>(
 ) -> Result<(), CheckedErr> {
     let forest = make_forest(ctx)?;
     try_call(rt, ctx, &forest, call)
-}
-
-// Lets go of a context, and answers how its test went. That all in a context is let go is so proved once, and for any dialect.
-fn end<D: Dialects>(_ctx: Context<D>, outcome: Result<(), CheckedErr>) -> Result<(), CheckedErr> {
-    outcome
 }
 
 // Makes the call on a forest of its own.

@@ -7,14 +7,6 @@ use ir_view::{
 };
 use std::process::Abort;
 
-/// Lets go of a test's context, and answers how the test went. That all in a context is let go is so proved once, and for any dialect.
-pub(crate) fn end<D: Dialects>(
-    _ctx: Context<D>,
-    outcome: Result<(), CoreError>,
-) -> Result<(), CoreError> {
-    outcome
-}
-
 /// A new operation with two results of the type.
 pub(crate) fn new_definer<D: Dialects>(
     rt: &impl Abort,

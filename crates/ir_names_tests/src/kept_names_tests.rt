@@ -1,11 +1,12 @@
 //! Names stay with the values and blocks that were given them, and go with them.
 
 use crate::kept_names_checks::{
-    end, erase_block, erase_op, insert_in_front, move_uses, new_definer, new_user, result_at,
-    set_label, set_type,
+    erase_block, erase_op, insert_in_front, move_uses, new_definer, new_user, result_at, set_label,
+    set_type,
 };
 use crate::names_tests::{expect_block, expect_value, set_name};
 use ir_base::{CoreError, Dialects, Identifier, Limits, Ptr, TypeHandle};
+use ir_checked::end;
 use ir_names::Named;
 use ir_text::ident;
 use ir_toy::{Toy, ToyType};

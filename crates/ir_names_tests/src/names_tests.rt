@@ -1,5 +1,6 @@
 // Given names, ids and unique names, of values and of blocks, by their handles and by their records.
 use ir_base::{CoreError, Dialects, Identifier, Ptr};
+use ir_checked::end;
 use ir_names::Named;
 use ir_text::ident;
 use ir_toy::{Toy, ToyType};
@@ -87,13 +88,19 @@ fn name_each<D: Dialects>(
     expect_value(rt, ctx, value, None, "v0", "v0")
 }
 
+// A result of a new operation gets names.
+fn name_a_result(rt: &impl Abort, ctx: &mut Context<Toy>) -> Result<(), CoreError> {
+    let ty = ctx.instantiate_key(ToyType::Int { width: 32 })?;
+    let op = Operation::new(ctx, 0, &[ty], &[], &[], 0)?;
+    let value = op.deref(ctx).get_result(0);
+    name_each(rt, ctx, value)
+}
+
 #[test]
 fn unique_names(rt: HostRuntime) -> Result<(), Fail> {
     let mut ctx: Context<Toy> = Context::new(rt.alloc());
-    let ty = ctx.instantiate_key(ToyType::Int { width: 32 })?;
-    let op = Operation::new(&mut ctx, 0, &[ty], &[], &[], 0)?;
-    let value = op.deref(&ctx).get_result(0);
-    name_each(&rt, &mut ctx, value)?;
+    let outcome = name_a_result(&rt, &mut ctx);
+    end(ctx, outcome)?;
     Ok(())
 }
 
@@ -109,13 +116,19 @@ fn name_as_a_block<D: Dialects>(
     expect_value(rt, ctx, other, None, "v1", "v1")
 }
 
+// An argument of a new block gets the name of a block.
+fn name_an_argument(rt: &impl Abort, ctx: &mut Context<Toy>) -> Result<(), CoreError> {
+    let ty = ctx.instantiate_key(ToyType::Int { width: 32 })?;
+    let block = BasicBlock::new(ctx, None, &[ty, ty])?;
+    let record = block.deref(ctx);
+    let values = [record.get_argument(0), record.get_argument(1)];
+    name_as_a_block(rt, ctx, values)
+}
+
 #[test]
 fn name_like_a_block(rt: HostRuntime) -> Result<(), Fail> {
     let mut ctx: Context<Toy> = Context::new(rt.alloc());
-    let ty = ctx.instantiate_key(ToyType::Int { width: 32 })?;
-    let block = BasicBlock::new(&mut ctx, None, &[ty, ty])?;
-    let record = block.deref(&ctx);
-    let values = [record.get_argument(0), record.get_argument(1)];
-    name_as_a_block(&rt, &mut ctx, values)?;
+    let outcome = name_an_argument(&rt, &mut ctx);
+    end(ctx, outcome)?;
     Ok(())
 }

@@ -1,11 +1,10 @@
 //! How the calls with a name are tried.
 
-use crate::ending::end;
 use crate::session_readings::{SessionReading, try_session_reading};
 use crate::store_readings::{StoreReading, Stores, try_store_reading};
 use crate::surface::has;
 use crate::type_readings::{TypeReading, try_type_reading};
-use ir_checked::{CheckedErr, Context};
+use ir_checked::{CheckedErr, Context, end};
 use ir_quiet_calls::{
     BlockListCall, BlockReading, EraseCall, OpListCall, OpReading, QuietCall, RegionReading,
     RemovalCall, SettingCall,

@@ -2,9 +2,8 @@
 
 ghost use Rattle.std.specs.Prelude.{◌≡◌};
 
-use crate::ending::end;
 use ir_base::{CoreError, Dialects, TypeHandle};
-use ir_checked::{CheckedErr, Context, TypeQueries};
+use ir_checked::{CheckedErr, Context, TypeQueries, end};
 use ir_small_dialect::{ListedType, MarkedForest, SizedInterface, Small, SmallType, make_marked};
 use ir_small_verifiers::{Judge, interface_found, typed_found};
 use ir_types::{IrType, TypeInterfaceHandle, Typed, TypedHandle, type_impls, type_impls_static};

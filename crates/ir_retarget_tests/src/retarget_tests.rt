@@ -6,7 +6,7 @@ use crate::calls::{
 };
 use ir_base::Dialects;
 use ir_checked::{
-    CheckedErr, Context, erase_op, new_block, retarget_all, retarget_pred, unlink_op,
+    CheckedErr, Context, end, erase_op, new_block, retarget_all, retarget_pred, unlink_op,
 };
 use ir_toy::Toy;
 use std::process::Abort;
@@ -93,34 +93,39 @@ fn users_without_block<D: Dialects>(
 #[test]
 fn one_successor_moves(rt: HostRuntime) -> Result<(), Fail> {
     let mut ctx: Context<Toy> = Context::new(rt.alloc());
-    one_successor(&rt, &mut ctx)?;
+    let outcome = one_successor(&rt, &mut ctx);
+    end(ctx, outcome)?;
     Ok(())
 }
 
 #[test]
 fn chosen_successors_move(rt: HostRuntime) -> Result<(), Fail> {
     let mut ctx: Context<Toy> = Context::new(rt.alloc());
-    chosen_successors(&rt, &mut ctx)?;
+    let outcome = chosen_successors(&rt, &mut ctx);
+    end(ctx, outcome)?;
     Ok(())
 }
 
 #[test]
 fn predicate_on_old_blocks(rt: HostRuntime) -> Result<(), Fail> {
     let mut ctx: Context<Toy> = Context::new(rt.alloc());
-    old_state(&rt, &mut ctx)?;
+    let outcome = old_state(&rt, &mut ctx);
+    end(ctx, outcome)?;
     Ok(())
 }
 
 #[test]
 fn all_successors_move(rt: HostRuntime) -> Result<(), Fail> {
     let mut ctx: Context<Toy> = Context::new(rt.alloc());
-    all_successors(&rt, &mut ctx)?;
+    let outcome = all_successors(&rt, &mut ctx);
+    end(ctx, outcome)?;
     Ok(())
 }
 
 #[test]
 fn users_without_a_block(rt: HostRuntime) -> Result<(), Fail> {
     let mut ctx: Context<Toy> = Context::new(rt.alloc());
-    users_without_block(&rt, &mut ctx)?;
+    let outcome = users_without_block(&rt, &mut ctx);
+    end(ctx, outcome)?;
     Ok(())
 }

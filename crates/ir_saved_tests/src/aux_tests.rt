@@ -1,7 +1,7 @@
 //! Auxiliary data: indices, names, and slots that are spent.
 
 use crate::aux_calls::{add, find, has, is_gone, name, set_name, slots_left, take, write};
-use crate::ending::end;
+use ir_checked::end;
 use ir_core::{ArenaIndex, AuxDataIndex, Context, CoreError, Dialects, Identifier, Limits};
 use ir_toy::Toy;
 use std::process::Abort;

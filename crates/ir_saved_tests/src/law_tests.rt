@@ -1,6 +1,6 @@
 //! What holds of every context, and of every type of saved values: each law can be called.
 
-use crate::ending::end;
+use ir_checked::end;
 use ir_core::{Context, Dialects};
 use ir_saved::{SavedValue, equal_keys_for_equal_values, kinds_are_never_equal};
 use ir_toy::Toy;

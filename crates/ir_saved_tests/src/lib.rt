@@ -6,8 +6,6 @@ mod aux_calls;
 #[cfg(test)]
 mod aux_tests;
 #[cfg(test)]
-mod ending;
-#[cfg(test)]
 mod law_tests;
 #[cfg(test)]
 mod saved_calls;

@@ -1,9 +1,9 @@
 //! Types, which are stored once and may have bodies, and saved values with their keys.
 
-use crate::ending::end;
 use crate::saved_calls::{
     equals, find_type, has_body, has_key, leads_to, save_uniqued, save_value, set_body, store_type,
 };
+use ir_checked::end;
 use ir_core::{Context, CoreError, Identifier};
 use ir_saved::{SavedValue, UniquedKey};
 use ir_toy::{Toy, ToyType};

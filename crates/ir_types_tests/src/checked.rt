@@ -8,14 +8,6 @@ use ir_view::{Context, TypeQueries};
 use std::hash::{DefaultHasher, Hash, Hasher};
 use std::process::Abort;
 
-/// Lets go of a test's context, and answers how the test went. That all in a context is let go is so proved once, and for any dialect.
-pub(crate) fn end<D: Dialects>(
-    _ctx: Context<D>,
-    outcome: Result<(), CoreError>,
-) -> Result<(), CoreError> {
-    outcome
-}
-
 /// An integer type of this width.
 pub(crate) fn int(width: u32) -> IntType {
     IntType { width }

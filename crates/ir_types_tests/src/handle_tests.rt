@@ -1,11 +1,12 @@
 //! Handles that say of what kind their type is, or which interface it implements.
 
 use crate::checked::{
-    as_typed, end, expect_equal_copy, expect_key, expect_type, int, list, pair, with_interface,
+    as_typed, expect_equal_copy, expect_key, expect_type, int, list, pair, with_interface,
 };
 use crate::small::{CompoundType, IntType, NamedType, PairType, SizedType, Small};
 use ir_base::interfaces::TypeInterfaceMarker;
 use ir_base::{CoreError, Dialects, TypeHandle};
+use ir_checked::end;
 use ir_types::{
     IrType, TypeImplsInterface, TypeInterfaceHandle, TypeInterfaceHandleErr, TypedHandle,
     TypedHandleErr,

@@ -1,8 +1,9 @@
 //! Types that are made, found and given bodies.
 
-use crate::checked::{end, expect_type, int, list, pair};
+use crate::checked::{expect_type, int, list, pair};
 use crate::small::Small;
 use ir_base::{CoreError, Dialects, TypeHandle};
+use ir_checked::end;
 use ir_types::{IrType, TypedHandle};
 use ir_view::{Context, TypeQueries};
 use std::process::Abort;

@@ -1,8 +1,9 @@
 //! What has a type, and signatures.
 
-use crate::checked::{end, expect_equal_copy, int};
+use crate::checked::{expect_equal_copy, int};
 use crate::small::Small;
 use ir_base::{CoreError, Dialects, TypeHandle};
+use ir_checked::end;
 use ir_types::{IrType, TypeSig, Typed};
 use ir_view::{
     BasicBlock, BlockPtr, Context, NewBlock, NewOperation, Operation, OperationPtr, TypeQueries,

@@ -7,14 +7,6 @@ use ir_checked::{
 };
 use std::process::Abort;
 
-/// Lets go of a test's context, and answers how the test went. That all in a context is let go is so proved once, and for any dialect.
-pub(crate) fn end<D: Dialects>(
-    _ctx: Context<D>,
-    outcome: Result<(), CheckedErr>,
-) -> Result<(), CheckedErr> {
-    outcome
-}
-
 /// The result of a new operation.
 pub(crate) fn new_value<D: Dialects>(
     ctx: &mut Context<D>,

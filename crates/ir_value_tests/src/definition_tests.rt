@@ -1,11 +1,11 @@
 //! Results and arguments put in and taken out one at a time, and given another type.
 
-use crate::calls::{end, expect_condition, expect_use_count, new_user};
+use crate::calls::{expect_condition, expect_use_count, new_user};
 use ir_base::{Dialects, TypeHandle};
 use ir_checked::{
-    CheckedErr, Context, Value, ValueQueries, argument, insert_argument, insert_result, new_block,
-    new_op, pop_argument, pop_result, push_argument, push_result, remove_argument, remove_result,
-    result, set_type,
+    CheckedErr, Context, Value, ValueQueries, argument, end, insert_argument, insert_result,
+    new_block, new_op, pop_argument, pop_result, push_argument, push_result, remove_argument,
+    remove_result, result, set_type,
 };
 use ir_toy::{Toy, ToyType};
 use ir_view::{IndexErr, ValueError};

@@ -1,12 +1,10 @@
 //! Uses of a value that come to name another one: all, one, or those that a predicate chooses.
 
-use crate::calls::{
-    end, expect_operands, expect_use, expect_use_count, new_user, new_value, use_at,
-};
+use crate::calls::{expect_operands, expect_use, expect_use_count, new_user, new_value, use_at};
 use ir_base::{CoreError, Dialects, Limits, Ptr};
 use ir_checked::{
-    CheckedErr, Context, Operation, OperationPtr, Use, UseQueries, Value, ValueQueries, new_op,
-    push_operand, remove_operand, replace_all_uses, replace_use,
+    CheckedErr, Context, Operation, OperationPtr, Use, UseQueries, Value, ValueQueries, end,
+    new_op, push_operand, remove_operand, replace_all_uses, replace_use,
 };
 use ir_toy::{Toy, ToyType};
 use ir_view::{OperationParts, ValueEdits};

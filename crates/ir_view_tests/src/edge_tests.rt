@@ -4,9 +4,9 @@ use crate::edges::{
     expect_num_succ, is_pred, is_succ, is_succ_of, num_preds, pred_at, preds, preds_are_linked,
     succ_at, succs, terminator, uses_of,
 };
-use crate::making::{branch, end, two_blocks};
+use crate::making::{branch, two_blocks};
 use ir_base::{Dialects, Ptr};
-use ir_checked::{BasicBlock, CheckedErr, Context, new_op};
+use ir_checked::{BasicBlock, CheckedErr, Context, end, new_op};
 use ir_toy::Toy;
 use std::process::Abort;
 use std::test::Fail;

@@ -7,14 +7,6 @@ use ir_checked::{
 };
 use ir_toy::{Toy, ToyType};
 
-/// Lets go of a test's context, and answers how the test went. That all in a context is let go is so proved once, and for any dialect.
-pub(crate) fn end<D: Dialects>(
-    _ctx: Context<D>,
-    outcome: Result<(), CheckedErr>,
-) -> Result<(), CheckedErr> {
-    outcome
-}
-
 /// The integer type of this width.
 pub(crate) fn int(ctx: &mut Context<Toy>, width: u32) -> Result<TypeHandle, CheckedErr> {
     let ty = ctx.instantiate_key(ToyType::Int { width })?;

@@ -1,10 +1,10 @@
 //! What stands in what, over several levels.
 
-use crate::making::{bare_op, block_in, end, int};
+use crate::making::{bare_op, block_in, int};
 use crate::parents::{expect_block_in, expect_op_in, expect_region_in, expect_value_in};
 use ir_base::{Dialects, Ptr, TypeHandle};
 use ir_checked::{
-    BasicBlock, CheckedErr, Context, Entity, Operation, Region, Value, argument, can_erase,
+    BasicBlock, CheckedErr, Context, Entity, Operation, Region, Value, argument, can_erase, end,
     is_inside, new_block, new_op, op_at_back, region, result,
 };
 use ir_toy::Toy;

@@ -1,10 +1,10 @@
 //! The parts of an operation and of a block, walked from both ends.
 
-use crate::making::{end, int};
+use crate::making::int;
 use crate::parts::{expect_parts, expect_regions};
 use ir_base::{Dialects, Ptr, TypeHandle};
 use ir_checked::{
-    BasicBlock, BlockPtr, CheckedErr, Context, Operation, OperationPtr, Use, Value, argument,
+    BasicBlock, BlockPtr, CheckedErr, Context, Operation, OperationPtr, Use, Value, argument, end,
     new_block, new_op, region, result,
 };
 use ir_toy::Toy;

@@ -2,12 +2,12 @@
 //!
 //! Step by step they are sessions as texts: what these show of a list is how it is walked forward and backward, its ends, and the neighbours and the place of each node.
 
-use crate::making::{bare_block, bare_op, block_in, end};
+use crate::making::{bare_block, bare_op, block_in};
 use crate::parents::expect_op_in;
 use ir_base::{Dialects, Limits, Ptr};
 use ir_checked::{
     BasicBlock, BlockPlace, BlockPtr, CheckedErr, Context, Operation, OperationPlace, OperationPtr,
-    Region, RegionPlace, RegionPtr, block_head, block_tail, op_at_back, region, region_head,
+    Region, RegionPlace, RegionPtr, block_head, block_tail, end, op_at_back, region, region_head,
     region_tail, unlink_block, unlink_op,
 };
 use ir_lab::{LabError, first_difference};

@@ -1,10 +1,10 @@
 //! Regions: their order after moves, and what the dialect says of them.
 
-use crate::making::{bare_op, end};
+use crate::making::bare_op;
 use crate::parts::expect_regions;
 use ir_base::{Dialects, Ptr};
 use ir_checked::{
-    CheckedErr, Context, Operation, Region, RegionPlace, RegionPtr, move_region, region,
+    CheckedErr, Context, Operation, Region, RegionPlace, RegionPtr, end, move_region, region,
 };
 use ir_toy::Toy;
 use std::process::Abort;

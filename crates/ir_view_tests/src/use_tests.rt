@@ -1,11 +1,11 @@
 //! Uses of values and of blocks, and a refused operation that leaves them as they were.
 
 use crate::edges::num_preds;
-use crate::making::{bare_block, end, int};
+use crate::making::{bare_block, int};
 use ir_base::{CoreError, Dialects, Ptr, TypeHandle};
 use ir_checked::{
     BasicBlock, CheckedErr, Context, Operation, OperationPtr, Use, UseQueries, Value, ValueQueries,
-    new_op, num_uses, result,
+    end, new_op, num_uses, result,
 };
 use ir_toy::Toy;
 use ir_view::{OperationParts, ResultUses};

@@ -1,10 +1,9 @@
 //! The example's dialect: what it makes, how it is named, and what is read back.
 
-use crate::calls::end;
 use example::{Calc, CalcType, Constant, Less};
 use ir_base::interfaces::PureOpInterface;
 use ir_base::{CoreError, Dialects, Identifier, Ptr};
-use ir_checked::{CheckedErr, Context, Operation, OperationPtr, Value, ValueQueries};
+use ir_checked::{CheckedErr, Context, Operation, OperationPtr, Value, ValueQueries, end};
 use ir_names::Named;
 use ir_view::{Op, OperationKind, op_impls_static};
 use std::alloc::Global;

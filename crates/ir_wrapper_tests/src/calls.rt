@@ -5,14 +5,6 @@ use ir_checked::{CheckedErr, Context, Operation, OperationPtr, new_op};
 use ir_view::OperationPtrMut;
 use std::process::Abort;
 
-/// Lets go of a test's context, and answers how the test went. That all in a context is let go is so proved once, and for any dialect.
-pub(crate) fn end<D: Dialects>(
-    _ctx: Context<D>,
-    outcome: Result<(), CheckedErr>,
-) -> Result<(), CheckedErr> {
-    outcome
-}
-
 /// A new operation of the kind, alone.
 pub(crate) fn alone<D: Dialects>(
     ctx: &mut Context<D>,

@@ -1,11 +1,11 @@
 //! What is written of operations and blocks: attributes over the dialect Calc, locations and labels over Toy.
 
-use crate::calls::{alone, end, expect_condition, set_loc};
+use crate::calls::{alone, expect_condition, set_loc};
 use example::{Calc, CalcType, Literal};
 use ir_base::attribute::AttributeDict;
 use ir_base::{Dialects, Identifier, Ptr};
 use ir_checked::{
-    BasicBlock, BlockPtr, CheckedErr, Context, Operation, OperationPlace, OperationPtr,
+    BasicBlock, BlockPtr, CheckedErr, Context, Operation, OperationPlace, OperationPtr, end,
     erase_block, erase_op, new_block, new_op, op_at_back, push_operand, result, unlink_op,
 };
 use ir_toy::{Toy, ToyLoc};

@@ -1,10 +1,10 @@
 //! Wrapped operations over the dialect Toy.
 
-use crate::calls::{alone, end, set_loc};
+use crate::calls::{alone, set_loc};
 use crate::toy_ops::{Constant, Return};
 use ir_base::interfaces::{IsTerminatorInterface, OpInterfaceMarker, PureOpInterface};
 use ir_base::{CoreError, Dialects, OpId, Ptr};
-use ir_checked::{CheckedErr, Context, Operation, OperationPtr};
+use ir_checked::{CheckedErr, Context, Operation, OperationPtr, end};
 use ir_toy::{Toy, ToyLoc};
 use ir_view::laws::wrapped_operations_compare_by_operation;
 use ir_view::{Op, OpObj, OperationKind, op_impls, op_impls_static};
