@@ -14,7 +14,7 @@ use crate::sweeps::{sweep_back, sweep_front, sweep_none};
 use crate::types::interning;
 use crate::uses::{argument_users, replacing, replacing_in_one};
 use crate::verifying::{verifying, verifying_deep};
-use ir_checked::Context;
+use ir_checked::{Context, end};
 use ir_toy_verifiers::{Toy, ToyType};
 use std::alloc::Global;
 use std::time::CpuClock;
@@ -160,7 +160,8 @@ impl Workload {
     /// Runs the workload on a new context. Gives the nanoseconds of the timed part, and what came out.
     pub(crate) fn run<C: CpuClock>(self, rt: &C, alloc: Global, count: usize) -> Run {
         let mut ctx: Context<Toy> = Context::new(alloc);
-        self.run_in(rt, &mut ctx, count)
+        let outcome = self.run_in(rt, &mut ctx, count);
+        end(ctx, outcome)
     }
 
     // Runs the workload in an empty context, to which it gives a type.

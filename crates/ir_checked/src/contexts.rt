@@ -17,7 +17,7 @@ pub fn with_limits<D: Dialects>(alloc: Global, limits: Limits) -> Result<Context
 }
 
 /// Lets go of a context, and gives back how what was done with it ended. That all in a context is let go of is proved here, once and for any dialect: a function that makes a context and ends so need not prove it again, which takes long.
-pub fn end<D: Dialects, E>(_ctx: Context<D>, outcome: Result<(), E>) -> Result<(), E> {
+pub fn end<D: Dialects, O>(_ctx: Context<D>, outcome: O) -> O {
     outcome
 }
 

@@ -3,7 +3,7 @@
 ghost use Rattle.std.specs.Prelude.{◌≡◌};
 
 use ir_base::{Dialects, Identifier, Limits, TypeHandle};
-use ir_checked::{CheckedErr, Context, TypeQueries};
+use ir_checked::{CheckedErr, Context, TypeQueries, end};
 use ir_quiet_calls::QuietCall;
 use ir_saved::{UniquedKey, get};
 use ir_small_forest::Forest;
@@ -147,5 +147,6 @@ fn new_contexts<D: Dialects>(alloc: Global) -> bool {
         last_version: 1,
     };
     let second: Context<D> = Context::with_limits(alloc, limits);
-    first.is_ir_empty() && second.is_ir_empty()
+    let are_empty = first.is_ir_empty() && second.is_ir_empty();
+    end(first, end(second, are_empty))
 }

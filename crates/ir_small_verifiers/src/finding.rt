@@ -2,6 +2,7 @@
 
 use ir_base::interfaces::TypeInterfaceMarker;
 use ir_base::{Dialects, Ptr, TypeHandle};
+use ir_checked::end;
 use ir_types::{IrType, TypeInterfaceHandle, TypedHandle};
 use ir_verify::{
     Verifiers, Verify, VerifyErr, verify_attr, verify_op, verify_operation, verify_type,
@@ -154,5 +155,6 @@ pub fn found_of_attribute<D: Dialects, V: Verifiers<D>>(
     verifiers: &V,
 ) -> Result<(), VerifyErr> {
     let ctx: Context<D> = Context::new(alloc);
-    verify_attr(attr, &ctx, verifiers)
+    let found = verify_attr(attr, &ctx, verifiers);
+    end(ctx, found)
 }

@@ -5,6 +5,7 @@ use crate::finding::{
     type_found, type_found_by_call, typed_found, value_found,
 };
 use crate::judge::Judge;
+use ir_checked::end;
 use ir_small_dialect::{
     LabErr, ListedType, MarkedForest, SizedInterface, Small, argument_of, make_marked, result_of,
 };
@@ -113,5 +114,6 @@ pub fn found_by_judges(
     judges: &[Judge],
 ) -> Result<Vec<Result<(), VerifyErr>>, LabErr> {
     let mut ctx = Context::new(alloc);
-    make_and_judge(alloc, &mut ctx, root, judges)
+    let found = make_and_judge(alloc, &mut ctx, root, judges);
+    end(ctx, found)
 }
