@@ -25,6 +25,6 @@ fn laws_can_be_called(rt: HostRuntime) -> Result<(), Fail> {
     let ctx: Context<Toy> = Context::new(rt.alloc());
     call_laws(&ctx);
     call_saved_laws::<Toy, String, u64>();
-    end(ctx, Ok(()))?;
+    end(ctx, ());
     Ok(())
 }
