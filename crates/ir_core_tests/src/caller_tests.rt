@@ -42,21 +42,14 @@ fn walk_to_region<D: Dialects>(ctx: &Context<D>, op: &Operation<D>, index: usize
     }
 }
 
-// From a live operation to what an operand names, to its type, and its key.
-fn walk_to_operand_type<D: Dialects>(ctx: &Context<D>, op: &Operation<D>, index: usize)
+// From a live operation to what an operand names: to the key of its type, and to the operation that defines it.
+fn walk_to_named<D: Dialects>(ctx: &Context<D>, op: &Operation<D>, index: usize)
     requires { LeadsToLive (forest_of ctx.now) (length (types_of ctx.now)) op.now }
 {
     if index < op.get_num_operands() {
-        let _key = op.get_operand(index).get_type(ctx).deref(ctx);
-    }
-}
-
-// From a live operation to what an operand names, and the operation that defines that.
-fn walk_to_maker<D: Dialects>(ctx: &Context<D>, op: &Operation<D>, index: usize)
-    requires { LeadsToLive (forest_of ctx.now) (length (types_of ctx.now)) op.now }
-{
-    if index < op.get_num_operands() {
-        if let Some(maker) = op.get_operand(index).defining_op() {
+        let value = op.get_operand(index);
+        let _key = value.get_type(ctx).deref(ctx);
+        if let Some(maker) = value.defining_op() {
             let _kind = maker.deref(ctx).kind();
         }
     }
@@ -89,8 +82,7 @@ fn walk<D: Dialects>(ctx: &Context<D>, op: &Operation<D>) -> usize
     walk_to_type(ctx, op, 0);
     walk_to_region(ctx, op, 0);
     walk_to_region(ctx, op, 1);
-    walk_to_operand_type(ctx, op, 0);
-    walk_to_maker(ctx, op, 0);
+    walk_to_named(ctx, op, 0);
     walk_to_user(ctx, op, 0);
     walk_to_uses(ctx, op, 0)
 }

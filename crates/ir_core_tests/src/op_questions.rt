@@ -108,7 +108,11 @@ pub(crate) fn count_result_uses<D: Dialects>(
     if !op.is_live(ctx) {
         return Err(CheckedErr::Condition);
     }
-    Ok(op.uses(ctx).count())
+    let mut count = 0_usize;
+    for _used in op.uses(ctx) {
+        count = count.saturating_add(1);
+    }
+    Ok(count)
 }
 
 /// Asserts that no other operation than this one uses the results of the operation.
