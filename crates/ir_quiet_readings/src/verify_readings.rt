@@ -2,8 +2,8 @@
 
 ghost use Rattle.std.specs.Prelude.{◌≡◌};
 
-use ir_base::TypeHandle;
-use ir_checked::{CheckedErr, Context};
+use ir_base::{Ptr, TypeHandle};
+use ir_checked::{BasicBlock, CheckedErr, Context, Operation, Region, Value};
 use ir_quiet_calls::QuietCall;
 use ir_small_forest::Forest;
 use ir_small_verifiers::{
@@ -71,37 +71,51 @@ impl QuietCall for VerifyReading {
     }
 
     fn make(self, ctx: &mut Context<Toy>, forest: &Forest) -> Result<bool, CheckedErr> {
-        let module = forest.module;
         match self {
-            VerifyReading::Operation => Ok(
-                op_found(ctx, module, &ToyVerifiers) == Some(Ok(()))
-                    && op_found_by_call(ctx, module, &ToyVerifiers) == Some(Ok(()))
-                    && op_found_with_kind(ctx, module, &ToyVerifiers) == Some(Ok(())),
-            ),
+            VerifyReading::Operation => Ok(op_is_well(ctx, forest.module)),
             VerifyReading::BlockAndRegion => {
-                Ok(
-                    block_found(ctx, forest.blocks.exit, &ToyVerifiers) == Some(Ok(()))
-                        && region_found(ctx, forest.body, &ToyVerifiers) == Some(Ok(())),
-                )
+                Ok(block_is_well(ctx, forest.blocks.exit) && region_is_well(ctx, forest.body))
             }
-            VerifyReading::Value => {
-                Ok(value_found(ctx, forest.made.v, &ToyVerifiers) == Some(Ok(())))
-            }
-            VerifyReading::Type => Ok(
-                type_found(ctx, forest.ty, &ToyVerifiers) == Some(Ok(()))
-                    && type_found_by_call(ctx, forest.ty, &ToyVerifiers) == Some(Ok(())),
-            ),
-            VerifyReading::Attribute => {
-                let attr = number(forest.ty);
-                let found = found_of_attribute::<Toy, ToyVerifiers>(
-                    ctx.alloc(),
-                    &attr,
-                    &ToyVerifiers,
-                );
-                Ok(found == Ok(()))
-            }
+            VerifyReading::Value => Ok(value_is_well(ctx, forest.made.v)),
+            VerifyReading::Type => Ok(type_is_well(ctx, forest.ty)),
+            VerifyReading::Attribute => Ok(attribute_is_well(ctx, forest.ty)),
         }
     }
+}
+
+// Whether it could be verified, and nothing was found.
+fn is_well<E: Drop>(found: Option<Result<(), E>>) -> bool {
+    matches!(found, Some(Ok(())))
+}
+
+// Whether nothing is found at the operation, in each of the ways to verify one.
+fn op_is_well(ctx: &Context<Toy>, op: Ptr<Operation<Toy>>) -> bool {
+    is_well(op_found(ctx, op, &ToyVerifiers))
+        && is_well(op_found_by_call(ctx, op, &ToyVerifiers))
+        && is_well(op_found_with_kind(ctx, op, &ToyVerifiers))
+}
+
+fn block_is_well(ctx: &Context<Toy>, block: Ptr<BasicBlock<Toy>>) -> bool {
+    is_well(block_found(ctx, block, &ToyVerifiers))
+}
+
+fn region_is_well(ctx: &Context<Toy>, region: Ptr<Region>) -> bool {
+    is_well(region_found(ctx, region, &ToyVerifiers))
+}
+
+fn value_is_well(ctx: &Context<Toy>, value: Value<Toy>) -> bool {
+    is_well(value_found(ctx, value, &ToyVerifiers))
+}
+
+fn type_is_well(ctx: &Context<Toy>, ty: TypeHandle) -> bool {
+    is_well(type_found(ctx, ty, &ToyVerifiers))
+        && is_well(type_found_by_call(ctx, ty, &ToyVerifiers))
+}
+
+fn attribute_is_well(ctx: &Context<Toy>, ty: TypeHandle) -> bool {
+    let attr = number(ty);
+    let found = found_of_attribute::<Toy, ToyVerifiers>(ctx.alloc(), &attr, &ToyVerifiers);
+    is_well(Some(found))
 }
 
 // A number with this type.
