@@ -231,10 +231,9 @@ fn hand_over(text: &mut String, alloc: Global) -> String {
 
 fn of_texts(stores: &mut Stores) -> bool {
     let alloc = stores.alloc;
-    let [first, second, third] = &mut stores.texts;
-    let first = Identifier::try_new(hand_over(first, alloc));
-    let second = Identifier::try_from(hand_over(second, alloc));
-    let third = DialectName::try_from(hand_over(third, alloc));
+    let first = Identifier::try_new(hand_over(&mut stores.texts[0], alloc));
+    let second = Identifier::try_from(hand_over(&mut stores.texts[1], alloc));
+    let third = DialectName::try_from(hand_over(&mut stores.texts[2], alloc));
     first.is_ok() && second.is_ok() && third.is_ok()
 }
 
