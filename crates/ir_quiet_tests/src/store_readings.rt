@@ -17,8 +17,12 @@ use std::process::Abort;
 #[derive(Drop)]
 pub(crate) struct Stores {
     alloc: Global,
-    // The text `abc`, thrice.
-    texts: [String; 3],
+    // The text `abc`.
+    text: String,
+    // The same once more.
+    other_text: String,
+    // And once more, as the name of a dialect.
+    dialect_text: String,
     // The same as an identifier.
     identifier: Identifier,
     // The id `toy.add`.
@@ -68,7 +72,9 @@ impl Stores {
         store.get_or_create_unique(7)?;
         Ok(Stores {
             alloc,
-            texts: [text(alloc)?, text(alloc)?, text(alloc)?],
+            text: text(alloc)?,
+            other_text: text(alloc)?,
+            dialect_text: text(alloc)?,
             identifier: owned(alloc, "abc")?,
             id: OpId {
                 dialect: DialectName::from(owned(alloc, "toy")?),
@@ -229,12 +235,23 @@ fn hand_over(text: &mut String, alloc: Global) -> String {
     std::mem::replace(text, String::new(alloc))
 }
 
+fn is_identifier(text: &mut String, alloc: Global) -> bool {
+    Identifier::try_new(hand_over(text, alloc)).is_ok()
+}
+
+fn comes_to_identifier(text: &mut String, alloc: Global) -> bool {
+    Identifier::try_from(hand_over(text, alloc)).is_ok()
+}
+
+fn comes_to_name(text: &mut String, alloc: Global) -> bool {
+    DialectName::try_from(hand_over(text, alloc)).is_ok()
+}
+
 fn of_texts(stores: &mut Stores) -> bool {
     let alloc = stores.alloc;
-    let first = Identifier::try_new(hand_over(&mut stores.texts[0], alloc));
-    let second = Identifier::try_from(hand_over(&mut stores.texts[1], alloc));
-    let third = DialectName::try_from(hand_over(&mut stores.texts[2], alloc));
-    first.is_ok() && second.is_ok() && third.is_ok()
+    is_identifier(&mut stores.text, alloc)
+        && comes_to_identifier(&mut stores.other_text, alloc)
+        && comes_to_name(&mut stores.dialect_text, alloc)
 }
 
 // What an item hashes to.
