@@ -1,8 +1,8 @@
 /* Loaded before the C library, it counts a program's requests for memory and refuses one of them, or those that the program means not to make.
  *
  * REFUSE is the number of the request that is refused, counted from 1; with 0 none is, and with `between` each one that is made between the lines.
- * From a line `ready` on standard output to a line `done` the program means to ask for nothing.
- * At the end three numbers are written to the file that REQUESTS names: all requests, those between such lines, and how often the one line came and then the other. */
+ * Between a line `ready` on standard output and a line `done` stands a call of which the program means that it asks for nothing, or else that it asks.
+ * At the end four numbers are written to the file that REQUESTS names: all requests, those between such lines, how often the one line came and then the other, and how often without a request between them. */
 #define _GNU_SOURCE
 #include <dlfcn.h>
 #include <fcntl.h>
@@ -11,21 +11,21 @@
 #include <string.h>
 #include <unistd.h>
 
-static long asked, refused, between, pairs;
+static long asked, refused, between, pairs, quiet, before;
 static int watching, refuses_between;
 
 __attribute__((constructor)) static void start(void) {
     const char *number = getenv("REFUSE");
     refuses_between = number && !strcmp(number, "between");
     refused = number ? atol(number) : 0;
-    asked = between = pairs = 0;
+    asked = between = pairs = quiet = 0;
 }
 
 __attribute__((destructor)) static void end(void) {
     const char *path = getenv("REQUESTS");
     int file = path ? open(path, O_WRONLY | O_CREAT | O_TRUNC, 0600) : -1;
     if (file < 0) return;
-    dprintf(file, "%ld %ld %ld\n", asked, between, pairs);
+    dprintf(file, "%ld %ld %ld %ld\n", asked, between, pairs, quiet);
     close(file);
 }
 
@@ -53,9 +53,13 @@ static ssize_t watched(ssize_t (*next)(int, const void *, size_t), int file, con
     if (watching && length == 5 && !memcmp(text, "done\n", 5)) {
         watching = 0;
         pairs++;
+        quiet += between == before;
     }
     ssize_t written = next(file, text, length);
-    if (length == 6 && !memcmp(text, "ready\n", 6)) watching = 1;
+    if (length == 6 && !memcmp(text, "ready\n", 6)) {
+        watching = 1;
+        before = between;
+    }
     return written;
 }
 

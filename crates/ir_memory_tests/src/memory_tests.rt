@@ -1,4 +1,4 @@
-//! Each call that the surface names is tried, and each call that is tried is named.
+//! Each call that the surface names is tried, and each call that is tried is named. The names of the tests of calls end so that `tools/refuse-memory` knows that each of these calls asks for memory.
 
 use crate::surface::{
     ATTRIBUTES, BELOW, BLOCKS, CONTEXT, NAMED, NAMES, OPERATIONS, STORES, USES, VERIFICATION,
@@ -17,61 +17,61 @@ use std::process::Abort;
 use std::test::Fail;
 
 #[test]
-fn names(rt: HostRuntime) -> Result<(), Fail> {
+fn names_with_memory(rt: HostRuntime) -> Result<(), Fail> {
     try_named(&rt, rt.alloc(), &NAMES)?;
     Ok(())
 }
 
 #[test]
-fn context(rt: HostRuntime) -> Result<(), Fail> {
+fn context_with_memory(rt: HostRuntime) -> Result<(), Fail> {
     try_named(&rt, rt.alloc(), &CONTEXT)?;
     Ok(())
 }
 
 #[test]
-fn uses(rt: HostRuntime) -> Result<(), Fail> {
+fn uses_with_memory(rt: HostRuntime) -> Result<(), Fail> {
     try_named(&rt, rt.alloc(), &USES)?;
     Ok(())
 }
 
 #[test]
-fn operations(rt: HostRuntime) -> Result<(), Fail> {
+fn operations_with_memory(rt: HostRuntime) -> Result<(), Fail> {
     try_named(&rt, rt.alloc(), &OPERATIONS)?;
     Ok(())
 }
 
 #[test]
-fn blocks(rt: HostRuntime) -> Result<(), Fail> {
+fn blocks_with_memory(rt: HostRuntime) -> Result<(), Fail> {
     try_named(&rt, rt.alloc(), &BLOCKS)?;
     Ok(())
 }
 
 #[test]
-fn stores(rt: HostRuntime) -> Result<(), Fail> {
+fn stores_with_memory(rt: HostRuntime) -> Result<(), Fail> {
     try_named(&rt, rt.alloc(), &STORES)?;
     Ok(())
 }
 
 #[test]
-fn attributes(rt: HostRuntime) -> Result<(), Fail> {
+fn attributes_with_memory(rt: HostRuntime) -> Result<(), Fail> {
     try_named(&rt, rt.alloc(), &ATTRIBUTES)?;
     Ok(())
 }
 
 #[test]
-fn named(rt: HostRuntime) -> Result<(), Fail> {
+fn named_with_memory(rt: HostRuntime) -> Result<(), Fail> {
     try_named(&rt, rt.alloc(), &NAMED)?;
     Ok(())
 }
 
 #[test]
-fn verification(rt: HostRuntime) -> Result<(), Fail> {
+fn verification_with_memory(rt: HostRuntime) -> Result<(), Fail> {
     try_named(&rt, rt.alloc(), &VERIFICATION)?;
     Ok(())
 }
 
 #[test]
-fn below_the_surface(rt: HostRuntime) -> Result<(), Fail> {
+fn below_the_surface_with_memory(rt: HostRuntime) -> Result<(), Fail> {
     try_named(&rt, rt.alloc(), &BELOW)?;
     Ok(())
 }

@@ -17,15 +17,17 @@ use ir_toy::Toy;
 use std::alloc::Global;
 use std::process::Abort;
 
-// Makes the call on the forest. Where it wants memory, nothing has changed.
-fn try_call<C: ForestCall>(
-    rt: &impl Abort,
+// Makes the call on the forest, between two lines of output, so that whoever watches sees what it asks for. Where it wants memory, nothing has changed.
+fn try_call<R: Abort + Print, C: ForestCall>(
+    rt: &R,
     ctx: &mut Context<Toy>,
     forest: &Forest,
     call: C,
 ) -> Result<(), CheckedErr> {
     let before = dump(ctx, forest)?;
+    assert!(rt; println!(rt; "ready").is_ok());
     let answer = call.make(ctx, forest);
+    assert!(rt; println!(rt; "done").is_ok());
     if answer == Err(CheckedErr::Core(CoreError::OutOfMemory)) {
         let after = dump(ctx, forest)?;
         assert!(rt; before == after, "{call:?}");
@@ -35,8 +37,8 @@ fn try_call<C: ForestCall>(
 }
 
 // Makes the forest and then the call.
-fn make_and_try<C: ForestCall>(
-    rt: &impl Abort,
+fn make_and_try<R: Abort + Print, C: ForestCall>(
+    rt: &R,
     ctx: &mut Context<Toy>,
     call: C,
 ) -> Result<(), CheckedErr> {
@@ -45,15 +47,19 @@ fn make_and_try<C: ForestCall>(
 }
 
 // Makes the call on a forest of its own.
-fn try_alone<C: ForestCall>(rt: &impl Abort, alloc: Global, call: C) -> Result<(), CheckedErr> {
+fn try_alone<R: Abort + Print, C: ForestCall>(
+    rt: &R,
+    alloc: Global,
+    call: C,
+) -> Result<(), CheckedErr> {
     let mut ctx: Context<Toy> = Context::new(alloc);
     let outcome = make_and_try(rt, &mut ctx, call);
     end(ctx, outcome)
 }
 
 // Makes each call of the group that has this name. Whether there is one.
-fn try_group<C: ForestCall>(
-    rt: &impl Abort,
+fn try_group<R: Abort + Print, C: ForestCall>(
+    rt: &R,
     alloc: Global,
     group: &[C],
     name: &str,
@@ -69,7 +75,7 @@ fn try_group<C: ForestCall>(
 }
 
 // Makes the calls with this name that edit or read a forest. Whether there is one.
-fn try_on_forest(rt: &impl Abort, alloc: Global, name: &str) -> Result<bool, CheckedErr> {
+fn try_on_forest<R: Abort + Print>(rt: &R, alloc: Global, name: &str) -> Result<bool, CheckedErr> {
     let mut tried = try_group(rt, alloc, &NewCall::ALL, name)?;
     tried |= try_group(rt, alloc, &DefinitionCall::ALL, name)?;
     tried |= try_group(rt, alloc, &OperandCall::ALL, name)?;
@@ -80,7 +86,11 @@ fn try_on_forest(rt: &impl Abort, alloc: Global, name: &str) -> Result<bool, Che
 }
 
 // Makes the calls with this name that store something beside a forest or verify it. Whether there is one.
-fn try_beside_forest(rt: &impl Abort, alloc: Global, name: &str) -> Result<bool, CheckedErr> {
+fn try_beside_forest<R: Abort + Print>(
+    rt: &R,
+    alloc: Global,
+    name: &str,
+) -> Result<bool, CheckedErr> {
     let mut tried = try_group(rt, alloc, &StoringOnForest::ALL, name)?;
     tried |= try_group(rt, alloc, &AttributeCall::ALL, name)?;
     tried |= try_group(rt, alloc, &IdCall::ALL, name)?;
@@ -89,15 +99,17 @@ fn try_beside_forest(rt: &impl Abort, alloc: Global, name: &str) -> Result<bool,
     Ok(tried)
 }
 
-// Makes the call on the forest over the small dialect. Where it wants memory, nothing has changed.
-fn try_type_call(
-    rt: &impl Abort,
+// Makes the call on the forest over the small dialect, between two lines of output. Where it wants memory, nothing has changed.
+fn try_type_call<R: Abort + Print>(
+    rt: &R,
     ctx: &mut Context<Small>,
     forest: &MarkedForest,
     call: TypeCall,
 ) -> Result<(), CheckedErr> {
     let before = dump_marked(ctx, forest)?;
+    assert!(rt; println!(rt; "ready").is_ok());
     let answer = call.make(ctx, forest);
+    assert!(rt; println!(rt; "done").is_ok());
     if answer == Err(CheckedErr::Core(CoreError::OutOfMemory)) {
         let after = dump_marked(ctx, forest)?;
         assert!(rt; before == after, "{call:?}");
@@ -107,8 +119,8 @@ fn try_type_call(
 }
 
 // Makes the forest over the small dialect and then the call.
-fn make_and_try_type(
-    rt: &impl Abort,
+fn make_and_try_type<R: Abort + Print>(
+    rt: &R,
     ctx: &mut Context<Small>,
     call: TypeCall,
 ) -> Result<(), CheckedErr> {
@@ -117,7 +129,7 @@ fn make_and_try_type(
 }
 
 // Makes each call on types with this name, on a forest of its own. Whether there is one.
-fn try_on_types(rt: &impl Abort, alloc: Global, name: &str) -> Result<bool, CheckedErr> {
+fn try_on_types<R: Abort + Print>(rt: &R, alloc: Global, name: &str) -> Result<bool, CheckedErr> {
     let mut tried = false;
     for call in TypeCall::ALL.iter() {
         if call.name() == name {
@@ -130,9 +142,22 @@ fn try_on_types(rt: &impl Abort, alloc: Global, name: &str) -> Result<bool, Chec
     Ok(tried)
 }
 
+// Makes the call, between two lines of output.
+fn try_store<R: Abort + Print, C: StoreCall>(
+    rt: &R,
+    alloc: Global,
+    call: C,
+) -> Result<(), CoreError> {
+    assert!(rt; println!(rt; "ready").is_ok());
+    let answer = call.make(alloc);
+    assert!(rt; println!(rt; "done").is_ok());
+    assert!(rt; answer?, "{call:?}");
+    Ok(())
+}
+
 // Makes each call of the group that has this name. Whether there is one.
-fn try_stores<C: StoreCall>(
-    rt: &impl Abort,
+fn try_stores<R: Abort + Print, C: StoreCall>(
+    rt: &R,
     alloc: Global,
     group: &[C],
     name: &str,
@@ -140,7 +165,7 @@ fn try_stores<C: StoreCall>(
     let mut tried = false;
     for call in group {
         if call.name() == name {
-            assert!(rt; call.make(alloc)?, "{call:?}");
+            try_store(rt, alloc, *call)?;
             tried = true;
         }
     }
@@ -148,7 +173,11 @@ fn try_stores<C: StoreCall>(
 }
 
 // Makes the calls with this name that need no context. Whether there is one.
-fn try_without_context(rt: &impl Abort, alloc: Global, name: &str) -> Result<bool, CoreError> {
+fn try_without_context<R: Abort + Print>(
+    rt: &R,
+    alloc: Global,
+    name: &str,
+) -> Result<bool, CoreError> {
     let mut tried = try_stores(rt, alloc, &IdentifierCall::ALL, name)?;
     tried |= try_stores(rt, alloc, &NameMaking::ALL, name)?;
     tried |= try_stores(rt, alloc, &LegaliserCall::ALL, name)?;
@@ -162,7 +191,11 @@ fn try_without_context(rt: &impl Abort, alloc: Global, name: &str) -> Result<boo
 ///
 /// # Errors
 /// Where a request for memory was refused, whether a call's or one before.
-pub(crate) fn try_named(rt: &impl Abort, alloc: Global, names: &[&str]) -> Result<(), CheckedErr> {
+pub(crate) fn try_named<R: Abort + Print>(
+    rt: &R,
+    alloc: Global,
+    names: &[&str],
+) -> Result<(), CheckedErr> {
     for name in names {
         let mut tried = try_on_forest(rt, alloc, name)?;
         tried |= try_beside_forest(rt, alloc, name)?;
