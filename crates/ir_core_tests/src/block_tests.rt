@@ -6,7 +6,9 @@ use crate::block_questions::{
 };
 use crate::contexts::{call_laws, expect_empty, refusal, room};
 use crate::op_questions::{counts, expect_region};
-use crate::value_questions::{expect_live_value, expect_place, place, uses, value_loc, value_type};
+use crate::value_questions::{
+    expect_live_value, expect_number, expect_place, uses, value_loc, value_type,
+};
 use ir_base::{ArenaIndex, CoreError, Dialects, Identifier, Limits, Ptr};
 use ir_checked::{
     BasicBlock, CheckedErr, Context, Operation, Use, Value, add_region, argument, end, new_block,
@@ -61,25 +63,48 @@ fn tell_block<D: Dialects>(
     Ok(())
 }
 
+// What the second argument tells of what defines it.
+fn tell_definer<D: Dialects>(rt: &impl Abort, made: &Branch<D>) {
+    let value = made.argument;
+    assert!(rt; value.defining_entity() == DefiningEntity::Block(made.block));
+    assert!(rt; value.defining_block() == Some(made.block));
+    assert!(rt; value.defining_op().is_none());
+}
+
+// What the second argument tells of its number, of how many uses it has, of its type and of its location.
+fn tell_number_and_type<D: Dialects>(
+    rt: &impl Abort,
+    ctx: &Context<D>,
+    made: &Branch<D>,
+) -> Result<(), CheckedErr> {
+    expect_number(rt, ctx, made.argument, 1)?;
+    assert_eq!(rt; num_uses(ctx, made.argument)?, 1);
+    assert_eq!(rt; value_type(ctx, made.argument)?, 0);
+    let _loc = value_loc(ctx, made.argument)?;
+    Ok(())
+}
+
+// No other operation than the one that was made uses the second argument.
+fn tell_user<D: Dialects>(
+    rt: &impl Abort,
+    ctx: &Context<D>,
+    made: &Branch<D>,
+) -> Result<(), CheckedErr> {
+    for used in uses(ctx, made.argument)?.iter() {
+        assert!(rt; used.user_op() == made.op);
+    }
+    Ok(())
+}
+
 // What the second argument tells of itself.
 fn tell_argument<D: Dialects>(
     rt: &impl Abort,
     ctx: &Context<D>,
     made: &Branch<D>,
 ) -> Result<(), CheckedErr> {
-    let value = made.argument;
-    assert!(rt; value.defining_entity() == DefiningEntity::Block(made.block));
-    assert!(rt; value.defining_block() == Some(made.block));
-    assert!(rt; value.defining_op().is_none());
-    expect_place(rt, ctx, value, Ok(1));
-    assert_eq!(rt; place(ctx, value)?, 1);
-    assert_eq!(rt; num_uses(ctx, value)?, 1);
-    assert_eq!(rt; value_type(ctx, value)?, 0);
-    let _loc = value_loc(ctx, value)?;
-    for used in uses(ctx, value)?.iter() {
-        assert!(rt; used.user_op() == made.op);
-    }
-    Ok(())
+    tell_definer(rt, made);
+    tell_number_and_type(rt, ctx, made)?;
+    tell_user(rt, ctx, made)
 }
 
 // What the operation tells of its parts.
@@ -110,13 +135,11 @@ fn tell_use<D: Dialects>(
 }
 
 // The two uses of the block are those of the two successors.
-fn tell_predecessors<D: Dialects>(
+fn tell_block_uses<D: Dialects>(
     rt: &impl Abort,
     ctx: &Context<D>,
     made: &Branch<D>,
 ) -> Result<(), CheckedErr> {
-    assert!(rt; has_pred(ctx, made.block)?);
-    assert_eq!(rt; num_preds(ctx, made.block)?, 2);
     let first = tell_use(rt, ctx, made, 0)?;
     let second = tell_use(rt, ctx, made, 1)?;
     assert!(rt; first != second);
@@ -124,6 +147,17 @@ fn tell_predecessors<D: Dialects>(
     assert_eq!(rt; uses.len(), 2);
     assert!(rt; uses.contains(&first) && uses.contains(&second));
     Ok(())
+}
+
+// What the block tells of the successors that name it.
+fn tell_predecessors<D: Dialects>(
+    rt: &impl Abort,
+    ctx: &Context<D>,
+    made: &Branch<D>,
+) -> Result<(), CheckedErr> {
+    assert!(rt; has_pred(ctx, made.block)?);
+    assert_eq!(rt; num_preds(ctx, made.block)?, 2);
+    tell_block_uses(rt, ctx, made)
 }
 
 // What a handle, a value and a use answer that this context never gave.
@@ -301,19 +335,29 @@ const NO_OPERAND: &str = "Use does not correspond to any operand of its user ope
 
 const NO_SUCCESSOR: &str = "Use does not correspond to any successor of its user operation";
 
+// Each fault of an index, and its text.
+const INDEX_FAULTS: [(IndexErr, &str); 5] = [
+    (
+        IndexErr::DanglingPtrDerefError(DanglingPtrDerefError),
+        DANGLING,
+    ),
+    (IndexErr::ValueError(ValueError::NotInOpResult), NO_RESULT),
+    (
+        IndexErr::ValueError(ValueError::NotInBlockArgument),
+        NO_ARGUMENT,
+    ),
+    (IndexErr::UseError(UseError::OperandNotInUserOp), NO_OPERAND),
+    (
+        IndexErr::UseError(UseError::SuccessorNotInUserOp),
+        NO_SUCCESSOR,
+    ),
+];
+
 #[test]
 fn fault_texts(rt: HostRuntime) -> Result<(), Fail> {
-    let fault = DanglingPtrDerefError;
-    expect_text(&rt, rt.alloc(), &fault, DANGLING)?;
-    let fault = IndexErr::DanglingPtrDerefError(fault);
-    expect_text(&rt, rt.alloc(), &fault, DANGLING)?;
-    let fault = IndexErr::ValueError(ValueError::NotInOpResult);
-    expect_text(&rt, rt.alloc(), &fault, NO_RESULT)?;
-    let fault = IndexErr::ValueError(ValueError::NotInBlockArgument);
-    expect_text(&rt, rt.alloc(), &fault, NO_ARGUMENT)?;
-    let fault = IndexErr::UseError(UseError::OperandNotInUserOp);
-    expect_text(&rt, rt.alloc(), &fault, NO_OPERAND)?;
-    let fault = IndexErr::UseError(UseError::SuccessorNotInUserOp);
-    expect_text(&rt, rt.alloc(), &fault, NO_SUCCESSOR)?;
+    expect_text(&rt, rt.alloc(), &DanglingPtrDerefError, DANGLING)?;
+    for (fault, text) in INDEX_FAULTS.iter() {
+        expect_text(&rt, rt.alloc(), fault, text)?;
+    }
     Ok(())
 }

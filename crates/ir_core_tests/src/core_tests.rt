@@ -6,8 +6,8 @@ use crate::op_questions::{
     expect_region, has_result_use, num_result_uses, operand_use, result_type,
 };
 use crate::value_questions::{
-    expect_live_value, expect_operand, expect_place, is_used, operand_place, place, used_type,
-    used_value, uses, value_type,
+    expect_live_value, expect_number, expect_operand, expect_operand_number, expect_place, is_used,
+    used_type, used_value, uses, value_type,
 };
 use example::chain;
 use ir_base::{ArenaIndex, Dialects, Ptr, TypeHandle};
@@ -41,6 +41,28 @@ pub(crate) fn two_uses<D: Dialects>(
     Ok(TwoUses { maker, user, value })
 }
 
+// What the second operation tells of its result.
+fn tell_result<D: Dialects>(
+    rt: &impl Abort,
+    ctx: &Context<D>,
+    made: &TwoUses<D>,
+) -> Result<(), CheckedErr> {
+    assert_eq!(rt; result_type(ctx, made.user, 0)?, 0);
+    assert!(rt; result(ctx, made.user, 0)? != made.value);
+    Ok(())
+}
+
+// What the second operation tells of its operands.
+fn tell_operands<D: Dialects>(
+    rt: &impl Abort,
+    ctx: &Context<D>,
+    made: &TwoUses<D>,
+) -> Result<(), CheckedErr> {
+    assert!(rt; operand(ctx, made.user, 0)? == made.value);
+    assert!(rt; operand(ctx, made.user, 1)? == made.value);
+    Ok(())
+}
+
 // What the operations tell of themselves.
 fn tell_operations<D: Dialects>(
     rt: &impl Abort,
@@ -51,10 +73,30 @@ fn tell_operations<D: Dialects>(
     expect_live(rt, ctx, made.maker);
     expect_kind(rt, ctx, made.user, 4)?;
     assert_eq!(rt; counts(ctx, made.user)?, [1, 2, 0, 0]);
-    assert_eq!(rt; result_type(ctx, made.user, 0)?, 0);
-    assert!(rt; result(ctx, made.user, 0)? != made.value);
-    assert!(rt; operand(ctx, made.user, 0)? == made.value);
-    assert!(rt; operand(ctx, made.user, 1)? == made.value);
+    tell_result(rt, ctx, made)?;
+    tell_operands(rt, ctx, made)
+}
+
+// What the first operation tells of the uses of its result.
+fn tell_used_result<D: Dialects>(
+    rt: &impl Abort,
+    ctx: &Context<D>,
+    made: &TwoUses<D>,
+) -> Result<(), CheckedErr> {
+    assert!(rt; has_result_use(ctx, made.maker)?);
+    assert_eq!(rt; num_result_uses(ctx, made.maker)?, 2);
+    assert_eq!(rt; count_result_uses(ctx, made.maker)?, 2);
+    expect_only_user(rt, ctx, made.maker, made.user)
+}
+
+// The result of the second operation has no uses.
+fn tell_unused_result<D: Dialects>(
+    rt: &impl Abort,
+    ctx: &Context<D>,
+    made: &TwoUses<D>,
+) -> Result<(), CheckedErr> {
+    assert!(rt; !has_result_use(ctx, made.user)?);
+    assert_eq!(rt; num_result_uses(ctx, made.user)?, 0);
     Ok(())
 }
 
@@ -64,12 +106,27 @@ fn tell_result_uses<D: Dialects>(
     ctx: &Context<D>,
     made: &TwoUses<D>,
 ) -> Result<(), CheckedErr> {
-    assert!(rt; has_result_use(ctx, made.maker)?);
-    assert_eq!(rt; num_result_uses(ctx, made.maker)?, 2);
-    assert_eq!(rt; count_result_uses(ctx, made.maker)?, 2);
-    expect_only_user(rt, ctx, made.maker, made.user)?;
-    assert!(rt; !has_result_use(ctx, made.user)?);
-    assert_eq!(rt; num_result_uses(ctx, made.user)?, 0);
+    tell_used_result(rt, ctx, made)?;
+    tell_unused_result(rt, ctx, made)
+}
+
+// What the value tells of what defines it.
+fn tell_definer<D: Dialects>(rt: &impl Abort, made: &TwoUses<D>) {
+    let value = made.value;
+    assert!(rt; value.defining_entity() == DefiningEntity::Op(made.maker));
+    assert!(rt; value.defining_op() == Some(made.maker));
+    assert!(rt; value.defining_block().is_none());
+}
+
+// What the value tells of how many uses it has, and of its type.
+fn tell_count_and_type<D: Dialects>(
+    rt: &impl Abort,
+    ctx: &Context<D>,
+    value: Value<D>,
+) -> Result<(), CheckedErr> {
+    assert_eq!(rt; num_uses(ctx, value)?, 2);
+    assert!(rt; is_used(ctx, value)?);
+    assert_eq!(rt; value_type(ctx, value)?, 0);
     Ok(())
 }
 
@@ -79,15 +136,20 @@ fn tell_value<D: Dialects>(
     ctx: &Context<D>,
     made: &TwoUses<D>,
 ) -> Result<(), CheckedErr> {
-    let value = made.value;
-    assert!(rt; value.defining_entity() == DefiningEntity::Op(made.maker));
-    assert!(rt; value.defining_op() == Some(made.maker));
-    assert!(rt; value.defining_block().is_none());
-    expect_place(rt, ctx, value, Ok(0));
-    assert_eq!(rt; place(ctx, value)?, 0);
-    assert_eq!(rt; num_uses(ctx, value)?, 2);
-    assert!(rt; is_used(ctx, value)?);
-    assert_eq!(rt; value_type(ctx, value)?, 0);
+    tell_definer(rt, made);
+    expect_number(rt, ctx, made.value, 0)?;
+    tell_count_and_type(rt, ctx, made.value)
+}
+
+// What the use tells of the value that it names.
+fn tell_named<D: Dialects>(
+    rt: &impl Abort,
+    ctx: &Context<D>,
+    used: Use<Value<D>>,
+    value: Value<D>,
+) -> Result<(), CheckedErr> {
+    assert!(rt; used_value(ctx, used)? == value);
+    assert_eq!(rt; used_type(ctx, used)?, 0);
     Ok(())
 }
 
@@ -100,10 +162,8 @@ fn tell_use<D: Dialects>(
 ) -> Result<Use<Value<D>>, CheckedErr> {
     let used = operand_use(ctx, made.user, index)?;
     assert!(rt; used.user_op() == made.user);
-    expect_operand(rt, ctx, used, Ok(index));
-    assert_eq!(rt; operand_place(ctx, used)?, index);
-    assert!(rt; used_value(ctx, used)? == made.value);
-    assert_eq!(rt; used_type(ctx, used)?, 0);
+    expect_operand_number(rt, ctx, used, index)?;
+    tell_named(rt, ctx, used, made.value)?;
     Ok(used)
 }
 
@@ -154,6 +214,18 @@ fn tell_strange_numbers<D: Dialects>(rt: &impl Abort, ctx: &Context<D>, made: &T
     expect_operand(rt, ctx, used, Err(missing));
 }
 
+// What the operations, the value and its uses tell of themselves.
+fn tell_made<D: Dialects>(
+    rt: &impl Abort,
+    ctx: &Context<D>,
+    made: &TwoUses<D>,
+) -> Result<(), CheckedErr> {
+    tell_operations(rt, ctx, made)?;
+    tell_result_uses(rt, ctx, made)?;
+    tell_value(rt, ctx, made)?;
+    tell_uses(rt, ctx, made)
+}
+
 // Makes the two operations, and asks all of them.
 fn tell_all<D: Dialects>(
     rt: &impl Abort,
@@ -164,10 +236,7 @@ fn tell_all<D: Dialects>(
     let ty = new_type(ctx, key)?;
     let made = two_uses(ctx, ty)?;
     expect_empty(rt, ctx, false);
-    tell_operations(rt, ctx, &made)?;
-    tell_result_uses(rt, ctx, &made)?;
-    tell_value(rt, ctx, &made)?;
-    tell_uses(rt, ctx, &made)?;
+    tell_made(rt, ctx, &made)?;
     tell_strange_op(rt, ctx);
     tell_strange_numbers(rt, ctx, &made);
     call_laws(ctx);
@@ -182,16 +251,26 @@ fn operations_values_and_uses(rt: HostRuntime) -> Result<(), Fail> {
     Ok(())
 }
 
-// Makes an operation with two regions, and asks it for them.
-fn tell_regions<D: Dialects>(rt: &impl Abort, ctx: &mut Context<D>) -> Result<(), CheckedErr> {
-    let op = new_op(ctx, 7, &[], &[], &[], 2)?;
-    expect_kind(rt, ctx, op, 7)?;
-    assert_eq!(rt; counts(ctx, op)?, [0, 0, 0, 2]);
+// The operation has two regions, which tell that they belong to it.
+fn tell_both_regions<D: Dialects>(
+    rt: &impl Abort,
+    ctx: &Context<D>,
+    op: Ptr<Operation<D>>,
+) -> Result<(), CheckedErr> {
     let first = region(ctx, op, 0)?;
     let second = region(ctx, op, 1)?;
     assert!(rt; first != second);
     expect_region(rt, ctx, first, op);
     expect_region(rt, ctx, second, op);
+    Ok(())
+}
+
+// Makes an operation with two regions, and asks it for them.
+fn tell_regions<D: Dialects>(rt: &impl Abort, ctx: &mut Context<D>) -> Result<(), CheckedErr> {
+    let op = new_op(ctx, 7, &[], &[], &[], 2)?;
+    expect_kind(rt, ctx, op, 7)?;
+    assert_eq!(rt; counts(ctx, op)?, [0, 0, 0, 2]);
+    tell_both_regions(rt, ctx, op)?;
     assert_eq!(rt; room(ctx).regions, u32::MAX - 3);
     Ok(())
 }

@@ -25,12 +25,24 @@ pub(crate) fn expect_place<D: Dialects>(
     assert_eq!(rt; value.try_find_index(ctx), place);
 }
 
-/// Where a live value stands among the results or arguments.
-pub(crate) fn place<D: Dialects>(ctx: &Context<D>, value: Value<D>) -> Result<usize, CheckedErr> {
+// Where a live value stands among the results or arguments.
+fn place<D: Dialects>(ctx: &Context<D>, value: Value<D>) -> Result<usize, CheckedErr> {
     if !value.is_live(ctx) {
         return Err(CheckedErr::Condition);
     }
     Ok(value.find_index(ctx))
+}
+
+/// Asserts where a live value stands among the results or arguments, by both calls.
+pub(crate) fn expect_number<D: Dialects>(
+    rt: &impl Abort,
+    ctx: &Context<D>,
+    value: Value<D>,
+    number: usize,
+) -> Result<(), CheckedErr> {
+    expect_place(rt, ctx, value, Ok(number));
+    assert_eq!(rt; place(ctx, value)?, number);
+    Ok(())
 }
 
 /// Whether the value has a use.
@@ -85,15 +97,24 @@ pub(crate) fn expect_operand<D: Dialects>(
     assert_eq!(rt; used.try_find_index(ctx), place);
 }
 
-/// Where a live use stands among the operands of its user.
-pub(crate) fn operand_place<D: Dialects>(
-    ctx: &Context<D>,
-    used: Use<Value<D>>,
-) -> Result<usize, CheckedErr> {
+// Where a live use stands among the operands of its user.
+fn operand_place<D: Dialects>(ctx: &Context<D>, used: Use<Value<D>>) -> Result<usize, CheckedErr> {
     if used.try_find_index(ctx).is_err() {
         return Err(CheckedErr::Condition);
     }
     Ok(used.find_index(ctx))
+}
+
+/// Asserts where a live use stands among the operands of its user, by both calls.
+pub(crate) fn expect_operand_number<D: Dialects>(
+    rt: &impl Abort,
+    ctx: &Context<D>,
+    used: Use<Value<D>>,
+    number: usize,
+) -> Result<(), CheckedErr> {
+    expect_operand(rt, ctx, used, Ok(number));
+    assert_eq!(rt; operand_place(ctx, used)?, number);
+    Ok(())
 }
 
 /// The value that a live use names.

@@ -3,10 +3,20 @@
 use ir_base::{Dialects, Ptr, TypeHandle};
 use ir_checked::{
     BasicBlock, BlockPtr, CheckedErr, Context, Operation, Value, block_at_back, block_head,
-    new_block, new_op, next_op, op_at_back, region,
+    new_block, new_op, next_op, op_at_back, op_at_front, push_operand, region, result,
 };
 use ir_dead::sweep;
 use std::process::Abort;
+
+/// The type of the key, and a new block.
+pub(crate) fn type_and_block<D: Dialects>(
+    ctx: &mut Context<D>,
+    key: D::TypeKey,
+) -> Result<(TypeHandle, Ptr<BasicBlock<D>>), CheckedErr> {
+    let ty = ctx.instantiate_key(key)?;
+    let block = new_block(ctx, None, &[])?;
+    Ok((ty, block))
+}
 
 /// A new operation of the kind at the back of the block, with a result of the type, which names these values.
 pub(crate) fn put<D: Dialects>(
@@ -19,6 +29,41 @@ pub(crate) fn put<D: Dialects>(
     let op = new_op(ctx, kind, &[ty], operands, &[], 0)?;
     op_at_back(ctx, op, block)?;
     Ok(op)
+}
+
+/// A new operation as `put` makes it, without operands, and its result.
+pub(crate) fn put_result<D: Dialects>(
+    ctx: &mut Context<D>,
+    block: Ptr<BasicBlock<D>>,
+    ty: TypeHandle,
+    kind: u32,
+) -> Result<(Ptr<Operation<D>>, Value<D>), CheckedErr> {
+    let op = put(ctx, block, ty, kind, &[])?;
+    let value = result(ctx, op, 0)?;
+    Ok((op, value))
+}
+
+/// A new addition at the front of the block, with a result of the type, which names the value twice.
+pub(crate) fn add_in_front<D: Dialects>(
+    ctx: &mut Context<D>,
+    block: Ptr<BasicBlock<D>>,
+    ty: TypeHandle,
+    value: Value<D>,
+) -> Result<Ptr<Operation<D>>, CheckedErr> {
+    let op = new_op(ctx, 1, &[ty], &[value, value], &[], 0)?;
+    op_at_front(ctx, op, block)?;
+    Ok(op)
+}
+
+/// Appends the value twice to the operands of the operation.
+pub(crate) fn push_twice<D: Dialects>(
+    ctx: &mut Context<D>,
+    op: Ptr<Operation<D>>,
+    value: Value<D>,
+) -> Result<(), CheckedErr> {
+    push_operand(ctx, op, value)?;
+    push_operand(ctx, op, value)?;
+    Ok(())
 }
 
 /// A new block in the only region of a new operation of the kind, which has no results and stands at the back of the outer block.

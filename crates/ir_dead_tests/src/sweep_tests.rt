@@ -1,10 +1,11 @@
 //! The sweep of a block: what goes, what stays, and how many the answer says.
 
-use crate::calls::{block_inside, expect_sweep, put};
-use ir_base::Dialects;
+use crate::calls::{
+    add_in_front, block_inside, expect_sweep, push_twice, put, put_result, type_and_block,
+};
+use ir_base::{Dialects, Ptr, TypeHandle};
 use ir_checked::{
-    BlockPtr, CheckedErr, Context, OperationPtr, end, new_block, new_op, op_at_front, push_operand,
-    result,
+    BasicBlock, BlockPtr, CheckedErr, Context, Operation, OperationPtr, end, new_block, result,
 };
 use ir_toy::{Toy, ToyType};
 use std::process::Abort;
@@ -13,23 +14,54 @@ use std::test::Fail;
 // The type of all results.
 const TYPE: ToyType = ToyType::Int { width: 32 };
 
+// Makes two constants.
+fn two_constants<D: Dialects>(
+    ctx: &mut Context<D>,
+    block: Ptr<BasicBlock<D>>,
+    ty: TypeHandle,
+) -> Result<[Ptr<Operation<D>>; 2], CheckedErr> {
+    let c0 = put(ctx, block, ty, 0, &[])?;
+    let c1 = put(ctx, block, ty, 0, &[])?;
+    Ok([c0, c1])
+}
+
+// Makes an addition of the two constants, and an operation that isn't pure and uses the second.
+fn use_constants<D: Dialects>(
+    ctx: &mut Context<D>,
+    block: Ptr<BasicBlock<D>>,
+    ty: TypeHandle,
+    [c0, c1]: [Ptr<Operation<D>>; 2],
+) -> Result<[Ptr<Operation<D>>; 2], CheckedErr> {
+    let v0 = result(ctx, c0, 0)?;
+    let v1 = result(ctx, c1, 0)?;
+    let a = put(ctx, block, ty, 1, &[v0, v1])?;
+    let u = put(ctx, block, ty, 4, &[v1])?;
+    Ok([a, u])
+}
+
+// Sweeps the block twice. First the first constant and the addition go, and then nothing more.
+fn sweep_twice<D: Dialects>(
+    rt: &impl Abort,
+    ctx: &mut Context<D>,
+    block: Ptr<BasicBlock<D>>,
+    [c0, c1]: [Ptr<Operation<D>>; 2],
+    [a, u]: [Ptr<Operation<D>>; 2],
+) -> Result<(), CheckedErr> {
+    expect_sweep(rt, ctx, block, 2, &[c1, u])?;
+    assert!(rt; !c0.is_live(ctx) && !a.is_live(ctx) && c1.is_live(ctx) && u.is_live(ctx));
+    expect_sweep(rt, ctx, block, 0, &[c1, u])
+}
+
 // Of two constants one is used by an operation that isn't pure, and the other one by an addition that nothing uses. What is left stays when it is swept again.
 fn kept_constant<D: Dialects>(
     rt: &impl Abort,
     ctx: &mut Context<D>,
     key: D::TypeKey,
 ) -> Result<(), CheckedErr> {
-    let ty = ctx.instantiate_key(key)?;
-    let block = new_block(ctx, None, &[])?;
-    let c0 = put(ctx, block, ty, 0, &[])?;
-    let c1 = put(ctx, block, ty, 0, &[])?;
-    let v0 = result(ctx, c0, 0)?;
-    let v1 = result(ctx, c1, 0)?;
-    let a = put(ctx, block, ty, 1, &[v0, v1])?;
-    let u = put(ctx, block, ty, 4, &[v1])?;
-    expect_sweep(rt, ctx, block, 2, &[c1, u])?;
-    assert!(rt; !c0.is_live(ctx) && !a.is_live(ctx) && c1.is_live(ctx) && u.is_live(ctx));
-    expect_sweep(rt, ctx, block, 0, &[c1, u])
+    let (ty, block) = type_and_block(ctx, key)?;
+    let constants = two_constants(ctx, block, ty)?;
+    let users = use_constants(ctx, block, ty, constants)?;
+    sweep_twice(rt, ctx, block, constants, users)
 }
 
 #[test]
@@ -46,14 +78,11 @@ fn ring<D: Dialects>(
     ctx: &mut Context<D>,
     key: D::TypeKey,
 ) -> Result<(), CheckedErr> {
-    let ty = ctx.instantiate_key(key)?;
-    let block = new_block(ctx, None, &[])?;
-    let x = put(ctx, block, ty, 1, &[])?;
-    let v = result(ctx, x, 0)?;
+    let (ty, block) = type_and_block(ctx, key)?;
+    let (x, v) = put_result(ctx, block, ty, 1)?;
     let y = put(ctx, block, ty, 1, &[v, v])?;
     let w = result(ctx, y, 0)?;
-    push_operand(ctx, x, w)?;
-    push_operand(ctx, x, w)?;
+    push_twice(ctx, x, w)?;
     expect_sweep(rt, ctx, block, 0, &[x, y])
 }
 
@@ -71,12 +100,9 @@ fn constant_behind<D: Dialects>(
     ctx: &mut Context<D>,
     key: D::TypeKey,
 ) -> Result<(), CheckedErr> {
-    let ty = ctx.instantiate_key(key)?;
-    let block = new_block(ctx, None, &[])?;
-    let y = put(ctx, block, ty, 0, &[])?;
-    let v = result(ctx, y, 0)?;
-    let x = new_op(ctx, 1, &[ty], &[v, v], &[], 0)?;
-    op_at_front(ctx, x, block)?;
+    let (ty, block) = type_and_block(ctx, key)?;
+    let (y, v) = put_result(ctx, block, ty, 0)?;
+    let x = add_in_front(ctx, block, ty, v)?;
     expect_sweep(rt, ctx, block, 2, &[])?;
     assert!(rt; !x.is_live(ctx) && !y.is_live(ctx));
     Ok(())
@@ -96,12 +122,9 @@ fn own_use<D: Dialects>(
     ctx: &mut Context<D>,
     key: D::TypeKey,
 ) -> Result<(), CheckedErr> {
-    let ty = ctx.instantiate_key(key)?;
-    let block = new_block(ctx, None, &[])?;
-    let x = put(ctx, block, ty, 1, &[])?;
-    let v = result(ctx, x, 0)?;
-    push_operand(ctx, x, v)?;
-    push_operand(ctx, x, v)?;
+    let (ty, block) = type_and_block(ctx, key)?;
+    let (x, v) = put_result(ctx, block, ty, 1)?;
+    push_twice(ctx, x, v)?;
     expect_sweep(rt, ctx, block, 1, &[])?;
     assert!(rt; !x.is_live(ctx));
     Ok(())
@@ -121,11 +144,9 @@ fn outside_use<D: Dialects>(
     ctx: &mut Context<D>,
     key: D::TypeKey,
 ) -> Result<(), CheckedErr> {
-    let ty = ctx.instantiate_key(key)?;
-    let block = new_block(ctx, None, &[])?;
+    let (ty, block) = type_and_block(ctx, key)?;
     let other = new_block(ctx, None, &[])?;
-    let c = put(ctx, block, ty, 0, &[])?;
-    let v = result(ctx, c, 0)?;
+    let (c, v) = put_result(ctx, block, ty, 0)?;
     put(ctx, other, ty, 4, &[v])?;
     expect_sweep(rt, ctx, block, 0, &[c])
 }
@@ -138,21 +159,30 @@ fn sweep_of_an_outside_use(rt: HostRuntime) -> Result<(), Fail> {
     Ok(())
 }
 
+// Sweeps the block. The constant goes, and the operation with all that is inside.
+fn sweep_inside<D: Dialects>(
+    rt: &impl Abort,
+    ctx: &mut Context<D>,
+    block: Ptr<BasicBlock<D>>,
+    inner: Ptr<BasicBlock<D>>,
+    [c, p, user]: [Ptr<Operation<D>>; 3],
+) -> Result<(), CheckedErr> {
+    expect_sweep(rt, ctx, block, 2, &[])?;
+    assert!(rt; !c.is_live(ctx) && !p.is_live(ctx) && !inner.is_live(ctx) && !user.is_live(ctx));
+    Ok(())
+}
+
 // An operation that isn't pure uses a constant, and stands inside a pure operation of the block.
 fn inner_use<D: Dialects>(
     rt: &impl Abort,
     ctx: &mut Context<D>,
     key: D::TypeKey,
 ) -> Result<(), CheckedErr> {
-    let ty = ctx.instantiate_key(key)?;
-    let block = new_block(ctx, None, &[])?;
-    let c = put(ctx, block, ty, 0, &[])?;
-    let v = result(ctx, c, 0)?;
+    let (ty, block) = type_and_block(ctx, key)?;
+    let (c, v) = put_result(ctx, block, ty, 0)?;
     let (p, inner) = block_inside(ctx, block, 0)?;
     let user = put(ctx, inner, ty, 4, &[v])?;
-    expect_sweep(rt, ctx, block, 2, &[])?;
-    assert!(rt; !c.is_live(ctx) && !p.is_live(ctx) && !inner.is_live(ctx) && !user.is_live(ctx));
-    Ok(())
+    sweep_inside(rt, ctx, block, inner, [c, p, user])
 }
 
 #[test]

@@ -2,11 +2,20 @@
 
 use ir_base::{Dialects, Ptr};
 use ir_checked::{
-    BasicBlock, BlockPtr, CheckedErr, Context, Operation, OperationPtr, Use, new_op, op_at_back,
-    successor,
+    BasicBlock, BlockPtr, CheckedErr, Context, Operation, OperationPtr, Use, new_block, new_op,
+    op_at_back, successor,
 };
 use ir_view::{BlockPredecessors, BlockUseQueries, BlockUses, Retarget};
 use std::process::Abort;
+
+/// Two new blocks without arguments.
+pub(crate) fn two_blocks<D: Dialects>(
+    ctx: &mut Context<D>,
+) -> Result<[Ptr<BasicBlock<D>>; 2], CheckedErr> {
+    let target = new_block(ctx, None, &[])?;
+    let other = new_block(ctx, None, &[])?;
+    Ok([target, other])
+}
 
 /// A new operation at the back of the block, with these successors.
 pub(crate) fn branch<D: Dialects>(
@@ -87,8 +96,19 @@ pub(crate) fn expect_successor<D: Dialects>(
     Ok(())
 }
 
-/// Asserts how many successors name the block.
-pub(crate) fn expect_preds<D: Dialects>(
+/// Asserts what the operation's first two successors are.
+pub(crate) fn expect_successors<D: Dialects>(
+    rt: &impl Abort,
+    ctx: &Context<D>,
+    op: Ptr<Operation<D>>,
+    [first, second]: [Ptr<BasicBlock<D>>; 2],
+) -> Result<(), CheckedErr> {
+    expect_successor(rt, ctx, op, 0, first)?;
+    expect_successor(rt, ctx, op, 1, second)
+}
+
+// Asserts how many successors name the block.
+fn expect_preds<D: Dialects>(
     rt: &impl Abort,
     ctx: &Context<D>,
     block: Ptr<BasicBlock<D>>,
@@ -99,6 +119,17 @@ pub(crate) fn expect_preds<D: Dialects>(
     }
     assert_eq!(rt; block.num_preds(ctx), count);
     Ok(())
+}
+
+/// Asserts how many successors name each of the two blocks.
+pub(crate) fn expect_preds_of_both<D: Dialects>(
+    rt: &impl Abort,
+    ctx: &Context<D>,
+    [target, other]: [Ptr<BasicBlock<D>>; 2],
+    [of_target, of_other]: [usize; 2],
+) -> Result<(), CheckedErr> {
+    expect_preds(rt, ctx, target, of_target)?;
+    expect_preds(rt, ctx, other, of_other)
 }
 
 /// Asserts at which index the use is found, and what it names.

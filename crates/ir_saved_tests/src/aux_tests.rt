@@ -7,6 +7,17 @@ use ir_toy::Toy;
 use std::process::Abort;
 use std::test::Fail;
 
+// Asserts that the name leads to the index.
+fn expect_named<D: Dialects>(rt: &impl Abort, ctx: &Context<D>, index: AuxDataIndex) {
+    assert!(rt; find(ctx, &name()) == Some(index));
+}
+
+// Takes the data out, which is gone then.
+fn take_out<D: Dialects>(rt: &impl Abort, ctx: &mut Context<D>, index: AuxDataIndex) {
+    assert!(rt; take(ctx, index));
+    assert!(rt; is_gone(ctx, index));
+}
+
 // Stores a text, to which the name leads from then on.
 fn add_named<D: Dialects<Aux = String>>(
     rt: &impl Abort,
@@ -15,7 +26,7 @@ fn add_named<D: Dialects<Aux = String>>(
 ) -> Result<AuxDataIndex, CoreError> {
     let index = add(ctx, data)?;
     set_name(ctx, index)?;
-    assert!(rt; find(ctx, &name()) == Some(index));
+    expect_named(rt, ctx, index);
     assert!(rt; has(ctx, index, data));
     Ok(index)
 }
@@ -27,9 +38,8 @@ fn take_named<D: Dialects<Aux = String>>(
 ) -> Result<(), CoreError> {
     let index = add_named(rt, ctx, "data")?;
     assert!(rt; find(ctx, &Identifier::new("other")).is_none());
-    assert!(rt; take(ctx, index));
-    assert!(rt; is_gone(ctx, index));
-    assert!(rt; find(ctx, &name()) == Some(index));
+    take_out(rt, ctx, index);
+    expect_named(rt, ctx, index);
     assert!(rt; !take(ctx, index));
     Ok(())
 }
@@ -64,17 +74,21 @@ fn names_lead_to_the_last_index(rt: HostRuntime) -> Result<(), Fail> {
     Ok(())
 }
 
+// Asserts that so many slots for auxiliary data are left.
+fn expect_slots<D: Dialects>(rt: &impl Abort, ctx: &Context<D>, count: u32) {
+    assert_eq!(rt; slots_left(ctx), count);
+}
+
 // The only slot with its only version is used, and then there is none.
 fn spend_slot<D: Dialects<Aux = String>>(
     rt: &impl Abort,
     ctx: &mut Context<D>,
 ) -> Result<(), CoreError> {
-    assert_eq!(rt; slots_left(ctx), 1);
+    expect_slots(rt, ctx, 1);
     let first = add(ctx, "first")?;
-    assert_eq!(rt; slots_left(ctx), 0);
-    assert!(rt; take(ctx, first));
-    assert!(rt; is_gone(ctx, first));
-    assert_eq!(rt; slots_left(ctx), 0);
+    expect_slots(rt, ctx, 0);
+    take_out(rt, ctx, first);
+    expect_slots(rt, ctx, 0);
     assert!(rt; add(ctx, "second") == Err(CoreError::SlotsSpent));
     Ok(())
 }
@@ -104,8 +118,7 @@ fn use_again<D: Dialects<Aux = String>>(
 ) -> Result<(), CoreError> {
     let first = add(ctx, "first")?;
     expect_version(rt, first, 1);
-    assert!(rt; take(ctx, first));
-    assert!(rt; is_gone(ctx, first));
+    take_out(rt, ctx, first);
     let second = add(ctx, "second")?;
     expect_version(rt, second, 3);
     assert!(rt; is_gone(ctx, first));

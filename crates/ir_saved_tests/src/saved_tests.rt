@@ -4,7 +4,7 @@ use crate::saved_calls::{
     equals, find_type, has_body, has_key, leads_to, save_uniqued, save_value, set_body, store_type,
 };
 use ir_checked::end;
-use ir_core::{Context, CoreError, Identifier};
+use ir_core::{Context, CoreError, Identifier, TypeHandle};
 use ir_saved::{SavedValue, UniquedKey};
 use ir_toy::{Toy, ToyType};
 use std::process::Abort;
@@ -20,26 +20,41 @@ fn list() -> ToyType {
     ToyType::Named(Identifier::new("list"))
 }
 
-// Types are stored once, by their keys.
-fn intern_types(rt: &impl Abort, ctx: &mut Context<Toy>) -> Result<(), CoreError> {
+// Stores an integer type, the same again, and another one, which is answered.
+fn store_integers(rt: &impl Abort, ctx: &mut Context<Toy>) -> Result<TypeHandle, CoreError> {
     let first = store_type(ctx, int(32))?;
     let again = store_type(ctx, int(32))?;
     let other = store_type(ctx, int(64))?;
     assert!(rt; first == again);
     assert!(rt; first != other);
+    Ok(other)
+}
+
+// Types are stored once, by their keys.
+fn intern_types(rt: &impl Abort, ctx: &mut Context<Toy>) -> Result<(), CoreError> {
+    let other = store_integers(rt, ctx)?;
     assert!(rt; find_type(ctx, &int(64)) == Some(other));
     assert!(rt; find_type(ctx, &int(16)).is_none());
     Ok(())
 }
 
+// Asserts that the type has the name `list` and this body.
+fn expect_list(rt: &impl Abort, ctx: &Context<Toy>, ty: TypeHandle, body: Option<TypeHandle>) {
+    assert!(rt; has_key(ctx, ty, &list()));
+    assert!(rt; has_body(ctx, ty, &body));
+}
+
+// A type with the name `list` and no body gets its own handle as its body.
+fn name_itself(rt: &impl Abort, ctx: &mut Context<Toy>, ty: TypeHandle) {
+    expect_list(rt, ctx, ty, None);
+    assert!(rt; set_body(ctx, ty, Some(ty)));
+    expect_list(rt, ctx, ty, Some(ty));
+}
+
 // A body is no part of a type's key: a type whose body is set keeps its handle and its key.
 fn set_bodies(rt: &impl Abort, ctx: &mut Context<Toy>) -> Result<(), CoreError> {
     let named = store_type(ctx, list())?;
-    assert!(rt; has_key(ctx, named, &list()));
-    assert!(rt; has_body(ctx, named, &None));
-    assert!(rt; set_body(ctx, named, Some(named)));
-    assert!(rt; has_key(ctx, named, &list()));
-    assert!(rt; has_body(ctx, named, &Some(named)));
+    name_itself(rt, ctx, named);
     assert!(rt; store_type(ctx, list())? == named);
     Ok(())
 }

@@ -73,20 +73,44 @@ fn is_typed(dict: &AttributeDict<Toy>, key: &Identifier) -> bool {
     dict.get_as::<TypedAttrInterface>(key).is_some()
 }
 
+// Whether dictionaries that were filled in another order are equal, and have one hash.
+fn order_is_unseen(alloc: Global) -> Result<bool, CoreError> {
+    let one = number_first(alloc)?;
+    let other = text_first(alloc)?;
+    Ok(one == other && hash_of(&one) == hash_of(&other))
+}
+
+// Whether the number alone is typed, and a copy leaves out what is to be outlined.
+fn are_kinds_told(dict: &AttributeDict<Toy>) -> Result<bool, CoreError> {
+    let copy = dict.clone_skip_outlined()?;
+    let typed = is_typed(dict, &Identifier::new("c")) && !is_typed(dict, &Identifier::new("a"));
+    Ok(typed && has_first_and_last(&copy))
+}
+
+// Takes out what is to be outlined. Whether it was that, and the others stay.
+fn is_taken_out(dict: &mut AttributeDict<Toy>, wanted: &ToyAttr) -> bool {
+    let removed = dict.remove(&Identifier::new("b"));
+    removed.as_ref() == Some(wanted) && has_first_and_last(dict)
+}
+
+// Whether a dictionary of three tells what it has, and what is taken out of it.
+fn is_read_and_changed(alloc: Global) -> Result<bool, CoreError> {
+    let mut dict = three(alloc)?;
+    let wanted = hidden(alloc)?.into_attr();
+    Ok(are_kinds_told(&dict)? && is_taken_out(&mut dict, &wanted))
+}
+
+// Whether the id of the texts that are to be outlined is printed so.
+fn is_outlined_id(alloc: Global, wanted: &str) -> Result<bool, CoreError> {
+    let id = ToyOutlined::get_attr_id_static(alloc)?;
+    let printed = format!(in alloc; "{id}")?;
+    Ok(printed.as_str() == wanted)
+}
+
 #[test]
 fn dictionaries(rt: HostRuntime) -> Result<(), Fail> {
-    let one = number_first(rt.alloc())?;
-    let other = text_first(rt.alloc())?;
-    assert!(rt; one == other);
-    assert_eq!(rt; hash_of(&one), hash_of(&other));
-    let mut dict = three(rt.alloc())?;
-    assert!(rt; has_first_and_last(&dict.clone_skip_outlined()?));
-    assert!(rt; is_typed(&dict, &Identifier::new("c")));
-    assert!(rt; !is_typed(&dict, &Identifier::new("a")));
-    let removed = dict.remove(&Identifier::new("b"));
-    assert!(rt; removed == Some(hidden(rt.alloc())?.into_attr()));
-    assert!(rt; has_first_and_last(&dict));
-    let id = format!(in rt.alloc(); "{}", ToyOutlined::get_attr_id_static(rt.alloc())?)?;
-    assert_eq!(rt; id.as_str(), "toy.outlined");
+    assert!(rt; order_is_unseen(rt.alloc())?);
+    assert!(rt; is_read_and_changed(rt.alloc())?);
+    assert!(rt; is_outlined_id(rt.alloc(), "toy.outlined")?);
     Ok(())
 }

@@ -77,11 +77,17 @@ fn give_interface<D: Dialects, I: TypeInterfaceMarker>(
     }
 }
 
-// The types of a context: an integer, one with a name, and a pair of both.
-fn make_each(rt: &impl Abort, ctx: &mut Context<Small>) -> Result<(), CoreError> {
+// Stores an integer type, one with a name, and a pair of both.
+fn store_each(ctx: &mut Context<Small>) -> Result<[TypeHandle; 3], CoreError> {
     let first = ctx.instantiate_key(int(32).to_key())?;
     let second = ctx.instantiate_key(list().to_key())?;
     let third = ctx.instantiate_key(pair(0, 1).to_key())?;
+    Ok([first, second, third])
+}
+
+// The types of a context, each at its place.
+fn make_each(rt: &impl Abort, ctx: &mut Context<Small>) -> Result<(), CoreError> {
+    let [first, second, third] = store_each(ctx)?;
     assert!(rt; first == TypeHandle::at(0));
     assert!(rt; second == TypeHandle::at(1));
     assert!(rt; third == TypeHandle::at(2));

@@ -1,7 +1,7 @@
 //! Types that are made, found and given bodies.
 
 use crate::checked::{expect_type, int, list, pair};
-use crate::small::Small;
+use crate::small::{IntType, NamedType, PairType, Small};
 use ir_base::{CoreError, Dialects, TypeHandle};
 use ir_checked::end;
 use ir_types::{IrType, TypedHandle};
@@ -50,21 +50,45 @@ fn expect_found<D: Dialects, T: IrType<D>>(
     assert!(rt; ty.get_self_handle(ctx) == found);
 }
 
-// Integer types are stored once.
-fn intern_integers(rt: &impl Abort, ctx: &mut Context<Small>) -> Result<(), CoreError> {
+// Makes two integer types, the first of which is made again before the other one.
+fn make_integers(
+    rt: &impl Abort,
+    ctx: &mut Context<Small>,
+) -> Result<[TypedHandle<IntType, Small>; 2], CoreError> {
     expect_found(rt, ctx, int(32), None);
     let first = make(rt, ctx, int(32), 0)?;
     make_again(rt, ctx, int(32), first);
     let other = make(rt, ctx, int(64), 1)?;
     assert!(rt; first != other);
+    Ok([first, other])
+}
+
+// Both integer types are made again. They alone are stored, each as what it is.
+fn make_integers_again(
+    rt: &impl Abort,
+    ctx: &mut Context<Small>,
+    first: TypedHandle<IntType, Small>,
+    other: TypedHandle<IntType, Small>,
+) {
     make_again(rt, ctx, int(32), first);
     make_again(rt, ctx, int(64), other);
     expect_count(rt, ctx, 2);
     expect_type(rt, ctx, first, &int(32));
     expect_type(rt, ctx, other, &int(64));
+}
+
+// Asserts where both integer types are found, and that another one isn't.
+fn find_integers(rt: &impl Abort, ctx: &Context<Small>) {
     expect_found(rt, ctx, int(32), Some(TypeHandle::at(0)));
     expect_found(rt, ctx, int(64), Some(TypeHandle::at(1)));
     expect_found(rt, ctx, int(16), None);
+}
+
+// Integer types are stored once.
+fn intern_integers(rt: &impl Abort, ctx: &mut Context<Small>) -> Result<(), CoreError> {
+    let [first, other] = make_integers(rt, ctx)?;
+    make_integers_again(rt, ctx, first, other);
+    find_integers(rt, ctx);
     Ok(())
 }
 
@@ -112,15 +136,26 @@ fn interning(rt: HostRuntime) -> Result<(), Fail> {
     Ok(())
 }
 
+// A named type and a pair are made again, and both pairs are what they were made as.
+fn make_pair_again(
+    rt: &impl Abort,
+    ctx: &mut Context<Small>,
+    ty: TypedHandle<NamedType, Small>,
+    pairs: [TypedHandle<PairType, Small>; 2],
+) {
+    let [first, second] = pairs;
+    make_again(rt, ctx, list(), ty);
+    make_again(rt, ctx, pair(0, 1), first);
+    expect_type(rt, ctx, first, &pair(0, 1));
+    expect_type(rt, ctx, second, &pair(1, 0));
+}
+
 // Pairs that differ in the order of their types differ.
 fn make_pairs(rt: &impl Abort, ctx: &mut Context<Small>) -> Result<(), CoreError> {
     let ty = make(rt, ctx, list(), 1)?;
     let first = make(rt, ctx, pair(0, 1), 2)?;
     let second = make(rt, ctx, pair(1, 0), 3)?;
-    make_again(rt, ctx, list(), ty);
-    make_again(rt, ctx, pair(0, 1), first);
-    expect_type(rt, ctx, first, &pair(0, 1));
-    expect_type(rt, ctx, second, &pair(1, 0));
+    make_pair_again(rt, ctx, ty, [first, second]);
     expect_count(rt, ctx, 4);
     Ok(())
 }

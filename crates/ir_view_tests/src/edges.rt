@@ -43,27 +43,33 @@ pub(crate) fn succ_at<D: Dialects>(
     Ok(block.get_succ(ctx, index))
 }
 
-/// Whether the other block is a successor of the block.
-pub(crate) fn is_succ<D: Dialects>(
+/// Asserts whether the other block is a successor of the block.
+pub(crate) fn expect_succ<D: Dialects>(
+    rt: &impl Abort,
     ctx: &Context<D>,
     block: Ptr<BasicBlock<D>>,
     other: Ptr<BasicBlock<D>>,
-) -> Result<bool, CheckedErr> {
+    expected: bool,
+) -> Result<(), CheckedErr> {
     if !block.is_live(ctx) {
         return Err(CheckedErr::Condition);
     }
-    Ok(block.is_succ(ctx, other))
+    assert!(rt; block.is_succ(ctx, other) == expected);
+    Ok(())
 }
 
-/// Whether each operation that names the block stands in a block.
-pub(crate) fn preds_are_linked<D: Dialects>(
+/// Asserts whether each operation that names the block stands in a block.
+pub(crate) fn expect_preds_linked<D: Dialects>(
+    rt: &impl Abort,
     ctx: &Context<D>,
     block: Ptr<BasicBlock<D>>,
-) -> Result<bool, CheckedErr> {
+    expected: bool,
+) -> Result<(), CheckedErr> {
     if !block.is_live(ctx) {
         return Err(CheckedErr::Condition);
     }
-    Ok(block.preds_are_linked(ctx))
+    assert!(rt; block.preds_are_linked(ctx) == expected);
+    Ok(())
 }
 
 /// The predecessors of the block, whose users are linked.
@@ -100,39 +106,48 @@ pub(crate) fn pred_at<D: Dialects>(
     Ok(block.get_pred(ctx, index))
 }
 
-/// Whether an operation in the other block names the block.
-pub(crate) fn is_pred<D: Dialects>(
+/// Asserts whether an operation in the other block names the block.
+pub(crate) fn expect_pred<D: Dialects>(
+    rt: &impl Abort,
     ctx: &Context<D>,
     block: Ptr<BasicBlock<D>>,
     other: Ptr<BasicBlock<D>>,
-) -> Result<bool, CheckedErr> {
+    expected: bool,
+) -> Result<(), CheckedErr> {
     if !block.is_live(ctx) {
         return Err(CheckedErr::Condition);
     }
-    Ok(block.is_pred(ctx, other))
+    assert!(rt; block.is_pred(ctx, other) == expected);
+    Ok(())
 }
 
-/// Whether the last operation of the other block names the block.
-pub(crate) fn is_succ_of<D: Dialects>(
+/// Asserts whether the last operation of the other block names the block.
+pub(crate) fn expect_succ_of<D: Dialects>(
+    rt: &impl Abort,
     ctx: &Context<D>,
     block: Ptr<BasicBlock<D>>,
     other: Ptr<BasicBlock<D>>,
-) -> Result<bool, CheckedErr> {
+    expected: bool,
+) -> Result<(), CheckedErr> {
     if !other.is_live(ctx) {
         return Err(CheckedErr::Condition);
     }
-    Ok(block.is_succ_of(ctx, other))
+    assert!(rt; block.is_succ_of(ctx, other) == expected);
+    Ok(())
 }
 
-/// The terminator of the block, if it has one.
-pub(crate) fn terminator<D: Dialects>(
+/// Asserts which operation is the terminator of the block, if it has one.
+pub(crate) fn expect_terminator<D: Dialects>(
+    rt: &impl Abort,
     ctx: &Context<D>,
     block: Ptr<BasicBlock<D>>,
-) -> Result<Option<Ptr<Operation<D>>>, CheckedErr> {
+    expected: Option<Ptr<Operation<D>>>,
+) -> Result<(), CheckedErr> {
     if !block.is_live(ctx) {
         return Err(CheckedErr::Condition);
     }
-    Ok(block.get_terminator(ctx))
+    assert!(rt; block.get_terminator(ctx) == expected);
+    Ok(())
 }
 
 /// The uses of the block as a successor.

@@ -24,36 +24,65 @@ struct Nest<D: Dialects> {
     value: Value<D>,
 }
 
-// Makes them. The maker has one result and no more.
+// The region of the operation, and a new block in it.
+fn block_inside<D: Dialects>(
+    ctx: &mut Context<D>,
+    op: Ptr<Operation<D>>,
+) -> Result<(Ptr<Region>, Ptr<BasicBlock<D>>), CheckedErr> {
+    let region = region(ctx, op, 0)?;
+    let block = block_in(ctx, region)?;
+    Ok((region, block))
+}
+
+// A new operation with one region at the back of the block.
+fn op_inside<D: Dialects>(
+    ctx: &mut Context<D>,
+    block: Ptr<BasicBlock<D>>,
+) -> Result<Ptr<Operation<D>>, CheckedErr> {
+    let op = bare_op(ctx, 5, 1)?;
+    op_at_back(ctx, op, block)?;
+    Ok(op)
+}
+
+// A new operation at the back of the block, and its result. It has one result and no more.
+fn value_inside<D: Dialects>(
+    rt: &impl Abort,
+    ctx: &mut Context<D>,
+    block: Ptr<BasicBlock<D>>,
+    ty: TypeHandle,
+) -> Result<(Ptr<Operation<D>>, Value<D>), CheckedErr> {
+    let maker = new_op(ctx, 0, &[ty], &[], &[], 0)?;
+    op_at_back(ctx, maker, block)?;
+    assert!(rt; result(ctx, maker, 1) == Err(CheckedErr::Condition));
+    let value = result(ctx, maker, 0)?;
+    Ok((maker, value))
+}
+
+// Makes them.
 fn make_nest<D: Dialects>(
     rt: &impl Abort,
     ctx: &mut Context<D>,
     ty: TypeHandle,
 ) -> Result<Nest<D>, CheckedErr> {
     let outer = bare_op(ctx, 5, 1)?;
-    let outer_region = region(ctx, outer, 0)?;
-    let block = block_in(ctx, outer_region)?;
-    let inner = bare_op(ctx, 5, 1)?;
-    op_at_back(ctx, inner, block)?;
-    let inner_region = region(ctx, inner, 0)?;
-    let inner_block = block_in(ctx, inner_region)?;
-    let maker = new_op(ctx, 0, &[ty], &[], &[], 0)?;
-    op_at_back(ctx, maker, inner_block)?;
-    assert!(rt; result(ctx, maker, 1) == Err(CheckedErr::Condition));
+    let (region, block) = block_inside(ctx, outer)?;
+    let inner = op_inside(ctx, block)?;
+    let (inner_region, inner_block) = block_inside(ctx, inner)?;
+    let (maker, value) = value_inside(rt, ctx, inner_block, ty)?;
     Ok(Nest {
         outer,
-        region: outer_region,
+        region,
         block,
         inner,
         inner_region,
         inner_block,
         maker,
-        value: result(ctx, maker, 0)?,
+        value,
     })
 }
 
-// What the operations, blocks and regions stand in.
-fn tell_parents<D: Dialects>(
+// What the maker stands in, and its block and region.
+fn tell_inner_parents<D: Dialects>(
     rt: &impl Abort,
     ctx: &Context<D>,
     nest: &Nest<D>,
@@ -71,7 +100,17 @@ fn tell_parents<D: Dialects>(
     expect_block_in(rt, ctx, nest.inner_block, inner_region, Some(nest.inner))?;
     let region = Some(nest.region);
     let block = Some(nest.block);
-    expect_region_in(rt, ctx, nest.inner_region, nest.inner, block, region)?;
+    expect_region_in(rt, ctx, nest.inner_region, nest.inner, block, region)
+}
+
+// What the inner operation stands in, its block and region, and the outer operation.
+fn tell_outer_parents<D: Dialects>(
+    rt: &impl Abort,
+    ctx: &Context<D>,
+    nest: &Nest<D>,
+) -> Result<(), CheckedErr> {
+    let region = Some(nest.region);
+    let block = Some(nest.block);
     expect_op_in(rt, ctx, nest.inner, block, region, Some(nest.outer))?;
     expect_block_in(rt, ctx, nest.block, region, Some(nest.outer))?;
     expect_region_in(rt, ctx, nest.region, nest.outer, None, None)?;
@@ -115,10 +154,10 @@ fn tell_inside<D: Dialects>(rt: &impl Abort, ctx: &Context<D>, nest: &Nest<D>) {
     let block = Entity::Block(nest.inner_block);
     let region = Entity::Region(nest.inner_region);
     let maker = Entity::Op(nest.maker);
-    for entity in [outer, inner, region, block, maker] {
-        expect_inside(rt, ctx, entity, outer, true);
-        expect_inside(rt, ctx, maker, entity, true);
-        expect_inside(rt, ctx, entity, entity, true);
+    for entity in [outer, inner, region, block, maker].iter() {
+        expect_inside(rt, ctx, *entity, outer, true);
+        expect_inside(rt, ctx, maker, *entity, true);
+        expect_inside(rt, ctx, *entity, *entity, true);
     }
     expect_inside(rt, ctx, outer, inner, false);
     expect_inside(rt, ctx, inner, region, false);
@@ -140,6 +179,20 @@ fn expect_erasable<D: Dialects>(
     Ok(())
 }
 
+// The user of the value comes to stand beside its maker, and then keeps only this one from being erased.
+fn tell_erasable_inside<D: Dialects>(
+    rt: &impl Abort,
+    ctx: &mut Context<D>,
+    nest: &Nest<D>,
+    user: Ptr<Operation<D>>,
+) -> Result<(), CheckedErr> {
+    op_at_back(ctx, user, nest.inner_block)?;
+    expect_erasable(rt, ctx, Entity::Op(nest.inner), true)?;
+    expect_erasable(rt, ctx, Entity::Region(nest.inner_region), true)?;
+    expect_erasable(rt, ctx, Entity::Block(nest.inner_block), true)?;
+    expect_erasable(rt, ctx, Entity::Op(nest.maker), false)
+}
+
 // An operation outside that names the value keeps the inner one from being erased.
 fn tell_erasable<D: Dialects>(
     rt: &impl Abort,
@@ -151,11 +204,7 @@ fn tell_erasable<D: Dialects>(
     let user = new_op(ctx, 4, &[], &[nest.value], &[], 0)?;
     expect_erasable(rt, ctx, inner, false)?;
     expect_erasable(rt, ctx, Entity::Op(user), true)?;
-    op_at_back(ctx, user, nest.inner_block)?;
-    expect_erasable(rt, ctx, inner, true)?;
-    expect_erasable(rt, ctx, Entity::Region(nest.inner_region), true)?;
-    expect_erasable(rt, ctx, Entity::Block(nest.inner_block), true)?;
-    expect_erasable(rt, ctx, Entity::Op(nest.maker), false)
+    tell_erasable_inside(rt, ctx, nest, user)
 }
 
 // A nest, and all that is told of it.
@@ -165,7 +214,8 @@ fn tell_nest<D: Dialects>(
     ty: TypeHandle,
 ) -> Result<(), CheckedErr> {
     let nest = make_nest(rt, ctx, ty)?;
-    tell_parents(rt, ctx, &nest)?;
+    tell_inner_parents(rt, ctx, &nest)?;
+    tell_outer_parents(rt, ctx, &nest)?;
     tell_values(rt, ctx, &nest, ty)?;
     tell_inside(rt, ctx, &nest);
     tell_erasable(rt, ctx, &nest)

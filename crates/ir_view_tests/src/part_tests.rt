@@ -157,7 +157,7 @@ fn tell_arguments<D: Dialects>(
     expect_arguments(rt, ctx, made.block, &[made.x, made.y], &types)
 }
 
-// The results and their types, and the regions, of which there are two each.
+// The results and their types, of which there are two.
 fn tell_results<D: Dialects>(
     rt: &impl Abort,
     ctx: &Context<D>,
@@ -169,7 +169,15 @@ fn tell_results<D: Dialects>(
     let w = result(ctx, op, 1)?;
     assert!(rt; v != w);
     assert!(rt; result(ctx, op, 2) == Err(CheckedErr::Condition));
-    expect_results(rt, ctx, op, &[v, w], &[t1, t0])?;
+    expect_results(rt, ctx, op, &[v, w], &[t1, t0])
+}
+
+// The regions, of which there are two.
+fn tell_regions<D: Dialects>(
+    rt: &impl Abort,
+    ctx: &Context<D>,
+    op: Ptr<Operation<D>>,
+) -> Result<(), CheckedErr> {
     let first = region(ctx, op, 0)?;
     let second = region(ctx, op, 1)?;
     assert!(rt; first != second);
@@ -217,6 +225,7 @@ fn tell_parts<D: Dialects>(
     let made = make(ctx, types)?;
     tell_arguments(rt, ctx, &made, types)?;
     tell_results(rt, ctx, made.op, types)?;
+    tell_regions(rt, ctx, made.op)?;
     tell_operands(rt, ctx, &made, types)?;
     tell_successors(rt, ctx, &made)
 }

@@ -84,6 +84,24 @@ fn expect_op<D: Dialects>(
     Ok(())
 }
 
+// What a walk over the block gives from its front and from its back by turns, and then from both.
+fn op_turns<D: Dialects>(
+    ctx: &Context<D>,
+    block: Ptr<BasicBlock<D>>,
+) -> Result<[Option<Ptr<Operation<D>>>; 5], CheckedErr> {
+    if !block.is_live(ctx) {
+        return Err(CheckedErr::Condition);
+    }
+    let mut turns = block.iter(ctx);
+    Ok([
+        turns.next(),
+        turns.next_back(),
+        turns.next(),
+        turns.next(),
+        turns.next_back(),
+    ])
+}
+
 // Asserts that a walk over the block from both ends by turns gives the first, the last and the middle one.
 fn expect_op_turns<D: Dialects>(
     rt: &impl Abort,
@@ -91,16 +109,9 @@ fn expect_op_turns<D: Dialects>(
     block: Ptr<BasicBlock<D>>,
     nodes: [Ptr<Operation<D>>; 3],
 ) -> Result<(), CheckedErr> {
-    if !block.is_live(ctx) {
-        return Err(CheckedErr::Condition);
-    }
     let [first, middle, last] = nodes;
-    let mut turns = block.iter(ctx);
-    assert!(rt; turns.next() == Some(first));
-    assert!(rt; turns.next_back() == Some(last));
-    assert!(rt; turns.next() == Some(middle));
-    assert!(rt; turns.next().is_none());
-    assert!(rt; turns.next_back().is_none());
+    let turns = op_turns(ctx, block)?;
+    assert!(rt; turns == [Some(first), Some(last), Some(middle), None, None]);
     Ok(())
 }
 
@@ -119,28 +130,95 @@ fn expect_op_ends<D: Dialects>(
     Ok(())
 }
 
+// Four new operations, which stand in no block.
+fn four_ops<D: Dialects>(ctx: &mut Context<D>) -> Result<[Ptr<Operation<D>>; 4], CheckedErr> {
+    let first = bare_op(ctx, 0, 0)?;
+    let second = bare_op(ctx, 0, 0)?;
+    let third = bare_op(ctx, 0, 0)?;
+    let fourth = bare_op(ctx, 0, 0)?;
+    Ok([first, second, third, fourth])
+}
+
+// The three are put into the empty block, each at its back.
+fn put_in<D: Dialects>(
+    rt: &impl Abort,
+    ctx: &mut Context<D>,
+    root: Ptr<BasicBlock<D>>,
+    nodes: [Ptr<Operation<D>>; 3],
+) -> Result<(), CheckedErr> {
+    let [first, _middle, last] = nodes;
+    expect_op_ends(rt, ctx, root, None, None)?;
+    for op in nodes.iter() {
+        op_at_back(ctx, *op, root)?;
+    }
+    expect_op_ends(rt, ctx, root, Some(first), Some(last))?;
+    expect_op_turns(rt, ctx, root, nodes)
+}
+
+// Asserts the neighbours of a block's three operations and of one that stands in no block.
+fn expect_neighbours<D: Dialects>(
+    rt: &impl Abort,
+    ctx: &Context<D>,
+    nodes: [Ptr<Operation<D>>; 3],
+    alone: Ptr<Operation<D>>,
+) -> Result<(), CheckedErr> {
+    let [first, middle, last] = nodes;
+    expect_op(rt, ctx, first, true, None, Some(middle))?;
+    expect_op(rt, ctx, middle, true, Some(first), Some(last))?;
+    expect_op(rt, ctx, alone, false, None, None)?;
+    expect_op(rt, ctx, last, true, Some(middle), None)
+}
+
+// Asserts that the three stand in the block, and the other operation in none.
+fn expect_only_in<D: Dialects>(
+    rt: &impl Abort,
+    ctx: &Context<D>,
+    root: Ptr<BasicBlock<D>>,
+    nodes: [Ptr<Operation<D>>; 3],
+    alone: Ptr<Operation<D>>,
+) -> Result<(), CheckedErr> {
+    for op in nodes.iter() {
+        expect_op_in(rt, ctx, *op, Some(root), None, None)?;
+    }
+    expect_op_in(rt, ctx, alone, None, None, None)
+}
+
 // The operations 1, 2 and 4 are in a block, and 3 isn't; then 2, 1 and 4 are taken out.
 fn insert_and_unlink<D: Dialects>(rt: &impl Abort, ctx: &mut Context<D>) -> Result<(), CheckedErr> {
     let root = bare_block(ctx)?;
-    let n1 = bare_op(ctx, 0, 0)?;
-    let n2 = bare_op(ctx, 0, 0)?;
-    let n3 = bare_op(ctx, 0, 0)?;
-    let n4 = bare_op(ctx, 0, 0)?;
-    expect_op_ends(rt, ctx, root, None, None)?;
-    for op in [n1, n2, n4] {
-        op_at_back(ctx, op, root)?;
-    }
-    expect_op_ends(rt, ctx, root, Some(n1), Some(n4))?;
-    expect_op_turns(rt, ctx, root, [n1, n2, n4])?;
-    expect_op(rt, ctx, n1, true, None, Some(n2))?;
-    expect_op(rt, ctx, n2, true, Some(n1), Some(n4))?;
-    expect_op(rt, ctx, n3, false, None, None)?;
-    expect_op(rt, ctx, n4, true, Some(n2), None)?;
-    for op in [n1, n2, n4] {
-        expect_op_in(rt, ctx, op, Some(root), None, None)?;
-    }
-    expect_op_in(rt, ctx, n3, None, None, None)?;
+    let [n1, n2, n3, n4] = four_ops(ctx)?;
+    put_in(rt, ctx, root, [n1, n2, n4])?;
+    expect_neighbours(rt, ctx, [n1, n2, n4], n3)?;
+    expect_only_in(rt, ctx, root, [n1, n2, n4], n3)?;
     take_out(rt, ctx, root, [n1, n2, n4])
+}
+
+// Of the two operations that are left in a block, the first and the last are taken out.
+fn take_out_ends<D: Dialects>(
+    rt: &impl Abort,
+    ctx: &mut Context<D>,
+    root: Ptr<BasicBlock<D>>,
+    first: Ptr<Operation<D>>,
+    last: Ptr<Operation<D>>,
+) -> Result<(), CheckedErr> {
+    unlink_op(ctx, first)?;
+    expect_op_ends(rt, ctx, root, Some(last), Some(last))?;
+    expect_op(rt, ctx, last, true, None, None)?;
+    unlink_op(ctx, last)?;
+    expect_op_ends(rt, ctx, root, None, None)
+}
+
+// Asserts that none of the operations stands in a block or has a neighbour.
+fn expect_unlinked<D: Dialects>(
+    rt: &impl Abort,
+    ctx: &Context<D>,
+    nodes: [Ptr<Operation<D>>; 3],
+) -> Result<(), CheckedErr> {
+    for op in nodes.iter() {
+        expect_op(rt, ctx, *op, false, None, None)?;
+        expect_op_in(rt, ctx, *op, None, None, None)?;
+    }
+    Ok(())
 }
 
 // The middle one, the first and the last of a block's three operations are taken out.
@@ -154,16 +232,8 @@ fn take_out<D: Dialects>(
     unlink_op(ctx, middle)?;
     expect_op(rt, ctx, first, true, None, Some(last))?;
     expect_op(rt, ctx, last, true, Some(first), None)?;
-    unlink_op(ctx, first)?;
-    expect_op_ends(rt, ctx, root, Some(last), Some(last))?;
-    expect_op(rt, ctx, last, true, None, None)?;
-    unlink_op(ctx, last)?;
-    expect_op_ends(rt, ctx, root, None, None)?;
-    for op in nodes {
-        expect_op(rt, ctx, op, false, None, None)?;
-        expect_op_in(rt, ctx, op, None, None, None)?;
-    }
-    Ok(())
+    take_out_ends(rt, ctx, root, first, last)?;
+    expect_unlinked(rt, ctx, nodes)
 }
 
 #[test]
@@ -237,6 +307,24 @@ fn expect_block<D: Dialects>(
     Ok(())
 }
 
+// What a walk over the region gives from its front and from its back by turns, and then from both.
+fn block_turns<D: Dialects>(
+    ctx: &Context<D>,
+    region: Ptr<Region>,
+) -> Result<[Option<Ptr<BasicBlock<D>>>; 5], CheckedErr> {
+    if !region.is_live(ctx) {
+        return Err(CheckedErr::Condition);
+    }
+    let mut turns = region.iter(ctx);
+    Ok([
+        turns.next(),
+        turns.next_back(),
+        turns.next(),
+        turns.next(),
+        turns.next_back(),
+    ])
+}
+
 // Asserts that a walk over the region from both ends by turns gives the first, the last and the middle one.
 fn expect_block_turns<D: Dialects>(
     rt: &impl Abort,
@@ -244,17 +332,47 @@ fn expect_block_turns<D: Dialects>(
     region: Ptr<Region>,
     nodes: [Ptr<BasicBlock<D>>; 3],
 ) -> Result<(), CheckedErr> {
-    if !region.is_live(ctx) {
-        return Err(CheckedErr::Condition);
-    }
     let [first, middle, last] = nodes;
-    let mut turns = region.iter(ctx);
-    assert!(rt; turns.next() == Some(first));
-    assert!(rt; turns.next_back() == Some(last));
-    assert!(rt; turns.next() == Some(middle));
-    assert!(rt; turns.next().is_none());
-    assert!(rt; turns.next_back().is_none());
+    let turns = block_turns(ctx, region)?;
+    assert!(rt; turns == [Some(first), Some(last), Some(middle), None, None]);
     Ok(())
+}
+
+// Three new blocks at the back of the region.
+fn three_blocks<D: Dialects>(
+    ctx: &mut Context<D>,
+    root: Ptr<Region>,
+) -> Result<[Ptr<BasicBlock<D>>; 3], CheckedErr> {
+    let first = block_in(ctx, root)?;
+    let middle = block_in(ctx, root)?;
+    let last = block_in(ctx, root)?;
+    Ok([first, middle, last])
+}
+
+// Asserts that the region has these three blocks.
+fn expect_three_blocks<D: Dialects>(
+    rt: &impl Abort,
+    ctx: &Context<D>,
+    root: Ptr<Region>,
+    nodes: [Ptr<BasicBlock<D>>; 3],
+) -> Result<(), CheckedErr> {
+    let [first, middle, last] = nodes;
+    expect_entry(rt, ctx, root, Some(first), Some(last))?;
+    expect_block_turns(rt, ctx, root, nodes)?;
+    expect_block(rt, ctx, middle, true, Some(first), Some(last))
+}
+
+// The first of a region's three blocks is taken out, and the next one is its entry.
+fn take_out_entry<D: Dialects>(
+    rt: &impl Abort,
+    ctx: &mut Context<D>,
+    root: Ptr<Region>,
+    nodes: [Ptr<BasicBlock<D>>; 3],
+) -> Result<(), CheckedErr> {
+    let [first, middle, last] = nodes;
+    unlink_block(ctx, first)?;
+    expect_entry(rt, ctx, root, Some(middle), Some(last))?;
+    expect_block(rt, ctx, first, false, None, None)
 }
 
 // A region with three blocks, of which the first is then taken out.
@@ -262,15 +380,9 @@ fn blocks_and_entry<D: Dialects>(rt: &impl Abort, ctx: &mut Context<D>) -> Resul
     let parent = bare_op(ctx, 5, 1)?;
     let root = region(ctx, parent, 0)?;
     expect_entry(rt, ctx, root, None, None)?;
-    let n1 = block_in(ctx, root)?;
-    let n2 = block_in(ctx, root)?;
-    let n3 = block_in(ctx, root)?;
-    expect_entry(rt, ctx, root, Some(n1), Some(n3))?;
-    expect_block_turns(rt, ctx, root, [n1, n2, n3])?;
-    expect_block(rt, ctx, n2, true, Some(n1), Some(n3))?;
-    unlink_block(ctx, n1)?;
-    expect_entry(rt, ctx, root, Some(n2), Some(n3))?;
-    expect_block(rt, ctx, n1, false, None, None)
+    let nodes = three_blocks(ctx, root)?;
+    expect_three_blocks(rt, ctx, root, nodes)?;
+    take_out_entry(rt, ctx, root, nodes)
 }
 
 #[test]

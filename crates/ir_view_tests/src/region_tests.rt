@@ -40,19 +40,62 @@ fn expect_order<D: Dialects>(
     Ok(())
 }
 
+// Asserts that the two operations have exactly these regions.
+fn expect_orders<D: Dialects>(
+    rt: &impl Abort,
+    ctx: &Context<D>,
+    ops: [Ptr<Operation<D>>; 2],
+    of_first: &[Ptr<Region>],
+    of_second: &[Ptr<Region>],
+) -> Result<(), CheckedErr> {
+    let [a, b] = ops;
+    expect_order(rt, ctx, a, of_first)?;
+    expect_order(rt, ctx, b, of_second)
+}
+
+// The region goes over to the second operation, and then the two have exactly these regions.
+fn move_over<D: Dialects>(
+    rt: &impl Abort,
+    ctx: &mut Context<D>,
+    moved: Ptr<Region>,
+    ops: [Ptr<Operation<D>>; 2],
+    of_first: &[Ptr<Region>],
+    of_second: &[Ptr<Region>],
+) -> Result<(), CheckedErr> {
+    let [_a, b] = ops;
+    move_region(ctx, moved, b)?;
+    expect_orders(rt, ctx, ops, of_first, of_second)
+}
+
+// Two new operations with so many regions.
+fn two_ops<D: Dialects>(
+    ctx: &mut Context<D>,
+    of_first: usize,
+    of_second: usize,
+) -> Result<[Ptr<Operation<D>>; 2], CheckedErr> {
+    let a = bare_op(ctx, 5, of_first)?;
+    let b = bare_op(ctx, 5, of_second)?;
+    Ok([a, b])
+}
+
+// The first three regions of the operation.
+fn three_regions<D: Dialects>(
+    ctx: &Context<D>,
+    op: Ptr<Operation<D>>,
+) -> Result<[Ptr<Region>; 3], CheckedErr> {
+    let first = region(ctx, op, 0)?;
+    let second = region(ctx, op, 1)?;
+    let third = region(ctx, op, 2)?;
+    Ok([first, second, third])
+}
+
 // From [r0, r1, r2] and [], r0 goes over, and stays there.
 fn move_the_first<D: Dialects>(rt: &impl Abort, ctx: &mut Context<D>) -> Result<(), CheckedErr> {
-    let a = bare_op(ctx, 5, 3)?;
-    let b = bare_op(ctx, 5, 0)?;
-    let r0 = region(ctx, a, 0)?;
-    let r1 = region(ctx, a, 1)?;
-    let r2 = region(ctx, a, 2)?;
-    expect_order(rt, ctx, a, &[r0, r1, r2])?;
-    expect_order(rt, ctx, b, &[])?;
+    let [a, b] = two_ops(ctx, 3, 0)?;
+    let [r0, r1, r2] = three_regions(ctx, a)?;
+    expect_orders(rt, ctx, [a, b], &[r0, r1, r2], &[])?;
     for _ in 0..2 {
-        move_region(ctx, r0, b)?;
-        expect_order(rt, ctx, a, &[r1, r2])?;
-        expect_order(rt, ctx, b, &[r0])?;
+        move_over(rt, ctx, r0, [a, b], &[r1, r2], &[r0])?;
     }
     Ok(())
 }
@@ -62,19 +105,12 @@ fn move_from_the_middle<D: Dialects>(
     rt: &impl Abort,
     ctx: &mut Context<D>,
 ) -> Result<(), CheckedErr> {
-    let a = bare_op(ctx, 5, 4)?;
-    let b = bare_op(ctx, 5, 1)?;
-    let r0 = region(ctx, a, 0)?;
-    let r1 = region(ctx, a, 1)?;
-    let r2 = region(ctx, a, 2)?;
+    let [a, b] = two_ops(ctx, 4, 1)?;
+    let [r0, r1, r2] = three_regions(ctx, a)?;
     let r3 = region(ctx, a, 3)?;
     let s0 = region(ctx, b, 0)?;
-    move_region(ctx, r1, b)?;
-    expect_order(rt, ctx, a, &[r0, r2, r3])?;
-    expect_order(rt, ctx, b, &[s0, r1])?;
-    move_region(ctx, r3, b)?;
-    expect_order(rt, ctx, a, &[r0, r2])?;
-    expect_order(rt, ctx, b, &[s0, r1, r3])
+    move_over(rt, ctx, r1, [a, b], &[r0, r2, r3], &[s0, r1])?;
+    move_over(rt, ctx, r3, [a, b], &[r0, r2], &[s0, r1, r3])
 }
 
 // Both.
@@ -91,13 +127,15 @@ fn region_moves(rt: HostRuntime) -> Result<(), Fail> {
     Ok(())
 }
 
-// Asserts whether the region has SSA dominance.
+// Asserts whether the operation's region at the index has SSA dominance.
 fn expect_dominance<D: Dialects>(
     rt: &impl Abort,
     ctx: &Context<D>,
-    region: Ptr<Region>,
+    op: Ptr<Operation<D>>,
+    index: usize,
     expected: bool,
 ) -> Result<(), CheckedErr> {
+    let region = region(ctx, op, index)?;
     if !region.is_live(ctx) {
         return Err(CheckedErr::Condition);
     }
@@ -109,9 +147,9 @@ fn expect_dominance<D: Dialects>(
 fn tell_dominance<D: Dialects>(rt: &impl Abort, ctx: &mut Context<D>) -> Result<(), CheckedErr> {
     let graph = bare_op(ctx, 7, 2)?;
     let module = bare_op(ctx, 5, 1)?;
-    expect_dominance(rt, ctx, region(ctx, graph, 0)?, false)?;
-    expect_dominance(rt, ctx, region(ctx, graph, 1)?, true)?;
-    expect_dominance(rt, ctx, region(ctx, module, 0)?, true)
+    expect_dominance(rt, ctx, graph, 0, false)?;
+    expect_dominance(rt, ctx, graph, 1, true)?;
+    expect_dominance(rt, ctx, module, 0, true)
 }
 
 #[test]

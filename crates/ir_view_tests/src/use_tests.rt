@@ -41,16 +41,34 @@ fn uses_of<D: Dialects>(
     Ok(value.uses(ctx)?)
 }
 
-// Asserts whose operand the use is, and at which index.
+// Asserts whose operand the use is, and at which index, and that it is among these.
 fn expect_use<D: Dialects>(
     rt: &impl Abort,
     ctx: &Context<D>,
     used: Use<Value<D>>,
     user: Ptr<Operation<D>>,
     index: usize,
+    uses: &[Use<Value<D>>],
 ) {
     assert!(rt; used.user_op() == user);
     assert_eq!(rt; used.try_find_index(ctx), Ok(index));
+    assert!(rt; uses.contains(&used));
+}
+
+// Asserts that the user has two operands, and that both are uses of the value.
+fn expect_two_uses<D: Dialects>(
+    rt: &impl Abort,
+    ctx: &Context<D>,
+    value: Value<D>,
+    user: Ptr<Operation<D>>,
+) -> Result<(), CheckedErr> {
+    let uses = uses_of(ctx, value)?;
+    let operands = operand_uses(ctx, user)?;
+    assert_eq!(rt; operands.len(), 2);
+    for (index, used) in operands.iter().enumerate() {
+        expect_use(rt, ctx, *used, user, index, uses.as_slice());
+    }
+    Ok(())
 }
 
 // Asserts that no result of the operation has a use.
@@ -76,13 +94,7 @@ fn name_twice<D: Dialects>(
     let value = new_value(ctx, ty)?;
     let user = new_op(ctx, 4, &[ty], &[value, value], &[], 0)?;
     assert_eq!(rt; num_uses(ctx, value)?, 2);
-    let uses = uses_of(ctx, value)?;
-    let operands = operand_uses(ctx, user)?;
-    assert_eq!(rt; operands.len(), 2);
-    for (index, used) in operands.iter().enumerate() {
-        expect_use(rt, ctx, *used, user, index);
-        assert!(rt; uses.contains(used));
-    }
+    expect_two_uses(rt, ctx, value, user)?;
     expect_unused(rt, ctx, user)
 }
 
