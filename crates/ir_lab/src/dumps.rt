@@ -21,24 +21,22 @@ use std::alloc::AllocError;
 /// What the session of this context and these tables shows.
 pub(crate) fn dump(ctx: &Context<Toy>, tables: &Tables) -> Result<String, LabError> {
     let mut text = String::new(ctx.alloc());
-    for (number, ty) in tables.types.iter().enumerate() {
-        write!(text, "t{number}:")?;
-        write_type(&mut text, ctx, *ty)?;
-        text.push_str("\n")?;
-    }
+    write_types(&mut text, ctx, tables)?;
     write_ops(&mut text, ctx, tables)?;
     write_blocks(&mut text, ctx, tables)?;
-    for (number, region) in tables.regions.iter().enumerate() {
-        write!(text, "r{number}:")?;
-        write_region(&mut text, ctx, tables, *region)?;
-        text.push_str("\n")?;
-    }
-    for (number, value) in tables.values.iter().enumerate() {
-        write!(text, "v{number}:")?;
-        write_value(&mut text, ctx, tables, *value)?;
-        text.push_str("\n")?;
-    }
+    write_regions(&mut text, ctx, tables)?;
+    write_values(&mut text, ctx, tables)?;
     Ok(text)
+}
+
+// The lines of the types.
+fn write_types(text: &mut String, ctx: &Context<Toy>, tables: &Tables) -> Result<(), LabError> {
+    for (number, ty) in tables.types.iter().enumerate() {
+        write!(text, "t{number}:")?;
+        write_type(text, ctx, *ty)?;
+        text.push_str("\n")?;
+    }
+    Ok(())
 }
 
 // The lines of the operations.
@@ -61,15 +59,27 @@ fn write_ops(text: &mut String, ctx: &Context<Toy>, tables: &Tables) -> Result<(
 fn write_blocks(text: &mut String, ctx: &Context<Toy>, tables: &Tables) -> Result<(), LabError> {
     for (number, block) in tables.blocks.iter().enumerate() {
         write!(text, "b{number}:")?;
-        match block.try_deref(ctx) {
-            Ok(record) => {
-                write_head(text, ctx, tables, record)?;
-                write_block_ops(text, ctx, tables, *block)?;
-                write_block_place(text, ctx, tables, number, *block)?;
-                write_block_uses(text, ctx, tables, *block)?;
-            }
-            Err(_) => text.push_str(" gone")?,
-        }
+        write_block(text, ctx, tables, number, *block)?;
+        text.push_str("\n")?;
+    }
+    Ok(())
+}
+
+// The lines of the regions.
+fn write_regions(text: &mut String, ctx: &Context<Toy>, tables: &Tables) -> Result<(), LabError> {
+    for (number, region) in tables.regions.iter().enumerate() {
+        write!(text, "r{number}:")?;
+        write_region(text, ctx, tables, *region)?;
+        text.push_str("\n")?;
+    }
+    Ok(())
+}
+
+// The lines of the values.
+fn write_values(text: &mut String, ctx: &Context<Toy>, tables: &Tables) -> Result<(), LabError> {
+    for (number, value) in tables.values.iter().enumerate() {
+        write!(text, "v{number}:")?;
+        write_value(text, ctx, tables, *value)?;
         text.push_str("\n")?;
     }
     Ok(())
@@ -218,10 +228,31 @@ fn write_parts(
     tables: &Tables,
     op: &Operation<Toy>,
 ) -> Result<(), AllocError> {
-    let alloc = ctx.alloc();
     write!(text, " {}", op.kind())?;
+    write_op_values(text, ctx, tables, op)?;
+    write_op_blocks(text, ctx, tables, op)
+}
+
+// Writes an operation's results and operands.
+fn write_op_values(
+    text: &mut String,
+    ctx: &Context<Toy>,
+    tables: &Tables,
+    op: &Operation<Toy>,
+) -> Result<(), AllocError> {
+    let alloc = ctx.alloc();
     write_names(text, "results", 'v', &results(alloc, tables, op)?)?;
-    write_names(text, "operands", 'v', &operands(alloc, tables, op)?)?;
+    write_names(text, "operands", 'v', &operands(alloc, tables, op)?)
+}
+
+// Writes an operation's successors and regions.
+fn write_op_blocks(
+    text: &mut String,
+    ctx: &Context<Toy>,
+    tables: &Tables,
+    op: &Operation<Toy>,
+) -> Result<(), AllocError> {
+    let alloc = ctx.alloc();
     write_names(text, "successors", 'b', &successors(alloc, tables, op)?)?;
     write_names(text, "regions", 'r', &regions(alloc, tables, op)?)
 }
@@ -241,6 +272,23 @@ fn write_op_place(
         None => (None, None),
     };
     write_place(text, 'b', 'o', place, shown)
+}
+
+// Writes a block: its parts, its place, and what names it.
+fn write_block(
+    text: &mut String,
+    ctx: &Context<Toy>,
+    tables: &Tables,
+    number: usize,
+    block: Ptr<BasicBlock<Toy>>,
+) -> Result<(), LabError> {
+    let Ok(record) = block.try_deref(ctx) else {
+        return Ok(text.push_str(" gone")?);
+    };
+    write_head(text, ctx, tables, record)?;
+    write_block_ops(text, ctx, tables, block)?;
+    write_block_place(text, ctx, tables, number, block)?;
+    write_block_uses(text, ctx, tables, block)
 }
 
 // Writes a block's label and its arguments.

@@ -96,12 +96,7 @@ fn new_op(alloc: Global, text: &str) -> Result<Edit<Toy>, LabError> {
     let (types, rest) = field(rest)?;
     let (operands, rest) = field(rest)?;
     let (successors, rest) = field(rest)?;
-    let Ok(kind) = kind.parse() else {
-        return Err(LabError::Malformed);
-    };
-    let Some(regions) = one(NO_LETTER, rest) else {
-        return Err(LabError::Malformed);
-    };
+    let (kind, regions) = kind_and_regions(kind, rest)?;
     Ok(Edit::NewOp {
         kind,
         types: list(alloc, 't', types)?,
@@ -109,6 +104,17 @@ fn new_op(alloc: Global, text: &str) -> Result<Edit<Toy>, LabError> {
         successors: list(alloc, 'b', successors)?,
         regions,
     })
+}
+
+// The numbers of the fields `KIND` and `COUNT`.
+fn kind_and_regions(kind: &str, count: &str) -> Result<(u32, usize), LabError> {
+    let Ok(kind) = kind.parse() else {
+        return Err(LabError::Malformed);
+    };
+    match one(NO_LETTER, count) {
+        Some(regions) => Ok((kind, regions)),
+        None => Err(LabError::Malformed),
+    }
 }
 
 // The fields of `new-block LABEL TYPES`.

@@ -19,23 +19,48 @@ pub(crate) fn question(
         return Ok(None);
     };
     let mut text = String::new(ctx.alloc());
+    if write_of_session(&mut text, ctx, word)? {
+        return Ok(Some(text));
+    }
+    if write_of_entity(&mut text, ctx, tables, word, rest)? {
+        return Ok(Some(text));
+    }
+    Ok(None)
+}
+
+// Writes the answer to a question of the whole session, and tells whether the word is that of one.
+fn write_of_session(text: &mut String, ctx: &Context<Toy>, word: &str) -> Result<bool, AllocError> {
     if word == "room" {
-        write_room(&mut text, ctx)?;
+        write_room(text, ctx)?;
     } else if word == "is-empty" {
         let answer = if ctx.is_ir_empty() { "yes" } else { "no" };
         text.push_str(answer)?;
-    } else if word == "place" {
-        write_place(&mut text, tables, rest)?;
-    } else if word == "deref" {
-        write_deref(&mut text, ctx, tables, rest)?;
-    } else if word == "find-index" {
-        write_index(&mut text, ctx, tables, rest)?;
-    } else if word == "id" {
-        write_id(&mut text, ctx, tables, rest)?;
     } else {
-        return Ok(None);
+        return Ok(false);
     }
-    Ok(Some(text))
+    Ok(true)
+}
+
+// Writes the answer to a question of an operation, a block or a value, and tells whether the word is that of one.
+fn write_of_entity(
+    text: &mut String,
+    ctx: &Context<Toy>,
+    tables: &Tables,
+    word: &str,
+    name: &str,
+) -> Result<bool, LabError> {
+    if word == "place" {
+        write_place(text, tables, name)?;
+    } else if word == "deref" {
+        write_deref(text, ctx, tables, name)?;
+    } else if word == "find-index" {
+        write_index(text, ctx, tables, name)?;
+    } else if word == "id" {
+        write_id(text, ctx, tables, name)?;
+    } else {
+        return Ok(false);
+    }
+    Ok(true)
 }
 
 // Writes how many numbers and slots are left.
