@@ -1,8 +1,8 @@
 //! Each call that the surface names is tried, and each call that is tried is named. The names of the tests of calls end so that `tools/refuse-memory` knows that each of these calls asks for memory.
 
 use crate::surface::{
-    ATTRIBUTES, BELOW, BLOCKS, CONTEXT, NAMED, NAMES, OPERATIONS, STORES, USES, VERIFICATION,
-    is_named,
+    ATTRIBUTES, BELOW, BLOCKS, CONTEXT, NAMED, NAMES, OPERATIONS, SERVED, STORES, USES,
+    VERIFICATION, is_named,
 };
 use crate::trials::try_named;
 use ir_memory_calls::{
@@ -73,6 +73,12 @@ fn verification_with_memory(rt: HostRuntime) -> Result<(), Fail> {
 #[test]
 fn below_the_surface_with_memory(rt: HostRuntime) -> Result<(), Fail> {
     try_named(&rt, rt.alloc(), &BELOW)?;
+    Ok(())
+}
+
+#[test]
+fn served_with_or_without_memory(rt: HostRuntime) -> Result<(), Fail> {
+    try_named(&rt, rt.alloc(), &SERVED)?;
     Ok(())
 }
 
