@@ -5,7 +5,6 @@
 
 mod dumps;
 mod edits;
-mod lists;
 mod plain;
 mod random_edits;
 
