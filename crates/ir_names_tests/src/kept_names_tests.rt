@@ -30,6 +30,30 @@ fn edit_around<D: Dialects>(
     Ok(first)
 }
 
+// The value gets the name x, with which it has this id and this unique name.
+fn name_x<D: Dialects>(
+    rt: &impl Abort,
+    ctx: &mut Context<D>,
+    value: Value<D>,
+    id: &str,
+    unique: &str,
+) -> Result<(), CoreError> {
+    set_name(rt, ctx, value, Some(ident!("x")))?;
+    expect_value(rt, ctx, value, Some("x"), id, unique)
+}
+
+// The first value gets what is the unique name of the second.
+fn take_unique_name<D: Dialects>(
+    rt: &impl Abort,
+    ctx: &mut Context<D>,
+    x: Value<D>,
+    y: Value<D>,
+) -> Result<(), CoreError> {
+    set_name(rt, ctx, x, Some(ident!("x_v1")))?;
+    expect_value(rt, ctx, x, Some("x_v1"), "v0", "x_v1_v0")?;
+    expect_value(rt, ctx, y, Some("x"), "v1", "x_v1")
+}
+
 // Two values get one name. Then one gets what is the unique name of the other.
 fn name_alike<D: Dialects>(
     rt: &impl Abort,
@@ -37,12 +61,35 @@ fn name_alike<D: Dialects>(
     x: Value<D>,
     y: Value<D>,
 ) -> Result<(), CoreError> {
-    set_name(rt, ctx, y, Some(ident!("x")))?;
-    expect_value(rt, ctx, y, Some("x"), "v1", "x_v1")?;
+    name_x(rt, ctx, y, "v1", "x_v1")?;
     expect_value(rt, ctx, x, Some("x"), "v0", "x_v0")?;
-    set_name(rt, ctx, x, Some(ident!("x_v1")))?;
-    expect_value(rt, ctx, x, Some("x_v1"), "v0", "x_v1_v0")?;
-    expect_value(rt, ctx, y, Some("x"), "v1", "x_v1")
+    take_unique_name(rt, ctx, x, y)
+}
+
+// The first value is used, and gets a name. The second has none.
+fn name_used<D: Dialects>(
+    rt: &impl Abort,
+    ctx: &mut Context<D>,
+    x: Value<D>,
+    y: Value<D>,
+) -> Result<(), CoreError> {
+    new_user(rt, ctx, x)?;
+    set_name(rt, ctx, x, Some(ident!("x")))?;
+    expect_value(rt, ctx, y, None, "v1", "v1")
+}
+
+// The operation is edited. Of its results x alone keeps a name, and neither y nor the new one gets any.
+fn edit_and_keep<D: Dialects>(
+    rt: &impl Abort,
+    ctx: &mut Context<D>,
+    op: Ptr<Operation<D>>,
+    other: TypeHandle,
+    [x, y]: [Value<D>; 2],
+) -> Result<(), CoreError> {
+    let first = edit_around(rt, ctx, op, other)?;
+    expect_value(rt, ctx, first, None, "v2", "v2")?;
+    expect_value(rt, ctx, x, Some("x"), "v0", "x_v0")?;
+    expect_value(rt, ctx, y, None, "v1", "v1")
 }
 
 // Of two results the first is named and used. It keeps its name while it is edited, and no other one gets it.
@@ -55,13 +102,8 @@ fn edit_named<D: Dialects>(
     let op = new_definer(rt, ctx, ty)?;
     let x = result_at(rt, ctx, op, 0);
     let y = result_at(rt, ctx, op, 1);
-    new_user(rt, ctx, x)?;
-    set_name(rt, ctx, x, Some(ident!("x")))?;
-    expect_value(rt, ctx, y, None, "v1", "v1")?;
-    let first = edit_around(rt, ctx, op, other)?;
-    expect_value(rt, ctx, first, None, "v2", "v2")?;
-    expect_value(rt, ctx, x, Some("x"), "v0", "x_v0")?;
-    expect_value(rt, ctx, y, None, "v1", "v1")?;
+    name_used(rt, ctx, x, y)?;
+    edit_and_keep(rt, ctx, op, other, [x, y])?;
     name_alike(rt, ctx, x, y)
 }
 
@@ -92,17 +134,36 @@ fn erase_labelled<D: Dialects>(
     expect_block(rt, ctx, next, None, "block1v3", "block1v3")
 }
 
-// Two blocks with one label, of which one gets another, and then none.
-fn label_each<D: Dialects>(rt: &impl Abort, ctx: &mut Context<D>) -> Result<(), CoreError> {
+// Two blocks with one label.
+fn two_entries<D: Dialects>(
+    rt: &impl Abort,
+    ctx: &mut Context<D>,
+) -> Result<[Ptr<BasicBlock<D>>; 2], CoreError> {
     let a = BasicBlock::new(ctx, Some(ident!("entry")), &[])?;
     let b = BasicBlock::new(ctx, Some(ident!("entry")), &[])?;
     expect_block(rt, ctx, a, Some("entry"), "block1v1", "entry_block1v1")?;
     expect_block(rt, ctx, b, Some("entry"), "block2v1", "entry_block2v1")?;
+    Ok([a, b])
+}
+
+// The second block gets another label, and then none. The first keeps its own.
+fn label_anew<D: Dialects>(
+    rt: &impl Abort,
+    ctx: &mut Context<D>,
+    a: Ptr<BasicBlock<D>>,
+    b: Ptr<BasicBlock<D>>,
+) -> Result<(), CoreError> {
     set_label(rt, ctx, b, Some(ident!("exit")));
     expect_block(rt, ctx, a, Some("entry"), "block1v1", "entry_block1v1")?;
     expect_block(rt, ctx, b, Some("exit"), "block2v1", "exit_block2v1")?;
     set_label(rt, ctx, b, None);
-    expect_block(rt, ctx, b, None, "block2v1", "block2v1")?;
+    expect_block(rt, ctx, b, None, "block2v1", "block2v1")
+}
+
+// Two blocks with one label, of which one gets another, and then none.
+fn label_each<D: Dialects>(rt: &impl Abort, ctx: &mut Context<D>) -> Result<(), CoreError> {
+    let [a, b] = two_entries(rt, ctx)?;
+    label_anew(rt, ctx, a, b)?;
     erase_labelled(rt, ctx, a)
 }
 
@@ -114,20 +175,37 @@ fn labels_of_blocks(rt: HostRuntime) -> Result<(), Fail> {
     Ok(())
 }
 
-// The operation of a named result goes. Those of the next one have no names.
-fn erase_named(rt: &impl Abort, ctx: &mut Context<Toy>) -> Result<(), CoreError> {
-    let ty = ctx.instantiate_key(ToyType::Int { width: 32 })?;
+// The operation of a named result goes.
+fn name_and_erase<D: Dialects>(
+    rt: &impl Abort,
+    ctx: &mut Context<D>,
+    ty: TypeHandle,
+) -> Result<(), CoreError> {
     let op = new_definer(rt, ctx, ty)?;
     let x = result_at(rt, ctx, op, 0);
-    set_name(rt, ctx, x, Some(ident!("x")))?;
-    expect_value(rt, ctx, x, Some("x"), "v0", "x_v0")?;
+    name_x(rt, ctx, x, "v0", "x_v0")?;
     assert!(rt; erase_op(ctx, op));
     assert!(rt; !x.is_live(ctx));
+    Ok(())
+}
+
+// The results of a new operation have no names, and one gets the name that another had.
+fn name_again<D: Dialects>(
+    rt: &impl Abort,
+    ctx: &mut Context<D>,
+    ty: TypeHandle,
+) -> Result<(), CoreError> {
     let next = new_definer(rt, ctx, ty)?;
     let y = result_at(rt, ctx, next, 0);
     expect_value(rt, ctx, y, None, "v2", "v2")?;
-    set_name(rt, ctx, y, Some(ident!("x")))?;
-    expect_value(rt, ctx, y, Some("x"), "v2", "x_v2")
+    name_x(rt, ctx, y, "v2", "x_v2")
+}
+
+// The operation of a named result goes. Those of the next one have no names.
+fn erase_named(rt: &impl Abort, ctx: &mut Context<Toy>) -> Result<(), CoreError> {
+    let ty = ctx.instantiate_key(ToyType::Int { width: 32 })?;
+    name_and_erase(rt, ctx, ty)?;
+    name_again(rt, ctx, ty)
 }
 
 #[test]
@@ -156,6 +234,14 @@ fn make_and_erase<D: Dialects>(
     Ok(block)
 }
 
+// Asserts that the handles lead to no block.
+fn expect_all_gone<D: Dialects>(rt: &impl Abort, ctx: &Context<D>, handles: &[Ptr<BasicBlock<D>>]) {
+    for block in handles {
+        assert!(rt; !block.is_live(ctx));
+        assert!(rt; block.try_deref(ctx).is_err());
+    }
+}
+
 // So many blocks are made and erased one after the other in one slot. Each has an id of its own, and all handles are refused.
 fn use_one_slot<D: Dialects>(
     rt: &impl Abort,
@@ -170,10 +256,7 @@ fn use_one_slot<D: Dialects>(
         version = version.saturating_add(2);
     }
     assert!(rt; handles.len() == times);
-    for block in handles.iter() {
-        assert!(rt; !block.is_live(ctx));
-        assert!(rt; block.try_deref(ctx).is_err());
-    }
+    expect_all_gone(rt, ctx, handles.as_slice());
     Ok(())
 }
 

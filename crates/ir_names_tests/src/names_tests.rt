@@ -35,8 +35,8 @@ pub(crate) fn expect_value<D: Dialects>(
     Ok(())
 }
 
-/// Asserts that the live block has this label, this id and this unique name, by its handle and by its record.
-pub(crate) fn expect_block<D: Dialects>(
+// Asserts that the live block has this label, this id and this unique name, by its handle.
+fn expect_handle<D: Dialects>(
     rt: &impl Abort,
     ctx: &Context<D>,
     block: Ptr<BasicBlock<D>>,
@@ -48,11 +48,37 @@ pub(crate) fn expect_block<D: Dialects>(
     expect_given(rt, block.given_name(ctx)?, label);
     assert!(rt; block.id(ctx)?.as_str() == id);
     assert!(rt; block.unique_name(ctx)?.as_str() == unique);
+    Ok(())
+}
+
+// Asserts that the live block has this label, this id and this unique name, by its record.
+fn expect_record<D: Dialects>(
+    rt: &impl Abort,
+    ctx: &Context<D>,
+    block: Ptr<BasicBlock<D>>,
+    label: Option<&str>,
+    id: &str,
+    unique: &str,
+) -> Result<(), CoreError> {
+    assert!(rt; block.is_live(ctx));
     let record = block.deref(ctx);
     expect_given(rt, record.given_name(ctx)?, label);
     assert!(rt; record.id(ctx)?.as_str() == id);
     assert!(rt; record.unique_name(ctx)?.as_str() == unique);
     Ok(())
+}
+
+/// Asserts that the live block has this label, this id and this unique name, by its handle and by its record.
+pub(crate) fn expect_block<D: Dialects>(
+    rt: &impl Abort,
+    ctx: &Context<D>,
+    block: Ptr<BasicBlock<D>>,
+    label: Option<&str>,
+    id: &str,
+    unique: &str,
+) -> Result<(), CoreError> {
+    expect_handle(rt, ctx, block, label, id, unique)?;
+    expect_record(rt, ctx, block, label, id, unique)
 }
 
 /// Gives the value a name, or takes it away.
@@ -71,21 +97,35 @@ pub(crate) fn set_name<D: Dialects>(
     Ok(())
 }
 
+// A block without a label, and one with a label.
+fn label_one<D: Dialects>(rt: &impl Abort, ctx: &mut Context<D>) -> Result<(), CoreError> {
+    let plain = BasicBlock::new(ctx, None, &[])?;
+    let entry = BasicBlock::new(ctx, Some(ident!("entry")), &[])?;
+    expect_block(rt, ctx, plain, None, "block1v1", "block1v1")?;
+    expect_block(rt, ctx, entry, Some("entry"), "block2v1", "entry_block2v1")
+}
+
+// A value gets a name, and loses it again.
+fn name_and_unname<D: Dialects>(
+    rt: &impl Abort,
+    ctx: &mut Context<D>,
+    value: Value<D>,
+) -> Result<(), CoreError> {
+    expect_value(rt, ctx, value, None, "v0", "v0")?;
+    set_name(rt, ctx, value, Some(ident!("c0")))?;
+    expect_value(rt, ctx, value, Some("c0"), "v0", "c0_v0")?;
+    set_name(rt, ctx, value, None)?;
+    expect_value(rt, ctx, value, None, "v0", "v0")
+}
+
 // A block without a label, one with a label, and a value that is named.
 fn name_each<D: Dialects>(
     rt: &impl Abort,
     ctx: &mut Context<D>,
     value: Value<D>,
 ) -> Result<(), CoreError> {
-    let plain = BasicBlock::new(ctx, None, &[])?;
-    let entry = BasicBlock::new(ctx, Some(ident!("entry")), &[])?;
-    expect_block(rt, ctx, plain, None, "block1v1", "block1v1")?;
-    expect_block(rt, ctx, entry, Some("entry"), "block2v1", "entry_block2v1")?;
-    expect_value(rt, ctx, value, None, "v0", "v0")?;
-    set_name(rt, ctx, value, Some(ident!("c0")))?;
-    expect_value(rt, ctx, value, Some("c0"), "v0", "c0_v0")?;
-    set_name(rt, ctx, value, None)?;
-    expect_value(rt, ctx, value, None, "v0", "v0")
+    label_one(rt, ctx)?;
+    name_and_unname(rt, ctx, value)
 }
 
 // A result of a new operation gets names.

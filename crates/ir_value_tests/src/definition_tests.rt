@@ -1,11 +1,11 @@
 //! Results and arguments put in and taken out one at a time, and given another type.
 
 use crate::calls::{expect_condition, expect_use_count, new_user};
-use ir_base::{Dialects, TypeHandle};
+use ir_base::{Dialects, Ptr, TypeHandle};
 use ir_checked::{
-    CheckedErr, Context, Value, ValueQueries, argument, end, insert_argument, insert_result,
-    new_block, new_op, pop_argument, pop_result, push_argument, push_result, remove_argument,
-    remove_result, result, set_type,
+    BasicBlock, CheckedErr, Context, Operation, Value, ValueQueries, argument, end,
+    insert_argument, insert_result, new_block, new_op, pop_argument, pop_result, push_argument,
+    push_result, remove_argument, remove_result, result, set_type,
 };
 use ir_toy::{Toy, ToyType};
 use ir_view::{IndexErr, ValueError};
@@ -68,6 +68,43 @@ fn expect_the_second<D: Dialects>(
     Ok(())
 }
 
+// Puts two results behind each other, and one between them.
+fn put_results<D: Dialects>(
+    rt: &impl Abort,
+    ctx: &mut Context<D>,
+    op: Ptr<Operation<D>>,
+    ty: TypeHandle,
+) -> Result<(), CheckedErr> {
+    assert_eq!(rt; push_result(ctx, op, ty)?, 0);
+    assert_eq!(rt; push_result(ctx, op, ty)?, 1);
+    insert_result(ctx, op, 1, ty)
+}
+
+// The first three results.
+fn three_results<D: Dialects>(
+    ctx: &Context<D>,
+    op: Ptr<Operation<D>>,
+) -> Result<[Value<D>; 3], CheckedErr> {
+    Ok([
+        result(ctx, op, 0)?,
+        result(ctx, op, 1)?,
+        result(ctx, op, 2)?,
+    ])
+}
+
+// Takes the last and the first of three results out. That in the middle can't be taken out, before and after.
+fn take_unused_results<D: Dialects>(
+    rt: &impl Abort,
+    ctx: &mut Context<D>,
+    op: Ptr<Operation<D>>,
+) -> Result<(), CheckedErr> {
+    expect_condition(rt, remove_result(ctx, op, 1));
+    pop_result(ctx, op)?;
+    remove_result(ctx, op, 0)?;
+    expect_condition(rt, pop_result(ctx, op));
+    Ok(())
+}
+
 // A new operation gets three results, of which the used one alone is left: it can't be taken out.
 fn edit_results<D: Dialects>(
     rt: &impl Abort,
@@ -75,21 +112,49 @@ fn edit_results<D: Dialects>(
     types: [TypeHandle; 2],
 ) -> Result<(), CheckedErr> {
     let op = new_op(ctx, 4, &[], &[], &[], 0)?;
-    assert_eq!(rt; push_result(ctx, op, types[0])?, 0);
-    assert_eq!(rt; push_result(ctx, op, types[0])?, 1);
-    insert_result(ctx, op, 1, types[0])?;
-    let values = [
-        result(ctx, op, 0)?,
-        result(ctx, op, 1)?,
-        result(ctx, op, 2)?,
-    ];
+    put_results(rt, ctx, op, types[0])?;
+    let values = three_results(ctx, op)?;
     expect_condition(rt, insert_result(ctx, op, 4, types[0]));
     use_the_second(rt, ctx, values, types)?;
-    expect_condition(rt, remove_result(ctx, op, 1));
-    pop_result(ctx, op)?;
-    remove_result(ctx, op, 0)?;
-    expect_condition(rt, pop_result(ctx, op));
+    take_unused_results(rt, ctx, op)?;
     expect_the_second(rt, ctx, values, types[1], ValueError::NotInOpResult)
+}
+
+// Puts two arguments behind each other, and one between them.
+fn put_arguments<D: Dialects>(
+    rt: &impl Abort,
+    ctx: &mut Context<D>,
+    block: Ptr<BasicBlock<D>>,
+    ty: TypeHandle,
+) -> Result<(), CheckedErr> {
+    assert_eq!(rt; push_argument(ctx, block, ty)?, 0);
+    assert_eq!(rt; push_argument(ctx, block, ty)?, 1);
+    insert_argument(ctx, block, 1, ty)
+}
+
+// The first three arguments.
+fn three_arguments<D: Dialects>(
+    ctx: &Context<D>,
+    block: Ptr<BasicBlock<D>>,
+) -> Result<[Value<D>; 3], CheckedErr> {
+    Ok([
+        argument(ctx, block, 0)?,
+        argument(ctx, block, 1)?,
+        argument(ctx, block, 2)?,
+    ])
+}
+
+// Takes the last and the first of three arguments out. That in the middle can't be taken out, before and after.
+fn take_unused_arguments<D: Dialects>(
+    rt: &impl Abort,
+    ctx: &mut Context<D>,
+    block: Ptr<BasicBlock<D>>,
+) -> Result<(), CheckedErr> {
+    expect_condition(rt, remove_argument(ctx, block, 1));
+    pop_argument(ctx, block)?;
+    remove_argument(ctx, block, 0)?;
+    expect_condition(rt, pop_argument(ctx, block));
+    Ok(())
 }
 
 // A new block gets three arguments, of which the used one alone is left: it can't be taken out.
@@ -99,20 +164,11 @@ fn edit_arguments<D: Dialects>(
     types: [TypeHandle; 2],
 ) -> Result<(), CheckedErr> {
     let block = new_block(ctx, None, &[])?;
-    assert_eq!(rt; push_argument(ctx, block, types[0])?, 0);
-    assert_eq!(rt; push_argument(ctx, block, types[0])?, 1);
-    insert_argument(ctx, block, 1, types[0])?;
-    let values = [
-        argument(ctx, block, 0)?,
-        argument(ctx, block, 1)?,
-        argument(ctx, block, 2)?,
-    ];
+    put_arguments(rt, ctx, block, types[0])?;
+    let values = three_arguments(ctx, block)?;
     expect_condition(rt, insert_argument(ctx, block, 4, types[0]));
     use_the_second(rt, ctx, values, types)?;
-    expect_condition(rt, remove_argument(ctx, block, 1));
-    pop_argument(ctx, block)?;
-    remove_argument(ctx, block, 0)?;
-    expect_condition(rt, pop_argument(ctx, block));
+    take_unused_arguments(rt, ctx, block)?;
     expect_the_second(rt, ctx, values, types[1], ValueError::NotInBlockArgument)
 }
 

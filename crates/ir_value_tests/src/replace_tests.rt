@@ -25,6 +25,30 @@ fn new_values<D: Dialects>(
     Ok([first, second])
 }
 
+// The first two operands as uses.
+fn first_uses<D: Dialects>(
+    ctx: &Context<D>,
+    op: Ptr<Operation<D>>,
+) -> Result<[Use<Value<D>>; 2], CheckedErr> {
+    let first = use_at(ctx, op, 0)?;
+    let second = use_at(ctx, op, 1)?;
+    Ok([first, second])
+}
+
+// Asserts that all three operands name w, that these are its uses, and that v has none.
+fn expect_replaced<D: Dialects>(
+    rt: &impl Abort,
+    ctx: &Context<D>,
+    op: Ptr<Operation<D>>,
+    v: Value<D>,
+    w: Value<D>,
+) -> Result<(), CheckedErr> {
+    expect_operands(rt, ctx, op, &[w, w, w])?;
+    expect_use_count(rt, ctx, v, 0);
+    expect_use_count(rt, ctx, w, 3);
+    Ok(())
+}
+
 // The operands v, v, w, and no other uses. All uses of v come to name w, and the two old ones find their index.
 fn replace_two<D: Dialects>(
     rt: &impl Abort,
@@ -33,15 +57,11 @@ fn replace_two<D: Dialects>(
 ) -> Result<(), CheckedErr> {
     let [v, w] = new_values(ctx, key)?;
     let op = new_user(ctx, v, w)?;
-    let first = use_at(ctx, op, 0)?;
-    let second = use_at(ctx, op, 1)?;
+    let [first, second] = first_uses(ctx, op)?;
     replace_all_uses(ctx, v, w)?;
     expect_use(rt, ctx, first, 0, w);
     expect_use(rt, ctx, second, 1, w);
-    expect_operands(rt, ctx, op, &[w, w, w])?;
-    expect_use_count(rt, ctx, v, 0);
-    expect_use_count(rt, ctx, w, 3);
-    Ok(())
+    expect_replaced(rt, ctx, op, v, w)
 }
 
 #[test]
@@ -94,6 +114,31 @@ fn predicate_on_old_state(rt: HostRuntime) -> Result<(), Fail> {
     Ok(())
 }
 
+// Takes the first operand, which is v, away. Another one finds no number.
+fn remove_and_push<D: Dialects>(
+    rt: &impl Abort,
+    ctx: &mut Context<D>,
+    op: Ptr<Operation<D>>,
+    v: Value<D>,
+) -> Result<(), CheckedErr> {
+    assert!(rt; remove_operand(ctx, op, 0)? == v);
+    let spent = push_operand(ctx, op, v);
+    assert_eq!(rt; spent, Err(CheckedErr::Core(CoreError::CounterSpent)));
+    Ok(())
+}
+
+// All uses of v come to name w, and that at index 1 comes to name v again.
+fn replace_and_return<D: Dialects>(
+    ctx: &mut Context<D>,
+    op: Ptr<Operation<D>>,
+    v: Value<D>,
+    w: Value<D>,
+) -> Result<(), CheckedErr> {
+    replace_all_uses(ctx, v, w)?;
+    let second = use_at(ctx, op, 1)?;
+    replace_use(ctx, second, v)
+}
+
 // The operands v, v, v, and no use number is left. One goes, and another one finds no number, but uses that move need none, neither two at once nor one.
 fn replace_when_spent<D: Dialects>(
     rt: &impl Abort,
@@ -102,12 +147,8 @@ fn replace_when_spent<D: Dialects>(
 ) -> Result<(), CheckedErr> {
     let [v, w] = new_values(ctx, key)?;
     let op = new_user(ctx, v, v)?;
-    assert!(rt; remove_operand(ctx, op, 0)? == v);
-    let spent = push_operand(ctx, op, v);
-    assert_eq!(rt; spent, Err(CheckedErr::Core(CoreError::CounterSpent)));
-    replace_all_uses(ctx, v, w)?;
-    let second = use_at(ctx, op, 1)?;
-    replace_use(ctx, second, v)?;
+    remove_and_push(rt, ctx, op, v)?;
+    replace_and_return(ctx, op, v, w)?;
     expect_operands(rt, ctx, op, &[w, v])
 }
 
@@ -160,6 +201,19 @@ fn uses_of<D: Dialects>(
     Ok(value.uses(ctx)?)
 }
 
+// Asserts that each of the old uses is among the uses, at its old index.
+fn expect_kept<D: Dialects>(
+    rt: &impl Abort,
+    ctx: &Context<D>,
+    old: &[Use<Value<D>>],
+    uses: &[Use<Value<D>>],
+) {
+    for (index, used) in old.iter().enumerate() {
+        assert!(rt; uses.contains(used));
+        assert!(rt; used.try_find_index(ctx) == Ok(index));
+    }
+}
+
 // Asserts that the value has exactly the forty uses, each at its old index.
 fn expect_forty<D: Dialects>(
     rt: &impl Abort,
@@ -170,10 +224,7 @@ fn expect_forty<D: Dialects>(
     let uses = uses_of(ctx, value)?;
     assert_eq!(rt; uses.len(), 40);
     assert_eq!(rt; old.len(), 40);
-    for (index, used) in old.iter().enumerate() {
-        assert!(rt; uses.contains(used));
-        assert!(rt; used.try_find_index(ctx) == Ok(index));
-    }
+    expect_kept(rt, ctx, old, &uses);
     Ok(())
 }
 
