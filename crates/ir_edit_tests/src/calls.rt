@@ -3,7 +3,7 @@
 use ir_base::{CoreError, Dialects, Ptr};
 use ir_checked::{
     BasicBlock, BlockPtr, CheckedErr, Context, Operation, OperationPtr, Region, RegionPtr, Use,
-    UseQueries, Value, new_op, new_type, result,
+    UseQueries, Value, new_op, new_type, num_uses, push_operand, remove_operand, result,
 };
 use ir_view::{BlockUseQueries, BlockUses, DanglingPtrDerefError, IndexErr, UseError};
 use std::process::Abort;
@@ -22,6 +22,44 @@ pub(crate) fn two_values<D: Dialects>(
     let first = new_op(ctx, 0, &[ty], &[], &[], 0)?;
     let second = new_op(ctx, 0, &[ty], &[], &[], 0)?;
     Ok([result(ctx, first, 0)?, result(ctx, second, 0)?])
+}
+
+/// Asserts how many uses the value has.
+pub(crate) fn expect_num_uses<D: Dialects>(
+    rt: &impl Abort,
+    ctx: &Context<D>,
+    value: Value<D>,
+    count: usize,
+) -> Result<(), CheckedErr> {
+    let uses = num_uses(ctx, value)?;
+    assert_eq!(rt; uses, count);
+    Ok(())
+}
+
+/// Adds the value as the last operand, and asserts at which index.
+pub(crate) fn push_at<D: Dialects>(
+    rt: &impl Abort,
+    ctx: &mut Context<D>,
+    op: Ptr<Operation<D>>,
+    value: Value<D>,
+    index: usize,
+) -> Result<(), CheckedErr> {
+    let place = push_operand(ctx, op, value)?;
+    assert_eq!(rt; place, index);
+    Ok(())
+}
+
+/// Takes out the operand at the index, and asserts what it named.
+pub(crate) fn remove_named<D: Dialects>(
+    rt: &impl Abort,
+    ctx: &mut Context<D>,
+    op: Ptr<Operation<D>>,
+    index: usize,
+    value: Value<D>,
+) -> Result<(), CheckedErr> {
+    let removed = remove_operand(ctx, op, index)?;
+    assert!(rt; removed == value);
+    Ok(())
 }
 
 /// Asserts that the call was refused because its condition doesn't hold.

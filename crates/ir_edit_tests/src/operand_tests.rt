@@ -1,12 +1,13 @@
 //! Operands put in, taken out and replaced one at a time.
 
 use crate::calls::{
-    GONE, counts, expect_condition, expect_spent, expect_use, operand_use, two_values,
+    GONE, counts, expect_condition, expect_num_uses, expect_spent, expect_use, operand_use,
+    push_at, remove_named, two_values,
 };
 use ir_base::{Dialects, Limits, Ptr};
 use ir_checked::{
-    CheckedErr, Context, Operation, Value, end, insert_operand, new_op, new_type, num_uses,
-    operand, pop_operand, push_operand, remove_operand, replace_operand, result, with_limits,
+    CheckedErr, Context, Operation, Use, Value, end, insert_operand, new_op, new_type, operand,
+    pop_operand, push_operand, remove_operand, replace_operand, result, with_limits,
 };
 use ir_toy::{Toy, ToyType};
 use std::process::Abort;
@@ -47,8 +48,8 @@ fn put_in<D: Dialects>(
     op: Ptr<Operation<D>>,
     [v, w]: [Value<D>; 2],
 ) -> Result<(), CheckedErr> {
-    assert_eq!(rt; push_operand(ctx, op, v)?, 0);
-    assert_eq!(rt; push_operand(ctx, op, w)?, 1);
+    push_at(rt, ctx, op, v, 0)?;
+    push_at(rt, ctx, op, w, 1)?;
     insert_operand(ctx, op, 0, w)?;
     insert_operand(ctx, op, 3, v)?;
     expect_condition(rt, insert_operand(ctx, op, 5, v));
@@ -67,9 +68,8 @@ fn replace<D: Dialects>(
     expect_condition(rt, replace_operand(ctx, op, 4, w));
     expect_operands(rt, ctx, op, &[w, w, w, v])?;
     expect_use(rt, ctx, old, GONE);
-    assert_eq!(rt; num_uses(ctx, w)?, 3);
-    assert_eq!(rt; num_uses(ctx, v)?, 1);
-    Ok(())
+    expect_num_uses(rt, ctx, w, 3)?;
+    expect_num_uses(rt, ctx, v, 1)
 }
 
 // And then the first and the last are taken out.
@@ -79,13 +79,12 @@ fn take_out<D: Dialects>(
     op: Ptr<Operation<D>>,
     [v, w]: [Value<D>; 2],
 ) -> Result<(), CheckedErr> {
-    assert!(rt; remove_operand(ctx, op, 0)? == w);
+    remove_named(rt, ctx, op, 0, w)?;
     expect_condition(rt, remove_operand(ctx, op, 3));
     expect_operands(rt, ctx, op, &[w, w, v])?;
     assert!(rt; pop_operand(ctx, op)? == v);
     expect_operands(rt, ctx, op, &[w, w])?;
-    assert_eq!(rt; num_uses(ctx, v)?, 0);
-    Ok(())
+    expect_num_uses(rt, ctx, v, 0)
 }
 
 // Each of the five edits, with ample memory.
@@ -109,6 +108,21 @@ fn each_edit_of_operands(rt: HostRuntime) -> Result<(), Fail> {
     Ok(())
 }
 
+// Asserts that the operands are v, v, w, of which these are the first two.
+fn expect_moved_up<D: Dialects>(
+    rt: &impl Abort,
+    ctx: &Context<D>,
+    op: Ptr<Operation<D>>,
+    [v, w]: [Value<D>; 2],
+    [first, second]: [Use<Value<D>>; 2],
+) -> Result<(), CheckedErr> {
+    expect_operands(rt, ctx, op, &[v, v, w])?;
+    expect_num_uses(rt, ctx, v, 2)?;
+    expect_use(rt, ctx, first, Ok(0));
+    expect_use(rt, ctx, second, Ok(1));
+    Ok(())
+}
+
 // Operands v, v, v, w, of which the first is taken out.
 fn remove_the_first<D: Dialects>(
     rt: &impl Abort,
@@ -119,12 +133,8 @@ fn remove_the_first<D: Dialects>(
     let op = new_op(ctx, 4, &[], &[v, v, v, w], &[], 0)?;
     let second = operand_use(ctx, op, 1)?;
     let third = operand_use(ctx, op, 2)?;
-    assert!(rt; remove_operand(ctx, op, 0)? == v);
-    expect_operands(rt, ctx, op, &[v, v, w])?;
-    assert_eq!(rt; num_uses(ctx, v)?, 2);
-    expect_use(rt, ctx, second, Ok(0));
-    expect_use(rt, ctx, third, Ok(1));
-    Ok(())
+    remove_named(rt, ctx, op, 0, v)?;
+    expect_moved_up(rt, ctx, op, [v, w], [second, third])
 }
 
 #[test]
@@ -135,25 +145,43 @@ fn removal_fills_the_place(rt: HostRuntime) -> Result<(), Fail> {
     Ok(())
 }
 
+// A new operation without operands, and its two results.
+fn op_with_results<D: Dialects>(
+    ctx: &mut Context<D>,
+    key: D::TypeKey,
+) -> Result<(Ptr<Operation<D>>, [Value<D>; 2]), CheckedErr> {
+    let ty = new_type(ctx, key)?;
+    let op = new_op(ctx, 4, &[ty, ty], &[], &[], 0)?;
+    let x = result(ctx, op, 0)?;
+    let y = result(ctx, op, 1)?;
+    Ok((op, [x, y]))
+}
+
+// Of the operands x, x, y, the first two come to name y.
+fn name_the_second<D: Dialects>(
+    rt: &impl Abort,
+    ctx: &mut Context<D>,
+    op: Ptr<Operation<D>>,
+    [x, y]: [Value<D>; 2],
+) -> Result<(), CheckedErr> {
+    replace_operand(ctx, op, 0, y)?;
+    replace_operand(ctx, op, 1, y)?;
+    expect_operands(rt, ctx, op, &[y, y, y])?;
+    expect_num_uses(rt, ctx, x, 0)?;
+    expect_num_uses(rt, ctx, y, 3)
+}
+
 // An operation with results x and y gets the operands x, x, y; then y takes the first two places.
 fn move_results<D: Dialects>(
     rt: &impl Abort,
     ctx: &mut Context<D>,
     key: D::TypeKey,
 ) -> Result<(), CheckedErr> {
-    let ty = new_type(ctx, key)?;
-    let op = new_op(ctx, 4, &[ty, ty], &[], &[], 0)?;
-    let x = result(ctx, op, 0)?;
-    let y = result(ctx, op, 1)?;
-    for value in [x, x, y] {
-        push_operand(ctx, op, value)?;
+    let (op, [x, y]) = op_with_results(ctx, key)?;
+    for value in [x, x, y].iter() {
+        push_operand(ctx, op, *value)?;
     }
-    replace_operand(ctx, op, 0, y)?;
-    replace_operand(ctx, op, 1, y)?;
-    expect_operands(rt, ctx, op, &[y, y, y])?;
-    assert_eq!(rt; num_uses(ctx, x)?, 0);
-    assert_eq!(rt; num_uses(ctx, y)?, 3);
-    Ok(())
+    name_the_second(rt, ctx, op, [x, y])
 }
 
 #[test]
@@ -164,6 +192,30 @@ fn two_results_moved(rt: HostRuntime) -> Result<(), Fail> {
     Ok(())
 }
 
+// With no use number left, no operand can be put in.
+fn refuse_third<D: Dialects>(
+    rt: &impl Abort,
+    ctx: &mut Context<D>,
+    op: Ptr<Operation<D>>,
+    v: Value<D>,
+) -> Result<(), CheckedErr> {
+    expect_spent(rt, push_operand(ctx, op, v))?;
+    expect_spent(rt, insert_operand(ctx, op, 0, v))
+}
+
+// Nor can one be replaced, also after the second operand is taken out.
+fn refuse_replacement<D: Dialects>(
+    rt: &impl Abort,
+    ctx: &mut Context<D>,
+    op: Ptr<Operation<D>>,
+    v: Value<D>,
+) -> Result<(), CheckedErr> {
+    remove_named(rt, ctx, op, 1, v)?;
+    expect_spent(rt, replace_operand(ctx, op, 0, v))?;
+    expect_operands(rt, ctx, op, &[v])?;
+    expect_num_uses(rt, ctx, v, 1)
+}
+
 // With two use numbers, the third operand finds none, and so does a replacement.
 fn spend_uses<D: Dialects>(
     rt: &impl Abort,
@@ -172,15 +224,10 @@ fn spend_uses<D: Dialects>(
 ) -> Result<(), CheckedErr> {
     let [v, _w] = two_values(ctx, key)?;
     let op = new_op(ctx, 4, &[], &[], &[], 0)?;
-    assert_eq!(rt; push_operand(ctx, op, v)?, 0);
-    assert_eq!(rt; push_operand(ctx, op, v)?, 1);
-    expect_spent(rt, push_operand(ctx, op, v))?;
-    expect_spent(rt, insert_operand(ctx, op, 0, v))?;
-    assert!(rt; remove_operand(ctx, op, 1)? == v);
-    expect_spent(rt, replace_operand(ctx, op, 0, v))?;
-    expect_operands(rt, ctx, op, &[v])?;
-    assert_eq!(rt; num_uses(ctx, v)?, 1);
-    Ok(())
+    push_at(rt, ctx, op, v, 0)?;
+    push_at(rt, ctx, op, v, 1)?;
+    refuse_third(rt, ctx, op, v)?;
+    refuse_replacement(rt, ctx, op, v)
 }
 
 #[test]

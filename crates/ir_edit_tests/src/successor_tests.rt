@@ -102,14 +102,24 @@ fn each_edit_of_successors(rt: HostRuntime) -> Result<(), Fail> {
     Ok(())
 }
 
+// With no use number left, no successor can be put in or replaced.
+fn refuse_second<D: Dialects>(
+    rt: &impl Abort,
+    ctx: &mut Context<D>,
+    op: Ptr<Operation<D>>,
+    a: Ptr<BasicBlock<D>>,
+) -> Result<(), CheckedErr> {
+    expect_spent(rt, push_successor(ctx, op, a))?;
+    expect_spent(rt, insert_successor(ctx, op, 0, a))?;
+    expect_spent(rt, replace_successor(ctx, op, 0, a))
+}
+
 // With one use number, the second successor finds none.
 fn spend_uses<D: Dialects>(rt: &impl Abort, ctx: &mut Context<D>) -> Result<(), CheckedErr> {
     let op = new_op(ctx, 3, &[], &[], &[], 0)?;
     let a = new_block(ctx, None, &[])?;
     assert_eq!(rt; push_successor(ctx, op, a)?, 0);
-    expect_spent(rt, push_successor(ctx, op, a))?;
-    expect_spent(rt, insert_successor(ctx, op, 0, a))?;
-    expect_spent(rt, replace_successor(ctx, op, 0, a))?;
+    refuse_second(rt, ctx, op, a)?;
     expect_successors(rt, ctx, op, &[a])
 }
 

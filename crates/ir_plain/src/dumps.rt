@@ -36,12 +36,22 @@ fn write_definitions(
     Ok(())
 }
 
+// Writes the name of an entity.
+fn write_node(text: &mut String, node: Node) -> Result<(), AllocError> {
+    match node {
+        Node::Op(number) => write!(text, " o{number}"),
+        Node::Block(number) => write!(text, " b{number}"),
+        Node::Region(number) => write!(text, " r{number}"),
+    }
+}
+
 // Writes what an entity stands in.
 fn write_parent(text: &mut String, parent: Option<Node>) -> Result<(), AllocError> {
     match parent {
-        Some(Node::Op(number)) => write!(text, " in o{number}"),
-        Some(Node::Block(number)) => write!(text, " in b{number}"),
-        Some(Node::Region(number)) => write!(text, " in r{number}"),
+        Some(node) => {
+            text.push_str(" in")?;
+            write_node(text, node)
+        }
         None => Ok(()),
     }
 }
@@ -101,11 +111,7 @@ impl Plain {
         self.write_ops(&mut text)?;
         self.write_blocks(&mut text)?;
         self.write_regions(&mut text)?;
-        for value in 0..self.values {
-            write!(text, "v{value}:")?;
-            self.write_value(&mut text, value)?;
-            text.push_str("\n")?;
-        }
+        self.write_values(&mut text)?;
         Ok(text)
     }
 
@@ -135,18 +141,24 @@ impl Plain {
     fn write_blocks(&self, text: &mut String) -> Result<(), AllocError> {
         for number in 0..self.blocks.len() {
             write!(text, "b{number}:")?;
-            match self.block(number) {
-                Some(block) => {
-                    write_block(text, block)?;
-                    write_parent(text, self.parent(Node::Block(number)))?;
-                    let places = self.places(Direction::Successors, number)?;
-                    write_places(text, "named by", &places)?;
-                }
-                None => text.push_str(" gone")?,
-            }
+            self.write_block_entry(text, number)?;
             text.push_str("\n")?;
         }
         Ok(())
+    }
+
+    // Writes a block: its parts, its region, and what names it.
+    fn write_block_entry(&self, text: &mut String, number: usize) -> Result<(), AllocError> {
+        let Some(block) = self.block(number) else {
+            return text.push_str(" gone");
+        };
+        write_block(text, block)?;
+        write_parent(text, self.parent(Node::Block(number)))?;
+        write_places(
+            text,
+            "named by",
+            &self.places(Direction::Successors, number)?,
+        )
     }
 
     fn write_regions(&self, text: &mut String) -> Result<(), AllocError> {
@@ -159,6 +171,15 @@ impl Plain {
                 }
                 None => text.push_str(" gone")?,
             }
+            text.push_str("\n")?;
+        }
+        Ok(())
+    }
+
+    fn write_values(&self, text: &mut String) -> Result<(), AllocError> {
+        for value in 0..self.values {
+            write!(text, "v{value}:")?;
+            self.write_value(text, value)?;
             text.push_str("\n")?;
         }
         Ok(())
@@ -187,19 +208,19 @@ impl Plain {
             .unwrap_or(usize::MAX)
     }
 
+    // What defines a live value, its index there, and the place of its type.
+    fn definition(&self, value: usize) -> Option<(Node, usize, usize)> {
+        let definer = self.definer(value)?;
+        let (index, place) = found(self.definitions_of(definer), value)?;
+        Some((definer, index, place))
+    }
+
     fn write_value(&self, text: &mut String, value: usize) -> Result<(), AllocError> {
-        let Some(definer) = self.definer(value) else {
-            return text.push_str(" gone");
-        };
-        let Some((index, place)) = found(self.definitions_of(definer), value) else {
+        let Some((definer, index, place)) = self.definition(value) else {
             return text.push_str(" gone");
         };
         write!(text, " type t{} of", self.type_number(place))?;
-        match definer {
-            Node::Op(number) => write!(text, " o{number}")?,
-            Node::Block(number) => write!(text, " b{number}")?,
-            Node::Region(number) => write!(text, " r{number}")?,
-        }
+        write_node(text, definer)?;
         write!(text, ".{index}")?;
         write_places(text, "used by", &self.places(Direction::Operands, value)?)
     }

@@ -1,5 +1,6 @@
 //! The edits on the plain model, each by its condition, its needs and its change.
 
+use crate::lists::{Place, insert, put, take_out};
 use crate::plain::{Direction, Node, Plain, PlainBlock, PlainDefinition, PlainOp, PlainRegion};
 use ir_base::{Answer, Identifier, Refused};
 use ir_run::Edit;
@@ -17,77 +18,41 @@ const SLOTS: Answer = Answer::Refused(Refused::Slots);
 // How an edit is answered, none where it is of another group.
 type Tried = Result<Option<Answer>, AllocError>;
 
-// Where something goes in a list.
-#[derive(Clone, Copy, Debug, Drop, PartialEq, Eq)]
-enum Place {
-    Front,
-    Back,
-    Before(usize),
-    After(usize),
-}
-
-// Takes a number out of a list.
-fn take_out(list: &mut Vec<usize>, number: usize) {
-    list.retain(|other| *other != number);
-}
-
-// Puts a number into a list.
-fn put(list: &mut Vec<usize>, place: Place, number: usize) -> Result<(), AllocError> {
-    let mut index = 0usize;
-    for (at, other) in (0..usize::MAX).zip(list.iter()) {
-        match place {
-            Place::Front => break,
-            Place::Back => index = at.saturating_add(1),
-            Place::Before(mark) => {
-                if *other == mark {
-                    index = at;
-                }
-            }
-            Place::After(mark) => {
-                if *other == mark {
-                    index = at.saturating_add(1);
-                }
-            }
-        }
-    }
-    insert(list, index, number)
-}
-
-// Puts an item in at an index, or behind the last.
-fn insert<T: Drop>(list: &mut Vec<T>, index: usize, item: T) -> Result<(), AllocError> {
-    if index < list.len() {
-        list.insert(index, item)?;
-    } else {
-        list.push(item)?;
-    }
-    Ok(())
-}
-
 impl Plain {
     /// Carries the edit out, and answers it.
     ///
     /// # Errors
     /// Where a growth was refused.
     pub fn step(&mut self, edit: &Edit<Toy>) -> Result<Answer, AllocError> {
-        if let Some(answer) = self.make(edit)? {
+        if let Some(answer) = self.make_or_change(edit)? {
             return Ok(answer);
         }
-        if let Some(answer) = self.define(edit)? {
+        if let Some(answer) = self.order(edit)? {
             return Ok(answer);
         }
-        if let Some(answer) = self.name(edit)? {
-            return Ok(answer);
+        Ok(self.erase(edit).unwrap_or(CONDITION))
+    }
+
+    // The edits that make something, and those of what operations and blocks define and name.
+    fn make_or_change(&mut self, edit: &Edit<Toy>) -> Tried {
+        let made = self.make(edit)?;
+        if made.is_some() {
+            return Ok(made);
         }
-        if let Some(answer) = self.order_ops(edit)? {
-            return Ok(answer);
+        let defined = self.define(edit)?;
+        if defined.is_some() {
+            return Ok(defined);
         }
-        if let Some(answer) = self.order_blocks(edit)? {
-            return Ok(answer);
+        self.name(edit)
+    }
+
+    // The edits of lists and nesting.
+    fn order(&mut self, edit: &Edit<Toy>) -> Tried {
+        let ordered = self.order_ops(edit)?;
+        if ordered.is_some() {
+            return Ok(ordered);
         }
-        if let Some(answer) = self.erase(edit) {
-            return Ok(answer);
-        }
-        Ok(CONDITION)
+        self.order_blocks(edit)
     }
 
     // The edits that make types, operations, blocks and regions.
@@ -147,20 +112,44 @@ impl Plain {
         let Some(results) = self.definitions(types)? else {
             return Ok(CONDITION);
         };
-        let are_live = operands.iter().all(|value| self.definer(*value).is_some())
-            && successors.iter().all(|block| self.block(*block).is_some());
-        if !are_live {
+        if !self.are_live(operands, successors) {
             return Ok(CONDITION);
         }
         let uses = operands.len().saturating_add(successors.len());
-        if self.values_left() < types.len() as u64 || self.uses_left() < uses as u64 {
-            return Ok(COUNTER);
-        }
-        if self.ops_left() < 1 || self.regions_left() < regions as u64 {
-            return Ok(SLOTS);
+        if let Some(refusal) = self.lack_for_op(types.len(), uses, regions) {
+            return Ok(refusal);
         }
         self.values = self.values.saturating_add(types.len());
         self.uses = self.uses.saturating_add(uses);
+        self.push_op(kind, results, operands, successors, regions)
+    }
+
+    // Whether all of these values and blocks are live.
+    fn are_live(&self, values: &[usize], blocks: &[usize]) -> bool {
+        values.iter().all(|value| self.definer(*value).is_some())
+            && blocks.iter().all(|block| self.block(*block).is_some())
+    }
+
+    // The refusal where an operation with so many results, uses and regions has no room.
+    fn lack_for_op(&self, results: usize, uses: usize, regions: usize) -> Option<Answer> {
+        if self.values_left() < results as u64 || self.uses_left() < uses as u64 {
+            return Some(COUNTER);
+        }
+        if self.ops_left() < 1 || self.regions_left() < regions as u64 {
+            return Some(SLOTS);
+        }
+        None
+    }
+
+    // Puts an operation with so many new regions into the table.
+    fn push_op(
+        &mut self,
+        kind: u32,
+        results: Vec<PlainDefinition>,
+        operands: &[usize],
+        successors: &[usize],
+        regions: usize,
+    ) -> Result<Answer, AllocError> {
         let operands = Vec::from_slice(self.alloc, operands)?;
         let successors = Vec::from_slice(self.alloc, successors)?;
         let regions = self.new_regions(regions)?;
@@ -241,21 +230,21 @@ impl Plain {
     // The edits of results and arguments.
     fn define(&mut self, edit: &Edit<Toy>) -> Tried {
         let answer = match edit {
-            Edit::PushResult { op, ty } => self.insert_definition(Node::Op(*op), None, *ty)?,
+            Edit::PushResult { op, ty } => self.insert_definition(Node::Op(*op), None, *ty),
             Edit::PushArgument { block, ty } => {
-                self.insert_definition(Node::Block(*block), None, *ty)?
+                self.insert_definition(Node::Block(*block), None, *ty)
             }
             Edit::InsertResult { op, at, ty } => {
-                self.insert_definition(Node::Op(*op), Some(*at), *ty)?
+                self.insert_definition(Node::Op(*op), Some(*at), *ty)
             }
             Edit::InsertArgument { block, at, ty } => {
-                self.insert_definition(Node::Block(*block), Some(*at), *ty)?
+                self.insert_definition(Node::Block(*block), Some(*at), *ty)
             }
-            Edit::RemoveResult { op, at } => self.remove_definition(Node::Op(*op), *at)?,
-            Edit::RemoveArgument { block, at } => self.remove_definition(Node::Block(*block), *at)?,
+            Edit::RemoveResult { op, at } => self.remove_definition(Node::Op(*op), *at),
+            Edit::RemoveArgument { block, at } => self.remove_definition(Node::Block(*block), *at),
             _ => return Ok(None),
         };
-        Ok(Some(answer))
+        Ok(Some(answer?))
     }
 
     fn insert_definition(
@@ -313,17 +302,27 @@ impl Plain {
     fn name(&mut self, edit: &Edit<Toy>) -> Tried {
         let answer = match edit {
             Edit::PushOperand { op, value } => {
-                self.insert_name(Direction::Operands, *op, None, *value)?
+                self.insert_name(Direction::Operands, *op, None, *value)
             }
             Edit::PushSuccessor { op, block } => {
-                self.insert_name(Direction::Successors, *op, None, *block)?
+                self.insert_name(Direction::Successors, *op, None, *block)
             }
             Edit::InsertOperand { op, at, value } => {
-                self.insert_name(Direction::Operands, *op, Some(*at), *value)?
+                self.insert_name(Direction::Operands, *op, Some(*at), *value)
             }
             Edit::InsertSuccessor { op, at, block } => {
-                self.insert_name(Direction::Successors, *op, Some(*at), *block)?
+                self.insert_name(Direction::Successors, *op, Some(*at), *block)
             }
+            Edit::ReplaceAllUses { old, new } => self.replace_all(Direction::Operands, *old, *new),
+            Edit::RetargetAll { old, new } => self.replace_all(Direction::Successors, *old, *new),
+            _ => return Ok(self.replace_or_remove(edit)),
+        };
+        Ok(Some(answer?))
+    }
+
+    // The edits that replace or remove one operand or successor.
+    fn replace_or_remove(&mut self, edit: &Edit<Toy>) -> Option<Answer> {
+        let answer = match edit {
             Edit::ReplaceOperand { op, at, value } => {
                 self.replace_name(Direction::Operands, *op, *at, *value)
             }
@@ -332,15 +331,9 @@ impl Plain {
             }
             Edit::RemoveOperand { op, at } => self.remove_name(Direction::Operands, *op, *at),
             Edit::RemoveSuccessor { op, at } => self.remove_name(Direction::Successors, *op, *at),
-            Edit::ReplaceAllUses { old, new } => {
-                self.replace_all(Direction::Operands, *old, *new)?
-            }
-            Edit::RetargetAll { old, new } => {
-                self.replace_all(Direction::Successors, *old, *new)?
-            }
-            _ => return Ok(None),
+            _ => return None,
         };
-        Ok(Some(answer))
+        Some(answer)
     }
 
     fn insert_name(
@@ -527,26 +520,28 @@ impl Plain {
         }
     }
 
+    // Puts the operation into the block where it may go there.
+    fn op_into(&mut self, op: usize, block: usize, place: Place) -> Result<Answer, AllocError> {
+        self.go_into(Node::Op(op), op, Node::Block(block), place)
+    }
+
+    // Puts the operation beside another one where it may go there.
+    fn op_beside(&mut self, op: usize, mark: usize, place: Place) -> Result<Answer, AllocError> {
+        self.go_beside(Node::Op(op), op, Node::Op(mark), place)
+    }
+
     // The edits of lists of operations.
     fn order_ops(&mut self, edit: &Edit<Toy>) -> Tried {
         let answer = match edit {
-            Edit::OpFront { op, block } => {
-                self.go_into(Node::Op(*op), *op, Node::Block(*block), Place::Front)?
-            }
-            Edit::OpBack { op, block } => {
-                self.go_into(Node::Op(*op), *op, Node::Block(*block), Place::Back)?
-            }
-            Edit::OpBefore { op, mark } => {
-                self.go_beside(Node::Op(*op), *op, Node::Op(*mark), Place::Before(*mark))?
-            }
-            Edit::OpAfter { op, mark } => {
-                self.go_beside(Node::Op(*op), *op, Node::Op(*mark), Place::After(*mark))?
-            }
-            Edit::UnlinkOp { op } => self.unlink(Node::Op(*op), *op),
-            Edit::AppendOps { donee, donor } => self.append_ops(*donee, *donor)?,
+            Edit::OpFront { op, block } => self.op_into(*op, *block, Place::Front),
+            Edit::OpBack { op, block } => self.op_into(*op, *block, Place::Back),
+            Edit::OpBefore { op, mark } => self.op_beside(*op, *mark, Place::Before(*mark)),
+            Edit::OpAfter { op, mark } => self.op_beside(*op, *mark, Place::After(*mark)),
+            Edit::UnlinkOp { op } => Ok(self.unlink(Node::Op(*op), *op)),
+            Edit::AppendOps { donee, donor } => self.append_ops(*donee, *donor),
             _ => return Ok(None),
         };
-        Ok(Some(answer))
+        Ok(Some(answer?))
     }
 
     // Whether all nodes of the donor may go behind those of the donee.
@@ -584,39 +579,43 @@ impl Plain {
         Ok(DONE)
     }
 
+    // Puts the block into the region where it may go there.
+    fn block_into(
+        &mut self,
+        block: usize,
+        region: usize,
+        place: Place,
+    ) -> Result<Answer, AllocError> {
+        self.go_into(Node::Block(block), block, Node::Region(region), place)
+    }
+
+    // Puts the block beside another one where it may go there.
+    fn block_beside(
+        &mut self,
+        block: usize,
+        mark: usize,
+        place: Place,
+    ) -> Result<Answer, AllocError> {
+        self.go_beside(Node::Block(block), block, Node::Block(mark), place)
+    }
+
     // The edits of lists of blocks and of regions.
     fn order_blocks(&mut self, edit: &Edit<Toy>) -> Tried {
         let answer = match edit {
-            Edit::BlockFront { block, region } => self.go_into(
-                Node::Block(*block),
-                *block,
-                Node::Region(*region),
-                Place::Front,
-            )?,
-            Edit::BlockBack { block, region } => self.go_into(
-                Node::Block(*block),
-                *block,
-                Node::Region(*region),
-                Place::Back,
-            )?,
-            Edit::BlockBefore { block, mark } => self.go_beside(
-                Node::Block(*block),
-                *block,
-                Node::Block(*mark),
-                Place::Before(*mark),
-            )?,
-            Edit::BlockAfter { block, mark } => self.go_beside(
-                Node::Block(*block),
-                *block,
-                Node::Block(*mark),
-                Place::After(*mark),
-            )?,
-            Edit::UnlinkBlock { block } => self.unlink(Node::Block(*block), *block),
-            Edit::AppendBlocks { donee, donor } => self.append_blocks(*donee, *donor)?,
-            Edit::MoveRegion { region, op } => self.move_region(*region, *op)?,
+            Edit::BlockFront { block, region } => self.block_into(*block, *region, Place::Front),
+            Edit::BlockBack { block, region } => self.block_into(*block, *region, Place::Back),
+            Edit::BlockBefore { block, mark } => {
+                self.block_beside(*block, *mark, Place::Before(*mark))
+            }
+            Edit::BlockAfter { block, mark } => {
+                self.block_beside(*block, *mark, Place::After(*mark))
+            }
+            Edit::UnlinkBlock { block } => Ok(self.unlink(Node::Block(*block), *block)),
+            Edit::AppendBlocks { donee, donor } => self.append_blocks(*donee, *donor),
+            Edit::MoveRegion { region, op } => self.move_region(*region, *op),
             _ => return Ok(None),
         };
-        Ok(Some(answer))
+        Ok(Some(answer?))
     }
 
     fn move_region(&mut self, region: usize, op: usize) -> Result<Answer, AllocError> {
@@ -716,26 +715,44 @@ impl Plain {
         DONE
     }
 
-    // The live operations, blocks and regions inside the entity.
-    fn all_inside(&self, node: Node) -> Result<(Vec<usize>, Vec<usize>, Vec<usize>), AllocError> {
+    // The live operations inside the entity.
+    fn ops_inside(&self, node: Node) -> Result<Vec<usize>, AllocError> {
         let mut ops = Vec::new(self.alloc);
         for op in 0..self.ops.len() {
             if self.op(op).is_some() && self.is_inside(Node::Op(op), node) {
                 ops.push(op)?;
             }
         }
+        Ok(ops)
+    }
+
+    // The live blocks inside the entity.
+    fn blocks_inside(&self, node: Node) -> Result<Vec<usize>, AllocError> {
         let mut blocks = Vec::new(self.alloc);
         for block in 0..self.blocks.len() {
             if self.block(block).is_some() && self.is_inside(Node::Block(block), node) {
                 blocks.push(block)?;
             }
         }
+        Ok(blocks)
+    }
+
+    // The live regions inside the entity.
+    fn regions_inside(&self, node: Node) -> Result<Vec<usize>, AllocError> {
         let mut regions = Vec::new(self.alloc);
         for region in 0..self.regions.len() {
             if self.region(region).is_some() && self.is_inside(Node::Region(region), node) {
                 regions.push(region)?;
             }
         }
+        Ok(regions)
+    }
+
+    // The live operations, blocks and regions inside the entity.
+    fn all_inside(&self, node: Node) -> Result<(Vec<usize>, Vec<usize>, Vec<usize>), AllocError> {
+        let ops = self.ops_inside(node)?;
+        let blocks = self.blocks_inside(node)?;
+        let regions = self.regions_inside(node)?;
         Ok((ops, blocks, regions))
     }
 }

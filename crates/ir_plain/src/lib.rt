@@ -5,6 +5,7 @@
 
 mod dumps;
 mod edits;
+mod lists;
 mod plain;
 mod random_edits;
 

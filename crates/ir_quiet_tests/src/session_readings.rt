@@ -83,21 +83,32 @@ impl SessionReading {
     }
 }
 
-// Makes a session with one of each, and then the calls between two lines of output, so that whoever watches sees what they ask for.
+// Makes one of each in the session. Where memory was refused, that is the error.
+fn make_each(alloc: Global, session: &mut Session<Toy>) -> Result<(), CheckedErr> {
+    session.run(edits(alloc)?)?;
+    if session.block(0).is_none() {
+        return Err(CheckedErr::Core(CoreError::OutOfMemory));
+    }
+    Ok(())
+}
+
+// Makes the calls between two lines of output, so that whoever watches sees what they ask for.
+fn ask<R: Abort + Print>(rt: &R, session: &Session<Toy>, reading: SessionReading) {
+    assert!(rt; println!(rt; "ready").is_ok());
+    let answer = reading.make(session);
+    assert!(rt; println!(rt; "done").is_ok());
+    assert!(rt; answer, "{reading:?}");
+}
+
+// Makes a session with one of each, and then the calls.
 fn make_and_ask<R: Abort + Print>(
     rt: &R,
     alloc: Global,
     session: &mut Session<Toy>,
     reading: SessionReading,
 ) -> Result<(), CheckedErr> {
-    session.run(edits(alloc)?)?;
-    if session.block(0).is_none() {
-        return Err(CheckedErr::Core(CoreError::OutOfMemory));
-    }
-    assert!(rt; println!(rt; "ready").is_ok());
-    let answer = reading.make(session);
-    assert!(rt; println!(rt; "done").is_ok());
-    assert!(rt; answer, "{reading:?}");
+    make_each(alloc, session)?;
+    ask(rt, session, reading);
     Ok(())
 }
 

@@ -13,17 +13,22 @@ use std::convert::AsStr;
 use std::hash::{DefaultHasher, Hash, Hasher};
 use std::process::Abort;
 
-/// What the calls are made on.
+/// The text `abc`, as often as it is handed over.
 #[derive(Drop)]
-pub(crate) struct Stores {
-    alloc: Global,
-    // The text `abc`.
+struct Texts {
     text: String,
     // The same once more.
     other_text: String,
     // And once more, as the name of a dialect.
     dialect_text: String,
-    // The same as an identifier.
+}
+
+/// What the calls are made on.
+#[derive(Drop)]
+pub(crate) struct Stores {
+    alloc: Global,
+    texts: Texts,
+    // The text `abc` as an identifier.
     identifier: Identifier,
     // The id `toy.add`.
     id: OpId,
@@ -60,6 +65,35 @@ fn key(alloc: Global, name: &str) -> Result<DictKeyId, CoreError> {
     })
 }
 
+// The text thrice.
+fn texts(alloc: Global) -> Result<Texts, CoreError> {
+    Ok(Texts {
+        text: text(alloc)?,
+        other_text: text(alloc)?,
+        dialect_text: text(alloc)?,
+    })
+}
+
+// The id `toy.add`.
+fn add_id(alloc: Global) -> Result<OpId, CoreError> {
+    Ok(OpId {
+        dialect: DialectName::from(owned(alloc, "toy")?),
+        name: OpName::from(owned(alloc, "add")?),
+    })
+}
+
+// The keys a, b and a.
+fn keys_with_double(alloc: Global) -> Result<[DictKeyId; 3], CoreError> {
+    Ok([key(alloc, "a")?, key(alloc, "b")?, key(alloc, "a")?])
+}
+
+// A store with the number 7.
+fn store_of_seven(alloc: Global) -> Result<UniqueStore<u64>, CoreError> {
+    let mut store = UniqueStore::new(alloc);
+    store.get_or_create_unique(7)?;
+    Ok(store)
+}
+
 impl Stores {
     /// What the calls are made on.
     ///
@@ -68,19 +102,13 @@ impl Stores {
     pub(crate) fn new(alloc: Global) -> Result<Stores, CoreError> {
         let mut arena = Arena::new(alloc, 9, 9);
         let first = arena.insert_with(move |_: Ptr<u64>| 7)?;
-        let mut store = UniqueStore::new(alloc);
-        store.get_or_create_unique(7)?;
+        let store = store_of_seven(alloc)?;
         Ok(Stores {
             alloc,
-            text: text(alloc)?,
-            other_text: text(alloc)?,
-            dialect_text: text(alloc)?,
+            texts: texts(alloc)?,
             identifier: owned(alloc, "abc")?,
-            id: OpId {
-                dialect: DialectName::from(owned(alloc, "toy")?),
-                name: OpName::from(owned(alloc, "add")?),
-            },
-            keys: [key(alloc, "a")?, key(alloc, "b")?, key(alloc, "a")?],
+            id: add_id(alloc)?,
+            keys: keys_with_double(alloc)?,
             arena,
             first,
             store,
@@ -249,9 +277,10 @@ fn comes_to_name(text: &mut String, alloc: Global) -> bool {
 
 fn of_texts(stores: &mut Stores) -> bool {
     let alloc = stores.alloc;
-    is_identifier(&mut stores.text, alloc)
-        && comes_to_identifier(&mut stores.other_text, alloc)
-        && comes_to_name(&mut stores.dialect_text, alloc)
+    let texts = &mut stores.texts;
+    is_identifier(&mut texts.text, alloc)
+        && comes_to_identifier(&mut texts.other_text, alloc)
+        && comes_to_name(&mut texts.dialect_text, alloc)
 }
 
 // What an item hashes to.

@@ -133,6 +133,22 @@ fn try_sessions<R: Abort + Print>(rt: &R, alloc: Global, name: &str) -> Result<b
     Ok(tried)
 }
 
+// Makes the calls with this name on a forest. Whether there is one.
+fn try_on_forest<R: Abort + Print>(rt: &R, alloc: Global, name: &str) -> Result<bool, CheckedErr> {
+    let mut tried = try_edits(rt, alloc, name)?;
+    tried |= try_readings(rt, alloc, name)?;
+    tried |= try_beside(rt, alloc, name)?;
+    Ok(tried)
+}
+
+// Makes the calls with this name on stores, types and sessions. Whether there is one.
+fn try_on_others<R: Abort + Print>(rt: &R, alloc: Global, name: &str) -> Result<bool, CheckedErr> {
+    let mut tried = try_stores(rt, alloc, name)?;
+    tried |= try_types(rt, alloc, name)?;
+    tried |= try_sessions(rt, alloc, name)?;
+    Ok(tried)
+}
+
 /// Makes the calls with each of these names. A name without a call fails.
 ///
 /// # Errors
@@ -143,12 +159,8 @@ pub(crate) fn try_named<R: Abort + Print>(
     names: &[&str],
 ) -> Result<(), CheckedErr> {
     for name in names {
-        let mut tried = try_edits(rt, alloc, name)?;
-        tried |= try_readings(rt, alloc, name)?;
-        tried |= try_beside(rt, alloc, name)?;
-        tried |= try_stores(rt, alloc, name)?;
-        tried |= try_types(rt, alloc, name)?;
-        tried |= try_sessions(rt, alloc, name)?;
+        let mut tried = try_on_forest(rt, alloc, name)?;
+        tried |= try_on_others(rt, alloc, name)?;
         assert!(rt; tried, "no call is named {name}");
     }
     Ok(())

@@ -92,7 +92,21 @@ impl TypeReading {
     }
 }
 
-// Makes the forest, and then the calls between two lines of output, so that whoever watches sees what they ask for.
+// Makes the calls between two lines of output, so that whoever watches sees what they ask for.
+fn ask<R: Abort + Print>(
+    rt: &R,
+    ctx: &Context<Small>,
+    forest: &MarkedForest,
+    in_box: &Box<TypeHandle>,
+    reading: TypeReading,
+) {
+    assert!(rt; println!(rt; "ready").is_ok());
+    let answer = reading.make(ctx, forest, in_box);
+    assert!(rt; println!(rt; "done").is_ok());
+    assert!(rt; answer, "{reading:?}");
+}
+
+// Makes the forest, and then the calls.
 fn make_and_ask<R: Abort + Print>(
     rt: &R,
     ctx: &mut Context<Small>,
@@ -102,10 +116,7 @@ fn make_and_ask<R: Abort + Print>(
         return Err(CheckedErr::Core(CoreError::OutOfMemory));
     };
     let in_box = boxed_type(ctx.alloc(), forest.types.listed)?;
-    assert!(rt; println!(rt; "ready").is_ok());
-    let answer = reading.make(ctx, &forest, &in_box);
-    assert!(rt; println!(rt; "done").is_ok());
-    assert!(rt; answer, "{reading:?}");
+    ask(rt, ctx, &forest, &in_box, reading);
     Ok(())
 }
 

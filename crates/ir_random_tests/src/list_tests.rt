@@ -150,16 +150,21 @@ fn edit_at_random(
     Ok(accepted)
 }
 
-// Does so many random edits, of which more than a fifth are accepted and more than a fifth refused.
-fn edit_often(
+// Makes the operations, regions and blocks in the session and in the model.
+fn begin(rt: &impl Abort, lab: &mut Lab, plain: &mut Plain) -> Result<(), LabError> {
+    for next in beginning(lab.alloc())? {
+        assert!(rt; edit(rt, lab, plain, next)?);
+    }
+    Ok(())
+}
+
+// Does so many random edits, and tells how many of them were accepted.
+fn count_accepted(
     rt: &impl Abort,
     lab: &mut Lab,
     plain: &mut Plain,
     seed: u64,
-) -> Result<(), LabError> {
-    for next in beginning(lab.alloc())? {
-        assert!(rt; edit(rt, lab, plain, next)?);
-    }
+) -> Result<usize, LabError> {
     let mut words = Pcg32::new(seed, 54);
     let mut accepted = 0usize;
     for number in 0..EDITS {
@@ -170,6 +175,18 @@ fn edit_often(
             expect_all(rt, lab, plain)?;
         }
     }
+    Ok(accepted)
+}
+
+// Does so many random edits, of which more than a fifth are accepted and more than a fifth refused.
+fn edit_often(
+    rt: &impl Abort,
+    lab: &mut Lab,
+    plain: &mut Plain,
+    seed: u64,
+) -> Result<(), LabError> {
+    begin(rt, lab, plain)?;
+    let accepted = count_accepted(rt, lab, plain, seed)?;
     assert!(rt; EDITS / 5 < accepted, "{accepted} accepted");
     assert!(rt;
         EDITS / 5 < EDITS.saturating_sub(accepted),

@@ -55,14 +55,22 @@ fn plain_parents(plain: &Plain) -> [Option<usize>; COUNT] {
     parents
 }
 
-// Asserts where each operation, block and region stands.
-fn expect_places(rt: &impl Abort, lab: &Lab, plain: &Plain) {
+// Asserts where each operation stands.
+fn expect_op_places(rt: &impl Abort, lab: &Lab, plain: &Plain) {
     for (op, place) in plain_op_places(plain).iter().enumerate() {
         assert_eq!(rt; lab.op_place(op), *place, "o{op}");
     }
+}
+
+// Asserts where each block stands.
+fn expect_block_places(rt: &impl Abort, lab: &Lab, plain: &Plain) {
     for (block, place) in plain_block_places(plain).iter().enumerate() {
         assert_eq!(rt; lab.block_place(block), *place, "b{block}");
     }
+}
+
+// Asserts which operation each region belongs to.
+fn expect_parents(rt: &impl Abort, lab: &Lab, plain: &Plain) {
     for (region, parent) in plain_parents(plain).iter().enumerate() {
         assert_eq!(rt; lab.parent_of_region(region), *parent, "r{region}");
     }
@@ -77,19 +85,32 @@ fn expect_list(rt: &impl Abort, forward: &[usize], backward: &[usize], list: &[u
     }
 }
 
-/// Asserts where each operation, block and region stands, and what stands in each block and region, walked from the front and from the back.
-///
-/// # Errors
-/// Where a growth was refused.
-pub(crate) fn expect_lists(rt: &impl Abort, lab: &Lab, plain: &Plain) -> Result<(), AllocError> {
-    expect_places(rt, lab, plain);
+// Asserts what stands in each block, walked from the front and from the back.
+fn expect_ops(rt: &impl Abort, lab: &Lab, plain: &Plain) -> Result<(), AllocError> {
     for block in 0..COUNT {
         let (forward, backward) = (lab.ops_of(block)?, lab.ops_of_back(block)?);
         expect_list(rt, &forward, &backward, plain.ops_of(block));
     }
+    Ok(())
+}
+
+// Asserts what stands in each region, walked from the front and from the back.
+fn expect_blocks(rt: &impl Abort, lab: &Lab, plain: &Plain) -> Result<(), AllocError> {
     for region in 0..COUNT {
         let (forward, backward) = (lab.blocks_of(region)?, lab.blocks_of_back(region)?);
         expect_list(rt, &forward, &backward, plain.blocks_of(region));
     }
     Ok(())
+}
+
+/// Asserts where each operation, block and region stands, and what stands in each block and region, walked from the front and from the back.
+///
+/// # Errors
+/// Where a growth was refused.
+pub(crate) fn expect_lists(rt: &impl Abort, lab: &Lab, plain: &Plain) -> Result<(), AllocError> {
+    expect_op_places(rt, lab, plain);
+    expect_block_places(rt, lab, plain);
+    expect_parents(rt, lab, plain);
+    expect_ops(rt, lab, plain)?;
+    expect_blocks(rt, lab, plain)
 }

@@ -4,6 +4,8 @@ use crate::seeds::further;
 use ir_base::{Answer, Limits, Refused};
 use ir_lab::{Lab, LabError};
 use ir_plain::{CHOICES, Plain, RandomEdits};
+use ir_run::Edit;
+use ir_toy::Toy;
 use std::alloc::{AllocError, Global};
 use std::process::Abort;
 use std::test::Fail;
@@ -56,6 +58,38 @@ fn sum(counts: &[usize]) -> usize {
     sum
 }
 
+// Asserts that all that the session shows after this edit is what the model has.
+fn expect_all(
+    rt: &impl Abort,
+    lab: &Lab,
+    plain: &Plain,
+    seed: u64,
+    edit: usize,
+) -> Result<(), LabError> {
+    let (shown, expected) = (lab.dump()?, plain.dump()?);
+    assert_eq!(rt; shown, expected, "seed {seed}, edit {edit}");
+    Ok(())
+}
+
+// Does an edit of this seed in the session and in the model, and tells how both answer it.
+fn run_edit(
+    rt: &impl Abort,
+    lab: &mut Lab,
+    plain: &mut Plain,
+    next: Edit<Toy>,
+    seed: u64,
+    edit: usize,
+) -> Result<Answer, LabError> {
+    let wanted = plain.step(&next)?;
+    let answer = lab.run_one(next)?;
+    if answer == Answer::Refused(Refused::Memory) {
+        return Err(LabError::OutOfMemory);
+    }
+    assert_eq!(rt; answer, wanted, "seed {seed}, edit {edit}");
+    expect_all(rt, lab, plain, seed, edit)?;
+    Ok(wanted)
+}
+
 // Does random edits in the session and in the model.
 fn run_edits(
     rt: &impl Abort,
@@ -68,14 +102,7 @@ fn run_edits(
     for edit in 0..EDITS {
         let choice = random.next_choice(plain);
         let next = random.next_edit(plain, choice)?;
-        let wanted = plain.step(&next)?;
-        let answer = lab.run_one(next)?;
-        if answer == Answer::Refused(Refused::Memory) {
-            return Err(LabError::OutOfMemory);
-        }
-        assert_eq!(rt; answer, wanted, "seed {seed}, edit {edit}");
-        let (shown, expected) = (lab.dump()?, plain.dump()?);
-        assert_eq!(rt; shown, expected, "seed {seed}, edit {edit}");
+        let wanted = run_edit(rt, lab, plain, next, seed, edit)?;
         tally.count(choice, wanted);
     }
     Ok(())
@@ -146,6 +173,17 @@ fn few_numbers() -> Limits {
         uses: 7,
         ..Limits::default()
     }
+}
+
+// Ample room, and all of the limits.
+fn all_limits() -> [Limits; 5] {
+    [
+        Limits::default(),
+        few_slots(),
+        spent_slots(),
+        one_slot(),
+        few_numbers(),
+    ]
 }
 
 // Asserts that so many edits at least were accepted, and so many refused.
@@ -223,10 +261,8 @@ fn random_edits_agree_where_numbers_are_spent(rt: HostRuntime) -> Result<(), Fai
 #[test]
 fn further_seeds(rt: HostRuntime) -> Result<(), Fail> {
     let (first, count) = further(&rt);
-    run_seeds(&rt, rt.alloc(), Limits::default(), first, count)?;
-    run_seeds(&rt, rt.alloc(), few_slots(), first, count)?;
-    run_seeds(&rt, rt.alloc(), spent_slots(), first, count)?;
-    run_seeds(&rt, rt.alloc(), one_slot(), first, count)?;
-    run_seeds(&rt, rt.alloc(), few_numbers(), first, count)?;
+    for limits in all_limits().iter() {
+        run_seeds(&rt, rt.alloc(), *limits, first, count)?;
+    }
     Ok(())
 }

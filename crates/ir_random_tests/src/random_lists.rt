@@ -56,17 +56,29 @@ impl RandomEdits {
         Ok(types)
     }
 
+    // No value, one or two.
+    fn values(&mut self) -> Result<Vec<usize>, AllocError> {
+        let mut values = Vec::new(self.alloc);
+        for _value in 0..self.below(3) {
+            values.push(self.value())?;
+        }
+        Ok(values)
+    }
+
+    // No block, or one.
+    fn blocks(&mut self) -> Result<Vec<usize>, AllocError> {
+        let mut blocks = Vec::new(self.alloc);
+        for _block in 0..self.below(2) {
+            blocks.push(self.block())?;
+        }
+        Ok(blocks)
+    }
+
     // An operation with no operand, one or two.
     fn new_op(&mut self) -> Result<Edit<Toy>, AllocError> {
         let types = self.types()?;
-        let mut operands = Vec::new(self.alloc);
-        for _operand in 0..self.below(3) {
-            operands.push(self.value())?;
-        }
-        let mut successors = Vec::new(self.alloc);
-        for _successor in 0..self.below(2) {
-            successors.push(self.block())?;
-        }
+        let operands = self.values()?;
+        let successors = self.blocks()?;
         Ok(Edit::NewOp {
             kind: self.small(9),
             types,

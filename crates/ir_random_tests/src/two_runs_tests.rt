@@ -72,6 +72,15 @@ fn start(rt: &impl Abort, lab: &mut Lab, erasures: &str) -> Result<(), LabError>
     Ok(())
 }
 
+// Begins both sessions, in which entities are erased in other orders, so that others take their slots.
+fn start_both(rt: &impl Abort, first: &mut Lab, second: &mut Lab) -> Result<(), LabError> {
+    start(rt, first, FROM_THE_FIRST)?;
+    start(rt, second, FROM_THE_LAST)?;
+    let places = (first.edit("place o3")?, second.edit("place o3")?);
+    assert!(rt; places.0 != places.1);
+    Ok(())
+}
+
 // The answers to the edits of this seed. Want of memory ends the test.
 fn answers_to(lab: &mut Lab, seed: u64) -> Result<Vec<Answer>, LabError> {
     let edits = random_list(lab.alloc(), seed, EDITS)?;
@@ -116,10 +125,7 @@ fn run_lists(
     second: &mut Lab,
     seed: u64,
 ) -> Result<usize, LabError> {
-    start(rt, first, FROM_THE_FIRST)?;
-    start(rt, second, FROM_THE_LAST)?;
-    let places = (first.edit("place o3")?, second.edit("place o3")?);
-    assert!(rt; places.0 != places.1);
+    start_both(rt, first, second)?;
     let mut done = 0usize;
     for list in 0..LISTS {
         let accepted = run_list(rt, first, second, seed.wrapping_add(list))?;

@@ -15,20 +15,29 @@ fn is_answered(output: &str) -> bool {
         || output == "made t0\nmade o0\nrefused memory\nv0:\n"
 }
 
+// Asserts that the program may print this, and that no fault is told.
+fn expect_answers(rt: &impl Abort, output: &str, told: &[u8]) {
+    assert!(rt; is_answered(output));
+    assert!(rt; told.is_empty());
+}
+
+// Asserts that this is nothing, or a beginning of the full answer's lines.
+fn expect_beginning(rt: &impl Abort, output: &str) {
+    assert!(rt; FULL.starts_with(output));
+    assert!(rt; output.is_empty() || output.ends_with('\n'));
+}
+
 // Asserts what one refused request may come to: an answer in each line, or a beginning of the full answer's lines and the fault.
 fn expect_outcome(rt: &impl Abort, status: u8, printed: &[u8], told: &[u8]) {
     let Ok(output) = from_utf8(printed) else {
         return assert!(rt; false);
     };
     if status == 0 {
-        assert!(rt; is_answered(output));
-        assert!(rt; told.is_empty());
-        return;
+        return expect_answers(rt, output, told);
     }
     assert_eq!(rt; status, 1);
     assert_eq!(rt; told, b"out of memory\n".as_slice());
-    assert!(rt; FULL.starts_with(output));
-    assert!(rt; output.is_empty() || output.ends_with('\n'));
+    expect_beginning(rt, output);
 }
 
 #[test]

@@ -19,14 +19,32 @@ pub(crate) fn expect(
     let mut printed = Vec::new(alloc);
     let mut told = Vec::new(alloc);
     let answered = run_script(alloc, &mut input, &mut printed, &mut told);
-    let is_cut = told.len() < fault.len() && fault.as_bytes().starts_with(told.as_slice());
+    let is_cut = is_beginning(told.as_slice(), fault);
     if answered == 1 || is_cut || is_refused_memory(printed.as_slice()) {
         return Err("out of memory")?;
     }
     assert_eq!(rt; answered, status);
-    assert_eq!(rt; printed.as_slice(), output.as_bytes());
-    assert_eq!(rt; told.as_slice(), fault.as_bytes());
+    expect_written(rt, printed.as_slice(), output);
+    expect_written(rt, told.as_slice(), fault);
     Ok(())
+}
+
+/// Runs each of these lines as a script of its own, and asserts that it is malformed.
+pub(crate) fn expect_malformed(rt: &impl Abort, alloc: Global, lines: &[&str]) -> Result<(), Fail> {
+    for line in lines {
+        expect(rt, alloc, line.as_bytes(), 2, "", "line 1: malformed\n")?;
+    }
+    Ok(())
+}
+
+// Whether a beginning of the fault is told, and not the whole of it.
+fn is_beginning(told: &[u8], fault: &str) -> bool {
+    told.len() < fault.len() && fault.as_bytes().starts_with(told)
+}
+
+// Asserts that this text was written.
+fn expect_written(rt: &impl Abort, written: &[u8], text: &str) {
+    assert_eq!(rt; written, text.as_bytes());
 }
 
 /// Whether an answer tells that a growth was refused.

@@ -1,11 +1,13 @@
 //! Scripts over memory, with what the program prints for them and its status.
 
-use crate::outcome::{expect, is_refused_memory};
+use crate::outcome::{expect, expect_malformed, is_refused_memory};
 use ir_script::{
     Answer, Edit, Limits, Refused, Session, Toy, ToyType, run_script, run_script_with_limits,
 };
+use std::alloc::Global;
 use std::io;
 use std::io::{ErrorKind, Read, Write};
+use std::process::Abort;
 use std::test::Fail;
 
 /// Reads and writes that fail.
@@ -185,76 +187,96 @@ fn script_blanks(rt: HostRuntime) -> Result<(), Fail> {
     Ok(())
 }
 
+// Lines with an unknown kind, with a number, a name or a list of another form, or with too few or too many words.
+const MALFORMED_LINES: [&str; 10] = [
+    "op 8 - - - 0",
+    "type 4294967296",
+    "type",
+    "type +1",
+    "type 1 2",
+    "erase b0",
+    "push o0 v",
+    "op 0 t0,,t0 - - 0",
+    "op 0 - - - 0 x",
+    "type\t1",
+];
+
 #[test]
 fn script_malformed(rt: HostRuntime) -> Result<(), Fail> {
-    let fault = "line 1: malformed\n";
-    expect(&rt, rt.alloc(), b"op 8 - - - 0", 2, "", fault)?;
-    expect(&rt, rt.alloc(), b"type 4294967296", 2, "", fault)?;
-    expect(&rt, rt.alloc(), b"type", 2, "", fault)?;
-    expect(&rt, rt.alloc(), b"type +1", 2, "", fault)?;
-    expect(&rt, rt.alloc(), b"type 1 2", 2, "", fault)?;
-    expect(&rt, rt.alloc(), b"erase b0", 2, "", fault)?;
-    expect(&rt, rt.alloc(), b"push o0 v", 2, "", fault)?;
-    expect(&rt, rt.alloc(), b"op 0 t0,,t0 - - 0", 2, "", fault)?;
-    expect(&rt, rt.alloc(), b"op 0 - - - 0 x", 2, "", fault)?;
-    expect(&rt, rt.alloc(), b"type\t1", 2, "", fault)?;
+    expect_malformed(&rt, rt.alloc(), &MALFORMED_LINES)?;
     Ok(())
 }
 
 // Lists of names with another letter, or with no number.
+const MALFORMED_NAMES: [&str; 21] = [
+    "op 0 t - - 0",
+    "op 0 - t0 - 0",
+    "op 0 v0 - - 0",
+    "block",
+    "block t0 t0",
+    "block b0",
+    "blocks -",
+    "back o0",
+    "back b0 o0",
+    "backb b0 r",
+    "backb b0 b0",
+    "unlink o0 b0",
+    "unlink",
+    "move o0 r0",
+    "move r0 o0,o1",
+    "rauw v0",
+    "rauw v0 b0",
+    "rauw v0 v1 v2",
+    "rauw v0,v1 v2",
+    "set o0 v0",
+    "succ o0 v0",
+];
+
 #[test]
 fn malformed_names(rt: HostRuntime) -> Result<(), Fail> {
-    let fault = "line 1: malformed\n";
-    expect(&rt, rt.alloc(), b"op 0 t - - 0", 2, "", fault)?;
-    expect(&rt, rt.alloc(), b"op 0 - t0 - 0", 2, "", fault)?;
-    expect(&rt, rt.alloc(), b"op 0 v0 - - 0", 2, "", fault)?;
-    expect(&rt, rt.alloc(), b"block", 2, "", fault)?;
-    expect(&rt, rt.alloc(), b"block t0 t0", 2, "", fault)?;
-    expect(&rt, rt.alloc(), b"block b0", 2, "", fault)?;
-    expect(&rt, rt.alloc(), b"blocks -", 2, "", fault)?;
-    expect(&rt, rt.alloc(), b"back o0", 2, "", fault)?;
-    expect(&rt, rt.alloc(), b"back b0 o0", 2, "", fault)?;
-    expect(&rt, rt.alloc(), b"backb b0 r", 2, "", fault)?;
-    expect(&rt, rt.alloc(), b"backb b0 b0", 2, "", fault)?;
-    expect(&rt, rt.alloc(), b"unlink o0 b0", 2, "", fault)?;
-    expect(&rt, rt.alloc(), b"unlink", 2, "", fault)?;
-    expect(&rt, rt.alloc(), b"move o0 r0", 2, "", fault)?;
-    expect(&rt, rt.alloc(), b"move r0 o0,o1", 2, "", fault)?;
-    expect(&rt, rt.alloc(), b"rauw v0", 2, "", fault)?;
-    expect(&rt, rt.alloc(), b"rauw v0 b0", 2, "", fault)?;
-    expect(&rt, rt.alloc(), b"rauw v0 v1 v2", 2, "", fault)?;
-    expect(&rt, rt.alloc(), b"rauw v0,v1 v2", 2, "", fault)?;
-    expect(&rt, rt.alloc(), b"set o0 v0", 2, "", fault)?;
-    expect(&rt, rt.alloc(), b"succ o0 v0", 2, "", fault)?;
+    expect_malformed(&rt, rt.alloc(), &MALFORMED_NAMES)?;
+    Ok(())
+}
+
+// Edits that make the same type twice.
+fn same_type_twice(alloc: Global) -> Result<Vec<Edit<Toy>>, Fail> {
+    Ok(vec![in alloc;
+        Edit::NewType(ToyType::Int { width: 0 }),
+        Edit::NewType(ToyType::Int { width: 0 }),
+    ]?)
+}
+
+// Runs the edits. Where memory was refused, that is the error.
+fn run_edits(session: &mut Session<Toy>, edits: Vec<Edit<Toy>>) -> Result<Vec<Answer>, Fail> {
+    let answers = session.run(edits)?;
+    if answers.contains(&Answer::Refused(Refused::Memory)) {
+        return Err("out of memory")?;
+    }
+    Ok(answers)
+}
+
+// Asserts that both edits made a type, and that it is the same.
+fn expect_same_type(rt: &impl Abort, session: &Session<Toy>, answers: &[Answer]) {
+    assert_eq!(rt; answers, [Answer::Made(0), Answer::Made(1)].as_slice());
+    assert!(rt; session.ty(0).is_some());
+    assert_eq!(rt; session.ty(0), session.ty(1));
+}
+
+// A session of its own makes the same type twice.
+fn make_same_type_twice(rt: &impl Abort, alloc: Global) -> Result<(), Fail> {
+    let mut session: Session<Toy> = Session::new(alloc, Limits::default());
+    let edits = same_type_twice(alloc)?;
+    let answers = run_edits(&mut session, edits)?;
+    expect_same_type(rt, &session, answers.as_slice());
     Ok(())
 }
 
 #[test]
 fn types_again(rt: HostRuntime) -> Result<(), Fail> {
     let script = b"type 0\ntype 0\nop 0 t1 - - 0";
-    expect(
-        &rt,
-        rt.alloc(),
-        script,
-        0,
-        "made t0\nmade t1\nmade o0\nv0:\n",
-        "",
-    )?;
-    let mut session: Session<Toy> = Session::new(rt.alloc(), Limits::default());
-    let edits = vec![in rt.alloc();
-        Edit::NewType(ToyType::Int { width: 0 }),
-        Edit::NewType(ToyType::Int { width: 0 }),
-    ]?;
-    let answers = session.run(edits)?;
-    if answers.contains(&Answer::Refused(Refused::Memory)) {
-        return Err("out of memory")?;
-    }
-    assert_eq!(rt;
-        answers.as_slice(),
-        [Answer::Made(0), Answer::Made(1)].as_slice()
-    );
-    assert!(rt; session.ty(0).is_some());
-    assert_eq!(rt; session.ty(0), session.ty(1));
+    let output = "made t0\nmade t1\nmade o0\nv0:\n";
+    expect(&rt, rt.alloc(), script, 0, output, "")?;
+    make_same_type_twice(&rt, rt.alloc())?;
     Ok(())
 }
 

@@ -1,6 +1,6 @@
 //! Scripts that verify operations.
 
-use crate::outcome::expect;
+use crate::outcome::{expect, expect_malformed};
 use std::test::Fail;
 
 #[test]
@@ -84,17 +84,21 @@ fn verified_between_edits(rt: HostRuntime) -> Result<(), Fail> {
     Ok(())
 }
 
+// Lines that verify, with no name, with a name that isn't one of an operation, or with more than a name.
+const MALFORMED_VERIFICATIONS: [&str; 7] = [
+    "verify",
+    "verify b0",
+    "verify o0 o0",
+    "verify o",
+    "verify o0,o1",
+    "verify -",
+    "verifyo0",
+];
+
 // A line that verifies has one name, that of an operation. Where a later line is malformed, nothing is done.
 #[test]
 fn malformed_verifications(rt: HostRuntime) -> Result<(), Fail> {
-    let fault = "line 1: malformed\n";
-    expect(&rt, rt.alloc(), b"verify", 2, "", fault)?;
-    expect(&rt, rt.alloc(), b"verify b0", 2, "", fault)?;
-    expect(&rt, rt.alloc(), b"verify o0 o0", 2, "", fault)?;
-    expect(&rt, rt.alloc(), b"verify o", 2, "", fault)?;
-    expect(&rt, rt.alloc(), b"verify o0,o1", 2, "", fault)?;
-    expect(&rt, rt.alloc(), b"verify -", 2, "", fault)?;
-    expect(&rt, rt.alloc(), b"verifyo0", 2, "", fault)?;
+    expect_malformed(&rt, rt.alloc(), &MALFORMED_VERIFICATIONS)?;
     let script = b"verify o0\nop 5 - - - 0\nverify o0\nverify\n";
     expect(&rt, rt.alloc(), script, 2, "", "line 4: malformed\n")?;
     Ok(())

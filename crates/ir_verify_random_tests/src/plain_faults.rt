@@ -19,11 +19,31 @@ pub(crate) struct PlainFault {
     pub(crate) text: String,
 }
 
-// The fault of the block with this text behind its name.
-fn block_fault(alloc: Global, block: &PlainBlock, text: &str) -> Result<String, AllocError> {
+// Adds the fault of the block with this text behind its name.
+fn add_block_fault(
+    alloc: Global,
+    at: Node,
+    block: &PlainBlock,
+    text: &str,
+    faults: &mut Vec<PlainFault>,
+) -> Result<(), AllocError> {
     let slot = block.slot;
     let version = block.version;
-    format!(in alloc; "Basic block \"block{slot}v{version}\" {text}")
+    let text = format!(in alloc; "Basic block \"block{slot}v{version}\" {text}")?;
+    faults.push(PlainFault { at, text })?;
+    Ok(())
+}
+
+// Adds the fault with this text.
+fn add_fault(
+    alloc: Global,
+    at: Node,
+    text: &str,
+    faults: &mut Vec<PlainFault>,
+) -> Result<(), AllocError> {
+    let text = String::from_str(alloc, text)?;
+    faults.push(PlainFault { at, text })?;
+    Ok(())
 }
 
 // The faults of where a block stands, and of what stands in it.
@@ -36,16 +56,14 @@ fn place_faults(
 ) -> Result<(), AllocError> {
     let at = Node::Block(number);
     if region_of(plain, number).is_none() {
-        let text = block_fault(alloc, block, "has no parent operation")?;
-        faults.push(PlainFault { at, text })?;
+        add_block_fault(alloc, at, block, "has no parent operation", faults)?;
     }
     if lacks_terminator(plain, number) {
-        let text = block_fault(alloc, block, "is missing a terminator")?;
-        faults.push(PlainFault { at, text })?;
+        add_block_fault(alloc, at, block, "is missing a terminator", faults)?;
     }
     if is_entry(plain, number) && is_named(plain, number) {
-        let text = block_fault(alloc, block, "is an entry block and has a predecessor")?;
-        faults.push(PlainFault { at, text })?;
+        let fault = "is an entry block and has a predecessor";
+        add_block_fault(alloc, at, block, fault, faults)?;
     }
     Ok(())
 }
@@ -60,12 +78,10 @@ fn name_faults(
 ) -> Result<(), AllocError> {
     let at = Node::Block(number);
     if is_named_aside(plain, number) {
-        let text = format!(in alloc; "Operand is not a use of its def")?;
-        faults.push(PlainFault { at, text })?;
+        add_fault(alloc, at, "Operand is not a use of its def", faults)?;
     }
     if block.types.contains(&EMPTY_TYPE) {
-        let text = format!(in alloc; "verifier fault 1")?;
-        faults.push(PlainFault { at, text })?;
+        add_fault(alloc, at, "verifier fault 1", faults)?;
     }
     Ok(())
 }
@@ -81,16 +97,42 @@ fn op_faults(
     let at = Node::Op(number);
     if let Some(block) = ended_early(plain, number) {
         let fault = "has a terminator that is not the last operation in the block";
-        let text = block_fault(alloc, block, fault)?;
-        faults.push(PlainFault { at, text })?;
+        add_block_fault(alloc, at, block, fault, faults)?;
     }
     if op.kind == 1 && op.operands != 2 {
-        let text = format!(in alloc; "verifier fault 2")?;
-        faults.push(PlainFault { at, text })?;
+        add_fault(alloc, at, "verifier fault 2", faults)?;
     }
     if op.types.contains(&EMPTY_TYPE) {
-        let text = format!(in alloc; "verifier fault 1")?;
-        faults.push(PlainFault { at, text })?;
+        add_fault(alloc, at, "verifier fault 1", faults)?;
+    }
+    Ok(())
+}
+
+// The faults of all blocks.
+fn faults_of_blocks(
+    alloc: Global,
+    plain: &Plain,
+    faults: &mut Vec<PlainFault>,
+) -> Result<(), AllocError> {
+    for number in 0..plain.blocks.len() {
+        if let Some(block) = live_block(plain, number) {
+            place_faults(alloc, plain, number, block, faults)?;
+            name_faults(alloc, plain, number, block, faults)?;
+        }
+    }
+    Ok(())
+}
+
+// The faults of all operations.
+fn faults_of_ops(
+    alloc: Global,
+    plain: &Plain,
+    faults: &mut Vec<PlainFault>,
+) -> Result<(), AllocError> {
+    for number in 0..plain.ops.len() {
+        if let Some(op) = live_op(plain, number) {
+            op_faults(alloc, plain, number, op, faults)?;
+        }
     }
     Ok(())
 }
@@ -98,17 +140,8 @@ fn op_faults(
 /// All faults that stand in the forest.
 pub(crate) fn plain_faults(alloc: Global, plain: &Plain) -> Result<Vec<PlainFault>, AllocError> {
     let mut faults = Vec::new(alloc);
-    for number in 0..plain.blocks.len() {
-        if let Some(block) = live_block(plain, number) {
-            place_faults(alloc, plain, number, block, &mut faults)?;
-            name_faults(alloc, plain, number, block, &mut faults)?;
-        }
-    }
-    for number in 0..plain.ops.len() {
-        if let Some(op) = live_op(plain, number) {
-            op_faults(alloc, plain, number, op, &mut faults)?;
-        }
-    }
+    faults_of_blocks(alloc, plain, &mut faults)?;
+    faults_of_ops(alloc, plain, &mut faults)?;
     Ok(faults)
 }
 

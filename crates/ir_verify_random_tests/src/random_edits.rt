@@ -20,6 +20,13 @@ pub(crate) struct RandomEdits {
     words: Pcg32,
 }
 
+// Adds the types, of which the second has width 0.
+fn add_types(edits: &mut Vec<Edit<Toy>>) -> Result<(), AllocError> {
+    edits.push(Edit::NewType(ToyType::Int { width: 8 }))?;
+    edits.push(Edit::NewType(ToyType::Int { width: 0 }))?;
+    Ok(())
+}
+
 impl RandomEdits {
     /// The source with this seed.
     pub(crate) fn new(alloc: Global, seed: u64) -> RandomEdits {
@@ -102,20 +109,36 @@ impl RandomEdits {
         }
     }
 
-    /// The edits that make one forest.
-    pub(crate) fn forest(&mut self) -> Result<Vec<Edit<Toy>>, AllocError> {
-        let mut edits = Vec::new(self.alloc);
-        edits.push(Edit::NewType(ToyType::Int { width: 8 }))?;
-        edits.push(Edit::NewType(ToyType::Int { width: 0 }))?;
+    // Adds the operations that may have regions.
+    fn add_ops(&mut self, edits: &mut Vec<Edit<Toy>>) -> Result<(), AllocError> {
         for _ in 0..OPERATIONS {
             edits.push(self.new_op()?)?;
         }
+        Ok(())
+    }
+
+    // Adds the blocks.
+    fn add_blocks(&mut self, edits: &mut Vec<Edit<Toy>>) -> Result<(), AllocError> {
         for _ in 0..BLOCKS {
             edits.push(Edit::NewBlock {
                 label: None,
                 types: self.types()?,
             })?;
         }
+        Ok(())
+    }
+
+    // The types, the operations that may have regions, and the blocks, none of which stands anywhere yet.
+    fn entities(&mut self) -> Result<Vec<Edit<Toy>>, AllocError> {
+        let mut edits = Vec::new(self.alloc);
+        add_types(&mut edits)?;
+        self.add_ops(&mut edits)?;
+        self.add_blocks(&mut edits)?;
+        Ok(edits)
+    }
+
+    // Puts each of the blocks into a region, and each of the operations into a block.
+    fn add_places(&mut self, edits: &mut Vec<Edit<Toy>>) -> Result<(), AllocError> {
         for block in 0..BLOCKS {
             let region = self.below(OPERATIONS);
             edits.push(Edit::BlockBack { block, region })?;
@@ -124,6 +147,11 @@ impl RandomEdits {
             let block = self.below(BLOCKS);
             edits.push(Edit::OpBack { op, block })?;
         }
+        Ok(())
+    }
+
+    // Adds the operations that may end blocks, each into a block.
+    fn add_branches(&mut self, edits: &mut Vec<Edit<Toy>>) -> Result<(), AllocError> {
         for number in 0..BRANCHES {
             edits.push(self.new_branch()?)?;
             let block = self.below(BLOCKS);
@@ -132,9 +160,23 @@ impl RandomEdits {
                 block,
             })?;
         }
+        Ok(())
+    }
+
+    // Adds the edits that come last.
+    fn add_last_edits(&mut self, edits: &mut Vec<Edit<Toy>>) -> Result<(), AllocError> {
         for _ in 0..self.below(8) {
             edits.push(self.last_edit())?;
         }
+        Ok(())
+    }
+
+    /// The edits that make one forest.
+    pub(crate) fn forest(&mut self) -> Result<Vec<Edit<Toy>>, AllocError> {
+        let mut edits = self.entities()?;
+        self.add_places(&mut edits)?;
+        self.add_branches(&mut edits)?;
+        self.add_last_edits(&mut edits)?;
         Ok(edits)
     }
 }

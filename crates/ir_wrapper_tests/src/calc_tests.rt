@@ -64,16 +64,26 @@ fn is_named<D: Dialects>(
     Ok(value.unique_name(ctx)?.as_str() == name)
 }
 
+// Asserts that the comparison has an answer with this name.
+fn expect_answer(
+    rt: &impl Abort,
+    ctx: &Context<Calc>,
+    less: &Less,
+    name: &str,
+) -> Result<(), CheckedErr> {
+    match answer(ctx, less)? {
+        Some(answer) => assert!(rt; is_named(ctx, answer, name)?),
+        None => assert!(rt; false),
+    }
+    Ok(())
+}
+
 // A comparison that was made is read back, and its answer has a name.
 fn comparison(rt: &impl Abort, ctx: &mut Context<Calc>) -> Result<(), CheckedErr> {
     let less = Less::compare(ctx, 16, 3, 5)?;
     assert!(rt; is_less(ctx, less.op)?);
     assert_eq!(rt; sides(ctx, &less)?, Some((3, 5)));
-    match answer(ctx, &less)? {
-        Some(answer) => assert!(rt; is_named(ctx, answer, "smaller_v2")?),
-        None => assert!(rt; false),
-    }
-    Ok(())
+    expect_answer(rt, ctx, &less, "smaller_v2")
 }
 
 #[test]

@@ -154,17 +154,26 @@ fn edit<D: Dialects>(
     op_at_back(ctx, user, block)
 }
 
+// Gives each a number of its own.
+fn write_each(ctx: &mut Context<Calc>, made: &Made) -> Result<(), CheckedErr> {
+    write_op(ctx, made.maker, 5)?;
+    write_op(ctx, made.user, 6)?;
+    write_block(ctx, made.block, 7)
+}
+
+// Asserts that each has the number that it was given.
+fn expect_each(rt: &impl Abort, ctx: &Context<Calc>, made: &Made) {
+    expect_sizes(rt, ctx, made, [Some(5), Some(6), Some(7)]);
+}
+
 // The user is put into the block, and taken out again.
 fn edited(rt: &impl Abort, ctx: &mut Context<Calc>) -> Result<(), CheckedErr> {
     let made = make(rt, ctx)?;
-    write_op(ctx, made.maker, 5)?;
-    write_op(ctx, made.user, 6)?;
-    write_block(ctx, made.block, 7)?;
-    let sizes = [Some(5), Some(6), Some(7)];
+    write_each(ctx, &made)?;
     edit(ctx, made.maker, made.user, made.block)?;
-    expect_sizes(rt, ctx, &made, sizes);
+    expect_each(rt, ctx, &made);
     unlink_op(ctx, made.user)?;
-    expect_sizes(rt, ctx, &made, sizes);
+    expect_each(rt, ctx, &made);
     Ok(())
 }
 
@@ -176,16 +185,26 @@ fn edits_keep_attributes(rt: HostRuntime) -> Result<(), Fail> {
     Ok(())
 }
 
-// What is made in the slots of what was erased has no attributes.
-fn erased(rt: &impl Abort, ctx: &mut Context<Calc>) -> Result<(), CheckedErr> {
-    let made = make(rt, ctx)?;
+// Gives the user and the block a number, and erases both.
+fn write_and_erase(ctx: &mut Context<Calc>, made: &Made) -> Result<(), CheckedErr> {
     write_op(ctx, made.user, 6)?;
     write_block(ctx, made.block, 7)?;
     erase_op(ctx, made.user)?;
-    erase_block(ctx, made.block)?;
-    expect_sizes(rt, ctx, &made, [None, None, None]);
+    erase_block(ctx, made.block)
+}
+
+// Asserts that there are no numbers, and that what was erased gets none.
+fn expect_erased(rt: &impl Abort, ctx: &mut Context<Calc>, made: &Made) {
+    expect_sizes(rt, ctx, made, [None, None, None]);
     expect_condition(rt, write_op(ctx, made.user, 6));
     expect_condition(rt, write_block(ctx, made.block, 7));
+}
+
+// What is made in the slots of what was erased has no attributes.
+fn erased(rt: &impl Abort, ctx: &mut Context<Calc>) -> Result<(), CheckedErr> {
+    let made = make(rt, ctx)?;
+    write_and_erase(ctx, &made)?;
+    expect_erased(rt, ctx, &made);
     let again = make(rt, ctx)?;
     assert!(rt; made.user != again.user);
     Ok(())
@@ -251,21 +270,45 @@ fn expect_loc(rt: &impl Abort, ctx: &Context<Toy>, op: Ptr<Operation<Toy>>, loc:
     assert!(rt; *record.loc() == loc);
 }
 
-// A location and a label that are written stand there alone, and the label can be taken away.
-fn written(rt: &impl Abort, ctx: &mut Context<Toy>) -> Result<(), CheckedErr> {
+/// An operation and two blocks, which may have locations and labels.
+#[derive(Drop)]
+struct Located {
+    op: Ptr<Operation<Toy>>,
+    block: Ptr<BasicBlock<Toy>>,
+    other: Ptr<BasicBlock<Toy>>,
+}
+
+// An operation and two blocks, with no location and no label.
+fn make_located(rt: &impl Abort, ctx: &mut Context<Toy>) -> Result<Located, CheckedErr> {
     let op = alone(ctx, 0)?;
     let block = new_block(ctx, None, &[])?;
     let other = new_block(ctx, None, &[])?;
     expect_loc(rt, ctx, op, ToyLoc::Unknown);
     expect_block(rt, ctx, block, ToyLoc::Unknown, None);
-    set_loc(ctx, op, ToyLoc::Line(3))?;
-    set_block_loc(ctx, block, ToyLoc::Line(4))?;
-    set_label(ctx, block, Some(Identifier::new("entry")))?;
-    expect_loc(rt, ctx, op, ToyLoc::Line(3));
-    expect_block(rt, ctx, block, ToyLoc::Line(4), Some("entry"));
-    expect_block(rt, ctx, other, ToyLoc::Unknown, None);
-    set_label(ctx, block, None)?;
-    expect_block(rt, ctx, block, ToyLoc::Line(4), None);
+    Ok(Located { op, block, other })
+}
+
+// Gives the operation a location, and the first block one and a label.
+fn locate(ctx: &mut Context<Toy>, made: &Located) -> Result<(), CheckedErr> {
+    set_loc(ctx, made.op, ToyLoc::Line(3))?;
+    set_block_loc(ctx, made.block, ToyLoc::Line(4))?;
+    set_label(ctx, made.block, Some(Identifier::new("entry")))
+}
+
+// Asserts that what was given stands there, and that the other block has no location and no label.
+fn expect_located(rt: &impl Abort, ctx: &Context<Toy>, made: &Located) {
+    expect_loc(rt, ctx, made.op, ToyLoc::Line(3));
+    expect_block(rt, ctx, made.block, ToyLoc::Line(4), Some("entry"));
+    expect_block(rt, ctx, made.other, ToyLoc::Unknown, None);
+}
+
+// A location and a label that are written stand there alone, and the label can be taken away.
+fn written(rt: &impl Abort, ctx: &mut Context<Toy>) -> Result<(), CheckedErr> {
+    let made = make_located(rt, ctx)?;
+    locate(ctx, &made)?;
+    expect_located(rt, ctx, &made);
+    set_label(ctx, made.block, None)?;
+    expect_block(rt, ctx, made.block, ToyLoc::Line(4), None);
     Ok(())
 }
 

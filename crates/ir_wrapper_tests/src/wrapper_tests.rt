@@ -38,17 +38,36 @@ fn wrapped<D: Dialects, T: Op<D> + Drop>(
     })
 }
 
-// The handle of a live operation gives the wrapper of its own kind, and not the other one.
-fn tell_kind<D: Dialects, T: Op<D> + Drop, Other: Op<D> + Drop>(
+// Asserts that a live operation is of the first wrapper's kind, and not of the other one's.
+fn expect_kind<D: Dialects, T: Op<D>, Other: Op<D>>(
     rt: &impl Abort,
     ctx: &Context<D>,
     op: Ptr<Operation<D>>,
 ) -> Result<(), CheckedErr> {
     assert!(rt; is_kind::<D, T>(ctx, op)?);
     assert!(rt; !is_kind::<D, Other>(ctx, op)?);
+    Ok(())
+}
+
+// Asserts that a live operation gives the first wrapper, and not the other one.
+fn expect_wrapper<D: Dialects, T: Op<D> + Drop, Other: Op<D> + Drop>(
+    rt: &impl Abort,
+    ctx: &Context<D>,
+    op: Ptr<Operation<D>>,
+) -> Result<(), CheckedErr> {
     assert!(rt; wrapped::<D, Other>(ctx, op)?.is_none());
     assert!(rt; wrapped::<D, T>(ctx, op)? == Some(op));
     Ok(())
+}
+
+// The handle of a live operation gives the wrapper of its own kind, and not the other one.
+fn tell_kind<D: Dialects, T: Op<D> + Drop, Other: Op<D> + Drop>(
+    rt: &impl Abort,
+    ctx: &Context<D>,
+    op: Ptr<Operation<D>>,
+) -> Result<(), CheckedErr> {
+    expect_kind::<D, T, Other>(rt, ctx, op)?;
+    expect_wrapper::<D, T, Other>(rt, ctx, op)
 }
 
 // The operation with the wrapper's kind.
