@@ -1,12 +1,13 @@
 //! Operands that are put in, taken out and replaced.
 
-use crate::building::{add_op, add_users, copies, pair_block};
-use crate::outcome::{Run, mix, nanos_now, operand_count, operand_sum, run_of, uses_of};
+use crate::building::{add_op, pair_block, used_value, wide};
+use crate::outcome::{
+    Run, mix, naming_sum, nanos_now, nanos_since, operand_count, run_of, uses_of,
+};
 use crate::random::random_places;
 use ir_base::{Dialects, Ptr, TypeHandle};
 use ir_checked::{
-    BasicBlock, CheckedErr, Context, Operation, Value, argument, push_operand, remove_operand,
-    replace_operand,
+    CheckedErr, Context, Operation, Value, argument, push_operand, remove_operand, replace_operand,
 };
 use std::time::CpuClock;
 
@@ -25,6 +26,29 @@ fn timed_push_and_remove<D: Dialects>(
     Ok(())
 }
 
+// How long it takes to put such an operand in and take it out again, so often.
+fn push_and_remove_nanos<C: CpuClock, D: Dialects>(
+    rt: &C,
+    ctx: &mut Context<D>,
+    op: Ptr<Operation<D>>,
+    value: Value<D>,
+    count: usize,
+) -> anyhow::Result<u64> {
+    let start = nanos_now(rt)?;
+    timed_push_and_remove(ctx, op, value, count)?;
+    nanos_since(rt, start)
+}
+
+// How many uses a value and how many operands an operation has, in one number.
+fn uses_and_operands<D: Dialects>(
+    ctx: &Context<D>,
+    value: Value<D>,
+    op: Ptr<Operation<D>>,
+) -> Result<u64, CheckedErr> {
+    let operands = operand_count(ctx, op) as u64;
+    Ok(uses_of(ctx, value)?.wrapping_add(operands))
+}
+
 /// An operand that names a value with N other uses is put in and taken out, N times.
 pub(crate) fn push_and_remove<C: CpuClock, D: Dialects>(
     rt: &C,
@@ -32,21 +56,10 @@ pub(crate) fn push_and_remove<C: CpuClock, D: Dialects>(
     ty: TypeHandle,
     count: usize,
 ) -> Run {
-    let block = pair_block(ctx, ty)?;
-    let value = argument(ctx, block, 0)?;
-    let mut made = Vec::with_capacity(ctx.alloc(), count)?;
-    add_users(ctx, block, value, count, &mut made)?;
-    let op = add_op(ctx, block, 4, &[], &[], 0)?;
-    let start = nanos_now(rt)?;
-    timed_push_and_remove(ctx, op, value, count)?;
-    let end = nanos_now(rt)?;
-    let operands = operand_count(ctx, op) as u64;
-    run_of(
-        start,
-        end,
-        count,
-        uses_of(ctx, value)?.wrapping_add(operands),
-    )
+    let used = used_value(ctx, ty, count)?;
+    let op = add_op(ctx, used.block, 4, &[], &[], 0)?;
+    let nanos = push_and_remove_nanos(rt, ctx, op, used.value, count)?;
+    run_of(nanos, count, uses_and_operands(ctx, used.value, op)?)
 }
 
 // Puts so many operands that name the value behind the others.
@@ -76,6 +89,42 @@ fn timed_removals<D: Dialects>(
     Ok(())
 }
 
+// Puts so many operands that name the value in and takes them out again, and answers how many uses it had between.
+fn push_and_remove_all<D: Dialects>(
+    ctx: &mut Context<D>,
+    op: Ptr<Operation<D>>,
+    value: Value<D>,
+    count: usize,
+) -> Result<u64, CheckedErr> {
+    timed_pushes(ctx, op, value, count)?;
+    let middle = uses_of(ctx, value)?;
+    timed_removals(ctx, op, count)?;
+    Ok(middle)
+}
+
+// How long that takes, and the uses between.
+fn push_and_remove_all_nanos<C: CpuClock, D: Dialects>(
+    rt: &C,
+    ctx: &mut Context<D>,
+    op: Ptr<Operation<D>>,
+    value: Value<D>,
+    count: usize,
+) -> anyhow::Result<(u64, u64)> {
+    let start = nanos_now(rt)?;
+    let middle = push_and_remove_all(ctx, op, value, count)?;
+    Ok((nanos_since(rt, start)?, middle))
+}
+
+// Makes an operation without operands in a block, and answers it and an argument of the block.
+fn op_and_argument<D: Dialects>(
+    ctx: &mut Context<D>,
+    ty: TypeHandle,
+) -> Result<(Ptr<Operation<D>>, Value<D>), CheckedErr> {
+    let block = pair_block(ctx, ty)?;
+    let value = argument(ctx, block, 0)?;
+    Ok((add_op(ctx, block, 4, &[], &[], 0)?, value))
+}
+
 /// N operands are put into one operation, and taken out from the last on.
 pub(crate) fn pushes_and_removals<C: CpuClock, D: Dialects>(
     rt: &C,
@@ -83,15 +132,9 @@ pub(crate) fn pushes_and_removals<C: CpuClock, D: Dialects>(
     ty: TypeHandle,
     count: usize,
 ) -> Run {
-    let block = pair_block(ctx, ty)?;
-    let value = argument(ctx, block, 0)?;
-    let op = add_op(ctx, block, 4, &[], &[], 0)?;
-    let start = nanos_now(rt)?;
-    timed_pushes(ctx, op, value, count)?;
-    let middle = uses_of(ctx, value)?;
-    timed_removals(ctx, op, count)?;
-    let end = nanos_now(rt)?;
-    run_of(start, end, count, mix(middle, uses_of(ctx, value)?))
+    let (op, value) = op_and_argument(ctx, ty)?;
+    let (nanos, middle) = push_and_remove_all_nanos(rt, ctx, op, value, count)?;
+    run_of(nanos, count, mix(middle, uses_of(ctx, value)?))
 }
 
 // Lets the first operand of the operations at these places name one value and the other in turn.
@@ -115,6 +158,20 @@ fn timed_replacements<D: Dialects>(
     Ok(())
 }
 
+// How long it takes to let the first operand of random ones of the operations, as many as there are, name one value and the other in turn.
+fn replacements_nanos<C: CpuClock, D: Dialects>(
+    rt: &C,
+    ctx: &mut Context<D>,
+    ops: &[Ptr<Operation<D>>],
+    first: Value<D>,
+    second: Value<D>,
+) -> anyhow::Result<u64> {
+    let order = random_places(ctx.alloc(), ops.len())?;
+    let start = nanos_now(rt)?;
+    timed_replacements(ctx, ops, order.as_slice(), first, second)?;
+    nanos_since(rt, start)
+}
+
 /// The operand of N random users of one value is replaced.
 pub(crate) fn replacements<C: CpuClock, D: Dialects>(
     rt: &C,
@@ -122,48 +179,21 @@ pub(crate) fn replacements<C: CpuClock, D: Dialects>(
     ty: TypeHandle,
     count: usize,
 ) -> Run {
-    let block = pair_block(ctx, ty)?;
-    let value = argument(ctx, block, 0)?;
-    let other = argument(ctx, block, 1)?;
-    let mut made = Vec::with_capacity(ctx.alloc(), count)?;
-    add_users(ctx, block, value, count, &mut made)?;
-    let order = random_places(ctx.alloc(), count)?;
-    let start = nanos_now(rt)?;
-    timed_replacements(ctx, made.as_slice(), order.as_slice(), other, value)?;
-    let end = nanos_now(rt)?;
-    let sum = operand_sum(ctx, made.as_slice(), value)?;
-    run_of(start, end, count, mix(sum, uses_of(ctx, value)?))
+    let used = used_value(ctx, ty, count)?;
+    let users = used.users.as_slice();
+    let nanos = replacements_nanos(rt, ctx, users, used.other, used.value)?;
+    run_of(nanos, count, naming_sum(ctx, users, used.value)?)
 }
 
-// An operation with so many operands that name the first of two values, and both.
-fn wide<D: Dialects>(
-    ctx: &mut Context<D>,
-    ty: TypeHandle,
-    count: usize,
-) -> anyhow::Result<(Ptr<Operation<D>>, Value<D>, Value<D>)> {
-    let block = pair_block(ctx, ty)?;
-    let value = argument(ctx, block, 0)?;
-    let other = argument(ctx, block, 1)?;
-    let operands = copies(ctx.alloc(), value, count)?;
-    let op = add_op(ctx, block, 4, &[], operands.as_slice(), 0)?;
-    Ok((op, value, other))
-}
-
-// What is left of a wide operation whose operands were replaced from this time to that.
+// What is left of a wide operation whose operands were replaced in so many nanoseconds.
 fn wide_outcome<D: Dialects>(
     ctx: &Context<D>,
     op: Ptr<Operation<D>>,
     value: Value<D>,
-    start: u64,
-    end: u64,
+    nanos: u64,
 ) -> Run {
-    let sum = operand_sum(ctx, &[op], value)?;
-    run_of(
-        start,
-        end,
-        operand_count(ctx, op),
-        mix(sum, uses_of(ctx, value)?),
-    )
+    let sum = naming_sum(ctx, &[op], value)?;
+    run_of(nanos, operand_count(ctx, op), sum)
 }
 
 // Lets so many operands of an operation name a value, from the first on.
@@ -180,6 +210,19 @@ fn timed_from_front<D: Dialects>(
     Ok(())
 }
 
+// How long that takes.
+fn from_front_nanos<C: CpuClock, D: Dialects>(
+    rt: &C,
+    ctx: &mut Context<D>,
+    op: Ptr<Operation<D>>,
+    value: Value<D>,
+    count: usize,
+) -> anyhow::Result<u64> {
+    let start = nanos_now(rt)?;
+    timed_from_front(ctx, op, value, count)?;
+    nanos_since(rt, start)
+}
+
 /// The N operands of one operation are replaced one by one, the first first.
 pub(crate) fn replaced_front<C: CpuClock, D: Dialects>(
     rt: &C,
@@ -188,10 +231,8 @@ pub(crate) fn replaced_front<C: CpuClock, D: Dialects>(
     count: usize,
 ) -> Run {
     let (op, value, other) = wide(ctx, ty, count)?;
-    let start = nanos_now(rt)?;
-    timed_from_front(ctx, op, other, count)?;
-    let end = nanos_now(rt)?;
-    wide_outcome(ctx, op, value, start, end)
+    let nanos = from_front_nanos(rt, ctx, op, other, count)?;
+    wide_outcome(ctx, op, value, nanos)
 }
 
 // Lets so many operands of an operation name a value, from the last on.
@@ -208,7 +249,20 @@ fn timed_from_back<D: Dialects>(
     Ok(())
 }
 
-/// The same, the last first.
+// How long that takes.
+fn from_back_nanos<C: CpuClock, D: Dialects>(
+    rt: &C,
+    ctx: &mut Context<D>,
+    op: Ptr<Operation<D>>,
+    value: Value<D>,
+    count: usize,
+) -> anyhow::Result<u64> {
+    let start = nanos_now(rt)?;
+    timed_from_back(ctx, op, value, count)?;
+    nanos_since(rt, start)
+}
+
+/// The N operands of one operation are replaced one by one, the last first.
 pub(crate) fn replaced_back<C: CpuClock, D: Dialects>(
     rt: &C,
     ctx: &mut Context<D>,
@@ -216,10 +270,8 @@ pub(crate) fn replaced_back<C: CpuClock, D: Dialects>(
     count: usize,
 ) -> Run {
     let (op, value, other) = wide(ctx, ty, count)?;
-    let start = nanos_now(rt)?;
-    timed_from_back(ctx, op, other, count)?;
-    let end = nanos_now(rt)?;
-    wide_outcome(ctx, op, value, start, end)
+    let nanos = from_back_nanos(rt, ctx, op, other, count)?;
+    wide_outcome(ctx, op, value, nanos)
 }
 
 // Lets the operands of an operation at these places name one value and the other in turn.
@@ -240,6 +292,20 @@ fn timed_in_order<D: Dialects>(
     Ok(())
 }
 
+// How long that takes.
+fn in_order_nanos<C: CpuClock, D: Dialects>(
+    rt: &C,
+    ctx: &mut Context<D>,
+    op: Ptr<Operation<D>>,
+    order: &[usize],
+    first: Value<D>,
+    second: Value<D>,
+) -> anyhow::Result<u64> {
+    let start = nanos_now(rt)?;
+    timed_in_order(ctx, op, order, first, second)?;
+    nanos_since(rt, start)
+}
+
 /// A random one of the N operands of one operation is replaced, N times.
 pub(crate) fn replaced_random<C: CpuClock, D: Dialects>(
     rt: &C,
@@ -249,8 +315,6 @@ pub(crate) fn replaced_random<C: CpuClock, D: Dialects>(
 ) -> Run {
     let (op, value, other) = wide(ctx, ty, count)?;
     let order = random_places(ctx.alloc(), count)?;
-    let start = nanos_now(rt)?;
-    timed_in_order(ctx, op, order.as_slice(), other, value)?;
-    let end = nanos_now(rt)?;
-    wide_outcome(ctx, op, value, start, end)
+    let nanos = in_order_nanos(rt, ctx, op, order.as_slice(), other, value)?;
+    wide_outcome(ctx, op, value, nanos)
 }

@@ -30,10 +30,16 @@ pub(crate) fn nanos_now<C: CpuClock>(rt: &C) -> anyhow::Result<u64> {
     Ok(u64::try_from(time.as_nanos()).unwrap_or(u64::MAX))
 }
 
-/// A run that began and ended at these nanoseconds, with so many units.
-pub(crate) fn run_of(start: u64, end: u64, units: usize, checksum: u64) -> Run {
+/// The nanoseconds of the thread since it had so many.
+pub(crate) fn nanos_since<C: CpuClock>(rt: &C, start: u64) -> anyhow::Result<u64> {
+    let end = nanos_now(rt)?;
+    Ok(end.saturating_sub(start))
+}
+
+/// A run whose timed part took so many nanoseconds, with so many units.
+pub(crate) fn run_of(nanos: u64, units: usize, checksum: u64) -> Run {
     let units = units as u64;
-    Ok((end.saturating_sub(start), Outcome { units, checksum }))
+    Ok((nanos, Outcome { units, checksum }))
 }
 
 // How many results an operation has where it is live, and else 0.
@@ -121,4 +127,14 @@ pub(crate) fn operand_sum<D: Dialects>(
         sum = operands_added(ctx, *op, value, sum)?;
     }
     Ok(sum)
+}
+
+/// Of each operand of each operation, whether it names the value, and how many uses that has.
+pub(crate) fn naming_sum<D: Dialects>(
+    ctx: &Context<D>,
+    ops: &[Ptr<Operation<D>>],
+    value: Value<D>,
+) -> Result<u64, CheckedErr> {
+    let sum = operand_sum(ctx, ops, value)?;
+    Ok(mix(sum, uses_of(ctx, value)?))
 }

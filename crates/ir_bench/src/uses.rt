@@ -1,9 +1,11 @@
 //! Uses of values: all of one value's come to name another, and many values with one use each.
 
-use crate::building::{add_op, add_users, copies, pair_block};
-use crate::outcome::{Run, block_sum, mix, nanos_now, operand_sum, run_of, uses_of};
+use crate::building::{add_op, copies, used_value, wide};
+use crate::outcome::{Run, block_sum, mix, nanos_now, nanos_since, operand_sum, run_of, uses_of};
 use ir_base::{Dialects, Ptr, TypeHandle};
-use ir_checked::{BasicBlock, CheckedErr, Context, Value, argument, new_block, replace_all_uses};
+use ir_checked::{
+    BasicBlock, CheckedErr, Context, Operation, Value, argument, new_block, replace_all_uses,
+};
 use std::time::CpuClock;
 
 // Lets all that names a value name another one.
@@ -35,8 +37,32 @@ fn redirected<C: CpuClock, D: Dialects>(
 ) -> anyhow::Result<u64> {
     let start = nanos_now(rt)?;
     timed_replacing(ctx, value, other)?;
-    let end = nanos_now(rt)?;
-    Ok(end.saturating_sub(start))
+    nanos_since(rt, start)
+}
+
+// Lets all uses of one value name another, and back. Tells how long both took, and how many uses the two had between.
+fn there_and_back<C: CpuClock, D: Dialects>(
+    rt: &C,
+    ctx: &mut Context<D>,
+    value: Value<D>,
+    other: Value<D>,
+) -> anyhow::Result<(u64, u64)> {
+    let forth = redirected(rt, ctx, value, other)?;
+    let between = both_uses(ctx, value, other)?;
+    let back = redirected(rt, ctx, other, value)?;
+    Ok((forth.saturating_add(back), between))
+}
+
+// What a value's uses come to that were elsewhere: what the operations name, and the uses of both values, then and now.
+fn returned_sum<D: Dialects>(
+    ctx: &Context<D>,
+    ops: &[Ptr<Operation<D>>],
+    value: Value<D>,
+    other: Value<D>,
+    between: u64,
+) -> Result<u64, CheckedErr> {
+    let sum = mix(operand_sum(ctx, ops, value)?, between);
+    Ok(mix(sum, both_uses(ctx, value, other)?))
 }
 
 /// N operations use one value; all these uses come to name another value, and back. The units are the 2 N uses.
@@ -46,22 +72,11 @@ pub(crate) fn replacing<C: CpuClock, D: Dialects>(
     ty: TypeHandle,
     count: usize,
 ) -> Run {
-    let block = pair_block(ctx, ty)?;
-    let value = argument(ctx, block, 0)?;
-    let other = argument(ctx, block, 1)?;
-    let mut made = Vec::with_capacity(ctx.alloc(), count)?;
-    add_users(ctx, block, value, count, &mut made)?;
-    let forth = redirected(rt, ctx, value, other)?;
-    let there = both_uses(ctx, value, other)?;
-    let back = redirected(rt, ctx, other, value)?;
-    let sum = mix(operand_sum(ctx, made.as_slice(), value)?, there);
-    let checksum = mix(sum, both_uses(ctx, value, other)?);
-    run_of(
-        0,
-        forth.saturating_add(back),
-        count.wrapping_mul(2),
-        checksum,
-    )
+    let used = used_value(ctx, ty, count)?;
+    let (nanos, between) = there_and_back(rt, ctx, used.value, used.other)?;
+    let users = used.users.as_slice();
+    let checksum = returned_sum(ctx, users, used.value, used.other, between)?;
+    run_of(nanos, count.wrapping_mul(2), checksum)
 }
 
 /// The same with all uses in one operation.
@@ -71,20 +86,10 @@ pub(crate) fn replacing_in_one<C: CpuClock, D: Dialects>(
     ty: TypeHandle,
     count: usize,
 ) -> Run {
-    let block = pair_block(ctx, ty)?;
-    let value = argument(ctx, block, 0)?;
-    let other = argument(ctx, block, 1)?;
-    let operands = copies(ctx.alloc(), value, count)?;
-    let op = add_op(ctx, block, 4, &[], operands.as_slice(), 0)?;
-    let forth = redirected(rt, ctx, value, other)?;
-    let back = redirected(rt, ctx, other, value)?;
+    let (op, value, other) = wide(ctx, ty, count)?;
+    let (nanos, _between) = there_and_back(rt, ctx, value, other)?;
     let checksum = operand_sum(ctx, &[op], value)?;
-    run_of(
-        0,
-        forth.saturating_add(back),
-        count.wrapping_mul(2),
-        checksum,
-    )
+    run_of(nanos, count.wrapping_mul(2), checksum)
 }
 
 // Makes an operation for each argument of a block with so many, at its back, that uses the argument.
@@ -102,6 +107,28 @@ fn timed_argument_users<D: Dialects>(
     Ok(())
 }
 
+// How long that takes.
+fn argument_users_nanos<C: CpuClock, D: Dialects>(
+    rt: &C,
+    ctx: &mut Context<D>,
+    block: Ptr<BasicBlock<D>>,
+    count: usize,
+) -> anyhow::Result<u64> {
+    let start = nanos_now(rt)?;
+    timed_argument_users(ctx, block, count)?;
+    nanos_since(rt, start)
+}
+
+// Makes an unlinked block with so many arguments of a type.
+fn wide_block<D: Dialects>(
+    ctx: &mut Context<D>,
+    ty: TypeHandle,
+    count: usize,
+) -> anyhow::Result<Ptr<BasicBlock<D>>> {
+    let types = copies(ctx.alloc(), ty, count)?;
+    Ok(new_block(ctx, None, types.as_slice())?)
+}
+
 /// Over a block of N arguments, an operation for each that uses it. The block's making isn't timed.
 pub(crate) fn argument_users<C: CpuClock, D: Dialects>(
     rt: &C,
@@ -109,10 +136,7 @@ pub(crate) fn argument_users<C: CpuClock, D: Dialects>(
     ty: TypeHandle,
     count: usize,
 ) -> Run {
-    let types = copies(ctx.alloc(), ty, count)?;
-    let block = new_block(ctx, None, types.as_slice())?;
-    let start = nanos_now(rt)?;
-    timed_argument_users(ctx, block, count)?;
-    let end = nanos_now(rt)?;
-    run_of(start, end, count, block_sum(ctx, block)?)
+    let block = wide_block(ctx, ty, count)?;
+    let nanos = argument_users_nanos(rt, ctx, block, count)?;
+    run_of(nanos, count, block_sum(ctx, block)?)
 }

@@ -1,11 +1,15 @@
-//! Tests of the edits of operands and successors, and of erasing, over the dialect Toy and through the calls whose conditions are tested.
+//! Tests of the edits of operands and successors, of successors that come to name other blocks, and of erasing, over the dialect Toy and through the calls whose conditions are tested.
 #![tactic(auto)]
 
+#[cfg(test)]
+mod block_calls;
 #[cfg(test)]
 mod calls;
 #[cfg(test)]
 mod erase_tests;
 #[cfg(test)]
 mod operand_tests;
+#[cfg(test)]
+mod retarget_tests;
 #[cfg(test)]
 mod successor_tests;

@@ -66,7 +66,7 @@ fn key(alloc: Global, name: &str) -> Result<DictKeyId, CoreError> {
 }
 
 // The text thrice.
-fn texts(alloc: Global) -> Result<Texts, CoreError> {
+fn make_texts(alloc: Global) -> Result<Texts, CoreError> {
     Ok(Texts {
         text: text(alloc)?,
         other_text: text(alloc)?,
@@ -105,7 +105,7 @@ impl Stores {
         let store = store_of_seven(alloc)?;
         Ok(Stores {
             alloc,
-            texts: texts(alloc)?,
+            texts: make_texts(alloc)?,
             identifier: owned(alloc, "abc")?,
             id: add_id(alloc)?,
             keys: keys_with_double(alloc)?,

@@ -1,5 +1,17 @@
-//! Tests of sessions under small limits, over the dialect Toy.
+//! Tests of sessions over the dialect Toy: random lists of edits beside a plain model, and runs under small limits.
 #![tactic(auto)]
 
 #[cfg(test)]
+mod list_tests;
+#[cfg(test)]
+mod lists;
+#[cfg(test)]
+mod model_tests;
+#[cfg(test)]
+mod random_lists;
+#[cfg(test)]
+mod seeds;
+#[cfg(test)]
 mod session_tests;
+#[cfg(test)]
+mod two_runs_tests;

@@ -1,4 +1,4 @@
-//! Tests of sessions over the dialect Toy, as tables: what each edit is answered and changes, and what refuses it.
+//! Tests of sessions over the dialect Toy, as tables: what each edit is answered and changes, what refuses it, and in which order slots and numbers are used again or spent.
 #![tactic(auto)]
 
 #[cfg(test)]
@@ -14,8 +14,12 @@ mod making_tests;
 #[cfg(test)]
 mod nest_tests;
 #[cfg(test)]
+mod room_tests;
+#[cfg(test)]
 mod row_tests;
 #[cfg(test)]
 mod sample_tests;
+#[cfg(test)]
+mod slot_tests;
 #[cfg(test)]
 mod use_tests;

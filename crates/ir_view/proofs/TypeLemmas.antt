@@ -17,7 +17,7 @@ use Rattle.ir_records.specs.declared.record.UsePlace.{UsePlace}
 use Rattle.ir_records.specs.declared.record.ValueIndex.{ValueIndex}
 use Rattle.ir_records.specs.Meaning.{closed, block_record, definition_of, op_record, operand_of, value_of}
 use Rattle.ir_walk.specs.Calls.{LeadsToLive}
-use Rattle.ir_walk.specs.Values.{HasType}
+use Rattle.ir_values.specs.Values.{HasType}
 use Rattle.ir_view.specs.Parts.{argument_types_of}
 use Rattle.ir_view.specs.Types.{operand_types_of, type_of}
 use Rattle.ir_view.proofs.Items.{all-mapped, zip-mapped}

@@ -8,4 +8,4 @@ pub use Rattle.ir_walk.specs.Places
 pub use Rattle.ir_walk.specs.Definitions
 pub use Rattle.ir_walk.specs.Entities
 pub use Rattle.ir_walk.specs.Dominance
-pub use Rattle.ir_walk.specs.Values
+pub use Rattle.ir_values.specs.Values

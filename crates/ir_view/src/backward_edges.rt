@@ -20,7 +20,7 @@ use crate::forward_edges::{names_block, tail};
 use ir_base::{ArenaIndex, CoreError, Dialects, Ptr};
 use ir_records::{EntityIndex, KeptUse, block_uses};
 use ir_tree::parent_of;
-use ir_walk::{BasicBlock, BlockIndex, Context, OperationPtr};
+use ir_values::{BasicBlock, BlockIndex, Context, OperationPtr};
 
 // The kept uses of a live block.
 fn kept_uses<D: Dialects>(ctx: &Context<D>, block: Ptr<BasicBlock<D>>) -> &[KeptUse]

@@ -8,7 +8,7 @@ ghost use Rattle.ir_view.specs.Parts.{argument_types_of, arguments_of, WhereBloc
 
 use crate::indexed::{HasParts, Parts};
 use ir_base::{Dialects, TypeHandle};
-use ir_walk::{BasicBlock, Value, ValueIndex};
+use ir_values::{BasicBlock, Value, ValueIndex};
 
 /// The arguments of a block, in order.
 pub type Arguments<'a, D> = Parts<ValueIndex, ArgumentsOf<'a, D>>;

@@ -12,7 +12,7 @@ ghost use Rattle.ir_view.specs.Parts.{successors_of};
 use crate::operation_parts::OperationParts;
 use ir_base::interfaces::TERMINATOR;
 use ir_base::{CoreError, Dialects, Ptr};
-use ir_walk::{BasicBlock, Context, Operation, OperationPtr};
+use ir_values::{BasicBlock, Context, Operation, OperationPtr};
 use std::alloc::Global;
 
 // The last operation of a live block.

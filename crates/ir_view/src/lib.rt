@@ -16,15 +16,17 @@ pub use backward_edges::BlockPredecessors;
 pub use block_parts::{ArgumentTypes, ArgumentTypesOf, Arguments, ArgumentsOf, BlockParts};
 pub use forward_edges::BlockSuccessors;
 pub use indexed::{HasParts, Parts};
-pub use ir_walk::{
+pub use ir_values::{
     AddRegion, ArgumentEdits, BasicBlock, BasicBlockMut, BlockContainer, BlockIndex, BlockList,
-    BlockPlace, BlockPtr, BlockPtrMut, BlockUseQueries, BlockUses, Context, DanglingPtrDerefError,
-    Definer, DefiningEntity, DropUses, Entity, Erase, EraseRegion, IndexErr, Needs, NewBlock,
-    NewOperation, OperandEdits, Operation, OperationContainer, OperationList, OperationMut,
-    OperationPlace, OperationPtr, OperationPtrMut, OperationUses, Region, RegionMoves, RegionPlace,
-    RegionPtr, ResultEdits, ResultUses, Retarget, SuccessorEdits, TypeQueries, Use, UseError,
-    UseIndex, UseQueries, Value, ValueEdits, ValueError, ValueIndex, ValuePlace, ValueQueries,
-    can_erase, is_inside,
+    BlockPtr, BlockPtrMut, BlockUseQueries, BlockUses, Context, DanglingPtrDerefError, Definer,
+    DefiningEntity, DropUses, Erase, EraseRegion, IndexErr, Needs, NewBlock, NewOperation,
+    OperandEdits, Operation, OperationContainer, OperationList, OperationMut, OperationPtr,
+    OperationPtrMut, OperationUses, Region, RegionMoves, RegionPtr, ResultEdits, ResultUses,
+    Retarget, SuccessorEdits, TypeQueries, Use, UseError, UseIndex, UseQueries, Value, ValueEdits,
+    ValueError, ValueIndex, ValueQueries,
+};
+pub use ir_walk::{
+    BlockPlace, Entity, OperationPlace, RegionPlace, ValuePlace, can_erase, is_inside,
 };
 pub use op_queries::OperationKind;
 pub use operation_parts::{

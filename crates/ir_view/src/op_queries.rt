@@ -10,7 +10,7 @@ ghost use Rattle.ir_view.specs.Wrapped.{kind_in, operation_in};
 
 use crate::wrappers::{Op, OpObj};
 use ir_base::{CoreError, Dialects, OpId, Ptr};
-use ir_walk::{Context, Operation, OperationPtr};
+use ir_values::{Context, Operation, OperationPtr};
 
 /// What can be asked of the handle of a live operation about its kind. It stands for pliron's calls of `Operation`.
 pub trait OperationKind<D: Dialects> {

@@ -7,12 +7,12 @@ ghost use Rattle.ir_model.specs.Nesting.{IsLive, IsLiveNamed};
 ghost use Rattle.ir_records.specs.Meaning.{op_record, use_of, value_of};
 ghost use Rattle.ir_records.specs.Values.{IsLiveBlockUse, IsLiveUse};
 ghost use Rattle.ir_walk.specs.State.{forest_of, types_of};
-ghost use Rattle.ir_walk.specs.Values.{HasType};
+ghost use Rattle.ir_values.specs.Values.{HasType};
 ghost use Rattle.ir_view.specs.Parts.{operand_uses_of, result_types_of, results_of, successor_uses_of, successors_of, WhereLive};
 
 use crate::indexed::{HasParts, Parts};
 use ir_base::{ArenaIndex, Dialects, Ptr, TypeHandle};
-use ir_walk::{
+use ir_values::{
     BasicBlock, Context, Operation, Region, Use, UseIndex, Value, ValueIndex, ValueQueries,
 };
 

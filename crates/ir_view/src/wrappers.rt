@@ -11,7 +11,7 @@ ghost use Rattle.ir_view.specs.Wrapped.{kind_in, operation_in};
 
 use ir_base::interfaces::OpInterfaceMarker;
 use ir_base::{CoreError, Dialects, OpId, Ptr};
-use ir_walk::{Context, Operation, OperationPtr};
+use ir_values::{Context, Operation, OperationPtr};
 use std::alloc::Global;
 use std::cmp::PartialEq;
 use std::hash::Hash;

@@ -3,9 +3,8 @@ pub mod Dominance
 pub mod Entities
 pub mod Neighbours
 pub mod Shallow
-pub use Rattle.ir_values.specs.State
-pub use Rattle.ir_values.specs.Calls
-pub use Rattle.ir_values.specs.Named
-pub use Rattle.ir_values.specs.Places
-pub use Rattle.ir_values.specs.Definitions
-pub use Rattle.ir_values.specs.Values
+pub use Rattle.ir_core.specs.State
+pub use Rattle.ir_core.specs.Calls
+pub use Rattle.ir_core.specs.Named
+pub use Rattle.ir_core.specs.Places
+pub use Rattle.ir_core.specs.Definitions

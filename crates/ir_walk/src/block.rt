@@ -5,14 +5,14 @@ ghost use Rattle.std.specs.Option.{option_map};
 ghost use Rattle.ir_model.specs.Forest.{a_block, a_region, an_op};
 ghost use Rattle.ir_model.specs.Nesting.{IsLinked, IsLive, ops_of};
 ghost use Rattle.ir_model.specs.Parent.{first_of, IsNext, IsParent, IsPrevious, last_of};
-ghost use Rattle.ir_values.specs.State.{forest_of};
+ghost use Rattle.ir_core.specs.State.{forest_of};
 ghost use Rattle.ir_walk.specs.Above.{IsAbove};
 
 use crate::entity::is_linked;
 use crate::links::{block, handle};
 use ir_base::{Dialects, Iter, Ptr, linked_list};
+use ir_core::{Context, RegionPtr};
 use ir_records::{BasicBlock, EntityIndex, Operation, Region};
-use ir_values::{Context, RegionPtr};
 
 /// Where a block stands, and the list of its operations. It stands for pliron's calls of `BasicBlock`, and of `LinkedList` and `ContainsLinkedList` on `Ptr<BasicBlock>`.
 pub trait BlockPlace<D: Dialects> {

@@ -6,14 +6,14 @@ ghost use Rattle.ir_model.specs.Nesting.{children, Inside, IsClosed, IsLinked, I
 ghost use Rattle.ir_records.specs.Meaning.{entity_of, forest_of as forest_in};
 ghost use Rattle.ir_records.specs.Nested.{AreNested};
 ghost use Rattle.ir_records.specs.Tree.{tree_of};
-ghost use Rattle.ir_values.specs.State.{forest_of};
+ghost use Rattle.ir_core.specs.State.{forest_of};
 ghost use Rattle.ir_walk.specs.Entities.{meant};
 ghost use Rattle.ir_walk.specs.Shallow.{IsAt, IsShallow};
 
 use ir_base::{ArenaIndex, Dialects, Ptr};
+use ir_core::Context;
 use ir_records::{BasicBlock, EntityIndex, Operation, Records, Region};
 use ir_tree::{are_one, parent_of};
-use ir_values::Context;
 
 /// An operation, a block or a region, as a handle.
 #[derive_where(Clone, Copy, PartialEq, Eq, Hash)]

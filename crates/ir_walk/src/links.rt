@@ -5,14 +5,14 @@ ghost use Rattle.std.specs.Option.{option_map};
 ghost use Rattle.ir_model.specs.Forest.{a_block, a_region, an_op};
 ghost use Rattle.ir_model.specs.Nesting.{blocks_of, IsLive, ops_of};
 ghost use Rattle.ir_records.specs.Tree.{block_ends, block_links, op_links, region_ends};
-ghost use Rattle.ir_values.specs.State.{forest_of};
+ghost use Rattle.ir_core.specs.State.{forest_of};
 ghost use Rattle.ir_walk.specs.Neighbours.{EndsTell, LinksTell};
 
 use ir_arena::Link;
 use ir_base::list_laws::links_are_neighbours;
 use ir_base::{Dialects, Ptr};
+use ir_core::Context;
 use ir_records::{BasicBlock, Operation, Region};
-use ir_values::Context;
 
 // The handle of what a link names.
 pub(crate) fn handle<T>(link: Link) -> Option<Ptr<T>>

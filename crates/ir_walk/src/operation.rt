@@ -5,15 +5,15 @@ ghost use Rattle.std.specs.Option.{option_map};
 ghost use Rattle.ir_model.specs.Forest.{a_block, a_region, an_op};
 ghost use Rattle.ir_model.specs.Nesting.{IsLinked, IsLive};
 ghost use Rattle.ir_model.specs.Parent.{IsNext, IsParent, IsPrevious};
-ghost use Rattle.ir_values.specs.State.{forest_of};
+ghost use Rattle.ir_core.specs.State.{forest_of};
 ghost use Rattle.ir_walk.specs.Above.{IsAbove};
 
 use crate::block::BlockPlace;
 use crate::entity::is_linked;
 use crate::links::{handle, operation};
 use ir_base::{Dialects, Ptr};
+use ir_core::Context;
 use ir_records::{BasicBlock, EntityIndex, Operation, Region};
-use ir_values::Context;
 
 /// Where an operation stands. It stands for pliron's calls of `Operation` and of `LinkedList` on `Ptr<Operation>`.
 pub trait OperationPlace<D: Dialects> {

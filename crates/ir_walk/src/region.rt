@@ -7,7 +7,7 @@ ghost use Rattle.ir_model.specs.Kinds.{IsDominance};
 ghost use Rattle.ir_model.specs.Nesting.{blocks_of, In, IsLive};
 ghost use Rattle.ir_model.specs.ContextIds.{same_id};
 ghost use Rattle.ir_model.specs.Parent.{first_of, IsIndex, last_of};
-ghost use Rattle.ir_values.specs.State.{behaviour, forest_of};
+ghost use Rattle.ir_core.specs.State.{behaviour, forest_of};
 ghost use Rattle.ir_walk.specs.Above.{IsAbove};
 ghost use Rattle.ir_walk.specs.Dominance.{kinds};
 
@@ -15,8 +15,8 @@ use crate::links::{handle, region};
 use crate::operation::OperationPlace;
 use ir_base::interfaces::REGION_KIND;
 use ir_base::{ArenaIndex, Dialects, Iter, Ptr, linked_list};
+use ir_core::{Context, OperationPtr, RegionPtr};
 use ir_records::{BasicBlock, Region};
-use ir_values::{Context, OperationPtr, RegionPtr};
 
 // Where an item stands first in a list, if it stands there.
 fn find_item(items: &[ArenaIndex], item: ArenaIndex) -> Option<usize>

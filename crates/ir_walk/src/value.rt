@@ -6,13 +6,13 @@ ghost use Rattle.ir_model.specs.Forest.{a_block, a_region, a_value};
 ghost use Rattle.ir_model.specs.Nesting.{IsLive, IsLiveNamed};
 ghost use Rattle.ir_model.specs.ValueParents.{IsParentBlock, IsParentRegion};
 ghost use Rattle.ir_records.specs.Meaning.{value_of};
-ghost use Rattle.ir_values.specs.State.{forest_of};
+ghost use Rattle.ir_core.specs.State.{forest_of};
 
 use crate::block::BlockPlace;
 use crate::operation::OperationPlace;
 use ir_base::{Dialects, Ptr};
+use ir_core::Context;
 use ir_records::{BasicBlock, DefiningEntity, Region, Value};
-use ir_values::Context;
 
 /// Where a value stands. It stands for pliron's calls of `Value`.
 pub trait ValuePlace<D: Dialects> {

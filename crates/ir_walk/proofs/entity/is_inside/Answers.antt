@@ -1,6 +1,6 @@
 use Rattle.std.proofs.Common.{◌≡◌, ◌↔◌, true}
 use Rattle.ir_model.specs.Nesting.{children}
-use Rattle.ir_values.specs.State.{forest_of}
+use Rattle.ir_core.specs.State.{forest_of}
 use Rattle.ir_walk.specs.Entities.{meant}
 use Rattle.ir_walk.specs.Shallow.{IsAt, IsShallow}
 use Rattle.ir_walk.proofs.Shallow.{at_top, at-within}

@@ -1,6 +1,6 @@
 use Rattle.std.proofs.Common.{Some}
 use Rattle.ir_model.specs.Forest.{a_block, a_region, an_op}
-use Rattle.ir_values.specs.State.{forest_of}
+use Rattle.ir_core.specs.State.{forest_of}
 use Rattle.ir_walk.proofs.Above.{above-one, above-parent}
 use Rattle.ir_walk.proofs.block.PtrBasicBlockBlockPlace.get_parent_op.Goals as goal
 

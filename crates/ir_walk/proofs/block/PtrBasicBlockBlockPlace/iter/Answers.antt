@@ -2,7 +2,7 @@ use Rattle.std.proofs.Common.{◌≡◌, All, refl, sym, ◌∙◌, subst}
 use Rattle.ir_model.specs.Forest.{an_op, a_block}
 use Rattle.ir_model.specs.Nesting.{IsLive, ops_of}
 use Rattle.ir_records.specs.Tree.{tree_of, ops_in}
-use Rattle.ir_values.specs.State.{forest_of}
+use Rattle.ir_core.specs.State.{forest_of}
 use Rattle.ir_walk.proofs.Listed.{ops-meant}
 use Rattle.ir_walk.proofs.Neighbours.{all-of, each-live}
 use Rattle.ir_walk.proofs.block.PtrBasicBlockBlockPlace.iter.Goals as goal

@@ -1,7 +1,7 @@
 use Rattle.ir_model.specs.Forest.{a_block, an_op}
 use Rattle.ir_model.specs.Nesting.{IsLive}
 use Rattle.ir_model.specs.Parent.{IsParent}
-use Rattle.ir_values.specs.State.{forest_of}
+use Rattle.ir_core.specs.State.{forest_of}
 use Rattle.ir_walk.proofs.Handles.{live-of, told-of}
 use Rattle.ir_walk.proofs.operation.PtrOperationOperationPlace.get_parent_block.Goals as goal
 

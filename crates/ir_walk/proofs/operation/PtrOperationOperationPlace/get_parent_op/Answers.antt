@@ -1,7 +1,7 @@
 use Rattle.std.proofs.Common.{◌≡◌, None, rules}
 use Rattle.std.specs.Option.{option_map}
 use Rattle.ir_model.specs.Forest.{a_block, an_op}
-use Rattle.ir_values.specs.State.{forest_of}
+use Rattle.ir_core.specs.State.{forest_of}
 use Rattle.ir_walk.proofs.Above.{above-none, above-parent}
 use Rattle.ir_walk.proofs.operation.PtrOperationOperationPlace.get_parent_op.Goals as goal
 

@@ -2,7 +2,7 @@ use Rattle.std.proofs.Common.{◌≡◌, List, Option, Some, ap, ◌∙◌, sym,
 use Rattle.std.specs.Option.{option_map}
 use Rattle.ir_model.specs.declared.ids.ArenaIndex.{ArenaIndex}
 use Rattle.ir_model.specs.Nesting.{In, regions_of}
-use Rattle.ir_values.specs.State.{forest_of}
+use Rattle.ir_core.specs.State.{forest_of}
 use Rattle.ir_walk.proofs.Places.{index-of, region-in, regions-read}
 use Rattle.ir_walk.proofs.region.PtrRegionRegionPlace.find_index_in_parent.Goals as goal
 

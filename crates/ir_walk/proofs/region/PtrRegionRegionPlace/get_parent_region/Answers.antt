@@ -1,6 +1,6 @@
 use Rattle.std.specs.Option.{option_map}
 use Rattle.ir_model.specs.Forest.{a_region, an_op}
-use Rattle.ir_values.specs.State.{forest_of}
+use Rattle.ir_core.specs.State.{forest_of}
 use Rattle.ir_walk.proofs.Above.{above-parent}
 use Rattle.ir_walk.proofs.region.PtrRegionRegionPlace.get_parent_region.Goals as goal
 

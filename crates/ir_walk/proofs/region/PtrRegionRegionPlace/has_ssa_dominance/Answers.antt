@@ -1,6 +1,6 @@
 use Rattle.std.proofs.Common.{refl, sym, ◌∙◌, true}
 use Rattle.ir_records.specs.Meaning.{op_record}
-use Rattle.ir_values.specs.State.{behaviour, forest_of}
+use Rattle.ir_core.specs.State.{behaviour, forest_of}
 use Rattle.ir_walk.specs.Dominance.{kinds}
 use Rattle.ir_walk.proofs.Dominance.{dominance-asked, dominance-plain}
 use Rattle.ir_walk.proofs.region.PtrRegionRegionPlace.has_ssa_dominance.Goals as goal

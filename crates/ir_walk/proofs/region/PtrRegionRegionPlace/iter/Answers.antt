@@ -2,7 +2,7 @@ use Rattle.std.proofs.Common.{◌≡◌, All, refl, sym, ◌∙◌, subst}
 use Rattle.ir_model.specs.Forest.{a_block, a_region}
 use Rattle.ir_model.specs.Nesting.{IsLive, blocks_of}
 use Rattle.ir_records.specs.Tree.{tree_of, blocks_in}
-use Rattle.ir_values.specs.State.{forest_of}
+use Rattle.ir_core.specs.State.{forest_of}
 use Rattle.ir_walk.proofs.Listed.{blocks-meant}
 use Rattle.ir_walk.proofs.Neighbours.{all-of, each-live}
 use Rattle.ir_walk.proofs.region.PtrRegionRegionPlace.iter.Goals as goal

@@ -3,7 +3,7 @@ use Rattle.std.specs.Option.{option_map}
 use Rattle.ir_model.specs.Forest.{a_block, a_region}
 use Rattle.ir_model.proofs.Queries.{parents_of_values}
 use Rattle.ir_records.specs.Meaning.{value_of}
-use Rattle.ir_values.specs.State.{forest_of, types_of}
+use Rattle.ir_core.specs.State.{forest_of, types_of}
 use Rattle.ir_walk.proofs.Handles.{plain-of}
 use Rattle.ir_walk.proofs.value.ValueValuePlace.get_parent_region.Goals as goal
 

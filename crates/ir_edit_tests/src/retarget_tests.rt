@@ -1,9 +1,10 @@
 //! One successor, those that a predicate chooses, and all successors that name a block come to name another.
 
-use crate::calls::{
-    branch, expect_condition, expect_preds_of_both, expect_successor, expect_successors,
-    expect_use, retarget_from, retarget_from_named, two_blocks, use_at,
+use crate::block_calls::{
+    branch, expect_preds_of_both, expect_successor, expect_successors, expect_use_of,
+    retarget_from, retarget_from_named, two_blocks,
 };
+use crate::calls::{expect_condition, successor_use};
 use ir_base::{Dialects, Ptr};
 use ir_checked::{
     BasicBlock, CheckedErr, Context, Operation, Use, end, erase_op, new_block, retarget_all,
@@ -19,7 +20,7 @@ fn move_second<D: Dialects>(
     op: Ptr<Operation<D>>,
     block: Ptr<BasicBlock<D>>,
 ) -> Result<Use<Ptr<BasicBlock<D>>>, CheckedErr> {
-    let used = use_at(ctx, op, 1)?;
+    let used = successor_use(ctx, op, 1)?;
     retarget_pred(ctx, used, block)?;
     Ok(used)
 }
@@ -31,7 +32,7 @@ fn one_successor<D: Dialects>(rt: &impl Abort, ctx: &mut Context<D>) -> Result<(
     let used = move_second(ctx, op, other)?;
     expect_successors(rt, ctx, op, [target, other])?;
     expect_preds_of_both(rt, ctx, [target, other], [1, 1])?;
-    expect_use(rt, ctx, used, 1, other);
+    expect_use_of(rt, ctx, used, 1, other);
     Ok(())
 }
 
@@ -108,7 +109,7 @@ fn move_until_erased<D: Dialects>(
     [target, other]: [Ptr<BasicBlock<D>>; 2],
 ) -> Result<(), CheckedErr> {
     retarget_pred(ctx, used, other)?;
-    expect_use(rt, ctx, used, 0, other);
+    expect_use_of(rt, ctx, used, 0, other);
     erase_op(ctx, op)?;
     expect_condition(rt, retarget_pred(ctx, used, target));
     Ok(())
@@ -121,7 +122,7 @@ fn users_without_block<D: Dialects>(
 ) -> Result<(), CheckedErr> {
     let [target, other] = two_blocks(ctx)?;
     let op = branch(ctx, other, &[target])?;
-    let used = use_at(ctx, op, 0)?;
+    let used = successor_use(ctx, op, 0)?;
     unlink_op(ctx, op)?;
     expect_none_moves(rt, ctx, target, other);
     move_until_erased(rt, ctx, op, used, [target, other])

@@ -1,4 +1,4 @@
-//! What the tests make, move and expect, each with the condition of its call tested.
+//! What the tests of blocks that are named make, move and expect, each with the condition of its call tested.
 
 use ir_base::{Dialects, Ptr};
 use ir_checked::{
@@ -26,21 +26,6 @@ pub(crate) fn branch<D: Dialects>(
     let op = new_op(ctx, 3, &[], &[], to, 0)?;
     op_at_back(ctx, op, from)?;
     Ok(op)
-}
-
-/// The use of the operation's successor at the index.
-pub(crate) fn use_at<D: Dialects>(
-    ctx: &Context<D>,
-    op: Ptr<Operation<D>>,
-    index: usize,
-) -> Result<Use<Ptr<BasicBlock<D>>>, CheckedErr> {
-    let Ok(record) = op.try_deref(ctx) else {
-        return Err(CheckedErr::Condition);
-    };
-    if index >= record.get_num_successors() {
-        return Err(CheckedErr::Condition);
-    }
-    Ok(record.get_successor_as_use(index))
 }
 
 /// Lets the successors of those operations name the other block that name the one and stand in the chosen block.
@@ -133,7 +118,7 @@ pub(crate) fn expect_preds_of_both<D: Dialects>(
 }
 
 /// Asserts at which index the use is found, and what it names.
-pub(crate) fn expect_use<D: Dialects>(
+pub(crate) fn expect_use_of<D: Dialects>(
     rt: &impl Abort,
     ctx: &Context<D>,
     used: Use<Ptr<BasicBlock<D>>>,
@@ -142,9 +127,4 @@ pub(crate) fn expect_use<D: Dialects>(
 ) {
     assert!(rt; used.try_find_index(ctx) == Ok(index));
     assert!(rt; used.get_def(ctx) == block);
-}
-
-/// Asserts that the call was refused because its condition doesn't hold.
-pub(crate) fn expect_condition(rt: &impl Abort, answer: Result<(), CheckedErr>) {
-    assert!(rt; matches!(answer, Err(CheckedErr::Condition)));
 }
