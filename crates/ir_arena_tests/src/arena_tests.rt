@@ -11,6 +11,7 @@ use ir_arena::arena_laws::{
 use ir_arena::{Arena, ArenaIndex, CoreError, Ptr, Room, Seq};
 use std::alloc::Global;
 use std::hash::{BuildHasher, BuildHasherDefault, FoldHasher};
+use std::process::Abort;
 use std::test::Fail;
 
 /// A record that owns memory and knows its own place.
@@ -157,41 +158,104 @@ fn is_gone(roots: &mut Arena<Root>, root: Ptr<Root>) -> bool {
     !roots.is_live(root) && roots.get(root).is_none() && roots.get_mut(root).is_none()
 }
 
+// Asserts that nothing is left of the handles.
+fn expect_gone(rt: &impl Abort, roots: &mut Arena<Root>, passed: &[Ptr<Root>]) {
+    for root in passed {
+        assert!(rt; is_gone(roots, *root));
+    }
+}
+
+// Asserts that each root was there to be removed.
+fn expect_freed(rt: &impl Abort, roots: &mut Arena<Root>, made: &[Ptr<Root>]) {
+    for root in made {
+        assert!(rt; free(roots, *root));
+    }
+}
+
+// Makes the only root and frees it. Asserts how much room there is after the one and after the other.
+fn make_and_free(
+    rt: &impl Abort,
+    roots: &mut Arena<Root>,
+    after_making: u32,
+    after_removing: u32,
+) -> Result<Ptr<Root>, CoreError> {
+    let root = make(roots)?;
+    assert_eq!(rt; room_and_len(roots), (after_making, 1));
+    assert!(rt; free(roots, root));
+    assert_eq!(rt; room_and_len(roots), (after_removing, 0));
+    Ok(root)
+}
+
+// Makes and frees a root three times, and gives the handles.
+fn make_and_free_thrice(
+    rt: &impl Abort,
+    alloc: Global,
+    roots: &mut Arena<Root>,
+) -> Result<Vec<Ptr<Root>>, CoreError> {
+    let mut passed = Vec::new(alloc);
+    for (after_making, after_removing) in [(1, 2), (1, 1), (0, 1)] {
+        let root = make_and_free(rt, roots, after_making, after_removing)?;
+        passed.push(root)?;
+    }
+    Ok(passed)
+}
+
 #[test]
 fn room_follows_each_change(rt: HostRuntime) -> Result<(), Fail> {
     let mut roots = Arena::new(rt.alloc(), 2, 3);
-    let mut passed = Vec::new(rt.alloc());
     assert!(rt; roots.is_empty());
     assert_eq!(rt; room_and_len(&roots), (2, 0));
-    for (after_making, after_removing) in [(1, 2), (1, 1), (0, 1)] {
-        let root = make(&mut roots)?;
-        assert_eq!(rt; room_and_len(&roots), (after_making, 1));
-        assert!(rt; free(&mut roots, root));
-        assert_eq!(rt; room_and_len(&roots), (after_removing, 0));
-        passed.push(root)?;
+    let passed = make_and_free_thrice(&rt, rt.alloc(), &mut roots)?;
+    expect_gone(&rt, &mut roots, &passed);
+    Ok(())
+}
+
+// Asserts that a root can be made and freed so many times, and no more.
+fn expect_times(
+    rt: &impl Abort,
+    roots: &mut Arena<Root>,
+    last_version: u32,
+    times: u32,
+) -> Result<(), CoreError> {
+    for _ in 0..times {
+        let root = make(roots)?;
+        assert!(rt; free(roots, root));
     }
-    for root in &passed {
-        assert!(rt; is_gone(&mut roots, *root));
-    }
+    assert_eq!(rt;
+        make_at(roots),
+        Err(CoreError::SlotsSpent),
+        "last version {last_version}"
+    );
     Ok(())
 }
 
 #[test]
 fn a_slot_ends_with_its_last_version(rt: HostRuntime) -> Result<(), Fail> {
-    for (last_version, times) in [(1, 1), (2, 1), (3, 2), (4, 2), (5, 3)] {
-        let mut roots = Arena::new(rt.alloc(), 1, last_version);
-        for _ in 0..times {
-            let root = make(&mut roots)?;
-            assert!(rt; free(&mut roots, root));
-        }
-        assert_eq!(rt;
-            make_at(&mut roots),
-            Err(CoreError::SlotsSpent),
-            "last version {last_version}"
-        );
+    for (slots, last_version, times) in [
+        (1, 1, 1),
+        (1, 2, 1),
+        (1, 3, 2),
+        (1, 4, 2),
+        (1, 5, 3),
+        (0, 1, 0),
+    ] {
+        let mut roots = Arena::new(rt.alloc(), slots, last_version);
+        expect_times(&rt, &mut roots, last_version, times)?;
     }
-    let mut none = Arena::new(rt.alloc(), 0, 1);
-    assert_eq!(rt; make_at(&mut none), Err(CoreError::SlotsSpent));
+    Ok(())
+}
+
+// Makes a root, which is to be at this place, frees it and keeps its handle.
+fn pass_place(
+    rt: &impl Abort,
+    roots: &mut Arena<Root>,
+    passed: &mut Vec<Ptr<Root>>,
+    place: ArenaIndex,
+) -> Result<(), CoreError> {
+    let root = make(roots)?;
+    assert_eq!(rt; root.index(), place);
+    assert!(rt; free(roots, root));
+    passed.push(root)?;
     Ok(())
 }
 
@@ -200,14 +264,30 @@ fn versions_go_up_by_two(rt: HostRuntime) -> Result<(), Fail> {
     let mut roots = Arena::new(rt.alloc(), 1, u32::MAX);
     let mut passed = Vec::new(rt.alloc());
     for k in 0..1000u32 {
-        let root = make(&mut roots)?;
         let version = 2 * k + 1;
-        assert_eq!(rt; root.index(), ArenaIndex { slot: 1, version });
-        assert!(rt; free(&mut roots, root));
-        passed.push(root)?;
+        pass_place(
+            &rt,
+            &mut roots,
+            &mut passed,
+            ArenaIndex { slot: 1, version },
+        )?;
     }
-    for root in &passed {
-        assert!(rt; is_gone(&mut roots, *root));
+    expect_gone(&rt, &mut roots, &passed);
+    Ok(())
+}
+
+// Three roots, one after the other.
+fn make_three(roots: &mut Arena<Root>) -> Result<[Ptr<Root>; 3], CoreError> {
+    let a = make(roots)?;
+    let b = make(roots)?;
+    let c = make(roots)?;
+    Ok([a, b, c])
+}
+
+// Asserts that the next three roots are in the third slot, in the first and in the fourth.
+fn expect_order_of_slots(rt: &impl Abort, roots: &mut Arena<Root>) -> Result<(), CoreError> {
+    for (slot, version) in [(3, 3), (1, 3), (4, 1)] {
+        assert_eq!(rt; make_at(roots)?, ArenaIndex { slot, version });
     }
     Ok(())
 }
@@ -215,42 +295,45 @@ fn versions_go_up_by_two(rt: HostRuntime) -> Result<(), Fail> {
 #[test]
 fn the_slot_freed_last_is_used_first(rt: HostRuntime) -> Result<(), Fail> {
     let mut roots = Arena::new(rt.alloc(), 9, 9);
-    let a = make(&mut roots)?;
-    let b = make(&mut roots)?;
-    let c = make(&mut roots)?;
-    assert!(rt; free(&mut roots, a));
-    assert!(rt; free(&mut roots, c));
-    for (slot, version) in [(3, 3), (1, 3), (4, 1)] {
-        assert_eq!(rt; make_at(&mut roots)?, ArenaIndex { slot, version });
-    }
+    let [a, b, c] = make_three(&mut roots)?;
+    expect_freed(&rt, &mut roots, &[a, c]);
+    expect_order_of_slots(&rt, &mut roots)?;
     assert!(rt; roots.is_live(b));
     Ok(())
 }
 
-#[test]
-fn freed_slots_need_no_memory(rt: HostRuntime) -> Result<(), Fail> {
-    let mut roots = Arena::new(rt.alloc(), 1000, 9);
-    let mut passed = Vec::new(rt.alloc());
+// A thousand roots, one after the other.
+fn make_thousand(alloc: Global, roots: &mut Arena<Root>) -> Result<Vec<Ptr<Root>>, CoreError> {
+    let mut made = Vec::new(alloc);
     for _ in 0..1000u32 {
-        passed.push(make(&mut roots)?)?;
+        made.push(make(roots)?)?;
     }
-    for root in &passed {
-        assert!(rt; free(&mut roots, *root));
-    }
+    Ok(made)
+}
+
+// Asserts that a thousand freed slots are used again, the last one first, which is never refused.
+fn expect_used_again(rt: &impl Abort, roots: &mut Arena<Root>) {
     for k in 0..1000u32 {
         let place = ArenaIndex {
             slot: 1000 - k,
             version: 3,
         };
-        assert_eq!(rt; make_at(&mut roots), Ok(place));
+        assert_eq!(rt; make_at(roots), Ok(place));
     }
+}
+
+#[test]
+fn freed_slots_need_no_memory(rt: HostRuntime) -> Result<(), Fail> {
+    let mut roots = Arena::new(rt.alloc(), 1000, 9);
+    let made = make_thousand(rt.alloc(), &mut roots)?;
+    expect_freed(&rt, &mut roots, &made);
+    expect_used_again(&rt, &mut roots);
     assert_eq!(rt; room_and_len(&roots), (0, 1000));
     Ok(())
 }
 
-#[test]
-fn a_refused_record_is_not_made(rt: HostRuntime) -> Result<(), Fail> {
-    let mut roots = Arena::new(rt.alloc(), 0, 9);
+// Stores a root that names nothing, and says how often it was made.
+fn make_counted(roots: &mut Arena<Root>) -> (u32, Result<Ptr<Root>, CoreError>) {
     let mut made = 0u32;
     let answer = roots.insert_with(|_| {
         made = made.saturating_add(1);
@@ -259,6 +342,13 @@ fn a_refused_record_is_not_made(rt: HostRuntime) -> Result<(), Fail> {
             count: 0,
         }
     });
+    (made, answer)
+}
+
+#[test]
+fn a_refused_record_is_not_made(rt: HostRuntime) -> Result<(), Fail> {
+    let mut roots = Arena::new(rt.alloc(), 0, 9);
+    let (made, answer) = make_counted(&mut roots);
     assert!(rt; answer == Err(CoreError::SlotsSpent));
     assert_eq!(rt; made, 0);
     Ok(())
@@ -269,14 +359,7 @@ fn a_refused_record_is_not_made(rt: HostRuntime) -> Result<(), Fail> {
 fn a_record_is_made_where_it_is_stored(rt: HostRuntime) -> Result<(), Fail> {
     let mut roots = Arena::new(rt.alloc(), 40, 9);
     for _ in 0..40u32 {
-        let mut made = 0u32;
-        let answer = roots.insert_with(|_| {
-            made = made.saturating_add(1);
-            Root {
-                first: None,
-                count: 0,
-            }
-        });
+        let (made, answer) = make_counted(&mut roots);
         assert_eq!(rt; made == 1, answer.is_ok());
         assert_eq!(rt; made == 0, answer.is_err());
         answer?;
@@ -309,17 +392,30 @@ fn places_print_with_their_versions(rt: HostRuntime) -> Result<(), Fail> {
     Ok(())
 }
 
+// Asserts that memory was refused for a root at this place, that nothing was stored, and that the next call stores it.
+fn expect_refused(
+    rt: &impl Abort,
+    roots: &mut Arena<Root>,
+    answer: Result<ArenaIndex, CoreError>,
+    place: ArenaIndex,
+    before: (u32, usize),
+) -> Result<(), CoreError> {
+    assert_eq!(rt; answer, Err(CoreError::OutOfMemory));
+    assert_eq!(rt; room_and_len(roots), before);
+    assert!(rt; !roots.is_live(Ptr::from_index(place)));
+    assert_eq!(rt; make_at(roots)?, place);
+    Ok(())
+}
+
 #[test]
 fn refused_insertion_changes_nothing(rt: HostRuntime) -> Result<(), Fail> {
     let mut roots = Arena::new(rt.alloc(), 40, 9);
     for slot in 1..=40u32 {
         let place = ArenaIndex { slot, version: 1 };
+        let before = (41 - slot, slot as usize - 1);
         let answer = make_at(&mut roots);
         if answer != Ok(place) {
-            assert_eq!(rt; answer, Err(CoreError::OutOfMemory));
-            assert_eq!(rt; room_and_len(&roots), (41 - slot, slot as usize - 1));
-            assert!(rt; !roots.is_live(Ptr::from_index(place)));
-            assert_eq!(rt; make_at(&mut roots)?, place);
+            expect_refused(&rt, &mut roots, answer, place, before)?;
         }
         answer?;
     }
@@ -336,23 +432,37 @@ struct Filled {
     more: Ptr<Root>,
 }
 
-// The first knot has one link, and the other none and the place of the first.
-fn fill_pair(alloc: Global) -> Result<Filled, CoreError> {
-    let mut pair = Pair {
-        knots: Arena::new(alloc, 4, 9),
-        roots: Arena::new(alloc, 4, 9),
-    };
+// A list of one link.
+fn one_link(alloc: Global) -> Result<Seq<ArenaIndex>, CoreError> {
     let mut links = Seq::new(alloc);
     links.push(ArenaIndex {
         slot: 7,
         version: 1,
     })?;
-    let knot = insert_knot(&mut pair.knots, links)?;
+    Ok(links)
+}
+
+// The first knot has one link, and the other none and the place of the first.
+fn insert_two_knots(
+    alloc: Global,
+    knots: &mut Arena<Knot>,
+) -> Result<(Ptr<Knot>, Ptr<Knot>), CoreError> {
+    let knot = insert_knot(knots, one_link(alloc)?)?;
     let made = Knot {
         links: Seq::new(alloc),
         me: knot.index(),
     };
-    let other = insert_made(&mut pair.knots, made)?;
+    let other = insert_made(knots, made)?;
+    Ok((knot, other))
+}
+
+// Two knots and a root of each.
+fn fill_pair(alloc: Global) -> Result<Filled, CoreError> {
+    let mut pair = Pair {
+        knots: Arena::new(alloc, 4, 9),
+        roots: Arena::new(alloc, 4, 9),
+    };
+    let (knot, other) = insert_two_knots(alloc, &mut pair.knots)?;
     let root = insert_root(&mut pair, knot)?;
     let more = insert_root(&mut pair, other)?;
     Ok(Filled {
@@ -386,21 +496,49 @@ fn count_on(roots: &mut Arena<Root>, root: Ptr<Root>) -> u32 {
     count
 }
 
-#[test]
-fn records_are_read(rt: HostRuntime) -> Result<(), Fail> {
-    let filled = fill_pair(rt.alloc())?;
+// Asserts that the two knots differ, and that both know the place of the first.
+fn expect_knots(rt: &impl Abort, filled: &Filled) {
     let place = filled.knot.index();
     let knots = &filled.pair.knots;
     assert!(rt; filled.knot != filled.other);
     assert_eq!(rt; read_knot(knots, filled.knot), Some((1, place)));
     assert_eq!(rt; read_knot(knots, filled.other), Some((0, place)));
+}
+
+// Asserts that the root is live, and names this place and has this count.
+fn expect_root(
+    rt: &impl Abort,
+    roots: &Arena<Root>,
+    root: Ptr<Root>,
+    first: ArenaIndex,
+    count: u32,
+) {
+    assert_eq!(rt; read_root(roots, root), Some((Some(first), count)));
+}
+
+#[test]
+fn records_are_read(rt: HostRuntime) -> Result<(), Fail> {
+    let filled = fill_pair(rt.alloc())?;
+    expect_knots(&rt, &filled);
     let roots = &filled.pair.roots;
-    assert_eq!(rt; read_root(roots, filled.root), Some((Some(place), 1)));
-    assert_eq!(rt;
-        read_root(roots, filled.more),
-        Some((Some(filled.other.index()), 1))
-    );
+    expect_root(&rt, roots, filled.root, filled.knot.index(), 1);
+    expect_root(&rt, roots, filled.more, filled.other.index(), 1);
     Ok(())
+}
+
+// Writes the same count into both roots, and counts on.
+fn count_both(rt: &impl Abort, pair: &mut Pair, root: Ptr<Root>, more: Ptr<Root>) {
+    set_two(pair, root, more, 6);
+    assert_eq!(rt; count_on(&mut pair.roots, root), 6);
+    assert_eq!(rt; count_on(&mut pair.roots, more), 6);
+    assert_eq!(rt; count_on(&mut pair.roots, more), 7);
+}
+
+// Removes the first of two roots.
+fn remove_first(rt: &impl Abort, roots: &mut Arena<Root>, root: Ptr<Root>) {
+    assert!(rt; remove_twice(roots, root));
+    assert!(rt; is_gone(roots, root));
+    assert_eq!(rt; roots.len(), 1);
 }
 
 #[test]
@@ -413,15 +551,30 @@ fn records_are_written(rt: HostRuntime) -> Result<(), Fail> {
         more,
     } = fill_pair(rt.alloc())?;
     set_count(&mut pair, root, 5);
-    assert_eq!(rt; read_root(&pair.roots, root), Some((Some(knot.index()), 5)));
-    set_two(&mut pair, root, more, 6);
-    assert_eq!(rt; count_on(&mut pair.roots, root), 6);
-    assert_eq!(rt; count_on(&mut pair.roots, more), 6);
-    assert_eq!(rt; count_on(&mut pair.roots, more), 7);
-    assert!(rt; remove_twice(&mut pair.roots, root));
-    assert!(rt; is_gone(&mut pair.roots, root));
-    assert_eq!(rt; pair.roots.len(), 1);
+    expect_root(&rt, &pair.roots, root, knot.index(), 5);
+    count_both(&rt, &mut pair, root, more);
+    remove_first(&rt, &mut pair.roots, root);
     Ok(())
+}
+
+// Asserts that a copy of the handle is equal to it, has this index and hashes as it does.
+fn expect_copy(rt: &impl Abort, handle: Ptr<Root>, index: ArenaIndex) -> Result<(), Fail> {
+    let same = handle.clone()?;
+    assert!(rt; handle == same);
+    assert_eq!(rt; same.index(), index);
+    let hasher = BuildHasherDefault::<FoldHasher>::default();
+    assert_eq!(rt; hasher.hash_one(&handle), hasher.hash_one(&same));
+    Ok(())
+}
+
+// Asserts that no record is in the slot 0, since slots are counted from 1.
+fn expect_no_slot_zero(rt: &impl Abort, alloc: Global) {
+    let zero = ArenaIndex {
+        slot: 0,
+        version: 1,
+    };
+    let roots = Arena::<Root>::new(alloc, 1, 1);
+    assert!(rt; !roots.is_live(Ptr::from_index(zero)));
 }
 
 #[test]
@@ -431,9 +584,7 @@ fn handles_are_their_indices(rt: HostRuntime) -> Result<(), Fail> {
         version: 3,
     };
     let handle = Ptr::<Root>::from_index(index);
-    let same = handle.clone()?;
-    assert!(rt; handle == same);
-    assert_eq!(rt; same.index(), index);
+    expect_copy(&rt, handle, index)?;
     assert!(rt;
         handle
             != Ptr::from_index(ArenaIndex {
@@ -441,14 +592,7 @@ fn handles_are_their_indices(rt: HostRuntime) -> Result<(), Fail> {
                 version: 5
             })
     );
-    let hasher = BuildHasherDefault::<FoldHasher>::default();
-    assert_eq!(rt; hasher.hash_one(&handle), hasher.hash_one(&same));
-    let zero = ArenaIndex {
-        slot: 0,
-        version: 1,
-    };
-    let roots = Arena::<Root>::new(rt.alloc(), 1, 1);
-    assert!(rt; !roots.is_live(Ptr::from_index(zero)));
+    expect_no_slot_zero(&rt, rt.alloc());
     Ok(())
 }
 

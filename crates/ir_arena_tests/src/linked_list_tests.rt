@@ -12,10 +12,11 @@ use ir_arena::list_laws::{
     container_changes_keep_lists, edits_keep_fields, edits_keep_ids, empty_arenas,
     links_are_neighbours, lists_are_one, lists_hold_nodes, node_changes_keep_lists,
 };
-use ir_arena::{Arena, CoreError, Link, Ptr};
-use std::alloc::Global;
+use ir_arena::{Arena, CoreError, Iter, Link, Ptr};
+use std::alloc::{AllocError, Global};
 use std::marker::Model;
 use std::mem::size_of;
+use std::process::Abort;
 use std::test::Fail;
 
 /// A node, with a payload.
@@ -304,6 +305,37 @@ impl<T: LinkedList, C: ContainsLinkedList<T>> Lists<T, C> {
         true
     }
 
+    // Puts nodes at the back of one list and of another.
+    fn put_in_both(
+        &mut self,
+        first: &[Ptr<T>],
+        donee: Ptr<C>,
+        rest: &[Ptr<T>],
+        donor: Ptr<C>,
+    ) -> bool {
+        self.put_all(first, donee) && self.put_all(rest, donor)
+    }
+
+    // Takes the nodes out in this order, as far as each is in a list.
+    fn take_all(&mut self, nodes: &[Ptr<T>]) -> bool {
+        for node in nodes {
+            if !self.take_out(*node) {
+                return false;
+            }
+        }
+        true
+    }
+
+    // Takes a node out. Whether it was in a list, and these are left in the container's.
+    fn leaves(&mut self, node: Ptr<T>, container: Ptr<C>, left: &[Ptr<T>]) -> bool {
+        self.take_out(node) && self.is_list(container, left)
+    }
+
+    // Joins two lists. Whether these are in the donee's then, and none in the donor's.
+    fn joins(&mut self, donee: Ptr<C>, donor: Ptr<C>, expected: &[Ptr<T>]) -> bool {
+        self.append(donee, donor) && self.is_list(donee, expected) && self.is_list(donor, &[])
+    }
+
     // Puts nodes in, each way, takes one out, puts it into another list and joins the lists. Whether each was done.
     fn edit_each_way(&mut self, donee: Ptr<C>, donor: Ptr<C>, nodes: [Ptr<T>; 4]) -> bool {
         let [n1, n2, n3, n4] = nodes;
@@ -318,22 +350,50 @@ impl<T: LinkedList, C: ContainsLinkedList<T>> Lists<T, C> {
 
     // Whether the container's list is this one from both ends, and each of its nodes names the container. It is not where the container is dead.
     fn is_list(&self, container: Ptr<C>, expected: &[Ptr<T>]) -> bool {
+        self.is_list_forward(container, expected) && self.is_list_backward(container, expected)
+    }
+
+    // Whether the list is this one from its front, and each of its nodes names the container.
+    fn is_list_forward(&self, container: Ptr<C>, expected: &[Ptr<T>]) -> bool {
         if !self.containers.is_live(container) {
             return false;
         }
         let mut forward = iter(&self.nodes, &self.containers, container);
-        let mut backward = iter(&self.nodes, &self.containers, container);
         for node in expected {
             if forward.next() != Some(*node) || !self.is_within(*node, container) {
                 return false;
             }
         }
+        forward.next().is_none()
+    }
+
+    // Whether the list is this one from its back.
+    fn is_list_backward(&self, container: Ptr<C>, expected: &[Ptr<T>]) -> bool {
+        if !self.containers.is_live(container) {
+            return false;
+        }
+        let mut backward = iter(&self.nodes, &self.containers, container);
         for node in expected.iter().rev() {
             if backward.next_back() != Some(*node) {
                 return false;
             }
         }
-        forward.next().is_none() && backward.next_back().is_none()
+        backward.next_back().is_none()
+    }
+
+    // Whether front and back by turns give these nodes, and a copy, which goes on by itself, gives the last node from the back.
+    fn is_read_by_turns(
+        &self,
+        container: Ptr<C>,
+        expected: &[Ptr<T>],
+        last: Ptr<T>,
+    ) -> Result<bool, AllocError> {
+        if !self.containers.is_live(container) {
+            return Ok(false);
+        }
+        let mut both = iter(&self.nodes, &self.containers, container);
+        let mut copy = both.clone()?;
+        Ok(gives_by_turns(&mut both, expected) && copy.next_back() == Some(last))
     }
 
     // Whether a live node names the container.
@@ -343,6 +403,21 @@ impl<T: LinkedList, C: ContainsLinkedList<T>> Lists<T, C> {
             None => false,
         }
     }
+}
+
+// Whether front and back by turns give these nodes, the front first, and then none from either end.
+fn gives_by_turns<T: LinkedList>(both: &mut Iter<'_, T>, expected: &[Ptr<T>]) -> bool {
+    for (place, node) in expected.iter().enumerate() {
+        let given = if place % 2 == 0 {
+            both.next()
+        } else {
+            both.next_back()
+        };
+        if given != Some(*node) {
+            return false;
+        }
+    }
+    both.next().is_none() && both.next_back().is_none()
 }
 
 fn a_node(payload: u64) -> Node
@@ -419,16 +494,26 @@ struct Fixture {
     nodes: [Ptr<Node>; 4],
 }
 
+// Stores an unlinked node with this payload.
+fn add_node(lists: &mut Nodes, payload: u64) -> Result<Ptr<Node>, CoreError> {
+    lists.add_node(a_node(payload))
+}
+
+// Four nodes with the payloads 1 to 4.
+fn add_four_nodes(lists: &mut Nodes) -> Result<[Ptr<Node>; 4], CoreError> {
+    let first = add_node(lists, 1)?;
+    let second = add_node(lists, 2)?;
+    let third = add_node(lists, 3)?;
+    let fourth = add_node(lists, 4)?;
+    Ok([first, second, third, fourth])
+}
+
 impl Fixture {
     fn new(alloc: Global) -> Result<Fixture, CoreError> {
         let mut lists = Nodes::new(alloc);
         let donee = lists.add_container(a_part(7))?;
         let donor = lists.add_container(a_part(8))?;
-        let first = lists.add_node(a_node(1))?;
-        let second = lists.add_node(a_node(2))?;
-        let third = lists.add_node(a_node(3))?;
-        let fourth = lists.add_node(a_node(4))?;
-        let nodes = [first, second, third, fourth];
+        let nodes = add_four_nodes(&mut lists)?;
         Ok(Fixture {
             lists,
             donee,
@@ -436,6 +521,15 @@ impl Fixture {
             nodes,
         })
     }
+}
+
+// Puts the first node at the front, the second after it and the third after that.
+fn put_in_turn(rt: &impl Abort, lists: &mut Nodes, root: Ptr<Part>, nodes: [Ptr<Node>; 3]) {
+    let [n1, n2, n3] = nodes;
+    assert!(rt; lists.put_front(n1, root));
+    assert!(rt; lists.put_after(n2, n1));
+    assert!(rt; lists.put_after(n3, n2));
+    assert!(rt; lists.is_list(root, &[n1, n2, n3]));
 }
 
 #[test]
@@ -446,10 +540,7 @@ fn list_inserts(rt: HostRuntime) -> Result<(), Fail> {
         donor: _,
         nodes: [n1, n2, n3, n4],
     } = Fixture::new(rt.alloc())?;
-    assert!(rt; lists.put_front(n1, root));
-    assert!(rt; lists.put_after(n2, n1));
-    assert!(rt; lists.put_after(n4, n2));
-    assert!(rt; lists.is_list(root, &[n1, n2, n4]));
+    put_in_turn(&rt, &mut lists, root, [n1, n2, n4]);
     assert!(rt; !is_linked(&lists.nodes, n3));
     assert!(rt; lists.put_before(n3, n1));
     assert!(rt; lists.is_list(root, &[n3, n1, n2, n4]));
@@ -465,18 +556,8 @@ fn list_inserts_from_both_ends(rt: HostRuntime) -> Result<(), Fail> {
         donor: _,
         nodes: [n1, n2, _, n4],
     } = Fixture::new(rt.alloc())?;
-    assert!(rt; lists.put_front(n1, root));
-    assert!(rt; lists.put_after(n2, n1));
-    assert!(rt; lists.put_after(n4, n2));
-    assert!(rt; lists.containers.is_live(root));
-    let mut both = iter(&lists.nodes, &lists.containers, root);
-    let mut copy = both.clone()?;
-    assert!(rt; both.next() == Some(n1));
-    assert!(rt; both.next_back() == Some(n4));
-    assert!(rt; both.next() == Some(n2));
-    assert!(rt; both.next().is_none());
-    assert!(rt; both.next_back().is_none());
-    assert!(rt; copy.next_back() == Some(n4));
+    put_in_turn(&rt, &mut lists, root, [n1, n2, n4]);
+    assert!(rt; lists.is_read_by_turns(root, &[n1, n4, n2], n4)?);
     Ok(())
 }
 
@@ -497,6 +578,23 @@ fn lists_without_memory(rt: HostRuntime) -> Result<(), Fail> {
     Ok(())
 }
 
+// Puts two nodes at the back, and the other before the second.
+fn put_between(rt: &impl Abort, lists: &mut Nodes, root: Ptr<Part>, nodes: [Ptr<Node>; 3]) {
+    let [n1, n2, n3] = nodes;
+    assert!(rt; lists.put_back(n1, root));
+    assert!(rt; lists.put_back(n3, root));
+    assert!(rt; lists.put_before(n2, n3));
+    assert!(rt; lists.is_list(root, &[n1, n2, n3]));
+}
+
+// Takes the node in the middle of three out, then the first and then the last.
+fn take_each(rt: &impl Abort, lists: &mut Nodes, root: Ptr<Part>, nodes: [Ptr<Node>; 3]) {
+    let [n1, n2, n3] = nodes;
+    assert!(rt; lists.leaves(n2, root, &[n1, n3]));
+    assert!(rt; lists.leaves(n1, root, &[n3]));
+    assert!(rt; lists.leaves(n3, root, &[]));
+}
+
 #[test]
 fn list_unlinks(rt: HostRuntime) -> Result<(), Fail> {
     let Fixture {
@@ -505,20 +603,26 @@ fn list_unlinks(rt: HostRuntime) -> Result<(), Fail> {
         donor: _,
         nodes: [n1, n2, _, n4],
     } = Fixture::new(rt.alloc())?;
-    assert!(rt; lists.put_back(n1, root));
-    assert!(rt; lists.put_back(n4, root));
-    assert!(rt; lists.put_before(n2, n4));
-    assert!(rt; lists.is_list(root, &[n1, n2, n4]));
-    assert!(rt; lists.take_out(n2));
-    assert!(rt; lists.is_list(root, &[n1, n4]));
-    assert!(rt; lists.take_out(n1));
-    assert!(rt; lists.is_list(root, &[n4]));
-    assert!(rt; lists.take_out(n4));
-    assert!(rt; lists.is_list(root, &[]));
-    assert!(rt; has_no_links(&lists.nodes, n1));
-    assert!(rt; has_no_links(&lists.nodes, n2));
-    assert!(rt; has_no_links(&lists.nodes, n4));
+    put_between(&rt, &mut lists, root, [n1, n2, n4]);
+    take_each(&rt, &mut lists, root, [n1, n2, n4]);
+    for node in [n1, n2, n4] {
+        assert!(rt; has_no_links(&lists.nodes, node));
+    }
     Ok(())
+}
+
+// Asserts that a node in a list isn't put into it again.
+fn expect_kept_in(rt: &impl Abort, lists: &mut Nodes, node: Ptr<Node>, root: Ptr<Part>) {
+    assert!(rt; !lists.put_front(node, root));
+    assert!(rt; !lists.put_back(node, root));
+    assert!(rt; !lists.put_after(node, node));
+}
+
+// Asserts that a node in no list isn't taken out, and isn't put beside another one in none.
+fn expect_kept_out(rt: &impl Abort, lists: &mut Nodes, node: Ptr<Node>, mark: Ptr<Node>) {
+    assert!(rt; !lists.take_out(node));
+    assert!(rt; !lists.put_after(node, mark));
+    assert!(rt; !lists.put_before(node, mark));
 }
 
 #[test]
@@ -530,15 +634,24 @@ fn list_conditions(rt: HostRuntime) -> Result<(), Fail> {
         nodes: [n1, n2, n3, _],
     } = Fixture::new(rt.alloc())?;
     assert!(rt; lists.put_front(n1, root));
-    assert!(rt; !lists.put_front(n1, root));
-    assert!(rt; !lists.put_back(n1, root));
-    assert!(rt; !lists.take_out(n2));
-    assert!(rt; !lists.put_after(n2, n3));
-    assert!(rt; !lists.put_before(n2, n3));
-    assert!(rt; !lists.put_after(n1, n1));
+    expect_kept_in(&rt, &mut lists, n1, root);
+    expect_kept_out(&rt, &mut lists, n2, n3);
     assert!(rt; !lists.append(root, root));
     assert!(rt; lists.is_list(root, &[n1]));
     Ok(())
+}
+
+// Asserts that the third node has the payload 3, and the two parts the names 7 and 8.
+fn expect_rest(
+    rt: &impl Abort,
+    lists: &Nodes,
+    third: Ptr<Node>,
+    donee: Ptr<Part>,
+    donor: Ptr<Part>,
+) {
+    assert_eq!(rt; payload_of(&lists.nodes, third), Some(3));
+    assert_eq!(rt; name_of(&lists.containers, donee), Some(7));
+    assert_eq!(rt; name_of(&lists.containers, donor), Some(8));
 }
 
 #[test]
@@ -549,14 +662,9 @@ fn list_append(rt: HostRuntime) -> Result<(), Fail> {
         donor,
         nodes: [n1, n2, n3, n4],
     } = Fixture::new(rt.alloc())?;
-    assert!(rt; lists.put_all(&[n1, n2], donee));
-    assert!(rt; lists.put_all(&[n3, n4], donor));
-    assert!(rt; lists.append(donee, donor));
-    assert!(rt; lists.is_list(donee, &[n1, n2, n3, n4]));
-    assert!(rt; lists.is_list(donor, &[]));
-    assert_eq!(rt; payload_of(&lists.nodes, n3), Some(3));
-    assert_eq!(rt; name_of(&lists.containers, donee), Some(7));
-    assert_eq!(rt; name_of(&lists.containers, donor), Some(8));
+    assert!(rt; lists.put_in_both(&[n1, n2], donee, &[n3, n4], donor));
+    assert!(rt; lists.joins(donee, donor, &[n1, n2, n3, n4]));
+    expect_rest(&rt, &lists, n3, donee, donor);
     Ok(())
 }
 
@@ -568,13 +676,9 @@ fn list_append_to_nothing(rt: HostRuntime) -> Result<(), Fail> {
         donor,
         nodes: [n1, _, _, _],
     } = Fixture::new(rt.alloc())?;
-    assert!(rt; lists.append(donee, donor));
-    assert!(rt; lists.is_list(donee, &[]));
-    assert!(rt; lists.is_list(donor, &[]));
+    assert!(rt; lists.joins(donee, donor, &[]));
     assert!(rt; lists.put_back(n1, donor));
-    assert!(rt; lists.append(donee, donor));
-    assert!(rt; lists.is_list(donee, &[n1]));
-    assert!(rt; lists.is_list(donor, &[]));
+    assert!(rt; lists.joins(donee, donor, &[n1]));
     Ok(())
 }
 
@@ -586,29 +690,68 @@ fn list_append_then_unlink(rt: HostRuntime) -> Result<(), Fail> {
         donor,
         nodes: [n1, n2, n3, n4],
     } = Fixture::new(rt.alloc())?;
-    assert!(rt; lists.put_all(&[n1, n2, n3], donee));
-    assert!(rt; lists.put_back(n4, donor));
-    assert!(rt; lists.append(donee, donor));
-    assert!(rt; lists.is_list(donee, &[n1, n2, n3, n4]));
-    assert!(rt; lists.take_out(n3));
-    assert!(rt; lists.take_out(n4));
+    assert!(rt; lists.put_in_both(&[n1, n2, n3], donee, &[n4], donor));
+    assert!(rt; lists.joins(donee, donor, &[n1, n2, n3, n4]));
+    assert!(rt; lists.take_all(&[n3, n4]));
     assert!(rt; lists.is_list(donee, &[n1, n2]));
     Ok(())
+}
+
+/// A root with the name 9, and two parts with the names 7 and 8, all unlinked.
+#[derive(Drop)]
+struct Nest {
+    parts: Parts,
+    root: Ptr<Root>,
+    first: Ptr<Part>,
+    second: Ptr<Part>,
+}
+
+// Stores an unlinked part with this name.
+fn add_part(parts: &mut Parts, name: u64) -> Result<Ptr<Part>, CoreError> {
+    parts.add_node(a_part(name))
+}
+
+impl Nest {
+    fn new(alloc: Global) -> Result<Nest, CoreError> {
+        let mut parts = Parts::new(alloc);
+        let root = parts.add_container(a_root(9))?;
+        let first = add_part(&mut parts, 7)?;
+        let second = add_part(&mut parts, 8)?;
+        Ok(Nest {
+            parts,
+            root,
+            first,
+            second,
+        })
+    }
+}
+
+// Asserts that the root and the two parts have their names.
+fn expect_names(
+    rt: &impl Abort,
+    parts: &Parts,
+    root: Ptr<Root>,
+    first: Ptr<Part>,
+    second: Ptr<Part>,
+) {
+    assert_eq!(rt; root_name_of(&parts.containers, root), Some(9));
+    assert_eq!(rt; name_of(&parts.nodes, first), Some(7));
+    assert_eq!(rt; name_of(&parts.nodes, second), Some(8));
 }
 
 // A part has a list of its own, and stands in a root's.
 #[test]
 fn list_of_lists(rt: HostRuntime) -> Result<(), Fail> {
-    let mut parts = Parts::new(rt.alloc());
-    let root = parts.add_container(a_root(9))?;
-    let first = parts.add_node(a_part(7))?;
-    let second = parts.add_node(a_part(8))?;
+    let Nest {
+        mut parts,
+        root,
+        first,
+        second,
+    } = Nest::new(rt.alloc())?;
     assert!(rt; parts.put_back(second, root));
     assert!(rt; parts.put_before(first, second));
     assert!(rt; parts.is_list(root, &[first, second]));
-    assert_eq!(rt; root_name_of(&parts.containers, root), Some(9));
-    assert_eq!(rt; name_of(&parts.nodes, first), Some(7));
-    assert_eq!(rt; name_of(&parts.nodes, second), Some(8));
+    expect_names(&rt, &parts, root, first, second);
     Ok(())
 }
 

@@ -1,7 +1,8 @@
 //! Short lists as the records use them: with room for two items in the record, with more than that, and with room for none.
 
 use ir_arena::ShortSeq;
-use std::alloc::AllocError;
+use std::alloc::{AllocError, Global};
+use std::process::Abort;
 use std::rc::Rc;
 use std::test::Fail;
 
@@ -10,12 +11,17 @@ fn has<const N: usize>(list: &ShortSeq<u64, N>, items: &[u64]) -> bool {
     if list.len() != items.len() || list.is_empty() != items.is_empty() {
         return false;
     }
+    reads_alike(list) && list.get(items.len()).is_none() && list.as_slice() == items
+}
+
+// Whether the two ways to read one item give the same at each place.
+fn reads_alike<const N: usize>(list: &ShortSeq<u64, N>) -> bool {
     for place in 0..list.len() {
         if list.get(place) != Some(list.at(place)) {
             return false;
         }
     }
-    list.get(items.len()).is_none() && list.as_slice() == items
+    true
 }
 
 // Puts an item at a place, where the list is long enough.
@@ -52,12 +58,18 @@ fn write<const N: usize>(list: &mut ShortSeq<u64, N>, place: usize, item: u64) {
     }
 }
 
-// Puts six items into a list that is empty, by each call that puts some.
-fn fill<const N: usize>(list: &mut ShortSeq<u64, N>) -> Result<(), AllocError> {
+// Puts two items into a list that is empty, and writes over the second.
+fn fill_two<const N: usize>(list: &mut ShortSeq<u64, N>) -> Result<(), AllocError> {
     list.reserve(1)?;
     list.push(10)?;
     put(list, 0, 5)?;
     write(list, 1, 11);
+    Ok(())
+}
+
+// Puts six items into a list that is empty, by each call that puts some.
+fn fill<const N: usize>(list: &mut ShortSeq<u64, N>) -> Result<(), AllocError> {
+    fill_two(list)?;
     list.reserve(4)?;
     list.extend(&[20, 30, 40])?;
     put(list, 1, 7)?;
@@ -74,44 +86,57 @@ fn thin<const N: usize>(list: &mut ShortSeq<u64, N>) -> [Option<u64>; 3] {
     [shifted, swapped, last]
 }
 
+// Fills a list that is empty, and thins it.
+fn fill_and_thin<const N: usize>(
+    rt: &impl Abort,
+    list: &mut ShortSeq<u64, N>,
+) -> Result<(), AllocError> {
+    fill(list)?;
+    assert!(rt; has(list, &[5, 7, 11, 20, 31, 40]));
+    assert_eq!(rt; thin(list), [Some(11), Some(5), Some(31)]);
+    assert!(rt; has(list, &[40, 7]));
+    Ok(())
+}
+
 #[test]
 fn items_that_all_lie_outside(rt: HostRuntime) -> Result<(), Fail> {
     let mut list = ShortSeq::<u64, 0>::new(rt.alloc());
     assert!(rt; has(&list, &[]));
-    fill(&mut list)?;
-    assert!(rt; has(&list, &[5, 7, 11, 20, 31, 40]));
-    assert_eq!(rt; thin(&mut list), [Some(11), Some(5), Some(31)]);
-    assert!(rt; has(&list, &[40, 7]));
+    fill_and_thin(&rt, &mut list)?;
     list.clear();
     assert!(rt; has(&list, &[]));
     Ok(())
+}
+
+// Puts two items into the record, and one more than it has room for.
+fn push_three(rt: &impl Abort, list: &mut ShortSeq<u64, 2>) -> Result<(), AllocError> {
+    list.push(1)?;
+    list.push(2)?;
+    assert!(rt; has(list, &[1, 2]));
+    list.push(3)
+}
+
+// Asserts that the list has the three items, and takes them out.
+fn clear_three(rt: &impl Abort, list: &mut ShortSeq<u64, 2>) {
+    assert!(rt; has(list, &[1, 2, 3]));
+    list.clear();
+    assert_eq!(rt; list.pop(), None);
 }
 
 #[test]
 fn items_that_move_outside(rt: HostRuntime) -> Result<(), Fail> {
     let mut list = ShortSeq::<u64, 2>::new(rt.alloc());
     assert!(rt; has(&list, &[]));
-    list.push(1)?;
-    list.push(2)?;
-    assert!(rt; has(&list, &[1, 2]));
-    list.push(3)?;
-    assert!(rt; has(&list, &[1, 2, 3]));
-    list.clear();
-    assert_eq!(rt; list.pop(), None);
-    fill(&mut list)?;
-    assert!(rt; has(&list, &[5, 7, 11, 20, 31, 40]));
-    assert_eq!(rt; thin(&mut list), [Some(11), Some(5), Some(31)]);
-    assert!(rt; has(&list, &[40, 7]));
+    push_three(&rt, &mut list)?;
+    clear_three(&rt, &mut list);
+    fill_and_thin(&rt, &mut list)?;
     Ok(())
 }
 
 #[test]
 fn items_that_all_lie_inside(rt: HostRuntime) -> Result<(), Fail> {
     let mut list = ShortSeq::<u64, 8>::new(rt.alloc());
-    fill(&mut list)?;
-    assert!(rt; has(&list, &[5, 7, 11, 20, 31, 40]));
-    assert_eq!(rt; thin(&mut list), [Some(11), Some(5), Some(31)]);
-    assert!(rt; has(&list, &[40, 7]));
+    fill_and_thin(&rt, &mut list)?;
     list.clear();
     assert!(rt; has(&list, &[]));
     Ok(())
@@ -127,49 +152,93 @@ fn counts_to<const N: usize>(list: &ShortSeq<u64, N>, end: u64) -> bool {
     list.len() as u64 == end
 }
 
-#[test]
-fn refused_growth_keeps_the_items(rt: HostRuntime) -> Result<(), Fail> {
-    let mut pushed = ShortSeq::<u64, 2>::new(rt.alloc());
-    let mut put_last = ShortSeq::<u64, 2>::new(rt.alloc());
-    let mut extended = ShortSeq::<u64, 2>::new(rt.alloc());
+/// A list with room for two items in the record.
+type Pairs = ShortSeq<u64, 2>;
+
+/// A call that puts an item at the end.
+#[derive(Clone, Copy, Drop)]
+enum Growth {
+    Push,
+    Insert,
+    Extend,
+}
+
+// Puts an item at the end by this call.
+fn grow(list: &mut Pairs, growth: Growth, item: u64) -> Result<(), AllocError> {
+    match growth {
+        Growth::Push => list.push(item),
+        Growth::Insert => put(list, list.len(), item),
+        Growth::Extend => list.extend(&[item]),
+    }
+}
+
+// A list of twenty items. Asserts that each call put its item there or was refused, and that those before it stayed.
+fn grow_to_twenty(rt: &impl Abort, alloc: Global, growth: Growth) -> Result<Pairs, AllocError> {
+    let mut list = Pairs::new(alloc);
     for item in 0..20u64 {
-        let answer = pushed.push(item);
-        assert!(rt; counts_to(&pushed, item + answer.is_ok() as u64));
-        answer?;
-        let answer = put(&mut put_last, item as usize, item);
-        assert!(rt; counts_to(&put_last, item + answer.is_ok() as u64));
-        answer?;
-        let answer = extended.extend(&[item]);
-        assert!(rt; counts_to(&extended, item + answer.is_ok() as u64));
+        let answer = grow(&mut list, growth, item);
+        assert!(rt; counts_to(&list, item + answer.is_ok() as u64));
         answer?;
     }
-    let answer = extended.reserve(100);
-    assert!(rt; counts_to(&extended, 20));
-    answer?;
+    Ok(list)
+}
+
+#[test]
+fn refused_growth_keeps_the_items(rt: HostRuntime) -> Result<(), Fail> {
+    for growth in [Growth::Push, Growth::Insert, Growth::Extend] {
+        let mut list = grow_to_twenty(&rt, rt.alloc(), growth)?;
+        let answer = list.reserve(100);
+        assert!(rt; counts_to(&list, 20));
+        answer?;
+    }
     Ok(())
+}
+
+/// Holders of one number, two of them in the record.
+type Holders = ShortSeq<Option<Rc<u8>>, 2>;
+
+// Puts one more holder at the end.
+fn hold(list: &mut Holders, shared: &Rc<u8>) -> Result<(), AllocError> {
+    list.push(Some(shared.clone()?))
+}
+
+// Asserts how many hold the number.
+fn expect_count(rt: &impl Abort, shared: &Rc<u8>, count: usize) {
+    assert_eq!(rt; Rc::strong_count(shared), count);
+}
+
+// A list of five more holders.
+fn five_holders(rt: &impl Abort, alloc: Global, shared: &Rc<u8>) -> Result<Holders, AllocError> {
+    let mut list = Holders::new(alloc);
+    for held in 1..6usize {
+        hold(&mut list, shared)?;
+        expect_count(rt, shared, held + 1);
+    }
+    Ok(list)
+}
+
+// Drops the five, by each call that takes some out.
+fn drop_five(rt: &impl Abort, list: &mut Holders, shared: &Rc<u8>) {
+    drop(list.pop());
+    expect_count(rt, shared, 5);
+    list.truncate(3);
+    expect_count(rt, shared, 4);
+    if list.len() == 3 {
+        drop(list.remove(0));
+        drop(list.swap_remove(0));
+    }
+    expect_count(rt, shared, 2);
+    list.clear();
+    expect_count(rt, shared, 1);
 }
 
 #[test]
 fn each_item_is_dropped_once(rt: HostRuntime) -> Result<(), Fail> {
     let shared = Rc::new(rt.alloc(), 0u8)?;
-    let mut list = ShortSeq::<Option<Rc<u8>>, 2>::new(rt.alloc());
-    for held in 1..6usize {
-        list.push(Some(shared.clone()?))?;
-        assert_eq!(rt; Rc::strong_count(&shared), held + 1);
-    }
-    drop(list.pop());
-    assert_eq!(rt; Rc::strong_count(&shared), 5);
-    list.truncate(3);
-    assert_eq!(rt; Rc::strong_count(&shared), 4);
-    if list.len() == 3 {
-        drop(list.remove(0));
-        drop(list.swap_remove(0));
-    }
-    assert_eq!(rt; Rc::strong_count(&shared), 2);
-    list.clear();
-    assert_eq!(rt; Rc::strong_count(&shared), 1);
-    list.push(Some(shared.clone()?))?;
+    let mut list = five_holders(&rt, rt.alloc(), &shared)?;
+    drop_five(&rt, &mut list, &shared);
+    hold(&mut list, &shared)?;
     drop(list);
-    assert_eq!(rt; Rc::strong_count(&shared), 1);
+    expect_count(&rt, &shared, 1);
     Ok(())
 }

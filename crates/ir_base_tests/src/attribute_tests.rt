@@ -16,6 +16,7 @@ use ir_base::{
 use std::alloc::Global;
 use std::hash::{DefaultHasher, Hash, Hasher};
 use std::mem::size_of;
+use std::process::Abort;
 use std::test::Fail;
 
 /// An attribute of the small dialect.
@@ -356,19 +357,24 @@ fn put<T: Attribute<Small>>(
     dict.set(key_at(place), value)
 }
 
+// Puts a number at a key.
+fn put_number(dict: &mut AttributeDict<Small>, place: usize, value: u64) -> Result<(), CoreError> {
+    put(dict, place, number_of(value))
+}
+
 // Three attributes: a letter at `a`, an outlined one at `b` and a number at `c`.
 fn three(alloc: Global) -> Result<AttributeDict<Small>, CoreError> {
     let mut dict = AttributeDict::new(alloc);
     put(&mut dict, 0, Text { letter: 1 })?;
     put(&mut dict, 1, Outlined { letter: 2 })?;
-    put(&mut dict, 2, number_of(5))?;
+    put_number(&mut dict, 2, 5)?;
     Ok(dict)
 }
 
 // A number at `a` and a letter at `b`.
 fn number_first(alloc: Global) -> Result<AttributeDict<Small>, CoreError> {
     let mut dict = AttributeDict::new(alloc);
-    put(&mut dict, 0, number_of(1))?;
+    put_number(&mut dict, 0, 1)?;
     put(&mut dict, 1, Text { letter: 1 })?;
     Ok(dict)
 }
@@ -377,19 +383,24 @@ fn number_first(alloc: Global) -> Result<AttributeDict<Small>, CoreError> {
 fn letter_first(alloc: Global) -> Result<AttributeDict<Small>, CoreError> {
     let mut dict = AttributeDict::new(alloc);
     put(&mut dict, 1, Text { letter: 1 })?;
-    put(&mut dict, 0, number_of(1))?;
+    put_number(&mut dict, 0, 1)?;
     Ok(dict)
 }
 
 // Whether the keys are these, in this order, by each way to count them.
 fn has_keys(dict: &AttributeDict<Small>, keys: &[&str]) -> bool {
+    gives_keys(dict, keys) && dict.len() == keys.len() && dict.is_empty() == keys.is_empty()
+}
+
+// Whether the pairs have these keys, in this order.
+fn gives_keys(dict: &AttributeDict<Small>, keys: &[&str]) -> bool {
     let mut pairs = dict.iter();
     for key in keys {
         if !is_at(pairs.next(), key) {
             return false;
         }
     }
-    pairs.next().is_none() && dict.len() == keys.len() && dict.is_empty() == keys.is_empty()
+    pairs.next().is_none()
 }
 
 // Whether there is a pair, at this key.
@@ -434,23 +445,46 @@ fn hash_of(dict: &AttributeDict<Small>) -> u64 {
     state.finish()
 }
 
-#[test]
-fn equal_in_any_order(rt: HostRuntime) -> Result<(), Fail> {
-    let one = number_first(rt.alloc())?;
-    let mut other = letter_first(rt.alloc())?;
-    assert!(rt; are_equal(&one, &other));
-    put(&mut other, 0, number_of(2))?;
-    assert!(rt; !are_equal(&one, &other));
-    dictionaries_compare_by_keys::<Small>();
+// Two equal dictionaries, filled in one order and in the other.
+fn in_both_orders(
+    alloc: Global,
+) -> Result<(AttributeDict<Small>, AttributeDict<Small>), CoreError> {
+    let one = number_first(alloc)?;
+    let other = letter_first(alloc)?;
+    Ok((one, other))
+}
+
+// Asserts that two equal dictionaries aren't once a number is changed in one.
+fn expect_changed(
+    rt: &impl Abort,
+    one: &AttributeDict<Small>,
+    other: &mut AttributeDict<Small>,
+) -> Result<(), Fail> {
+    put_number(other, 0, 2)?;
+    assert!(rt; !are_equal(one, other));
     Ok(())
 }
 
 #[test]
+fn equal_in_any_order(rt: HostRuntime) -> Result<(), Fail> {
+    let (one, mut other) = in_both_orders(rt.alloc())?;
+    assert!(rt; are_equal(&one, &other));
+    dictionaries_compare_by_keys::<Small>();
+    expect_changed(&rt, &one, &mut other)
+}
+
+#[test]
 fn hashes_of_equal_dictionaries(rt: HostRuntime) -> Result<(), Fail> {
-    let one = number_first(rt.alloc())?;
-    let other = letter_first(rt.alloc())?;
+    let (one, other) = in_both_orders(rt.alloc())?;
     assert_eq!(rt; hash_of(&one), hash_of(&other));
     equal_dictionaries_hash_equally::<Small>();
+    Ok(())
+}
+
+// Asserts that a copy is equal to the dictionary, and that one without what is to be outlined has these keys.
+fn expect_copies(rt: &impl Abort, dict: &AttributeDict<Small>, kept: &[&str]) -> Result<(), Fail> {
+    assert!(rt; copies(dict)?);
+    assert!(rt; has_keys(&copy_kept(dict)?, kept));
     Ok(())
 }
 
@@ -458,32 +492,62 @@ fn hashes_of_equal_dictionaries(rt: HostRuntime) -> Result<(), Fail> {
 fn copies_of_dictionaries(rt: HostRuntime) -> Result<(), Fail> {
     let dict = three(rt.alloc())?;
     assert!(rt; has_keys(&dict, &["a", "b", "c"]));
-    assert!(rt; copies(&dict)?);
-    assert!(rt; has_keys(&copy_kept(&dict)?, &["a", "c"]));
+    expect_copies(&rt, &dict, &["a", "c"])
+}
+
+// Puts a number into an empty dictionary, and takes it out.
+fn put_and_take(rt: &impl Abort, dict: &mut AttributeDict<Small>) -> Result<(), CoreError> {
+    put_number(dict, 0, 1)?;
+    assert!(rt; take(dict, 0).is_some());
+    Ok(())
+}
+
+// Asserts that a dictionary is as a new one is, and hashes as it does.
+fn expect_new(rt: &impl Abort, alloc: Global, dict: &AttributeDict<Small>) {
+    let new = AttributeDict::new(alloc);
+    assert!(rt; are_equal(dict, &new));
+    assert_eq!(rt; hash_of(dict), hash_of(&new));
+}
+
+// Asserts that a dictionary is as a new one where its only pair was taken out.
+fn expect_emptied(
+    rt: &impl Abort,
+    alloc: Global,
+    dict: &mut AttributeDict<Small>,
+) -> Result<(), Fail> {
+    put_and_take(rt, dict)?;
+    assert!(rt; copies(dict)?);
+    expect_new(rt, alloc, dict);
     Ok(())
 }
 
 // Refuses copies of an empty dictionary that answer want of memory.
 #[test]
 fn copies_of_empty_dictionaries(rt: HostRuntime) -> Result<(), Fail> {
-    let mut dict = AttributeDict::new(rt.alloc());
-    assert!(rt; copies(&dict)?);
-    assert!(rt; has_keys(&copy_kept(&dict)?, &[]));
-    put(&mut dict, 0, number_of(1))?;
-    assert!(rt; take(&mut dict, 0).is_some());
-    assert!(rt; copies(&dict)?);
-    assert!(rt; are_equal(&dict, &AttributeDict::new(rt.alloc())));
-    assert_eq!(rt; hash_of(&dict), hash_of(&AttributeDict::new(rt.alloc())));
-    Ok(())
+    let alloc = rt.alloc();
+    let mut dict = AttributeDict::new(alloc);
+    expect_copies(&rt, &dict, &[])?;
+    expect_emptied(&rt, alloc, &mut dict)
+}
+
+// Takes the outlined attribute out, and leaves the other two.
+fn take_outlined(rt: &impl Abort, dict: &mut AttributeDict<Small>) {
+    let hidden = SmallAttr::Hidden(Outlined { letter: 2 });
+    assert_eq!(rt; take(dict, 1), Some(hidden));
+    assert!(rt; has_keys(dict, &["a", "c"]));
+}
+
+// Asserts that a new dictionary has no keys.
+fn expect_no_keys(rt: &impl Abort, alloc: Global) {
+    assert!(rt; has_keys(&AttributeDict::new(alloc), &[]));
 }
 
 #[test]
 fn removals(rt: HostRuntime) -> Result<(), Fail> {
-    assert!(rt; has_keys(&AttributeDict::new(rt.alloc()), &[]));
-    let mut dict = three(rt.alloc())?;
-    let hidden = SmallAttr::Hidden(Outlined { letter: 2 });
-    assert_eq!(rt; take(&mut dict, 1), Some(hidden));
-    assert!(rt; has_keys(&dict, &["a", "c"]));
+    let alloc = rt.alloc();
+    expect_no_keys(&rt, alloc);
+    let mut dict = three(alloc)?;
+    take_outlined(&rt, &mut dict);
     Ok(())
 }
 
@@ -502,13 +566,18 @@ fn write_number(dict: &mut AttributeDict<Small>, place: usize, value: u64) {
     }
 }
 
+// Asserts that there is no number at `a`, and this one at `c`.
+fn expect_number(rt: &impl Abort, dict: &AttributeDict<Small>, number: u64) {
+    assert_eq!(rt; number_at(dict, 0), None);
+    assert_eq!(rt; number_at(dict, 2), Some(number));
+}
+
 #[test]
 fn values_of_attributes(rt: HostRuntime) -> Result<(), Fail> {
     let mut dict = three(rt.alloc())?;
-    assert_eq!(rt; number_at(&dict, 0), None);
-    assert_eq!(rt; number_at(&dict, 2), Some(5));
+    expect_number(&rt, &dict, 5);
     write_number(&mut dict, 2, 7);
-    assert_eq!(rt; number_at(&dict, 2), Some(7));
+    expect_number(&rt, &dict, 7);
     Ok(())
 }
 
@@ -522,20 +591,43 @@ fn counts_to(dict: &AttributeDict<Small>, end: usize) -> bool {
     dict.len() == end && number_at(dict, end).is_none()
 }
 
+// Asserts that the next number is put where it belongs, or that nothing has changed and it is put there by the next call.
+fn put_at_last(
+    rt: &impl Abort,
+    dict: &mut AttributeDict<Small>,
+    place: usize,
+    len: usize,
+) -> Result<(), CoreError> {
+    let answer = put_number(dict, place, place as u64);
+    if answer.is_err() {
+        assert!(rt; counts_to(dict, place));
+        put_number(dict, place, place as u64)?;
+    }
+    assert!(rt; dict.len() == len);
+    answer
+}
+
+// Puts the last of the four numbers again, which needs no memory.
+fn put_again(rt: &impl Abort, dict: &mut AttributeDict<Small>) {
+    assert_eq!(rt; put_number(dict, 3, 3), Ok(()));
+}
+
 #[test]
 fn refused_set_changes_nothing(rt: HostRuntime) -> Result<(), Fail> {
     let mut dict = AttributeDict::new(rt.alloc());
     for place in 0..4usize {
-        let answer = put(&mut dict, place, number_of(place as u64));
-        if answer.is_err() {
-            assert!(rt; counts_to(&dict, place));
-            put(&mut dict, place, number_of(place as u64))?;
-        }
-        assert!(rt; dict.len() == place + 1);
-        answer?;
+        put_at_last(&rt, &mut dict, place, place + 1)?;
     }
-    assert_eq!(rt; put(&mut dict, 3, number_of(3)), Ok(()));
+    put_again(&rt, &mut dict);
     Ok(())
+}
+
+// Asserts that what is to be outlined is, and what isn't is not.
+fn expect_outlined(rt: &impl Abort, number: &SmallAttr, hidden: &SmallAttr) {
+    assert!(rt; attr_should_outline::<Small>(hidden));
+    assert!(rt; !attr_should_outline::<Small>(number));
+    assert!(rt; attr_impls::<OutlinedAttr, Small>(hidden));
+    assert!(rt; !attr_impls_static::<Int, OutlinedAttr, Small>());
 }
 
 #[test]
@@ -544,10 +636,7 @@ fn questions_of_attributes(rt: HostRuntime) -> Result<(), Fail> {
     let hidden = Outlined { letter: 2 }.into_attr();
     assert_eq!(rt; attr_type::<Small>(&number), Some(TypeHandle::at(3)));
     assert_eq!(rt; attr_type::<Small>(&hidden), None);
-    assert!(rt; attr_should_outline::<Small>(&hidden));
-    assert!(rt; !attr_should_outline::<Small>(&number));
-    assert!(rt; attr_impls::<OutlinedAttr, Small>(&hidden));
-    assert!(rt; !attr_impls_static::<Int, OutlinedAttr, Small>());
+    expect_outlined(&rt, &number, &hidden);
     Ok(())
 }
 
@@ -590,23 +679,29 @@ fn write_through<T: Attribute<D> + Drop, D: Dialects>(
 
 // Whether the letter at `a`, the outlined one at `b` and this number at `c` are there, in this order.
 fn has_number_last(dict: &AttributeDict<Small>, number: u64) -> bool {
-    let mut pairs = dict.iter();
-    is_at(pairs.next(), "a")
-        && is_at(pairs.next(), "b")
-        && is_at(pairs.next(), "c")
-        && pairs.next().is_none()
+    has_keys(dict, &["a", "b", "c"])
         && dict.get::<Text>(&Identifier::new("a")) == Some(&Text { letter: 1 })
         && dict.get::<Outlined>(&Identifier::new("b")) == Some(&Outlined { letter: 2 })
         && dict.get::<Int>(&Identifier::new("c")) == Some(&number_of(number))
 }
 
+// Writes a number through a loan, where there is a number at the key.
+fn write_number_through(dict: &mut AttributeDict<Small>, place: usize, value: u64) {
+    write_through(dict, &key_at(place), number_of(value));
+}
+
+// Asserts that nothing is written where no number is: at the letter, and at a key that isn't there.
+fn expect_not_written(rt: &impl Abort, dict: &mut AttributeDict<Small>) {
+    write_number_through(dict, 0, 8);
+    write_number_through(dict, 3, 9);
+    assert!(rt; has_number_last(dict, 7));
+}
+
 #[test]
 fn writes_through_loans(rt: HostRuntime) -> Result<(), Fail> {
     let mut dict = three(rt.alloc())?;
-    write_through(&mut dict, &Identifier::new("c"), number_of(7));
+    write_number_through(&mut dict, 2, 7);
     assert!(rt; has_number_last(&dict, 7));
-    write_through(&mut dict, &Identifier::new("a"), number_of(8));
-    write_through(&mut dict, &Identifier::new("d"), number_of(9));
-    assert!(rt; has_number_last(&dict, 7));
+    expect_not_written(&rt, &mut dict);
     Ok(())
 }

@@ -6,6 +6,7 @@ use ir_base::{
     verify_dict_keys,
 };
 use std::alloc::Global;
+use std::process::Abort;
 use std::test::Fail;
 
 fn key(name: &'static str, line: u32) -> DictKeyId
@@ -22,16 +23,22 @@ fn key(name: &'static str, line: u32) -> DictKeyId
 /// An owner and verifiers of it.
 type Entry<'a> = (u32, &'a [u32]);
 
+// The entries with lists of their own.
+fn owned_entries(alloc: Global, entries: &[Entry<'_>]) -> Result<Vec<(u32, Vec<u32>)>, CoreError> {
+    let mut owned = Vec::new(alloc);
+    for (owner, verifiers) in entries {
+        owned.push((*owner, verifiers.to_vec(alloc)?))?;
+    }
+    Ok(owned)
+}
+
 // Whether the entries are collected into these.
 fn collects(
     alloc: Global,
     entries: &[Entry<'_>],
     expected: &[Entry<'_>],
 ) -> Result<bool, CoreError> {
-    let mut owned = Vec::new(alloc);
-    for (owner, verifiers) in entries {
-        owned.push((*owner, verifiers.to_vec(alloc)?))?;
-    }
+    let owned = owned_entries(alloc, entries)?;
     let lists = collect_deduped_interface_verifiers(alloc, owned.as_slice())?;
     Ok(are_lists(lists.as_slice(), expected))
 }
@@ -53,32 +60,52 @@ fn are_lists(lists: &[(u32, Vec<u32>)], expected: &[Entry<'_>]) -> bool {
     true
 }
 
-#[test]
-fn verifier_lists_and_keys(rt: HostRuntime) -> Result<(), Fail> {
-    let entries: [Entry<'_>; 3] = [(7, &[1, 2]), (7, &[1, 3]), (7, &[2, 4])];
-    assert!(rt; collects(rt.alloc(), &entries, &[(7, &[1, 2, 3, 4])])?);
+// Asserts that the entries are collected into these.
+fn expect_collected(
+    rt: &impl Abort,
+    alloc: Global,
+    entries: &[Entry<'_>],
+    expected: &[Entry<'_>],
+) -> Result<(), Fail> {
+    assert!(rt; collects(alloc, entries, expected)?);
+    Ok(())
+}
+
+// Asserts that of two double keys the one whose second place comes first is told.
+fn expect_double(rt: &impl Abort) {
     let keys = [key("a", 1), key("b", 2), key("a", 3), key("b", 4)];
     let double = DuplicateKey {
         first: 0,
         second: 2,
     };
     assert_eq!(rt; verify_dict_keys(&keys), Err(double));
-    Ok(())
+}
+
+#[test]
+fn verifier_lists_and_keys(rt: HostRuntime) -> Result<(), Fail> {
+    let entries: [Entry<'_>; 3] = [(7, &[1, 2]), (7, &[1, 3]), (7, &[2, 4])];
+    expect_double(&rt);
+    expect_collected(&rt, rt.alloc(), &entries, &[(7, &[1, 2, 3, 4])])
 }
 
 #[test]
 fn owners_in_the_order_of_their_first_entry(rt: HostRuntime) -> Result<(), Fail> {
     let entries: [Entry<'_>; 3] = [(9, &[5]), (2, &[5, 5]), (9, &[4, 5])];
-    assert!(rt; collects(rt.alloc(), &entries, &[(9, &[5, 4]), (2, &[5])])?);
-    Ok(())
+    expect_collected(&rt, rt.alloc(), &entries, &[(9, &[5, 4]), (2, &[5])])
 }
 
 // Refuses a call that answers want of memory where there is nothing to collect.
 #[test]
 fn no_entries(rt: HostRuntime) -> Result<(), Fail> {
-    assert!(rt; collects(rt.alloc(), &[], &[])?);
-    assert!(rt; collects(rt.alloc(), &[(1, &[])], &[(1, &[])])?);
-    Ok(())
+    let alloc = rt.alloc();
+    expect_collected(&rt, alloc, &[], &[])?;
+    expect_collected(&rt, alloc, &[(1, &[])], &[(1, &[])])
+}
+
+// Asserts that the key and one of another name aren't double.
+fn expect_no_double(rt: &impl Abort, one: DictKeyId) {
+    let keys = [key("b", 2), one];
+    assert_eq!(rt; verify_dict_keys(&keys), Ok(()));
 }
 
 #[test]
@@ -87,8 +114,7 @@ fn different_keys(rt: HostRuntime) -> Result<(), Fail> {
     let copy = one.clone()?;
     assert!(rt; copy == one);
     assert!(rt; one != key("a", 3));
-    let keys = [key("b", 2), one];
-    assert_eq!(rt; verify_dict_keys(&keys), Ok(()));
+    expect_no_double(&rt, one);
     Ok(())
 }
 

@@ -1,7 +1,7 @@
 //! Chains of operations, each of which uses the results of the two before.
 
 use crate::building::{build, pair_block};
-use crate::outcome::{Run, block_sum, nanos_now, run_of, uses_sum};
+use crate::outcome::{Run, block_sum, nanos_now, nanos_of, nanos_since, run_to, uses_sum};
 use ir_base::{Dialects, Ptr, TypeHandle};
 use ir_checked::{
     BasicBlock, CheckedErr, Context, Operation, Value, block_head, erase_op, new_op, next_op,
@@ -33,13 +33,34 @@ fn timed_checked<D: Dialects>(
     Ok(())
 }
 
-/// Makes an operation with one result of this type, and gives the result.
-pub(crate) fn new_value<D: Dialects>(
-    ctx: &mut Context<D>,
-    ty: TypeHandle,
-) -> Result<Value<D>, CheckedErr> {
+// Makes an operation with one result of this type, and gives the result.
+fn new_value<D: Dialects>(ctx: &mut Context<D>, ty: TypeHandle) -> Result<Value<D>, CheckedErr> {
     let op = new_op(ctx, 0, &[ty], &[], &[], 0)?;
     result(ctx, op, 0)
+}
+
+/// Makes two such operations, and gives their results.
+pub(crate) fn two_values<D: Dialects>(
+    ctx: &mut Context<D>,
+    ty: TypeHandle,
+) -> Result<(Value<D>, Value<D>), CheckedErr> {
+    let first = new_value(ctx, ty)?;
+    let second = new_value(ctx, ty)?;
+    Ok((first, second))
+}
+
+// How long it takes to make so many operations, the first two of which use new values.
+fn checked_nanos<C: CpuClock, D: Dialects>(
+    rt: &C,
+    ctx: &mut Context<D>,
+    ty: TypeHandle,
+    count: usize,
+    made: &mut Vec<Ptr<Operation<D>>>,
+) -> anyhow::Result<u64> {
+    let (first, second) = two_values(ctx, ty)?;
+    let start = nanos_now(rt)?;
+    timed_checked(ctx, ty, first, second, count, made)?;
+    nanos_since(rt, start)
 }
 
 /// N operations without a block, by calls whose conditions are tested.
@@ -49,13 +70,9 @@ pub(crate) fn unlinked_checked<C: CpuClock, D: Dialects>(
     ty: TypeHandle,
     count: usize,
 ) -> Run {
-    let first = new_value(ctx, ty)?;
-    let second = new_value(ctx, ty)?;
     let mut made = Vec::with_capacity(ctx.alloc(), count)?;
-    let start = nanos_now(rt)?;
-    timed_checked(ctx, ty, first, second, count, &mut made)?;
-    let end = nanos_now(rt)?;
-    run_of(start, end, count, uses_sum(ctx, made.as_slice())?)
+    let nanos = checked_nanos(rt, ctx, ty, count, &mut made)?;
+    run_to(nanos, count, uses_sum(ctx, made.as_slice()))
 }
 
 // Makes so many operations at the back of a block.
@@ -69,6 +86,18 @@ fn timed_building<D: Dialects>(
     build(ctx, ty, block, count)
 }
 
+// How long that takes.
+fn building_nanos<C: CpuClock, D: Dialects>(
+    rt: &C,
+    ctx: &mut Context<D>,
+    ty: TypeHandle,
+    block: Ptr<BasicBlock<D>>,
+    count: usize,
+) -> anyhow::Result<u64> {
+    let start = nanos_now(rt)?;
+    nanos_of(rt, start, timed_building(ctx, ty, block, count))
+}
+
 /// N operations at the back of a block. All of it is timed but the block.
 pub(crate) fn building<C: CpuClock, D: Dialects>(
     rt: &C,
@@ -77,10 +106,8 @@ pub(crate) fn building<C: CpuClock, D: Dialects>(
     count: usize,
 ) -> Run {
     let block = pair_block(ctx, ty)?;
-    let start = nanos_now(rt)?;
-    timed_building(ctx, ty, block, count)?;
-    let end = nanos_now(rt)?;
-    run_of(start, end, count, block_sum(ctx, block)?)
+    let nanos = building_nanos(rt, ctx, ty, block, count)?;
+    run_to(nanos, count, block_sum(ctx, block))
 }
 
 // Puts a new operation with the same operands behind one with two, and answers it.
@@ -98,12 +125,13 @@ fn copy_behind<D: Dialects>(
     Ok(new)
 }
 
-// Lets what used the one operation's result use the other's, and erases the one.
-fn take_over<D: Dialects>(
+// Puts such an operation behind one, lets what used the one's result use the new one's, and erases the one.
+fn rebuild<D: Dialects>(
     ctx: &mut Context<D>,
+    ty: TypeHandle,
     old: Ptr<Operation<D>>,
-    new: Ptr<Operation<D>>,
 ) -> Result<(), CheckedErr> {
+    let new = copy_behind(ctx, ty, old)?;
     let old_value = result(ctx, old, 0)?;
     let new_value = result(ctx, new, 0)?;
     replace_all_uses(ctx, old_value, new_value)?;
@@ -124,10 +152,21 @@ fn timed_rebuilding<D: Dialects>(
             return Err(CheckedErr::Condition);
         };
         place = next_op(ctx, old)?;
-        let new = copy_behind(ctx, ty, old)?;
-        take_over(ctx, old, new)?;
+        rebuild(ctx, ty, old)?;
     }
     Ok(())
+}
+
+// How long that takes.
+fn rebuilding_nanos<C: CpuClock, D: Dialects>(
+    rt: &C,
+    ctx: &mut Context<D>,
+    ty: TypeHandle,
+    block: Ptr<BasicBlock<D>>,
+    count: usize,
+) -> anyhow::Result<u64> {
+    let start = nanos_now(rt)?;
+    nanos_of(rt, start, timed_rebuilding(ctx, ty, block, count))
 }
 
 /// Over N operations of a block, a new one behind each takes its uses, and the old one is erased. The building of the first ones isn't timed.
@@ -139,8 +178,6 @@ pub(crate) fn rebuilding<C: CpuClock, D: Dialects>(
 ) -> Run {
     let block = pair_block(ctx, ty)?;
     build(ctx, ty, block, count)?;
-    let start = nanos_now(rt)?;
-    timed_rebuilding(ctx, ty, block, count)?;
-    let end = nanos_now(rt)?;
-    run_of(start, end, count, block_sum(ctx, block)?)
+    let nanos = rebuilding_nanos(rt, ctx, ty, block, count)?;
+    run_to(nanos, count, block_sum(ctx, block))
 }

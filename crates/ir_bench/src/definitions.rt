@@ -1,6 +1,6 @@
 //! Results and arguments that are put in front of others.
 
-use crate::outcome::{Run, mix, nanos_now, run_of};
+use crate::outcome::{Run, mix, nanos_now, nanos_of, run_to};
 use ir_base::{Dialects, Ptr, TypeHandle};
 use ir_checked::{
     BasicBlock, BlockPtr, CheckedErr, Context, Operation, OperationPtr, TypeQueries, Value,
@@ -25,6 +25,19 @@ fn timed_results<D: Dialects>(
     Ok(())
 }
 
+// How long that takes.
+fn results_nanos<C: CpuClock, D: Dialects>(
+    rt: &C,
+    ctx: &mut Context<D>,
+    op: Ptr<Operation<D>>,
+    first: TypeHandle,
+    second: TypeHandle,
+    count: usize,
+) -> anyhow::Result<u64> {
+    let start = nanos_now(rt)?;
+    nanos_of(rt, start, timed_results(ctx, op, first, second, count))
+}
+
 // Puts so many arguments in front of the others, of one type and the other in turn.
 #[inline(never)]
 fn timed_arguments<D: Dialects>(
@@ -39,6 +52,19 @@ fn timed_arguments<D: Dialects>(
         insert_argument(ctx, block, 0, ty)?;
     }
     Ok(())
+}
+
+// How long that takes.
+fn arguments_nanos<C: CpuClock, D: Dialects>(
+    rt: &C,
+    ctx: &mut Context<D>,
+    block: Ptr<BasicBlock<D>>,
+    first: TypeHandle,
+    second: TypeHandle,
+    count: usize,
+) -> anyhow::Result<u64> {
+    let start = nanos_now(rt)?;
+    nanos_of(rt, start, timed_arguments(ctx, block, first, second, count))
 }
 
 // Whether a value has a type, as 2 or 1.
@@ -93,10 +119,8 @@ pub(crate) fn results_front<C: CpuClock>(
 ) -> Run {
     let other = ctx.instantiate_key(ToyType::Int { width: 64 })?;
     let op = new_op(ctx, 4, &[], &[], &[], 0)?;
-    let start = nanos_now(rt)?;
-    timed_results(ctx, op, ty, other, count)?;
-    let end = nanos_now(rt)?;
-    run_of(start, end, count, results_sum(ctx, op, ty, count)?)
+    let nanos = results_nanos(rt, ctx, op, ty, other, count)?;
+    run_to(nanos, count, results_sum(ctx, op, ty, count))
 }
 
 /// N arguments are put into one block, each in front of the others.
@@ -108,8 +132,6 @@ pub(crate) fn arguments_front<C: CpuClock>(
 ) -> Run {
     let other = ctx.instantiate_key(ToyType::Int { width: 64 })?;
     let block = new_block(ctx, None, &[])?;
-    let start = nanos_now(rt)?;
-    timed_arguments(ctx, block, ty, other, count)?;
-    let end = nanos_now(rt)?;
-    run_of(start, end, count, arguments_sum(ctx, block, ty, count)?)
+    let nanos = arguments_nanos(rt, ctx, block, ty, other, count)?;
+    run_to(nanos, count, arguments_sum(ctx, block, ty, count))
 }

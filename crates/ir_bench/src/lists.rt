@@ -1,13 +1,13 @@
 //! Operations that are moved between blocks, and blocks between regions.
 
 use crate::building::{add_block, add_marked};
-use crate::outcome::{Run, block_sum, mix, nanos_now, run_of};
+use crate::outcome::{Run, block_sum, mix, nanos_now, nanos_of, run_to};
 use crate::random::Random;
 use ir_base::{Dialects, Ptr, TypeHandle};
 use ir_checked::{
-    BasicBlock, BlockPtr, CheckedErr, Context, Operation, Region, RegionPlace, RegionPtr, argument,
-    block_at_back, block_head, new_block, new_op, op_at_back, op_before, region, region_head,
-    unlink_block, unlink_op,
+    BasicBlock, BlockPtr, CheckedErr, Context, Operation, Region, RegionPlace, RegionPtr, Value,
+    argument, block_at_back, block_head, new_block, new_op, op_at_back, op_before, region,
+    region_head, unlink_block, unlink_op,
 };
 use std::time::CpuClock;
 
@@ -29,6 +29,29 @@ fn timed_front_to_back<D: Dialects>(
     Ok(())
 }
 
+// How long that takes.
+fn front_to_back_nanos<C: CpuClock, D: Dialects>(
+    rt: &C,
+    ctx: &mut Context<D>,
+    from: Ptr<BasicBlock<D>>,
+    to: Ptr<BasicBlock<D>>,
+    count: usize,
+) -> anyhow::Result<u64> {
+    let start = nanos_now(rt)?;
+    nanos_of(rt, start, timed_front_to_back(ctx, from, to, count))
+}
+
+// Makes two unlinked blocks, the first with an argument of a type, and answers them and it.
+fn two_blocks<D: Dialects>(
+    ctx: &mut Context<D>,
+    ty: TypeHandle,
+) -> Result<(Ptr<BasicBlock<D>>, Ptr<BasicBlock<D>>, Value<D>), CheckedErr> {
+    let first = new_block(ctx, None, &[ty])?;
+    let second = new_block(ctx, None, &[])?;
+    let value = argument(ctx, first, 0)?;
+    Ok((first, second, value))
+}
+
 /// N operations one by one from the front of one block to the back of another. Their making isn't timed.
 pub(crate) fn front_to_back<C: CpuClock, D: Dialects>(
     rt: &C,
@@ -36,15 +59,10 @@ pub(crate) fn front_to_back<C: CpuClock, D: Dialects>(
     ty: TypeHandle,
     count: usize,
 ) -> Run {
-    let from = new_block(ctx, None, &[ty])?;
-    let to = new_block(ctx, None, &[])?;
-    let value = argument(ctx, from, 0)?;
-    let mut made = Vec::with_capacity(ctx.alloc(), count)?;
-    add_marked(ctx, from, from, value, count, &mut made)?;
-    let start = nanos_now(rt)?;
-    timed_front_to_back(ctx, from, to, count)?;
-    let end = nanos_now(rt)?;
-    run_of(start, end, count, block_sum(ctx, to)?)
+    let (from, to, value) = two_blocks(ctx, ty)?;
+    let _made = add_marked(ctx, from, from, value, count)?;
+    let nanos = front_to_back_nanos(rt, ctx, from, to, count)?;
+    run_to(nanos, count, block_sum(ctx, to))
 }
 
 // A random place of so many, and another one where there are two.
@@ -69,12 +87,15 @@ fn op_at<D: Dialects>(
     }
 }
 
-// Puts an operation before another one.
+// Puts the operation at a place before the one at another place.
 fn put_before<D: Dialects>(
     ctx: &mut Context<D>,
-    op: Ptr<Operation<D>>,
-    mark: Ptr<Operation<D>>,
+    ops: &[Ptr<Operation<D>>],
+    place: usize,
+    marked: usize,
 ) -> Result<(), CheckedErr> {
+    let op = op_at(ops, place)?;
+    let mark = op_at(ops, marked)?;
     unlink_op(ctx, op)?;
     op_before(ctx, op, mark)
 }
@@ -90,10 +111,31 @@ fn timed_random_moves<D: Dialects>(
     for _i in 0..count {
         let (one, other) = two_places(random, count);
         if one != other {
-            put_before(ctx, op_at(ops, one)?, op_at(ops, other)?)?;
+            put_before(ctx, ops, one, other)?;
         }
     }
     Ok(())
+}
+
+// How long that takes.
+fn random_moves_nanos<C: CpuClock, D: Dialects>(
+    rt: &C,
+    ctx: &mut Context<D>,
+    ops: &[Ptr<Operation<D>>],
+) -> anyhow::Result<u64> {
+    let mut random = Random::new();
+    let start = nanos_now(rt)?;
+    nanos_of(rt, start, timed_random_moves(ctx, ops, &mut random))
+}
+
+// The sums of two blocks, in one number.
+fn both_sums<D: Dialects>(
+    ctx: &Context<D>,
+    first: Ptr<BasicBlock<D>>,
+    second: Ptr<BasicBlock<D>>,
+) -> Result<u64, CheckedErr> {
+    let sum = block_sum(ctx, first)?;
+    Ok(mix(sum, block_sum(ctx, second)?))
 }
 
 /// Over two blocks of N operations together, a random operation before a random one, N times. Their making isn't timed.
@@ -103,17 +145,10 @@ pub(crate) fn random_moves<C: CpuClock, D: Dialects>(
     ty: TypeHandle,
     count: usize,
 ) -> Run {
-    let even = new_block(ctx, None, &[ty])?;
-    let odd = new_block(ctx, None, &[])?;
-    let value = argument(ctx, even, 0)?;
-    let mut made = Vec::with_capacity(ctx.alloc(), count)?;
-    add_marked(ctx, even, odd, value, count, &mut made)?;
-    let mut random = Random::new();
-    let start = nanos_now(rt)?;
-    timed_random_moves(ctx, made.as_slice(), &mut random)?;
-    let end = nanos_now(rt)?;
-    let checksum = mix(block_sum(ctx, even)?, block_sum(ctx, odd)?);
-    run_of(start, end, count, checksum)
+    let (even, odd, value) = two_blocks(ctx, ty)?;
+    let made = add_marked(ctx, even, odd, value, count)?;
+    let nanos = random_moves_nanos(rt, ctx, made.as_slice())?;
+    run_to(nanos, count, both_sums(ctx, even, odd))
 }
 
 // Takes so many blocks from the front of a region and puts each at the back of another.
@@ -132,6 +167,18 @@ fn timed_blocks<D: Dialects>(
         block_at_back(ctx, block, to)?;
     }
     Ok(())
+}
+
+// How long that takes.
+fn blocks_nanos<C: CpuClock, D: Dialects>(
+    rt: &C,
+    ctx: &mut Context<D>,
+    from: Ptr<Region>,
+    to: Ptr<Region>,
+    count: usize,
+) -> anyhow::Result<u64> {
+    let start = nanos_now(rt)?;
+    nanos_of(rt, start, timed_blocks(ctx, from, to, count))
 }
 
 // How many arguments each block of a region has.
@@ -162,6 +209,16 @@ fn add_blocks<D: Dialects>(
     Ok(())
 }
 
+// Makes an operation with two regions, and answers these.
+fn two_regions<D: Dialects>(
+    ctx: &mut Context<D>,
+) -> Result<(Ptr<Region>, Ptr<Region>), CheckedErr> {
+    let module = new_op(ctx, 5, &[], &[], &[], 2)?;
+    let first = region(ctx, module, 0)?;
+    let second = region(ctx, module, 1)?;
+    Ok((first, second))
+}
+
 /// N blocks one by one from the front of one region to the back of another. Their making isn't timed.
 pub(crate) fn blocks<C: CpuClock, D: Dialects>(
     rt: &C,
@@ -169,12 +226,8 @@ pub(crate) fn blocks<C: CpuClock, D: Dialects>(
     ty: TypeHandle,
     count: usize,
 ) -> Run {
-    let module = new_op(ctx, 5, &[], &[], &[], 2)?;
-    let from = region(ctx, module, 0)?;
-    let to = region(ctx, module, 1)?;
+    let (from, to) = two_regions(ctx)?;
     add_blocks(ctx, from, ty, count)?;
-    let start = nanos_now(rt)?;
-    timed_blocks(ctx, from, to, count)?;
-    let end = nanos_now(rt)?;
-    run_of(start, end, count, arguments_sum(ctx, to)?)
+    let nanos = blocks_nanos(rt, ctx, from, to, count)?;
+    run_to(nanos, count, arguments_sum(ctx, to))
 }

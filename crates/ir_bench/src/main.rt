@@ -27,10 +27,31 @@ use crate::workloads::Workload;
 use anyhow::{Context, bail};
 use std::alloc::Global;
 use std::env;
+use std::env::Args;
 use std::rt::Files;
 use std::time::CpuClock;
 
-// Runs a workload so often, each time on a new context, and gives the times and what came out.
+// Runs a workload that ran once until it ran so often, each time on a new context and to the same outcome, and adds the times.
+fn repeat_same<C: CpuClock>(
+    rt: &C,
+    alloc: Global,
+    workload: Workload,
+    count: usize,
+    times: usize,
+    outcome: Outcome,
+    timing: &mut Timing,
+) -> anyhow::Result<()> {
+    for _ in 1..times {
+        let (nanos, again) = workload.run(rt, alloc, count)?;
+        if again != outcome {
+            bail!("the checksum differs between repetitions");
+        }
+        timing.add(nanos)?;
+    }
+    Ok(())
+}
+
+// Runs a workload so often, once at least, each time on a new context, and gives the times and what came out.
 fn repeat<C: CpuClock>(
     rt: &C,
     alloc: Global,
@@ -41,15 +62,28 @@ fn repeat<C: CpuClock>(
     let mut timing = Timing::new(alloc);
     let (nanos, outcome) = workload.run(rt, alloc, count)?;
     timing.add(nanos)?;
-    for _ in 1..times {
-        let (nanos, again) = workload.run(rt, alloc, count)?;
-        if again != outcome {
-            bail!("the checksum differs between repetitions");
-        }
-        timing.add(nanos)?;
-    }
+    repeat_same(rt, alloc, workload, count, times, outcome, &mut timing)?;
     timing.sort()?;
     Ok((timing, outcome))
+}
+
+// The line of a workload that ran with these times to this outcome.
+fn print_times<R: CpuClock + Files + Print + Alloc<A = Global>>(
+    rt: &R,
+    name: &str,
+    count: usize,
+    timing: &Timing,
+    outcome: Outcome,
+) -> anyhow::Result<()> {
+    let Outcome { units, checksum } = outcome;
+    let median = timing.median(units);
+    let least = timing.least(units);
+    let greatest = timing.greatest(units);
+    let memory = peak_memory(rt)?;
+    println!(rt;
+        "ir_bench {name} {count} {median} {least} {greatest} {checksum:016x} {memory} {units}"
+    )?;
+    Ok(())
 }
 
 // The line of a workload.
@@ -61,32 +95,25 @@ fn print_line<R: CpuClock + Files + Print + Alloc<A = Global>>(
 ) -> anyhow::Result<()> {
     let name = workload.name();
     let (timing, outcome) = repeat(rt, rt.alloc(), workload, count, times)?;
-    let Outcome { units, checksum } = outcome;
     if times == 0 {
+        let Outcome { units, checksum } = outcome;
         println!(rt; "ir_bench {name} {count} - - - {checksum:016x} - {units}")?;
         return Ok(());
     }
-    let median = timing.median(units);
-    let least = timing.least(units);
-    let greatest = timing.greatest(units);
-    let memory = peak_memory(rt)?;
-    println!(rt;
-        "ir_bench {name} {count} {median} {least} {greatest} {checksum:016x} {memory} {units}"
-    )?;
-    Ok(())
+    print_times(rt, name, count, &timing, outcome)
 }
 
-fn main(rt: HostRuntime) -> anyhow::Result<()> {
-    let mut words = env::args(&rt)?;
-    words.next();
-    let usage = "usage: ir_bench WORKLOAD N REPS";
-    let wanted = words.next().context(usage)?;
-    let count: usize = words.next().context(usage)?.as_str().parse()?;
-    let times: usize = words.next().context(usage)?.as_str().parse()?;
+// The lines of the wanted workloads.
+fn print_lines<R: CpuClock + Files + Print + Alloc<A = Global>>(
+    rt: &R,
+    wanted: &str,
+    count: usize,
+    times: usize,
+) -> anyhow::Result<()> {
     let mut printed = 0u32;
     for workload in Workload::all() {
-        if wanted.as_str() == "all" || wanted.as_str() == workload.name() {
-            print_line(&rt, workload, count, times)?;
+        if wanted == "all" || wanted == workload.name() {
+            print_line(rt, workload, count, times)?;
             printed = 1;
         }
     }
@@ -94,4 +121,23 @@ fn main(rt: HostRuntime) -> anyhow::Result<()> {
         bail!("there is no such workload");
     }
     Ok(())
+}
+
+// The next word of the command line.
+fn word(words: &mut Args) -> anyhow::Result<String> {
+    words.next().context("usage: ir_bench WORKLOAD N REPS")
+}
+
+// The next word, a number.
+fn number(words: &mut Args) -> anyhow::Result<usize> {
+    Ok(word(words)?.as_str().parse()?)
+}
+
+fn main(rt: HostRuntime) -> anyhow::Result<()> {
+    let mut words = env::args(&rt)?;
+    words.next();
+    let wanted = word(&mut words)?;
+    let count = number(&mut words)?;
+    let times = number(&mut words)?;
+    print_lines(&rt, wanted.as_str(), count, times)
 }

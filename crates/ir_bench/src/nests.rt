@@ -1,7 +1,7 @@
 //! Nests of operations: what is built, asked, verified, and erased with all inside.
 
 use crate::building::{add_block, add_op, build};
-use crate::outcome::{Run, nanos_now, run_of};
+use crate::outcome::{Run, nanos_now, nanos_since, run_of};
 use anyhow::bail;
 use ir_base::{Dialects, Ptr, TypeHandle};
 use ir_checked::{
@@ -55,9 +55,10 @@ fn timed_module<D: Dialects>(
     module(ctx, ty, functions)
 }
 
-/// How many entities a module of so many functions has, itself counted.
-pub(crate) fn entities_of(functions: usize) -> usize {
-    functions.wrapping_mul(8).wrapping_add(3)
+/// What comes of a module of so many functions that was built, erased or verified in so many nanoseconds. The units are its entities, itself counted.
+pub(crate) fn module_outcome(nanos: u64, functions: usize) -> Run {
+    let entities = functions.wrapping_mul(8).wrapping_add(3);
+    run_of(nanos, entities, entities as u64)
 }
 
 /// A module of N/8 functions is built. The units are the entities.
@@ -69,15 +70,29 @@ pub(crate) fn module_built<C: CpuClock, D: Dialects>(
 ) -> Run {
     let start = nanos_now(rt)?;
     timed_module(ctx, ty, count / 8)?;
-    let end = nanos_now(rt)?;
-    let entities = entities_of(count / 8);
-    run_of(start, end, entities, entities as u64)
+    let nanos = nanos_since(rt, start)?;
+    module_outcome(nanos, count / 8)
 }
 
 // Erases an operation with all that stands inside it, where nothing outside names what is inside.
 #[inline(never)]
 fn timed_erase<D: Dialects>(ctx: &mut Context<D>, op: Ptr<Operation<D>>) -> Result<(), CheckedErr> {
     erase_op(ctx, op)
+}
+
+// How long it takes to erase an operation inside which all others stand.
+fn erase_nanos<C: CpuClock, D: Dialects>(
+    rt: &C,
+    ctx: &mut Context<D>,
+    op: Ptr<Operation<D>>,
+) -> anyhow::Result<u64> {
+    let start = nanos_now(rt)?;
+    timed_erase(ctx, op)?;
+    let nanos = nanos_since(rt, start)?;
+    if !ctx.is_ir_empty() {
+        bail!("something is left");
+    }
+    Ok(nanos)
 }
 
 /// A module of N/8 functions is erased, after it was asked whether it can be; its building isn't timed. The units are the entities.
@@ -88,14 +103,23 @@ pub(crate) fn module_erased<C: CpuClock, D: Dialects>(
     count: usize,
 ) -> Run {
     let root = module(ctx, ty, count / 8)?;
-    let start = nanos_now(rt)?;
-    timed_erase(ctx, root)?;
-    let end = nanos_now(rt)?;
-    if !ctx.is_ir_empty() {
-        bail!("something is left");
+    let nanos = erase_nanos(rt, ctx, root)?;
+    module_outcome(nanos, count / 8)
+}
+
+// Puts so many levels into an operation, each into the one before, and answers the innermost operation.
+fn nest_inside<D: Dialects>(
+    ctx: &mut Context<D>,
+    outer: Ptr<Operation<D>>,
+    levels: usize,
+) -> Result<Ptr<Operation<D>>, CheckedErr> {
+    let mut inner = outer;
+    for _i in 0..levels {
+        let inside = region(ctx, inner, 0)?;
+        let block = add_block(ctx, inside, &[])?;
+        inner = add_op(ctx, block, 5, &[], &[], 1)?;
     }
-    let entities = entities_of(count / 8);
-    run_of(start, end, entities, entities as u64)
+    Ok(inner)
 }
 
 /// Makes a nest so many levels deep, each of a region, a block and an operation, from the outermost on, and answers its ends: the outer one first.
@@ -104,12 +128,7 @@ pub(crate) fn nest_from_above<D: Dialects>(
     levels: usize,
 ) -> Result<(Ptr<Operation<D>>, Ptr<Operation<D>>), CheckedErr> {
     let outer = new_op(ctx, 5, &[], &[], &[], 1)?;
-    let mut inner = outer;
-    for _i in 0..levels {
-        let inside = region(ctx, inner, 0)?;
-        let block = add_block(ctx, inside, &[])?;
-        inner = add_op(ctx, block, 5, &[], &[], 1)?;
-    }
+    let inner = nest_inside(ctx, outer, levels)?;
     Ok((outer, inner))
 }
 
@@ -163,10 +182,10 @@ fn timed_nest_below<D: Dialects>(ctx: &mut Context<D>, levels: usize) -> Result<
     Ok(is_below(ctx, inner, outer))
 }
 
-/// What comes of a nest so many levels deep, built or asked from this time to that.
-pub(crate) fn nest_outcome(start: u64, end: u64, levels: usize) -> Run {
+/// What comes of a nest so many levels deep that was built, asked, erased or verified in so many nanoseconds.
+pub(crate) fn nest_outcome(nanos: u64, levels: usize) -> Run {
     let units = levels.wrapping_mul(3).wrapping_add(2);
-    run_of(start, end, units, levels as u64)
+    run_of(nanos, units, levels as u64)
 }
 
 /// A nest N/3 deep is built from the outermost operation on, and its ends are asked whether each is inside the other. The units are the entities.
@@ -177,11 +196,11 @@ pub(crate) fn nest_above<C: CpuClock, D: Dialects>(
 ) -> Run {
     let start = nanos_now(rt)?;
     let right = timed_nest_above(ctx, count / 3)?;
-    let end = nanos_now(rt)?;
+    let nanos = nanos_since(rt, start)?;
     if !right && count >= 3 {
         bail!("the nest is another one");
     }
-    nest_outcome(start, end, count / 3)
+    nest_outcome(nanos, count / 3)
 }
 
 /// The same from the innermost operation on.
@@ -192,11 +211,11 @@ pub(crate) fn nest_below<C: CpuClock, D: Dialects>(
 ) -> Run {
     let start = nanos_now(rt)?;
     let right = timed_nest_below(ctx, count / 3)?;
-    let end = nanos_now(rt)?;
+    let nanos = nanos_since(rt, start)?;
     if !right && count >= 3 {
         bail!("the nest is another one");
     }
-    nest_outcome(start, end, count / 3)
+    nest_outcome(nanos, count / 3)
 }
 
 // Drops all uses inside an operation, and tells whether it can be erased.
@@ -209,6 +228,21 @@ fn timed_asking<D: Dialects>(
     can_erase(ctx, Entity::Op(op))
 }
 
+// How long that takes, where it can.
+fn asking_nanos<C: CpuClock, D: Dialects>(
+    rt: &C,
+    ctx: &mut Context<D>,
+    op: Ptr<Operation<D>>,
+) -> anyhow::Result<u64> {
+    let start = nanos_now(rt)?;
+    let may = timed_asking(ctx, op)?;
+    let nanos = nanos_since(rt, start)?;
+    if !may {
+        bail!("something outside names what is inside");
+    }
+    Ok(nanos)
+}
+
 /// In a nest N/3 deep all uses are dropped, and it is asked whether it can be erased. The units are the entities.
 pub(crate) fn deep_asked<C: CpuClock, D: Dialects>(
     rt: &C,
@@ -216,24 +250,14 @@ pub(crate) fn deep_asked<C: CpuClock, D: Dialects>(
     count: usize,
 ) -> Run {
     let (outer, _inner) = nest_from_above(ctx, count / 3)?;
-    let start = nanos_now(rt)?;
-    let may = timed_asking(ctx, outer)?;
-    let end = nanos_now(rt)?;
-    if !may {
-        bail!("something outside names what is inside");
-    }
-    nest_outcome(start, end, count / 3)
+    let nanos = asking_nanos(rt, ctx, outer)?;
+    nest_outcome(nanos, count / 3)
 }
 
 /// A nest N/3 deep, whose uses were dropped, is erased, after it was asked whether it can be. The units are the entities.
 pub(crate) fn deep<C: CpuClock, D: Dialects>(rt: &C, ctx: &mut Context<D>, count: usize) -> Run {
     let (outer, _inner) = nest_from_above(ctx, count / 3)?;
     drop_op_uses(ctx, outer)?;
-    let start = nanos_now(rt)?;
-    timed_erase(ctx, outer)?;
-    let end = nanos_now(rt)?;
-    if !ctx.is_ir_empty() {
-        bail!("something is left");
-    }
-    nest_outcome(start, end, count / 3)
+    let nanos = erase_nanos(rt, ctx, outer)?;
+    nest_outcome(nanos, count / 3)
 }

@@ -2,7 +2,7 @@
 
 use crate::building::{add_op, pair_block, used_value, wide};
 use crate::outcome::{
-    Run, mix, naming_sum, nanos_now, nanos_since, operand_count, run_of, uses_of,
+    Run, mix, naming_sum, nanos_now, nanos_of, nanos_since, operand_count, run_of, run_to, uses_of,
 };
 use crate::random::random_places;
 use ir_base::{Dialects, Ptr, TypeHandle};
@@ -35,8 +35,7 @@ fn push_and_remove_nanos<C: CpuClock, D: Dialects>(
     count: usize,
 ) -> anyhow::Result<u64> {
     let start = nanos_now(rt)?;
-    timed_push_and_remove(ctx, op, value, count)?;
-    nanos_since(rt, start)
+    nanos_of(rt, start, timed_push_and_remove(ctx, op, value, count))
 }
 
 // How many uses a value and how many operands an operation has, in one number.
@@ -59,7 +58,7 @@ pub(crate) fn push_and_remove<C: CpuClock, D: Dialects>(
     let used = used_value(ctx, ty, count)?;
     let op = add_op(ctx, used.block, 4, &[], &[], 0)?;
     let nanos = push_and_remove_nanos(rt, ctx, op, used.value, count)?;
-    run_of(nanos, count, uses_and_operands(ctx, used.value, op)?)
+    run_to(nanos, count, uses_and_operands(ctx, used.value, op))
 }
 
 // Puts so many operands that name the value behind the others.
@@ -168,8 +167,11 @@ fn replacements_nanos<C: CpuClock, D: Dialects>(
 ) -> anyhow::Result<u64> {
     let order = random_places(ctx.alloc(), ops.len())?;
     let start = nanos_now(rt)?;
-    timed_replacements(ctx, ops, order.as_slice(), first, second)?;
-    nanos_since(rt, start)
+    nanos_of(
+        rt,
+        start,
+        timed_replacements(ctx, ops, order.as_slice(), first, second),
+    )
 }
 
 /// The operand of N random users of one value is replaced.
@@ -182,7 +184,7 @@ pub(crate) fn replacements<C: CpuClock, D: Dialects>(
     let used = used_value(ctx, ty, count)?;
     let users = used.users.as_slice();
     let nanos = replacements_nanos(rt, ctx, users, used.other, used.value)?;
-    run_of(nanos, count, naming_sum(ctx, users, used.value)?)
+    run_to(nanos, count, naming_sum(ctx, users, used.value))
 }
 
 // What is left of a wide operation whose operands were replaced in so many nanoseconds.
@@ -219,8 +221,7 @@ fn from_front_nanos<C: CpuClock, D: Dialects>(
     count: usize,
 ) -> anyhow::Result<u64> {
     let start = nanos_now(rt)?;
-    timed_from_front(ctx, op, value, count)?;
-    nanos_since(rt, start)
+    nanos_of(rt, start, timed_from_front(ctx, op, value, count))
 }
 
 /// The N operands of one operation are replaced one by one, the first first.
@@ -258,8 +259,7 @@ fn from_back_nanos<C: CpuClock, D: Dialects>(
     count: usize,
 ) -> anyhow::Result<u64> {
     let start = nanos_now(rt)?;
-    timed_from_back(ctx, op, value, count)?;
-    nanos_since(rt, start)
+    nanos_of(rt, start, timed_from_back(ctx, op, value, count))
 }
 
 /// The N operands of one operation are replaced one by one, the last first.
@@ -302,8 +302,7 @@ fn in_order_nanos<C: CpuClock, D: Dialects>(
     second: Value<D>,
 ) -> anyhow::Result<u64> {
     let start = nanos_now(rt)?;
-    timed_in_order(ctx, op, order, first, second)?;
-    nanos_since(rt, start)
+    nanos_of(rt, start, timed_in_order(ctx, op, order, first, second))
 }
 
 /// A random one of the N operands of one operation is replaced, N times.

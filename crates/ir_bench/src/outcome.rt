@@ -36,10 +36,25 @@ pub(crate) fn nanos_since<C: CpuClock>(rt: &C, start: u64) -> anyhow::Result<u64
     Ok(end.saturating_sub(start))
 }
 
+/// The nanoseconds of the thread since it had so many, where what was timed since succeeded.
+pub(crate) fn nanos_of<C: CpuClock>(
+    rt: &C,
+    start: u64,
+    done: Result<(), CheckedErr>,
+) -> anyhow::Result<u64> {
+    done?;
+    nanos_since(rt, start)
+}
+
 /// A run whose timed part took so many nanoseconds, with so many units.
 pub(crate) fn run_of(nanos: u64, units: usize, checksum: u64) -> Run {
     let units = units as u64;
     Ok((nanos, Outcome { units, checksum }))
+}
+
+/// The same where the checksum has to be read, which may fail.
+pub(crate) fn run_to(nanos: u64, units: usize, checksum: Result<u64, CheckedErr>) -> Run {
+    run_of(nanos, units, checksum?)
 }
 
 // How many results an operation has where it is live, and else 0.

@@ -6,8 +6,8 @@ ghost use Rattle.ir_model.specs.Nesting.{IsLiveNamed};
 ghost use Rattle.ir_records.specs.Meaning.{value_of};
 ghost use Rattle.ir_view.specs.State.{forest_of, types_of};
 
-use crate::chains::new_value;
-use crate::outcome::{Run, nanos_now, run_of, uses_sum};
+use crate::chains::two_values;
+use crate::outcome::{Run, nanos_now, nanos_since, run_to, uses_sum};
 use anyhow::bail;
 use ir_base::{CoreError, Dialects, Ptr, TypeHandle};
 use ir_view::{Context, NewOperation, Operation, OperationPtr, TypeQueries, Value, ValueQueries};
@@ -39,6 +39,23 @@ fn timed_unlinked<D: Dialects>(
     Ok(())
 }
 
+// How long it takes to make so many operations, the first two of which use new values.
+fn unlinked_nanos<C: CpuClock, D: Dialects>(
+    rt: &C,
+    ctx: &mut Context<D>,
+    ty: TypeHandle,
+    count: usize,
+    made: &mut Vec<Ptr<Operation<D>>>,
+) -> anyhow::Result<u64> {
+    let (first, second) = two_values(ctx, ty)?;
+    if !ty.is_known(ctx) || !first.is_live(ctx) || !second.is_live(ctx) {
+        bail!("a type or a value is gone");
+    }
+    let start = nanos_now(rt)?;
+    timed_unlinked(ctx, ty, first, second, count, made)?;
+    nanos_since(rt, start)
+}
+
 /// N operations without a block.
 pub(crate) fn unlinked<C: CpuClock, D: Dialects>(
     rt: &C,
@@ -46,14 +63,7 @@ pub(crate) fn unlinked<C: CpuClock, D: Dialects>(
     ty: TypeHandle,
     count: usize,
 ) -> Run {
-    let first = new_value(ctx, ty)?;
-    let second = new_value(ctx, ty)?;
     let mut made = Vec::with_capacity(ctx.alloc(), count)?;
-    if !ty.is_known(ctx) || !first.is_live(ctx) || !second.is_live(ctx) {
-        bail!("a type or a value is gone");
-    }
-    let start = nanos_now(rt)?;
-    timed_unlinked(ctx, ty, first, second, count, &mut made)?;
-    let end = nanos_now(rt)?;
-    run_of(start, end, count, uses_sum(ctx, made.as_slice())?)
+    let nanos = unlinked_nanos(rt, ctx, ty, count, &mut made)?;
+    run_to(nanos, count, uses_sum(ctx, made.as_slice()))
 }

@@ -1,7 +1,7 @@
 //! Blocks that are swept: dead chains, whichever way they run, and a block with nothing dead.
 
 use crate::building::add_op;
-use crate::outcome::{Run, mix, nanos_now, run_of};
+use crate::outcome::{Run, mix, nanos_now, nanos_since, run_of};
 use ir_base::{Dialects, Ptr, TypeHandle};
 use ir_checked::{
     BasicBlock, BlockPlace, BlockPtr, CheckedErr, Context, Operation, Value, new_block, new_op,
@@ -43,9 +43,9 @@ fn swept<C: CpuClock, D: Dialects>(
 ) -> Run {
     let start = nanos_now(rt)?;
     let gone = timed_sweep(ctx, block)?;
-    let end = nanos_now(rt)?;
+    let nanos = nanos_since(rt, start)?;
     let left = length_of(ctx, block)?;
-    run_of(start, end, count, mix(gone as u64, left))
+    run_of(nanos, count, mix(gone as u64, left))
 }
 
 // Makes a block with an operation that has one result, and answers both.

@@ -1,6 +1,6 @@
 //! Types that are asked for by their keys.
 
-use crate::outcome::{Run, mix, nanos_now, run_of};
+use crate::outcome::{Run, mix, nanos_now, nanos_since, run_of};
 use ir_base::{CoreError, TypeHandle};
 use ir_checked::{Context, TypeQueries};
 use ir_toy_verifiers::{Toy, ToyType};
@@ -23,6 +23,19 @@ fn timed_interning(
     Ok(())
 }
 
+// How long that takes.
+fn interning_nanos<C: CpuClock>(
+    rt: &C,
+    ctx: &mut Context<Toy>,
+    pool: usize,
+    count: usize,
+    made: &mut Vec<TypeHandle>,
+) -> anyhow::Result<u64> {
+    let start = nanos_now(rt)?;
+    timed_interning(ctx, pool, count, made)?;
+    nanos_since(rt, start)
+}
+
 // The width of each type, and how many types there are.
 fn types_sum(ctx: &Context<Toy>, types: &[TypeHandle]) -> anyhow::Result<u64> {
     let mut sum = 0u64;
@@ -41,8 +54,6 @@ fn types_sum(ctx: &Context<Toy>, types: &[TypeHandle]) -> anyhow::Result<u64> {
 /// N types out of N/10 keys.
 pub(crate) fn interning<C: CpuClock>(rt: &C, ctx: &mut Context<Toy>, count: usize) -> Run {
     let mut made = Vec::with_capacity(ctx.alloc(), count)?;
-    let start = nanos_now(rt)?;
-    timed_interning(ctx, count / 10, count, &mut made)?;
-    let end = nanos_now(rt)?;
-    run_of(start, end, count, types_sum(ctx, made.as_slice())?)
+    let nanos = interning_nanos(rt, ctx, count / 10, count, &mut made)?;
+    run_of(nanos, count, types_sum(ctx, made.as_slice())?)
 }

@@ -1,7 +1,7 @@
 //! Uses of values: all of one value's come to name another, and many values with one use each.
 
 use crate::building::{add_op, copies, used_value, wide};
-use crate::outcome::{Run, block_sum, mix, nanos_now, nanos_since, operand_sum, run_of, uses_of};
+use crate::outcome::{Run, block_sum, mix, nanos_now, nanos_of, operand_sum, run_to, uses_of};
 use ir_base::{Dialects, Ptr, TypeHandle};
 use ir_checked::{
     BasicBlock, CheckedErr, Context, Operation, Value, argument, new_block, replace_all_uses,
@@ -36,8 +36,7 @@ fn redirected<C: CpuClock, D: Dialects>(
     other: Value<D>,
 ) -> anyhow::Result<u64> {
     let start = nanos_now(rt)?;
-    timed_replacing(ctx, value, other)?;
-    nanos_since(rt, start)
+    nanos_of(rt, start, timed_replacing(ctx, value, other))
 }
 
 // Lets all uses of one value name another, and back. Tells how long both took, and how many uses the two had between.
@@ -75,8 +74,8 @@ pub(crate) fn replacing<C: CpuClock, D: Dialects>(
     let used = used_value(ctx, ty, count)?;
     let (nanos, between) = there_and_back(rt, ctx, used.value, used.other)?;
     let users = used.users.as_slice();
-    let checksum = returned_sum(ctx, users, used.value, used.other, between)?;
-    run_of(nanos, count.wrapping_mul(2), checksum)
+    let checksum = returned_sum(ctx, users, used.value, used.other, between);
+    run_to(nanos, count.wrapping_mul(2), checksum)
 }
 
 /// The same with all uses in one operation.
@@ -88,8 +87,8 @@ pub(crate) fn replacing_in_one<C: CpuClock, D: Dialects>(
 ) -> Run {
     let (op, value, other) = wide(ctx, ty, count)?;
     let (nanos, _between) = there_and_back(rt, ctx, value, other)?;
-    let checksum = operand_sum(ctx, &[op], value)?;
-    run_of(nanos, count.wrapping_mul(2), checksum)
+    let checksum = operand_sum(ctx, &[op], value);
+    run_to(nanos, count.wrapping_mul(2), checksum)
 }
 
 // Makes an operation for each argument of a block with so many, at its back, that uses the argument.
@@ -115,8 +114,7 @@ fn argument_users_nanos<C: CpuClock, D: Dialects>(
     count: usize,
 ) -> anyhow::Result<u64> {
     let start = nanos_now(rt)?;
-    timed_argument_users(ctx, block, count)?;
-    nanos_since(rt, start)
+    nanos_of(rt, start, timed_argument_users(ctx, block, count))
 }
 
 // Makes an unlinked block with so many arguments of a type.
@@ -138,5 +136,5 @@ pub(crate) fn argument_users<C: CpuClock, D: Dialects>(
 ) -> Run {
     let block = wide_block(ctx, ty, count)?;
     let nanos = argument_users_nanos(rt, ctx, block, count)?;
-    run_of(nanos, count, block_sum(ctx, block)?)
+    run_to(nanos, count, block_sum(ctx, block))
 }

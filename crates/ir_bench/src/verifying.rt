@@ -1,13 +1,25 @@
 //! A module and a deep nest that are verified.
 
 use crate::building::{add_op, build};
-use crate::nests::{add_function, entities_of, nest_from_above, nest_outcome, with_block};
-use crate::outcome::{Run, nanos_now, run_of};
+use crate::nests::{add_function, module_outcome, nest_from_above, nest_outcome, with_block};
+use crate::outcome::{Run, nanos_now, nanos_since};
 use anyhow::bail;
 use ir_base::{Dialects, Ptr, TypeHandle};
-use ir_checked::{CheckedErr, Context, Operation, OperationPtr};
+use ir_checked::{BasicBlock, CheckedErr, Context, Operation, OperationPtr};
 use ir_toy_verifiers::{Toy, ToyVerifiers, verify_operation};
 use std::time::CpuClock;
+
+// Makes a function at the back of a block, with a block of four operations and a terminator.
+fn add_ended_function<D: Dialects>(
+    ctx: &mut Context<D>,
+    ty: TypeHandle,
+    outer: Ptr<BasicBlock<D>>,
+) -> Result<(), CheckedErr> {
+    let block = add_function(ctx, ty, outer)?;
+    build(ctx, ty, block, 4)?;
+    add_op(ctx, block, 2, &[], &[], 0)?;
+    Ok(())
+}
 
 // Makes a module of so many functions, each with a block of four operations and a terminator.
 fn ended_module<D: Dialects>(
@@ -17,9 +29,7 @@ fn ended_module<D: Dialects>(
 ) -> Result<Ptr<Operation<D>>, CheckedErr> {
     let (root, outer) = with_block(ctx, 5)?;
     for _i in 0..functions {
-        let block = add_function(ctx, ty, outer)?;
-        build(ctx, ty, block, 4)?;
-        add_op(ctx, block, 2, &[], &[], 0)?;
+        add_ended_function(ctx, ty, outer)?;
     }
     Ok(root)
 }
@@ -43,12 +53,11 @@ pub(crate) fn verifying<C: CpuClock>(
     let root = ended_module(ctx, ty, count / 8)?;
     let start = nanos_now(rt)?;
     let well = timed_verifying(ctx, root);
-    let end = nanos_now(rt)?;
+    let nanos = nanos_since(rt, start)?;
     if !well {
         bail!("something is wrong with the module");
     }
-    let entities = entities_of(count / 8);
-    run_of(start, end, entities, entities as u64)
+    module_outcome(nanos, count / 8)
 }
 
 /// A nest N/3 deep is verified. Its building isn't timed. The units are the entities.
@@ -56,9 +65,9 @@ pub(crate) fn verifying_deep<C: CpuClock>(rt: &C, ctx: &mut Context<Toy>, count:
     let (outer, _inner) = nest_from_above(ctx, count / 3)?;
     let start = nanos_now(rt)?;
     let well = timed_verifying(ctx, outer);
-    let end = nanos_now(rt)?;
+    let nanos = nanos_since(rt, start)?;
     if !well {
         bail!("something is wrong with the nest");
     }
-    nest_outcome(start, end, count / 3)
+    nest_outcome(nanos, count / 3)
 }

@@ -14,6 +14,8 @@ use crate::sweeps::{sweep_back, sweep_front, sweep_none};
 use crate::types::interning;
 use crate::uses::{argument_users, replacing, replacing_in_one};
 use crate::verifying::{verifying, verifying_deep};
+use anyhow::bail;
+use ir_base::TypeHandle;
 use ir_checked::{Context, end};
 use ir_toy_verifiers::{Toy, ToyType};
 use std::alloc::Global;
@@ -173,31 +175,71 @@ impl Workload {
             Workload::Building => building(rt, ctx, ty, count),
             Workload::Replacing => replacing(rt, ctx, ty, count),
             Workload::Rebuilding => rebuilding(rt, ctx, ty, count),
-            Workload::ModuleErased => module_erased(rt, ctx, ty, count),
-            Workload::ModuleBuilt => module_built(rt, ctx, ty, count),
             Workload::Interning => interning(rt, ctx, count),
-            Workload::FrontToBack => front_to_back(rt, ctx, ty, count),
-            Workload::RandomMoves => random_moves(rt, ctx, ty, count),
-            Workload::Blocks => blocks(rt, ctx, ty, count),
+            Workload::ReplacingInOne => replacing_in_one(rt, ctx, ty, count),
+            Workload::ArgumentUsers => argument_users(rt, ctx, ty, count),
+            _ => self.run_operands(rt, ctx, ty, count),
+        }
+    }
+
+    // The same for a workload of operands, results and arguments, or one of those below.
+    fn run_operands<C: CpuClock>(
+        self,
+        rt: &C,
+        ctx: &mut Context<Toy>,
+        ty: TypeHandle,
+        count: usize,
+    ) -> Run {
+        match self {
             Workload::PushAndRemove => push_and_remove(rt, ctx, ty, count),
             Workload::PushesAndRemovals => pushes_and_removals(rt, ctx, ty, count),
             Workload::Replacements => replacements(rt, ctx, ty, count),
-            Workload::ReplacingInOne => replacing_in_one(rt, ctx, ty, count),
-            Workload::ArgumentUsers => argument_users(rt, ctx, ty, count),
+            Workload::ReplacedFront => replaced_front(rt, ctx, ty, count),
+            Workload::ReplacedBack => replaced_back(rt, ctx, ty, count),
+            Workload::ReplacedRandom => replaced_random(rt, ctx, ty, count),
+            Workload::ResultsFront => results_front(rt, ctx, ty, count),
+            Workload::ArgumentsFront => arguments_front(rt, ctx, ty, count),
+            _ => self.run_lists(rt, ctx, ty, count),
+        }
+    }
+
+    // The same for a workload of lists and sweeps, or one of those below.
+    fn run_lists<C: CpuClock>(
+        self,
+        rt: &C,
+        ctx: &mut Context<Toy>,
+        ty: TypeHandle,
+        count: usize,
+    ) -> Run {
+        match self {
+            Workload::FrontToBack => front_to_back(rt, ctx, ty, count),
+            Workload::RandomMoves => random_moves(rt, ctx, ty, count),
+            Workload::Blocks => blocks(rt, ctx, ty, count),
+            Workload::SweepFront => sweep_front(rt, ctx, ty, count),
+            Workload::SweepBack => sweep_back(rt, ctx, ty, count),
+            Workload::SweepNone => sweep_none(rt, ctx, ty, count),
+            _ => self.run_nests(rt, ctx, ty, count),
+        }
+    }
+
+    // The same for a workload of modules and nests.
+    fn run_nests<C: CpuClock>(
+        self,
+        rt: &C,
+        ctx: &mut Context<Toy>,
+        ty: TypeHandle,
+        count: usize,
+    ) -> Run {
+        match self {
+            Workload::ModuleErased => module_erased(rt, ctx, ty, count),
+            Workload::ModuleBuilt => module_built(rt, ctx, ty, count),
             Workload::Deep => deep(rt, ctx, count),
             Workload::DeepAsked => deep_asked(rt, ctx, count),
             Workload::NestAbove => nest_above(rt, ctx, count),
             Workload::NestBelow => nest_below(rt, ctx, count),
             Workload::Verifying => verifying(rt, ctx, ty, count),
             Workload::VerifyingDeep => verifying_deep(rt, ctx, count),
-            Workload::SweepFront => sweep_front(rt, ctx, ty, count),
-            Workload::SweepBack => sweep_back(rt, ctx, ty, count),
-            Workload::SweepNone => sweep_none(rt, ctx, ty, count),
-            Workload::ReplacedFront => replaced_front(rt, ctx, ty, count),
-            Workload::ReplacedBack => replaced_back(rt, ctx, ty, count),
-            Workload::ReplacedRandom => replaced_random(rt, ctx, ty, count),
-            Workload::ResultsFront => results_front(rt, ctx, ty, count),
-            Workload::ArgumentsFront => arguments_front(rt, ctx, ty, count),
+            _ => bail!("the workload is none of these"),
         }
     }
 }

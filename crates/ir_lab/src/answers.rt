@@ -27,10 +27,17 @@ pub(crate) fn answer_text(
     match answer {
         Answer::Made(number) => write!(text, "made {letter}{number}")?,
         Answer::Done => text.push_str("done")?,
-        Answer::Refused(Refused::Condition) => text.push_str("refused condition")?,
-        Answer::Refused(Refused::Memory) => text.push_str("refused memory")?,
-        Answer::Refused(Refused::Counter) => text.push_str("refused counter")?,
-        Answer::Refused(Refused::Slots) => text.push_str("refused slots")?,
+        Answer::Refused(refused) => text.push_str(refusal_text(refused))?,
     }
     Ok(text)
+}
+
+// The text of a refusal.
+fn refusal_text(refused: Refused) -> &'static str {
+    match refused {
+        Refused::Condition => "refused condition",
+        Refused::Memory => "refused memory",
+        Refused::Counter => "refused counter",
+        Refused::Slots => "refused slots",
+    }
 }

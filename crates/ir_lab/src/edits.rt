@@ -46,7 +46,26 @@ pub(crate) fn parse_edits(alloc: Global, text: &str) -> Result<Vec<Edit<Toy>>, L
 
 // An edit that makes nothing of its own, or one thing in something else.
 fn change(word: &str, rest: &str) -> Option<Edit<Toy>> {
-    if word.ends_with("-result") {
+    if word.starts_with("op-") {
+        op_edit(word, rest)
+    } else if word.starts_with("block-") {
+        block_edit(word, rest)
+    } else if word.starts_with("unlink-") {
+        unlink_edit(word, rest)
+    } else if word.starts_with("drop-") {
+        drop_edit(word, rest)
+    } else if word.starts_with("erase-") {
+        erase_edit(word, rest)
+    } else {
+        part_edit(word, rest)
+    }
+}
+
+// An edit of a part of an operation or a block, or one that none of the words above begins.
+fn part_edit(word: &str, rest: &str) -> Option<Edit<Toy>> {
+    if word.starts_with("remove-") {
+        remove_edit(word, rest)
+    } else if word.ends_with("-result") {
         result_edit(word, rest)
     } else if word.ends_with("-argument") {
         argument_edit(word, rest)
@@ -54,12 +73,6 @@ fn change(word: &str, rest: &str) -> Option<Edit<Toy>> {
         operand_edit(word, rest)
     } else if word.ends_with("-successor") {
         successor_edit(word, rest)
-    } else if word.starts_with("op-") {
-        op_edit(word, rest)
-    } else if word.starts_with("block-") {
-        block_edit(word, rest)
-    } else if word.starts_with("drop-") || word.starts_with("erase-") {
-        ending(word, rest)
     } else {
         other_edit(word, rest)
     }
@@ -68,6 +81,13 @@ fn change(word: &str, rest: &str) -> Option<Edit<Toy>> {
 // The first field, which must be there.
 fn field(text: &str) -> Result<(&str, &str), LabError> {
     take_field(text).ok_or(LabError::Malformed)
+}
+
+// The first two fields, which must be there, and the text behind them.
+fn two_fields(text: &str) -> Result<(&str, &str, &str), LabError> {
+    let (first, rest) = field(text)?;
+    let (second, rest) = field(rest)?;
+    Ok((first, second, rest))
 }
 
 // The identifier of a text.
@@ -92,11 +112,21 @@ fn new_type(alloc: Global, text: &str) -> Result<Edit<Toy>, LabError> {
 
 // The fields of `new-op KIND TYPES VALUES BLOCKS COUNT`.
 fn new_op(alloc: Global, text: &str) -> Result<Edit<Toy>, LabError> {
-    let (kind, rest) = field(text)?;
-    let (types, rest) = field(rest)?;
-    let (operands, rest) = field(rest)?;
-    let (successors, rest) = field(rest)?;
-    let (kind, regions) = kind_and_regions(kind, rest)?;
+    let (kind, types, rest) = two_fields(text)?;
+    let (operands, successors, rest) = two_fields(rest)?;
+    let numbers = kind_and_regions(kind, rest)?;
+    op_of_lists(alloc, numbers, types, operands, successors)
+}
+
+// An edit that makes an operation, of the numbers of its kind and regions and the texts of its lists.
+fn op_of_lists(
+    alloc: Global,
+    numbers: (u32, usize),
+    types: &str,
+    operands: &str,
+    successors: &str,
+) -> Result<Edit<Toy>, LabError> {
+    let (kind, regions) = numbers;
     Ok(Edit::NewOp {
         kind,
         types: list(alloc, 't', types)?,
@@ -119,8 +149,7 @@ fn kind_and_regions(kind: &str, count: &str) -> Result<(u32, usize), LabError> {
 
 // The fields of `new-block LABEL TYPES`.
 fn new_block(alloc: Global, text: &str) -> Result<Edit<Toy>, LabError> {
-    let (label, rest) = field(text)?;
-    let (types, _rest) = field(rest)?;
+    let (label, types, _rest) = two_fields(text)?;
     let types = list(alloc, 't', types)?;
     let label = if label == "-" {
         None
@@ -130,6 +159,7 @@ fn new_block(alloc: Global, text: &str) -> Result<Edit<Toy>, LabError> {
     Ok(Edit::NewBlock { label, types })
 }
 
+// An edit that puts a result in.
 fn result_edit(word: &str, rest: &str) -> Option<Edit<Toy>> {
     if word == "push-result" {
         let (op, ty) = two('o', 't', rest)?;
@@ -137,14 +167,12 @@ fn result_edit(word: &str, rest: &str) -> Option<Edit<Toy>> {
     } else if word == "insert-result" {
         let (op, at, ty) = three('o', 't', rest)?;
         Some(Edit::InsertResult { op, at, ty })
-    } else if word == "remove-result" {
-        let (op, at) = two('o', NO_LETTER, rest)?;
-        Some(Edit::RemoveResult { op, at })
     } else {
         None
     }
 }
 
+// An edit that puts an argument in.
 fn argument_edit(word: &str, rest: &str) -> Option<Edit<Toy>> {
     if word == "push-argument" {
         let (block, ty) = two('b', 't', rest)?;
@@ -152,87 +180,126 @@ fn argument_edit(word: &str, rest: &str) -> Option<Edit<Toy>> {
     } else if word == "insert-argument" {
         let (block, at, ty) = three('b', 't', rest)?;
         Some(Edit::InsertArgument { block, at, ty })
-    } else if word == "remove-argument" {
-        let (block, at) = two('b', NO_LETTER, rest)?;
-        Some(Edit::RemoveArgument { block, at })
     } else {
         None
     }
 }
 
+// An edit that puts an operand in or replaces one.
 fn operand_edit(word: &str, rest: &str) -> Option<Edit<Toy>> {
     if word == "push-operand" {
         let (op, value) = two('o', 'v', rest)?;
-        Some(Edit::PushOperand { op, value })
-    } else if word == "insert-operand" {
-        let (op, at, value) = three('o', 'v', rest)?;
+        return Some(Edit::PushOperand { op, value });
+    }
+    let (op, at, value) = three('o', 'v', rest)?;
+    if word == "insert-operand" {
         Some(Edit::InsertOperand { op, at, value })
-    } else if word == "remove-operand" {
-        let (op, at) = two('o', NO_LETTER, rest)?;
-        Some(Edit::RemoveOperand { op, at })
     } else if word == "replace-operand" {
-        let (op, at, value) = three('o', 'v', rest)?;
         Some(Edit::ReplaceOperand { op, at, value })
     } else {
         None
     }
 }
 
+// An edit that puts a successor in or replaces one.
 fn successor_edit(word: &str, rest: &str) -> Option<Edit<Toy>> {
     if word == "push-successor" {
         let (op, block) = two('o', 'b', rest)?;
-        Some(Edit::PushSuccessor { op, block })
-    } else if word == "insert-successor" {
-        let (op, at, block) = three('o', 'b', rest)?;
+        return Some(Edit::PushSuccessor { op, block });
+    }
+    let (op, at, block) = three('o', 'b', rest)?;
+    if word == "insert-successor" {
         Some(Edit::InsertSuccessor { op, at, block })
-    } else if word == "remove-successor" {
-        let (op, at) = two('o', NO_LETTER, rest)?;
-        Some(Edit::RemoveSuccessor { op, at })
     } else if word == "replace-successor" {
-        let (op, at, block) = three('o', 'b', rest)?;
         Some(Edit::ReplaceSuccessor { op, at, block })
     } else {
         None
     }
 }
 
+// An edit that takes a result, an argument, an operand or a successor out.
+fn remove_edit(word: &str, rest: &str) -> Option<Edit<Toy>> {
+    if word == "remove-argument" {
+        let (block, at) = two('b', NO_LETTER, rest)?;
+        return Some(Edit::RemoveArgument { block, at });
+    }
+    let (op, at) = two('o', NO_LETTER, rest)?;
+    if word == "remove-result" {
+        Some(Edit::RemoveResult { op, at })
+    } else if word == "remove-operand" {
+        Some(Edit::RemoveOperand { op, at })
+    } else if word == "remove-successor" {
+        Some(Edit::RemoveSuccessor { op, at })
+    } else {
+        None
+    }
+}
+
+// An edit that puts an operation into a block.
 fn op_edit(word: &str, rest: &str) -> Option<Edit<Toy>> {
+    if word == "op-before" || word == "op-after" {
+        return op_beside(word, rest);
+    }
+    let (op, block) = two('o', 'b', rest)?;
     if word == "op-front" {
-        let (op, block) = two('o', 'b', rest)?;
         Some(Edit::OpFront { op, block })
     } else if word == "op-back" {
-        let (op, block) = two('o', 'b', rest)?;
         Some(Edit::OpBack { op, block })
-    } else if word == "op-before" {
-        let (op, mark) = two('o', 'o', rest)?;
-        Some(Edit::OpBefore { op, mark })
-    } else if word == "op-after" {
-        let (op, mark) = two('o', 'o', rest)?;
-        Some(Edit::OpAfter { op, mark })
     } else {
         None
     }
 }
 
+// An edit that puts an operation before another, or after it.
+fn op_beside(word: &str, rest: &str) -> Option<Edit<Toy>> {
+    let (op, mark) = two('o', 'o', rest)?;
+    if word == "op-before" {
+        Some(Edit::OpBefore { op, mark })
+    } else {
+        Some(Edit::OpAfter { op, mark })
+    }
+}
+
+// An edit that puts a block into a region.
 fn block_edit(word: &str, rest: &str) -> Option<Edit<Toy>> {
+    if word == "block-before" || word == "block-after" {
+        return block_beside(word, rest);
+    }
+    let (block, region) = two('b', 'r', rest)?;
     if word == "block-front" {
-        let (block, region) = two('b', 'r', rest)?;
         Some(Edit::BlockFront { block, region })
     } else if word == "block-back" {
-        let (block, region) = two('b', 'r', rest)?;
         Some(Edit::BlockBack { block, region })
-    } else if word == "block-before" {
-        let (block, mark) = two('b', 'b', rest)?;
-        Some(Edit::BlockBefore { block, mark })
-    } else if word == "block-after" {
-        let (block, mark) = two('b', 'b', rest)?;
-        Some(Edit::BlockAfter { block, mark })
     } else {
         None
     }
 }
 
-fn ending(word: &str, rest: &str) -> Option<Edit<Toy>> {
+// An edit that puts a block before another, or after it.
+fn block_beside(word: &str, rest: &str) -> Option<Edit<Toy>> {
+    let (block, mark) = two('b', 'b', rest)?;
+    if word == "block-before" {
+        Some(Edit::BlockBefore { block, mark })
+    } else {
+        Some(Edit::BlockAfter { block, mark })
+    }
+}
+
+// An edit that takes an operation or a block out of its list.
+fn unlink_edit(word: &str, rest: &str) -> Option<Edit<Toy>> {
+    if word == "unlink-op" {
+        let op = one('o', rest)?;
+        Some(Edit::UnlinkOp { op })
+    } else if word == "unlink-block" {
+        let block = one('b', rest)?;
+        Some(Edit::UnlinkBlock { block })
+    } else {
+        None
+    }
+}
+
+// An edit that drops the uses inside something.
+fn drop_edit(word: &str, rest: &str) -> Option<Edit<Toy>> {
     if word == "drop-op-uses" {
         let op = one('o', rest)?;
         Some(Edit::DropOpUses { op })
@@ -242,7 +309,14 @@ fn ending(word: &str, rest: &str) -> Option<Edit<Toy>> {
     } else if word == "drop-region-uses" {
         let region = one('r', rest)?;
         Some(Edit::DropRegionUses { region })
-    } else if word == "erase-op" {
+    } else {
+        None
+    }
+}
+
+// An edit that erases something.
+fn erase_edit(word: &str, rest: &str) -> Option<Edit<Toy>> {
+    if word == "erase-op" {
         let op = one('o', rest)?;
         Some(Edit::EraseOp { op })
     } else if word == "erase-block" {
@@ -256,32 +330,37 @@ fn ending(word: &str, rest: &str) -> Option<Edit<Toy>> {
     }
 }
 
+// An edit of regions, or one of the next two kinds.
 fn other_edit(word: &str, rest: &str) -> Option<Edit<Toy>> {
     if word == "add-region" {
         let op = one('o', rest)?;
         Some(Edit::AddRegion { op })
-    } else if word == "unlink-op" {
-        let op = one('o', rest)?;
-        Some(Edit::UnlinkOp { op })
-    } else if word == "unlink-block" {
-        let block = one('b', rest)?;
-        Some(Edit::UnlinkBlock { block })
     } else if word == "move-region" {
         let (region, op) = two('r', 'o', rest)?;
         Some(Edit::MoveRegion { region, op })
+    } else if word.starts_with("append-") {
+        append_edit(word, rest)
     } else {
-        pair_edit(word, rest)
+        redirect_edit(word, rest)
     }
 }
 
-fn pair_edit(word: &str, rest: &str) -> Option<Edit<Toy>> {
+// An edit that moves all that stands in one thing to the back of another.
+fn append_edit(word: &str, rest: &str) -> Option<Edit<Toy>> {
     if word == "append-ops" {
         let (donee, donor) = two('b', 'b', rest)?;
         Some(Edit::AppendOps { donee, donor })
     } else if word == "append-blocks" {
         let (donee, donor) = two('r', 'r', rest)?;
         Some(Edit::AppendBlocks { donee, donor })
-    } else if word == "replace-all-uses" {
+    } else {
+        None
+    }
+}
+
+// An edit that lets all that names one thing name another.
+fn redirect_edit(word: &str, rest: &str) -> Option<Edit<Toy>> {
+    if word == "replace-all-uses" {
         let (old, new) = two('v', 'v', rest)?;
         Some(Edit::ReplaceAllUses { old, new })
     } else if word == "retarget-all" {

@@ -1,16 +1,16 @@
 //! A session, and what is read of it.
 
 use crate::answers::{answer_text, letter_of};
-use crate::dumps::dump;
 use crate::edit_words::grows;
 use crate::edits::{parse_edit, parse_edits};
 use crate::error::LabError;
-use crate::places::{
-    Place, block_place, blocks_of, blocks_of_back, op_place, ops_of, ops_of_back, parent_of_region,
-};
 use crate::questions::question;
-use crate::tables::Tables;
+use crate::reading::read;
 use ir_base::{Answer, CoreError, Limits};
+use ir_dumps::{
+    Place, Tables, block_place, blocks_of, blocks_of_back, dump, op_place, ops_of, ops_of_back,
+    parent_of_region,
+};
 use ir_run::{Edit, Session};
 use ir_toy::Toy;
 use std::alloc::{AllocError, Global};
@@ -53,7 +53,7 @@ impl Lab {
 
     /// Reads what was made since the tables were read.
     pub(crate) fn read(&mut self) -> Result<(), AllocError> {
-        self.tables.read(&self.session)
+        read(&mut self.tables, &self.session)
     }
 
     /// The answer to the question of a line; none where it is none.
@@ -76,7 +76,7 @@ impl Lab {
     /// `OutOfMemory`.
     pub fn run(&mut self, edits: Vec<Edit<Toy>>) -> Result<Vec<Answer>, CoreError> {
         let answers = self.carry_out(edits)?;
-        self.tables.read(&self.session)?;
+        read(&mut self.tables, &self.session)?;
         Ok(answers)
     }
 
@@ -99,6 +99,11 @@ impl Lab {
         if let Some(answer) = self.ask(line)? {
             return Ok(answer);
         }
+        self.edit_alone(line)
+    }
+
+    // The answer to the edit of a line, as text, which is carried out.
+    fn edit_alone(&mut self, line: &str) -> Result<String, LabError> {
         let edit = parse_edit(self.alloc(), line)?;
         let letter = letter_of(&edit);
         let answer = self.run_one(edit)?;
@@ -119,7 +124,7 @@ impl Lab {
     /// # Errors
     /// `OutOfMemory`.
     pub fn dump(&self) -> Result<String, LabError> {
-        dump(self.session.ctx(), &self.tables)
+        Ok(dump(self.session.ctx(), &self.tables)?)
     }
 
     /// Where the operation with this number stands.

@@ -29,23 +29,19 @@
 #![tactic(auto)]
 
 mod answers;
-mod dumps;
 mod edit_words;
 mod edits;
 mod error;
 mod expectations;
 mod fields;
 mod lab;
-mod parts;
-mod places;
 mod questions;
-mod tables;
+mod reading;
 mod texts;
-mod uses;
 
 pub use edit_words::{EDIT_WORDS, GROWING};
 pub use error::LabError;
 pub use expectations::{Unmet, expect, expect_within};
+pub use ir_dumps::Place;
 pub use lab::Lab;
-pub use places::Place;
 pub use texts::{difference_after, first_difference};

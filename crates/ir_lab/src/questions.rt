@@ -2,11 +2,11 @@
 
 use crate::error::LabError;
 use crate::fields::{number, take_field};
-use crate::tables::Tables;
 use ir_base::{Identifier, Ptr};
+use ir_dumps::Tables;
 use ir_names::Named;
 use ir_toy::Toy;
-use ir_view::{BasicBlock, BlockPtr, Context, OperationPtr, ValueQueries};
+use ir_view::{BasicBlock, BlockPtr, Context, DanglingPtrDerefError, OperationPtr, ValueQueries};
 use std::alloc::AllocError;
 
 /// The answer to a question; none where the line is none.
@@ -19,10 +19,8 @@ pub(crate) fn question(
         return Ok(None);
     };
     let mut text = String::new(ctx.alloc());
-    if write_of_session(&mut text, ctx, word)? {
-        return Ok(Some(text));
-    }
-    if write_of_entity(&mut text, ctx, tables, word, rest)? {
+    let asked = write_of_session(&mut text, ctx, word)?;
+    if asked || write_of_entity(&mut text, ctx, tables, word, rest)? {
         return Ok(Some(text));
     }
     Ok(None)
@@ -94,13 +92,17 @@ fn write_deref(
     tables: &Tables,
     name: &str,
 ) -> Result<(), LabError> {
-    let fault = if let Some(op) = named('o', &tables.ops, name) {
-        op.try_deref(ctx).err()
-    } else if let Some(block) = named('b', &tables.blocks, name) {
-        block.try_deref(ctx).err()
-    } else {
-        return Err(LabError::Malformed);
-    };
+    if let Some(op) = named('o', &tables.ops, name) {
+        return write_fault(text, op.try_deref(ctx).err());
+    }
+    match named('b', &tables.blocks, name) {
+        Some(block) => write_fault(text, block.try_deref(ctx).err()),
+        None => Err(LabError::Malformed),
+    }
+}
+
+// Writes a fault, or that there is none.
+fn write_fault(text: &mut String, fault: Option<DanglingPtrDerefError>) -> Result<(), LabError> {
     match fault {
         Some(fault) => Ok(write!(text, "{fault}")?),
         None => Ok(text.push_str("live")?),

@@ -98,19 +98,30 @@ impl Lab {
         let mut head = String::new(self.alloc());
         let mut below = String::new(self.alloc());
         for line in text.split('\n') {
-            if line.starts_with(' ') {
-                write!(below, "{line}\n")?;
-            } else {
-                let difference = self.try_line(&head, &below)?;
-                if difference.is_some() {
-                    return Ok(difference);
-                }
-                head.clear();
-                head.push_str(line)?;
-                below.clear();
+            let difference = self.take_line(&mut head, &mut below, line)?;
+            if difference.is_some() {
+                return Ok(difference);
             }
         }
         self.try_line(&head, &below)
+    }
+
+    // Puts a line below the one before, if it belongs there. Otherwise tries that one with what stands below it, and goes on to this one unless there is a difference.
+    fn take_line(
+        &mut self,
+        head: &mut String,
+        below: &mut String,
+        line: &str,
+    ) -> Result<Option<String>, LabError> {
+        if line.starts_with(' ') {
+            write!(below, "{line}\n")?;
+            return Ok(None);
+        }
+        let difference = self.try_line(head.as_str(), below.as_str())?;
+        if difference.is_none() {
+            begin_line(head, below, line)?;
+        }
+        Ok(difference)
     }
 
     // The same for one line, and what stands below it.
@@ -122,8 +133,7 @@ impl Lab {
             return Ok(None);
         }
         if head == "dump" {
-            let shown = changes(self.alloc(), "", &self.dump()?)?;
-            return self.compare(head, below, &shown);
+            return self.compare_changes(head, below, "");
         }
         let Some((line, wanted)) = head.split_once(" => ") else {
             return self.tell(head, "is no line");
@@ -144,10 +154,20 @@ impl Lab {
         if difference.is_some() || (below.is_empty() && !wanted.starts_with("refused")) {
             return Ok(difference);
         }
-        let after = self.dump()?;
-        let changed = changes(self.alloc(), &before, &after)?;
         let below = if below.is_empty() { NOTHING } else { below };
-        self.compare(head, below, &changed)
+        self.compare_changes(head, below, &before)
+    }
+
+    // A difference at this line, if what was wanted below it isn't what the session shows beside what it showed before.
+    fn compare_changes(
+        &self,
+        head: &str,
+        wanted: &str,
+        before: &str,
+    ) -> Result<Option<String>, LabError> {
+        let after = self.dump()?;
+        let changed = changes(self.alloc(), before, &after)?;
+        self.compare(head, wanted, &changed)
     }
 
     // The same for the answer alone, where this was shown before.
@@ -195,17 +215,22 @@ impl Lab {
     ) -> Result<Option<String>, LabError> {
         let letter = letter_of(&edit);
         let may_want_memory = self.may_want_memory(&edit);
-        let mut edits = Vec::new(self.alloc());
-        edits.push(edit)?;
-        let answer = self.carry_out_first(edits);
-        self.read()?;
-        match answer {
-            Err(_) => self.expect_unchanged(head, before),
-            Ok(Answer::Refused(Refused::Memory)) if may_want_memory => {
+        match self.carry_out_alone(edit)? {
+            None => self.expect_unchanged(head, before),
+            Some(Answer::Refused(Refused::Memory)) if may_want_memory => {
                 self.expect_unchanged(head, before)
             }
-            Ok(answer) => self.compare_answer(head, letter, answer, wanted),
+            Some(answer) => self.compare_answer(head, letter, answer, wanted),
         }
+    }
+
+    // The answer to an edit that is carried out as the only one of a run; none where there was no memory for the run.
+    fn carry_out_alone(&mut self, edit: Edit<Toy>) -> Result<Option<Answer>, LabError> {
+        let mut edits = Vec::new(self.alloc());
+        edits.push(edit)?;
+        let answer = self.carry_out_first(edits).ok();
+        self.read()?;
+        Ok(answer)
     }
 
     // A difference at this line, if this isn't the answer that was wanted.
@@ -246,6 +271,13 @@ impl Lab {
         }
         self.tell(head, found)
     }
+}
+
+// Begins with a line, below which nothing stands yet.
+fn begin_line(head: &mut String, below: &mut String, line: &str) -> Result<(), AllocError> {
+    head.clear();
+    below.clear();
+    head.push_str(line)
 }
 
 // Whether a text has the line.

@@ -121,24 +121,56 @@ pub(crate) fn parse_script(alloc: Global, text: &str) -> Result<Vec<Part>, Scrip
     let mut part = new_part(alloc);
     for (number, line) in (1..u64::MAX).zip(text.split_inclusive('\n')) {
         let line = without_end(line);
-        if is_skipped(line) {
-            continue;
-        }
-        match parse_step(alloc, line) {
-            Ok(Step::Edit(letter, edit)) => {
-                part.letters.push(letter)?;
-                part.edits.push(edit)?;
-            }
-            Ok(Step::Verify(op)) => {
-                part.verified = Some(op);
-                parts.push(replace(&mut part, new_part(alloc)))?;
-            }
-            Err(LineError::Malformed) => return Err(ScriptError::Malformed { line: number }),
-            Err(LineError::OutOfMemory) => return Err(ScriptError::OutOfMemory),
+        if !is_skipped(line) {
+            take_line(alloc, &mut parts, &mut part, number, line)?;
         }
     }
     parts.push(part)?;
     Ok(parts)
+}
+
+// Takes the line with this number into the part.
+fn take_line(
+    alloc: Global,
+    parts: &mut Vec<Part>,
+    part: &mut Part,
+    number: u64,
+    line: &str,
+) -> Result<(), ScriptError> {
+    match parse_step(alloc, line) {
+        Ok(step) => take_step(alloc, parts, part, step),
+        Err(LineError::Malformed) => Err(ScriptError::Malformed { line: number }),
+        Err(LineError::OutOfMemory) => Err(ScriptError::OutOfMemory),
+    }
+}
+
+// Puts an edit behind the others of the part, or ends the part with a verification.
+fn take_step(
+    alloc: Global,
+    parts: &mut Vec<Part>,
+    part: &mut Part,
+    step: Step,
+) -> Result<(), ScriptError> {
+    match step {
+        Step::Edit(letter, edit) => {
+            part.letters.push(letter)?;
+            part.edits.push(edit)?;
+            Ok(())
+        }
+        Step::Verify(op) => end_part(alloc, parts, part, op),
+    }
+}
+
+// Puts the part behind the others, with the operation that is verified after it, and begins a new one.
+fn end_part(
+    alloc: Global,
+    parts: &mut Vec<Part>,
+    part: &mut Part,
+    op: usize,
+) -> Result<(), ScriptError> {
+    part.verified = Some(op);
+    parts.push(replace(part, new_part(alloc)))?;
+    Ok(())
 }
 
 // A part with no edits.
@@ -169,36 +201,49 @@ fn parse_step(alloc: Global, line: &str) -> Result<Step, LineError> {
     if first == "verify" {
         Ok(Step::Verify(parse_one_name('o', rest)?))
     } else {
-        let (letter, edit) = parse_line(alloc, line)?;
+        let (letter, edit) = parse_line(alloc, first, rest)?;
         Ok(Step::Edit(letter, edit))
     }
 }
 
-// The edit that a line asks for, and what it makes or changes.
-fn parse_line(alloc: Global, line: &str) -> Result<(Letter, Edit<Toy>), LineError> {
-    let (first, rest) = take_field(line)?;
+// The edit that a line with this first field asks for, and what it makes or changes.
+fn parse_line(alloc: Global, first: &str, rest: &str) -> Result<(Letter, Edit<Toy>), LineError> {
     if first == "type" {
         Ok((Letter::Type, parse_type(rest)?))
     } else if first == "op" {
         Ok((Letter::Operation, parse_op(alloc, rest)?))
     } else if first == "block" {
         Ok((Letter::Block, parse_block(alloc, rest)?))
-    } else if first == "backb" {
+    } else {
+        parse_change(first, rest)
+    }
+}
+
+// The edit of a line that makes nothing, and what it changes.
+fn parse_change(first: &str, rest: &str) -> Result<(Letter, Edit<Toy>), LineError> {
+    if first == "backb" {
         let (block, region) = parse_two_names('b', 'r', rest)?;
         Ok((Letter::Block, Edit::BlockBack { block, region }))
     } else if first == "move" {
         let (region, op) = parse_two_names('r', 'o', rest)?;
         Ok((Letter::Region, Edit::MoveRegion { region, op }))
-    } else if first == "rauw" {
+    } else {
+        parse_use_change(first, rest)
+    }
+}
+
+// The same for a line that lets all uses of a value name another, or changes the operation that it names first.
+fn parse_use_change(first: &str, rest: &str) -> Result<(Letter, Edit<Toy>), LineError> {
+    if first == "rauw" {
         let (old, new) = parse_two_names('v', 'v', rest)?;
         Ok((Letter::Value, Edit::ReplaceAllUses { old, new }))
     } else {
-        Ok((Letter::Operation, parse_change(first, rest)?))
+        Ok((Letter::Operation, parse_op_change(first, rest)?))
     }
 }
 
 // The edit of a line that changes the operation that it names first.
-fn parse_change(first: &str, rest: &str) -> Result<Edit<Toy>, LineError> {
+fn parse_op_change(first: &str, rest: &str) -> Result<Edit<Toy>, LineError> {
     if first == "push" {
         let (op, value) = parse_two_names('o', 'v', rest)?;
         Ok(Edit::PushOperand { op, value })
@@ -207,7 +252,14 @@ fn parse_change(first: &str, rest: &str) -> Result<Edit<Toy>, LineError> {
     } else if first == "succ" {
         let (op, block) = parse_two_names('o', 'b', rest)?;
         Ok(Edit::PushSuccessor { op, block })
-    } else if first == "back" {
+    } else {
+        parse_op_place(first, rest)
+    }
+}
+
+// The edit of a line that puts the operation that it names first into a block, takes it out, or erases it.
+fn parse_op_place(first: &str, rest: &str) -> Result<Edit<Toy>, LineError> {
+    if first == "back" {
         let (op, block) = parse_two_names('o', 'b', rest)?;
         Ok(Edit::OpBack { op, block })
     } else if first == "unlink" {
@@ -223,22 +275,29 @@ fn parse_change(first: &str, rest: &str) -> Result<Edit<Toy>, LineError> {
 
 // The fields of `type N`.
 fn parse_type(text: &str) -> Result<Edit<Toy>, LineError> {
-    let (width, rest) = take_field(text)?;
-    let width = parse_number(width)?;
-    end_fields(rest)?;
+    let width = parse_number(only_field(text)?)?;
     Ok(Edit::NewType(ToyType::Int { width }))
 }
 
 // The fields of `op K types values blocks N`.
 fn parse_op(alloc: Global, text: &str) -> Result<Edit<Toy>, LineError> {
-    let (kind, rest) = take_field(text)?;
-    let (types, rest) = take_field(rest)?;
-    let (values, rest) = take_field(rest)?;
-    let (blocks, rest) = take_field(rest)?;
-    let (regions, rest) = take_field(rest)?;
-    end_fields(rest)?;
+    let (kind, types, rest) = take_two_fields(text)?;
+    let (values, blocks, rest) = take_two_fields(rest)?;
+    let regions = only_field(rest)?;
+    op_of_fields(alloc, parse_kind(kind)?, types, values, blocks, regions)
+}
+
+// The edit that makes an operation of this kind, of the fields behind that.
+fn op_of_fields(
+    alloc: Global,
+    kind: u32,
+    types: &str,
+    values: &str,
+    blocks: &str,
+    regions: &str,
+) -> Result<Edit<Toy>, LineError> {
     Ok(Edit::NewOp {
-        kind: parse_kind(kind)?,
+        kind,
         types: parse_names(alloc, 't', types)?,
         operands: parse_names(alloc, 'v', values)?,
         successors: parse_names(alloc, 'b', blocks)?,
@@ -248,8 +307,7 @@ fn parse_op(alloc: Global, text: &str) -> Result<Edit<Toy>, LineError> {
 
 // The fields of `block types`.
 fn parse_block(alloc: Global, text: &str) -> Result<Edit<Toy>, LineError> {
-    let (types, rest) = take_field(text)?;
-    end_fields(rest)?;
+    let types = only_field(text)?;
     Ok(Edit::NewBlock {
         label: None,
         types: parse_names(alloc, 't', types)?,
@@ -258,8 +316,7 @@ fn parse_block(alloc: Global, text: &str) -> Result<Edit<Toy>, LineError> {
 
 // The fields of `set o I v`.
 fn parse_set(text: &str) -> Result<Edit<Toy>, LineError> {
-    let (op, rest) = take_field(text)?;
-    let (at, rest) = take_field(rest)?;
+    let (op, at, rest) = take_two_fields(text)?;
     Ok(Edit::ReplaceOperand {
         op: parse_name('o', op)?,
         at: parse_number(at)? as usize,
@@ -269,9 +326,7 @@ fn parse_set(text: &str) -> Result<Edit<Toy>, LineError> {
 
 // The only field, a name with this letter.
 fn parse_one_name(letter: char, text: &str) -> Result<usize, LineError> {
-    let (name, rest) = take_field(text)?;
-    end_fields(rest)?;
-    parse_name(letter, name)
+    parse_name(letter, only_field(text)?)
 }
 
 // The only two fields, names with these letters.
@@ -293,6 +348,20 @@ fn take_field(text: &str) -> Result<(&str, &str), LineError> {
         return Err(LineError::Malformed);
     }
     Ok(text.split_once(' ').unwrap_or((text, "")))
+}
+
+// The first two fields, and the text after them.
+fn take_two_fields(text: &str) -> Result<(&str, &str, &str), LineError> {
+    let (first, rest) = take_field(text)?;
+    let (second, rest) = take_field(rest)?;
+    Ok((first, second, rest))
+}
+
+// The only field.
+fn only_field(text: &str) -> Result<&str, LineError> {
+    let (field, rest) = take_field(text)?;
+    end_fields(rest)?;
+    Ok(field)
 }
 
 // Tells whether there is no further field.

@@ -41,13 +41,21 @@ pub(crate) fn write_answers(
     answers: &[Answer],
 ) -> Result<(), AllocError> {
     for (letter, answer) in letters.iter().zip(answers.iter()) {
-        match answer {
-            Answer::Made(number) => writeln!(text, "made {letter}{number}")?,
-            Answer::Done => text.push_str("ok\n")?,
-            Answer::Refused(refused) => text.push_str(refusal_line(*refused))?,
-        }
+        write_answer(text, *letter, *answer)?;
     }
     Ok(())
+}
+
+// Writes an answer as a line. The letter says what its edit makes.
+fn write_answer(text: &mut String, letter: Letter, answer: Answer) -> Result<(), AllocError> {
+    match answer {
+        Answer::Made(number) => {
+            writeln!(text, "made {letter}{number}")?;
+            Ok(())
+        }
+        Answer::Done => text.push_str("ok\n"),
+        Answer::Refused(refused) => text.push_str(refusal_line(refused)),
+    }
 }
 
 // The line of a refusal.

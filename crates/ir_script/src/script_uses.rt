@@ -12,30 +12,55 @@ use std::collections::HashMap;
 // A place that names a value or a block: the number of what it names, the number of the operation, and its index there.
 type Naming = (usize, usize, usize);
 
+// The number of each value, and that of each block.
+type Numbers = (
+    HashMap<Value<Toy>, usize>,
+    HashMap<Ptr<BasicBlock<Toy>>, usize>,
+);
+
 /// The live values by number, and then the live blocks by number, one a line, each with its uses by operation and index.
 pub(crate) fn uses_text(alloc: Global, session: &Session<Toy>) -> Result<String, ScriptError> {
-    let ctx = session.ctx();
     let (operands, successors) = namings(alloc, session)?;
     let mut text = String::new(alloc);
-    let mut left = operands.as_slice();
+    write_values(&mut text, session, operands.as_slice())?;
+    write_blocks(&mut text, session, successors.as_slice())?;
+    Ok(text)
+}
+
+// Writes the lines of the live values, whose uses are the sorted ones.
+fn write_values(
+    text: &mut String,
+    session: &Session<Toy>,
+    uses: &[Naming],
+) -> Result<(), ScriptError> {
+    let mut left = uses;
     for number in 0..usize::MAX {
         let Some(value) = session.value(number) else {
             break;
         };
-        if value.is_live(ctx) {
-            left = write_uses(&mut text, 'v', number, left)?;
+        if value.is_live(session.ctx()) {
+            left = write_uses(text, 'v', number, left)?;
         }
     }
-    let mut left = successors.as_slice();
+    Ok(())
+}
+
+// Writes the lines of the live blocks, whose uses are the sorted ones.
+fn write_blocks(
+    text: &mut String,
+    session: &Session<Toy>,
+    uses: &[Naming],
+) -> Result<(), ScriptError> {
+    let mut left = uses;
     for number in 0..usize::MAX {
         let Some(block) = session.block(number) else {
             break;
         };
-        if block.is_live(ctx) {
-            left = write_uses(&mut text, 'b', number, left)?;
+        if block.is_live(session.ctx()) {
+            left = write_uses(text, 'b', number, left)?;
         }
     }
-    Ok(text)
+    Ok(())
 }
 
 // Writes the line of a value or block, whose uses come first among those that are left, and answers the others.
@@ -59,22 +84,35 @@ fn namings(
     alloc: Global,
     session: &Session<Toy>,
 ) -> Result<(Vec<Naming>, Vec<Naming>), ScriptError> {
-    let values = value_numbers(alloc, session)?;
-    let blocks = block_numbers(alloc, session)?;
+    let numbers = (
+        value_numbers(alloc, session)?,
+        block_numbers(alloc, session)?,
+    );
     let mut operands = Vec::new(alloc);
     let mut successors = Vec::new(alloc);
+    push_all(&mut operands, &mut successors, session, &numbers)?;
+    operands.sort()?;
+    successors.sort()?;
+    Ok((operands, successors))
+}
+
+// Puts the operands and the successors of all live operations behind the others.
+fn push_all(
+    operands: &mut Vec<Naming>,
+    successors: &mut Vec<Naming>,
+    session: &Session<Toy>,
+    numbers: &Numbers,
+) -> Result<(), ScriptError> {
     for number in 0..usize::MAX {
         let Some(op) = session.op(number) else {
             break;
         };
         if let Ok(op) = op.try_deref(session.ctx()) {
-            push_operands(&mut operands, &values, number, op)?;
-            push_successors(&mut successors, &blocks, number, op)?;
+            push_operands(operands, &numbers.0, number, op)?;
+            push_successors(successors, &numbers.1, number, op)?;
         }
     }
-    operands.sort()?;
-    successors.sort()?;
-    Ok((operands, successors))
+    Ok(())
 }
 
 // Puts an operation's operands behind the others.

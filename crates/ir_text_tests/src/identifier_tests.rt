@@ -3,17 +3,24 @@ use ir_model::CoreError;
 use ir_text::{DialectName, IdentErr, Identifier, MalformedIdentifierErr, ident};
 use std::alloc::{AllocError, Global};
 use std::collections::HashMap;
+use std::fmt::Display;
+use std::process::Abort;
 use std::test::Fail;
+
+// Asserts that what is stored under a borrowed identifier is found by one that owns the same text.
+fn expect_found(rt: &impl Abort, alloc: Global, owned: &Identifier) -> Result<(), Fail> {
+    let mut map = HashMap::new(alloc);
+    let _ = map.insert(ident!("foo"), 1)?;
+    assert_eq!(rt; map.get(owned).copied(), Some(1));
+    Ok(())
+}
 
 #[test]
 fn identifier_equality(rt: HostRuntime) -> Result<(), Fail> {
     let alloc = rt.alloc();
     let owned = Identifier::try_new(String::from_str(alloc, "foo")?)?;
     assert!(rt; owned == ident!("foo"));
-    let mut map = HashMap::new(alloc);
-    let _ = map.insert(ident!("foo"), 1)?;
-    assert_eq!(rt; map.get(&owned).copied(), Some(1));
-    Ok(())
+    expect_found(&rt, alloc, &owned)
 }
 
 #[test]
@@ -90,12 +97,18 @@ fn is_no_name(alloc: Global, text: &str) -> Result<bool, IdentErr> {
     }
 }
 
+// Asserts that a malformed text is handed back by each call that copies one.
+fn expect_copied_back(rt: &impl Abort, alloc: Global, text: &str) -> Result<(), IdentErr> {
+    assert!(rt; is_no_name(alloc, text)?, "{text}");
+    assert!(rt; is_copied_back(alloc, text)?, "{text}");
+    Ok(())
+}
+
 // Refuses a call that answers want of memory for each malformed text.
 #[test]
 fn malformed_names(rt: HostRuntime) -> Result<(), Fail> {
     for text in ["", "1b", "a.b", "é"] {
-        assert!(rt; is_no_name(rt.alloc(), text)?, "{text}");
-        assert!(rt; is_copied_back(rt.alloc(), text)?, "{text}");
+        expect_copied_back(&rt, rt.alloc(), text)?;
     }
     Ok(())
 }
@@ -109,23 +122,42 @@ fn is_handed_back(alloc: Global, text: &str) -> Result<bool, AllocError> {
 
 #[test]
 fn malformed_texts(rt: HostRuntime) -> Result<(), Fail> {
-    for text in ["", "hi12.", "12ab", ".a12ab", "é"] {
-        assert!(rt; is_handed_back(rt.alloc(), text)?, "{text}");
-    }
-    for text in ["hi12", "A12ab"] {
-        assert!(rt; !is_handed_back(rt.alloc(), text)?, "{text}");
+    for (text, malformed) in [
+        ("", true),
+        ("hi12.", true),
+        ("12ab", true),
+        (".a12ab", true),
+        ("é", true),
+        ("hi12", false),
+        ("A12ab", false),
+    ] {
+        assert!(rt; is_handed_back(rt.alloc(), text)? == malformed, "{text}");
     }
     Ok(())
+}
+
+// Asserts that a value prints as this text.
+fn expect_printed<T: Display>(
+    rt: &impl Abort,
+    alloc: Global,
+    value: &T,
+    text: &str,
+) -> Result<(), Fail> {
+    assert!(rt; format!(in alloc; "{value}")?.as_str() == text);
+    Ok(())
+}
+
+// Asserts how a malformed text prints, by itself and as the error of a call.
+fn expect_malformed_printed(rt: &impl Abort, alloc: Global) -> Result<(), Fail> {
+    let malformed = MalformedIdentifierErr(String::from_str(alloc, "1b")?);
+    expect_printed(rt, alloc, &malformed, "Malformed identifier 1b")?;
+    let error = IdentErr::from(malformed);
+    expect_printed(rt, alloc, &error, "Malformed identifier 1b")
 }
 
 #[test]
 fn fault_texts(rt: HostRuntime) -> Result<(), Fail> {
     let alloc = rt.alloc();
-    let malformed = MalformedIdentifierErr(String::from_str(alloc, "1b")?);
-    assert!(rt; format!(in alloc; "{malformed}")?.as_str() == "Malformed identifier 1b");
-    let error = IdentErr::from(malformed);
-    assert!(rt; format!(in alloc; "{error}")?.as_str() == "Malformed identifier 1b");
-    let error = IdentErr::OutOfMemory;
-    assert!(rt; format!(in alloc; "{error}")?.as_str() == "out of memory");
-    Ok(())
+    expect_malformed_printed(&rt, alloc)?;
+    expect_printed(&rt, alloc, &IdentErr::OutOfMemory, "out of memory")
 }

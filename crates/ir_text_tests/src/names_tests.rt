@@ -7,6 +7,7 @@ use std::alloc::{AllocError, Global};
 use std::clone::Clone;
 use std::convert::{AsRef, AsStr};
 use std::fmt::Display;
+use std::process::Abort;
 use std::test::Fail;
 
 // Whether a value prints as this text.
@@ -28,13 +29,30 @@ fn is_name<N: AsStr + AsRef<Identifier> + Display>(
     Ok(name.as_str() == text && name.as_ref().as_str() == text && prints(alloc, name, text)?)
 }
 
+// Asserts that a name is this text, and that a copy is equal to it.
+fn expect_name<N: AsStr + AsRef<Identifier> + Display + Clone + Eq + Drop>(
+    rt: &impl Abort,
+    alloc: Global,
+    name: &N,
+    text: &str,
+) -> Result<(), AllocError> {
+    assert!(rt; copies(name)?);
+    assert!(rt; is_name(alloc, name, text)?);
+    Ok(())
+}
+
+// Asserts that what a name becomes is this text.
+fn expect_identifier(rt: &impl Abort, identifier: Identifier, text: &str) -> Result<(), Fail> {
+    assert!(rt; identifier.as_str() == text);
+    Ok(())
+}
+
 #[test]
 fn dialect_name(rt: HostRuntime) -> Result<(), Fail> {
-    let name = DialectName::try_new(rt.alloc(), "toy")?;
-    assert!(rt; copies(&name)?);
-    assert!(rt; is_name(rt.alloc(), &name, "toy")?);
-    assert!(rt; Identifier::from(name).as_str() == "toy");
-    Ok(())
+    let alloc = rt.alloc();
+    let name = DialectName::try_new(alloc, "toy")?;
+    expect_name(&rt, alloc, &name, "toy")?;
+    expect_identifier(&rt, Identifier::from(name), "toy")
 }
 
 #[test]
@@ -46,11 +64,10 @@ fn dialect_name_of_text(rt: HostRuntime) -> Result<(), Fail> {
 
 #[test]
 fn type_name(rt: HostRuntime) -> Result<(), Fail> {
-    let name = TypeName::try_new(rt.alloc(), "int")?;
-    assert!(rt; copies(&name)?);
-    assert!(rt; is_name(rt.alloc(), &name, "int")?);
-    assert!(rt; Identifier::from(name).as_str() == "int");
-    Ok(())
+    let alloc = rt.alloc();
+    let name = TypeName::try_new(alloc, "int")?;
+    expect_name(&rt, alloc, &name, "int")?;
+    expect_identifier(&rt, Identifier::from(name), "int")
 }
 
 #[test]
@@ -62,11 +79,10 @@ fn type_name_of_text(rt: HostRuntime) -> Result<(), Fail> {
 
 #[test]
 fn attribute_name(rt: HostRuntime) -> Result<(), Fail> {
-    let name = AttrName::try_new(rt.alloc(), "flag")?;
-    assert!(rt; copies(&name)?);
-    assert!(rt; is_name(rt.alloc(), &name, "flag")?);
-    assert!(rt; Identifier::from(name).as_str() == "flag");
-    Ok(())
+    let alloc = rt.alloc();
+    let name = AttrName::try_new(alloc, "flag")?;
+    expect_name(&rt, alloc, &name, "flag")?;
+    expect_identifier(&rt, Identifier::from(name), "flag")
 }
 
 #[test]
@@ -78,17 +94,28 @@ fn attribute_name_of_text(rt: HostRuntime) -> Result<(), Fail> {
 
 #[test]
 fn operation_name(rt: HostRuntime) -> Result<(), Fail> {
-    let name = OpName::try_new(rt.alloc(), "add")?;
-    assert!(rt; copies(&name)?);
-    assert!(rt; is_name(rt.alloc(), &name, "add")?);
-    assert!(rt; Identifier::from(name).as_str() == "add");
-    Ok(())
+    let alloc = rt.alloc();
+    let name = OpName::try_new(alloc, "add")?;
+    expect_name(&rt, alloc, &name, "add")?;
+    expect_identifier(&rt, Identifier::from(name), "add")
 }
 
 #[test]
 fn operation_name_of_text(rt: HostRuntime) -> Result<(), Fail> {
     let converted: OpName = String::from_str(rt.alloc(), "add")?.try_into()?;
     assert!(rt; converted == OpName::from(ident!("add")));
+    Ok(())
+}
+
+// Asserts that an id prints as this text, and that a copy is equal to it.
+fn expect_id<T: Display + Clone + Eq + Drop>(
+    rt: &impl Abort,
+    alloc: Global,
+    id: &T,
+    text: &str,
+) -> Result<(), Fail> {
+    assert!(rt; copies(id)?);
+    assert!(rt; prints(alloc, id, text)?);
     Ok(())
 }
 
@@ -102,9 +129,7 @@ fn a_type_id() -> TypeId {
 #[test]
 fn type_id(rt: HostRuntime) -> Result<(), Fail> {
     let id = a_type_id();
-    assert!(rt; copies(&id)?);
-    assert!(rt; prints(rt.alloc(), &id, "toy.int")?);
-    Ok(())
+    expect_id(&rt, rt.alloc(), &id, "toy.int")
 }
 
 fn an_attribute_id() -> AttrId {
@@ -117,9 +142,7 @@ fn an_attribute_id() -> AttrId {
 #[test]
 fn attribute_id(rt: HostRuntime) -> Result<(), Fail> {
     let id = an_attribute_id();
-    assert!(rt; copies(&id)?);
-    assert!(rt; prints(rt.alloc(), &id, "toy.flag")?);
-    Ok(())
+    expect_id(&rt, rt.alloc(), &id, "toy.flag")
 }
 
 fn an_operation_id() -> OpId {
@@ -132,9 +155,7 @@ fn an_operation_id() -> OpId {
 #[test]
 fn operation_id(rt: HostRuntime) -> Result<(), Fail> {
     let id = an_operation_id();
-    assert!(rt; copies(&id)?);
-    assert!(rt; prints(rt.alloc(), &id, "toy.add")?);
-    Ok(())
+    expect_id(&rt, rt.alloc(), &id, "toy.add")
 }
 
 #[test]

@@ -57,7 +57,7 @@ fn next_op(ctx: &Context<Toy>, tables: &Tables, op: Ptr<Operation<Toy>>) -> Opti
 }
 
 /// The place of an operation.
-pub(crate) fn op_place(ctx: &Context<Toy>, tables: &Tables, op: Ptr<Operation<Toy>>) -> Place {
+pub fn op_place(ctx: &Context<Toy>, tables: &Tables, op: Ptr<Operation<Toy>>) -> Place {
     Place {
         parent: parent_of_op(ctx, tables, op),
         previous: previous_op(ctx, tables, op),
@@ -101,11 +101,7 @@ fn next_block(ctx: &Context<Toy>, tables: &Tables, block: Ptr<BasicBlock<Toy>>) 
 }
 
 /// The place of a block.
-pub(crate) fn block_place(
-    ctx: &Context<Toy>,
-    tables: &Tables,
-    block: Ptr<BasicBlock<Toy>>,
-) -> Place {
+pub fn block_place(ctx: &Context<Toy>, tables: &Tables, block: Ptr<BasicBlock<Toy>>) -> Place {
     Place {
         parent: parent_of_block(ctx, tables, block),
         previous: previous_block(ctx, tables, block),
@@ -114,11 +110,7 @@ pub(crate) fn block_place(
 }
 
 /// The operation that a region belongs to.
-pub(crate) fn parent_of_region(
-    ctx: &Context<Toy>,
-    tables: &Tables,
-    region: Ptr<Region>,
-) -> Option<usize> {
+pub fn parent_of_region(ctx: &Context<Toy>, tables: &Tables, region: Ptr<Region>) -> Option<usize> {
     if !region.is_live(ctx) {
         return None;
     }
@@ -126,7 +118,7 @@ pub(crate) fn parent_of_region(
 }
 
 /// The operations of a block, walked forward.
-pub(crate) fn ops_of(
+pub fn ops_of(
     ctx: &Context<Toy>,
     tables: &Tables,
     block: Ptr<BasicBlock<Toy>>,
@@ -142,7 +134,7 @@ pub(crate) fn ops_of(
 }
 
 /// The operations of a block, walked backward.
-pub(crate) fn ops_of_back(
+pub fn ops_of_back(
     ctx: &Context<Toy>,
     tables: &Tables,
     block: Ptr<BasicBlock<Toy>>,
@@ -158,7 +150,7 @@ pub(crate) fn ops_of_back(
 }
 
 /// The blocks of a region, walked forward.
-pub(crate) fn blocks_of(
+pub fn blocks_of(
     ctx: &Context<Toy>,
     tables: &Tables,
     region: Ptr<Region>,
@@ -174,7 +166,7 @@ pub(crate) fn blocks_of(
 }
 
 /// The blocks of a region, walked backward.
-pub(crate) fn blocks_of_back(
+pub fn blocks_of_back(
     ctx: &Context<Toy>,
     tables: &Tables,
     region: Ptr<Region>,

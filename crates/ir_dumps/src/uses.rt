@@ -1,8 +1,7 @@
 //! The places that name a value or a block, each as the number of an operation and an index there, sorted.
 
-use crate::error::LabError;
 use crate::tables::{NOWHERE, Tables};
-use ir_base::Ptr;
+use ir_base::{CoreError, Ptr};
 use ir_toy::Toy;
 use ir_view::{
     BasicBlock, BlockPtr, BlockUseQueries, BlockUses, Context, Use, UseQueries, Value, ValueQueries,
@@ -24,8 +23,36 @@ fn successor_index(ctx: &Context<Toy>, used: Use<Ptr<BasicBlock<Toy>>>) -> usize
     }
 }
 
+// Puts the places of uses of a value behind the others.
+fn add_operands(
+    places: &mut Vec<(usize, usize)>,
+    ctx: &Context<Toy>,
+    tables: &Tables,
+    uses: &[Use<Value<Toy>>],
+) -> Result<(), CoreError> {
+    for used in uses {
+        let user = tables.op_number(used.user_op());
+        places.push((user, operand_index(ctx, *used)))?;
+    }
+    Ok(())
+}
+
+// Puts the places of uses of a block behind the others.
+fn add_successors(
+    places: &mut Vec<(usize, usize)>,
+    ctx: &Context<Toy>,
+    tables: &Tables,
+    uses: &[Use<Ptr<BasicBlock<Toy>>>],
+) -> Result<(), CoreError> {
+    for used in uses {
+        let user = tables.op_number(used.user_op());
+        places.push((user, successor_index(ctx, *used)))?;
+    }
+    Ok(())
+}
+
 // The uses of a value, where it is live.
-fn uses_of_value(ctx: &Context<Toy>, value: Value<Toy>) -> Result<Vec<Use<Value<Toy>>>, LabError> {
+fn uses_of_value(ctx: &Context<Toy>, value: Value<Toy>) -> Result<Vec<Use<Value<Toy>>>, CoreError> {
     if !value.is_live(ctx) {
         return Ok(Vec::new(ctx.alloc()));
     }
@@ -36,7 +63,7 @@ fn uses_of_value(ctx: &Context<Toy>, value: Value<Toy>) -> Result<Vec<Use<Value<
 fn uses_of_block(
     ctx: &Context<Toy>,
     block: Ptr<BasicBlock<Toy>>,
-) -> Result<Vec<Use<Ptr<BasicBlock<Toy>>>>, LabError> {
+) -> Result<Vec<Use<Ptr<BasicBlock<Toy>>>>, CoreError> {
     if !block.is_live(ctx) {
         return Ok(Vec::new(ctx.alloc()));
     }
@@ -48,12 +75,10 @@ pub(crate) fn value_places(
     ctx: &Context<Toy>,
     tables: &Tables,
     value: Value<Toy>,
-) -> Result<Vec<(usize, usize)>, LabError> {
+) -> Result<Vec<(usize, usize)>, CoreError> {
+    let uses = uses_of_value(ctx, value)?;
     let mut places = Vec::new(ctx.alloc());
-    for used in uses_of_value(ctx, value)?.iter() {
-        let user = tables.op_number(used.user_op());
-        places.push((user, operand_index(ctx, *used)))?;
-    }
+    add_operands(&mut places, ctx, tables, uses.as_slice())?;
     places.sort()?;
     Ok(places)
 }
@@ -63,12 +88,10 @@ pub(crate) fn block_places(
     ctx: &Context<Toy>,
     tables: &Tables,
     block: Ptr<BasicBlock<Toy>>,
-) -> Result<Vec<(usize, usize)>, LabError> {
+) -> Result<Vec<(usize, usize)>, CoreError> {
+    let uses = uses_of_block(ctx, block)?;
     let mut places = Vec::new(ctx.alloc());
-    for used in uses_of_block(ctx, block)?.iter() {
-        let user = tables.op_number(used.user_op());
-        places.push((user, successor_index(ctx, *used)))?;
-    }
+    add_successors(&mut places, ctx, tables, uses.as_slice())?;
     places.sort()?;
     Ok(places)
 }

@@ -2,7 +2,6 @@
 //!
 //! Two sessions have one text exactly where their tables mean the same, whatever slots and numbers stand behind them.
 
-use crate::error::LabError;
 use crate::parts::{arguments, operands, regions, results, successors};
 use crate::places::{
     Place, block_place, blocks_of, blocks_of_back, first_block, first_op, last_block, last_op,
@@ -10,7 +9,7 @@ use crate::places::{
 };
 use crate::tables::{NOWHERE, Tables};
 use crate::uses::{block_count, block_places, value_count, value_places};
-use ir_base::{Ptr, TypeHandle};
+use ir_base::{CoreError, Ptr, TypeHandle};
 use ir_toy::{Toy, ToyType};
 use ir_view::{
     BasicBlock, BlockPtr, Context, DefiningEntity, Operation, OperationPtr, Region, RegionPtr,
@@ -19,18 +18,23 @@ use ir_view::{
 use std::alloc::AllocError;
 
 /// What the session of this context and these tables shows.
-pub(crate) fn dump(ctx: &Context<Toy>, tables: &Tables) -> Result<String, LabError> {
+pub fn dump(ctx: &Context<Toy>, tables: &Tables) -> Result<String, CoreError> {
     let mut text = String::new(ctx.alloc());
     write_types(&mut text, ctx, tables)?;
     write_ops(&mut text, ctx, tables)?;
-    write_blocks(&mut text, ctx, tables)?;
-    write_regions(&mut text, ctx, tables)?;
-    write_values(&mut text, ctx, tables)?;
+    write_inner(&mut text, ctx, tables)?;
     Ok(text)
 }
 
+// The lines of what stands in operations or is made by them: blocks, regions and values.
+fn write_inner(text: &mut String, ctx: &Context<Toy>, tables: &Tables) -> Result<(), CoreError> {
+    write_blocks(text, ctx, tables)?;
+    write_regions(text, ctx, tables)?;
+    write_values(text, ctx, tables)
+}
+
 // The lines of the types.
-fn write_types(text: &mut String, ctx: &Context<Toy>, tables: &Tables) -> Result<(), LabError> {
+fn write_types(text: &mut String, ctx: &Context<Toy>, tables: &Tables) -> Result<(), CoreError> {
     for (number, ty) in tables.types.iter().enumerate() {
         write!(text, "t{number}:")?;
         write_type(text, ctx, *ty)?;
@@ -40,23 +44,17 @@ fn write_types(text: &mut String, ctx: &Context<Toy>, tables: &Tables) -> Result
 }
 
 // The lines of the operations.
-fn write_ops(text: &mut String, ctx: &Context<Toy>, tables: &Tables) -> Result<(), LabError> {
+fn write_ops(text: &mut String, ctx: &Context<Toy>, tables: &Tables) -> Result<(), CoreError> {
     for (number, op) in tables.ops.iter().enumerate() {
         write!(text, "o{number}:")?;
-        match op.try_deref(ctx) {
-            Ok(record) => {
-                write_parts(text, ctx, tables, record)?;
-                write_op_place(text, ctx, tables, number, *op)?;
-            }
-            Err(_) => text.push_str(" gone")?,
-        }
+        write_op(text, ctx, tables, number, *op)?;
         text.push_str("\n")?;
     }
     Ok(())
 }
 
 // The lines of the blocks.
-fn write_blocks(text: &mut String, ctx: &Context<Toy>, tables: &Tables) -> Result<(), LabError> {
+fn write_blocks(text: &mut String, ctx: &Context<Toy>, tables: &Tables) -> Result<(), CoreError> {
     for (number, block) in tables.blocks.iter().enumerate() {
         write!(text, "b{number}:")?;
         write_block(text, ctx, tables, number, *block)?;
@@ -66,7 +64,7 @@ fn write_blocks(text: &mut String, ctx: &Context<Toy>, tables: &Tables) -> Resul
 }
 
 // The lines of the regions.
-fn write_regions(text: &mut String, ctx: &Context<Toy>, tables: &Tables) -> Result<(), LabError> {
+fn write_regions(text: &mut String, ctx: &Context<Toy>, tables: &Tables) -> Result<(), CoreError> {
     for (number, region) in tables.regions.iter().enumerate() {
         write!(text, "r{number}:")?;
         write_region(text, ctx, tables, *region)?;
@@ -76,7 +74,7 @@ fn write_regions(text: &mut String, ctx: &Context<Toy>, tables: &Tables) -> Resu
 }
 
 // The lines of the values.
-fn write_values(text: &mut String, ctx: &Context<Toy>, tables: &Tables) -> Result<(), LabError> {
+fn write_values(text: &mut String, ctx: &Context<Toy>, tables: &Tables) -> Result<(), CoreError> {
     for (number, value) in tables.values.iter().enumerate() {
         write!(text, "v{number}:")?;
         write_value(text, ctx, tables, *value)?;
@@ -131,15 +129,25 @@ fn write_places(
     places: &[(usize, usize)],
     count: (usize, bool),
 ) -> Result<(), AllocError> {
+    write_users(text, title, places)?;
+    if count != (places.len(), !places.is_empty()) {
+        write!(text, " counted {}", count.0)?;
+    }
+    Ok(())
+}
+
+// Writes the title and the places alone, unless there are none.
+fn write_users(
+    text: &mut String,
+    title: &str,
+    places: &[(usize, usize)],
+) -> Result<(), AllocError> {
     if !places.is_empty() {
         write!(text, " {title}")?;
     }
     for (op, index) in places {
         write_name(text, 'o', *op)?;
         write!(text, ".{index}")?;
-    }
-    if count != (places.len(), !places.is_empty()) {
-        write!(text, " counted {}", count.0)?;
     }
     Ok(())
 }
@@ -170,11 +178,21 @@ fn write_list(
     if !is_backward(forward, backward) {
         write_names(text, "backward", letter, backward)?;
     }
-    if ends != (forward.first().copied(), forward.last().copied()) {
-        write_one(text, "first", letter, ends.0)?;
-        write_one(text, "last", letter, ends.1)?;
+    write_ends(text, letter, forward, ends)
+}
+
+// Writes the ends of a list where they aren't those of this walk.
+fn write_ends(
+    text: &mut String,
+    letter: char,
+    walked: &[usize],
+    ends: (Option<usize>, Option<usize>),
+) -> Result<(), AllocError> {
+    if ends == (walked.first().copied(), walked.last().copied()) {
+        return Ok(());
     }
-    Ok(())
+    write_one(text, "first", letter, ends.0)?;
+    write_one(text, "last", letter, ends.1)
 }
 
 // The neighbours of a number in a list.
@@ -218,6 +236,23 @@ fn write_type(text: &mut String, ctx: &Context<Toy>, ty: TypeHandle) -> Result<(
     match ty.deref(ctx) {
         ToyType::Int { width } => write!(text, " i{width}"),
         ToyType::Named(name) => write!(text, " {name}"),
+    }
+}
+
+// Writes an operation: its parts, and its place.
+fn write_op(
+    text: &mut String,
+    ctx: &Context<Toy>,
+    tables: &Tables,
+    number: usize,
+    op: Ptr<Operation<Toy>>,
+) -> Result<(), AllocError> {
+    match op.try_deref(ctx) {
+        Ok(record) => {
+            write_parts(text, ctx, tables, record)?;
+            write_op_place(text, ctx, tables, number, op)
+        }
+        Err(_) => text.push_str(" gone"),
     }
 }
 
@@ -281,11 +316,22 @@ fn write_block(
     tables: &Tables,
     number: usize,
     block: Ptr<BasicBlock<Toy>>,
-) -> Result<(), LabError> {
+) -> Result<(), CoreError> {
     let Ok(record) = block.try_deref(ctx) else {
         return Ok(text.push_str(" gone")?);
     };
     write_head(text, ctx, tables, record)?;
+    write_block_lists(text, ctx, tables, number, block)
+}
+
+// Writes a block's operations, the list that it stands in, and what names it.
+fn write_block_lists(
+    text: &mut String,
+    ctx: &Context<Toy>,
+    tables: &Tables,
+    number: usize,
+    block: Ptr<BasicBlock<Toy>>,
+) -> Result<(), CoreError> {
     write_block_ops(text, ctx, tables, block)?;
     write_block_place(text, ctx, tables, number, block)?;
     write_block_uses(text, ctx, tables, block)
@@ -341,7 +387,7 @@ fn write_block_uses(
     ctx: &Context<Toy>,
     tables: &Tables,
     block: Ptr<BasicBlock<Toy>>,
-) -> Result<(), LabError> {
+) -> Result<(), CoreError> {
     let places = block_places(ctx, tables, block)?;
     Ok(write_places(text, "named by", &places, block_count(ctx, block))?)
 }
@@ -356,14 +402,24 @@ fn write_region(
     if !region.is_live(ctx) {
         return text.push_str(" gone");
     }
+    write_region_blocks(text, ctx, tables, region)?;
+    write_one(text, "in", 'o', parent_of_region(ctx, tables, region))
+}
+
+// Writes a region's blocks.
+fn write_region_blocks(
+    text: &mut String,
+    ctx: &Context<Toy>,
+    tables: &Tables,
+    region: Ptr<Region>,
+) -> Result<(), AllocError> {
     let forward = blocks_of(ctx, tables, region)?;
     let backward = blocks_of_back(ctx, tables, region)?;
     let ends = (
         first_block(ctx, tables, region),
         last_block(ctx, tables, region),
     );
-    write_list(text, "blocks", 'b', &forward, &backward, ends)?;
-    write_one(text, "in", 'o', parent_of_region(ctx, tables, region))
+    write_list(text, "blocks", 'b', &forward, &backward, ends)
 }
 
 // Writes a value: its type, its place, and what uses it.
@@ -372,13 +428,33 @@ fn write_value(
     ctx: &Context<Toy>,
     tables: &Tables,
     value: Value<Toy>,
-) -> Result<(), LabError> {
+) -> Result<(), CoreError> {
     let Ok(index) = value.try_find_index(ctx) else {
         return Ok(text.push_str(" gone")?);
     };
-    write_value_type(text, ctx, tables, value)?;
-    write_definer(text, tables, value)?;
+    write_origin(text, ctx, tables, value)?;
     write!(text, ".{index}")?;
+    write_value_uses(text, ctx, tables, value)
+}
+
+// Writes a value's type and what defines it.
+fn write_origin(
+    text: &mut String,
+    ctx: &Context<Toy>,
+    tables: &Tables,
+    value: Value<Toy>,
+) -> Result<(), AllocError> {
+    write_value_type(text, ctx, tables, value)?;
+    write_definer(text, tables, value)
+}
+
+// Writes what uses a value.
+fn write_value_uses(
+    text: &mut String,
+    ctx: &Context<Toy>,
+    tables: &Tables,
+    value: Value<Toy>,
+) -> Result<(), CoreError> {
     let places = value_places(ctx, tables, value)?;
     Ok(write_places(text, "used by", &places, value_count(ctx, value))?)
 }
