@@ -1,22 +1,21 @@
-//! Attributes set in what a context lends, and dictionaries copied; ids of operations and attributes.
+//! Attributes set in what a context lends, and dictionaries copied.
 
 ghost use Rattle.std.specs.Prelude.{◌≡◌};
 
 use crate::forest_call::ForestCall;
-use ir_base::attribute::{Attribute, AttributeDict};
-use ir_base::{AttrId, Identifier, OpId, Ptr};
+use ir_base::attribute::AttributeDict;
+use ir_base::{Identifier, Ptr};
 use ir_checked::{BasicBlock, BlockPtr, CheckedErr, Context, Operation, OperationPtr};
-use ir_small_forest::{Constant, Forest};
+use ir_small_forest::Forest;
 use ir_toy::{Toy, ToyInt, ToyText};
-use ir_view::{BlockPtrMut, Op, OperationKind, OperationPtrMut};
-use std::convert::AsStr;
+use ir_view::{BlockPtrMut, OperationPtrMut};
 
-/// A call on the attributes of an entity, or on its kind.
+/// A call on the attributes of an entity.
 #[derive(Clone, Copy, Debug, Drop)]
 pub enum AttributeCall {
     /// `set` in what `Ptr<Operation>::try_deref_mut` lends, where there is no attribute yet.
     SetFirst,
-    /// `set` in what `Ptr<Operation>::try_deref_mut` lends, behind others.
+    /// `set` in what `Ptr<Operation>::try_deref_mut` lends, behind as many others as there is place for.
     SetMore,
     /// `set` in what `Ptr<BasicBlock>::try_deref_mut` lends.
     SetOnBlock,
@@ -61,98 +60,12 @@ impl ForestCall for AttributeCall {
     }
 
     fn make(self, ctx: &mut Context<Toy>, forest: &Forest) -> Result<bool, CheckedErr> {
-        let maker = forest.made.maker;
-        let user = forest.users.user;
         match self {
-            AttributeCall::SetFirst => {
-                set_on_op(ctx, user)?;
-                op_has(ctx, user)
-            }
-            AttributeCall::SetMore => {
-                set_on_op(ctx, maker)?;
-                op_has(ctx, maker)
-            }
-            AttributeCall::SetOnBlock => {
-                set_on_block(ctx, forest.open)?;
-                block_has(ctx, forest.open)
-            }
-            AttributeCall::Clone => {
-                let attributes = attributes(ctx, maker)?;
-                Ok(attributes.clone()? == *attributes)
-            }
-            AttributeCall::CloneSkipOutlined => skips_one(attributes(ctx, maker)?),
-        }
-    }
-}
-
-/// A call that gives an id.
-#[derive(Clone, Copy, Debug, Drop)]
-pub enum IdCall {
-    /// `get_opid` of the handle of an operation.
-    OfHandle,
-    /// `Op::get_opid`.
-    OfWrapped,
-    /// `Op::get_opid_static`.
-    OfWrappedKind,
-    /// `Attribute::get_attr_id`.
-    OfAttribute,
-    /// `Attribute::get_attr_id_static`.
-    OfAttributeKind,
-}
-
-impl IdCall {
-    /// All of them.
-    pub const ALL: [IdCall; 5] = [
-        IdCall::OfHandle,
-        IdCall::OfWrapped,
-        IdCall::OfWrappedKind,
-        IdCall::OfAttribute,
-        IdCall::OfAttributeKind,
-    ];
-
-    /// The call as `ALL` has it.
-    pub fn listed(self) -> IdCall
-        ensures { result ≡ self }
-    {
-        match self {
-            IdCall::OfHandle => IdCall::ALL[0],
-            IdCall::OfWrapped => IdCall::ALL[1],
-            IdCall::OfWrappedKind => IdCall::ALL[2],
-            IdCall::OfAttribute => IdCall::ALL[3],
-            IdCall::OfAttributeKind => IdCall::ALL[4],
-        }
-    }
-}
-
-impl ForestCall for IdCall {
-    fn name(self) -> &'static str {
-        match self {
-            IdCall::OfHandle => "get_opid",
-            IdCall::OfWrapped => "Op::get_opid",
-            IdCall::OfWrappedKind => "Op::get_opid_static",
-            IdCall::OfAttribute => "Attribute::get_attr_id",
-            IdCall::OfAttributeKind => "Attribute::get_attr_id_static",
-        }
-    }
-
-    fn make(self, ctx: &mut Context<Toy>, forest: &Forest) -> Result<bool, CheckedErr> {
-        let alloc = ctx.alloc();
-        let maker = forest.made.maker;
-        match self {
-            IdCall::OfHandle => Ok(is_constant(&id_of_handle(ctx, maker)?)),
-            IdCall::OfWrapped => {
-                let constant = Constant::from_operation(maker);
-                Ok(is_constant(&constant.get_opid(alloc)?))
-            }
-            IdCall::OfWrappedKind => Ok(is_constant(&Constant::get_opid_static(alloc)?)),
-            IdCall::OfAttribute => {
-                let number = ToyInt {
-                    value: 7,
-                    ty: forest.ty,
-                };
-                Ok(is_number(&number.get_attr_id(alloc)?))
-            }
-            IdCall::OfAttributeKind => Ok(is_number(&ToyInt::get_attr_id_static(alloc)?)),
+            AttributeCall::SetFirst => sets_on_op(ctx, forest.users.user),
+            AttributeCall::SetMore => sets_on_op(ctx, forest.users.other),
+            AttributeCall::SetOnBlock => sets_on_block(ctx, forest.open),
+            AttributeCall::Clone => copies(attributes(ctx, forest.made.maker)?),
+            AttributeCall::CloneSkipOutlined => skips_one(attributes(ctx, forest.made.maker)?),
         }
     }
 }
@@ -171,12 +84,22 @@ fn set_on_op(ctx: &mut Context<Toy>, op: Ptr<Operation<Toy>>) -> Result<(), Chec
     }
 }
 
+fn sets_on_op(ctx: &mut Context<Toy>, op: Ptr<Operation<Toy>>) -> Result<bool, CheckedErr> {
+    set_on_op(ctx, op)?;
+    op_has(ctx, op)
+}
+
 fn set_on_block(ctx: &mut Context<Toy>, block: Ptr<BasicBlock<Toy>>) -> Result<(), CheckedErr> {
     let value = String::new(ctx.alloc());
     match BlockPtrMut::try_deref_mut(ctx, block) {
         Ok(written) => put(&mut written.attributes, value),
         Err(_) => Err(CheckedErr::Condition),
     }
+}
+
+fn sets_on_block(ctx: &mut Context<Toy>, block: Ptr<BasicBlock<Toy>>) -> Result<bool, CheckedErr> {
+    set_on_block(ctx, block)?;
+    block_has(ctx, block)
 }
 
 // Whether the text stands at `more`.
@@ -209,28 +132,15 @@ fn block_has(ctx: &Context<Toy>, block: Ptr<BasicBlock<Toy>>) -> Result<bool, Ch
     }
 }
 
+// Whether the copy is equal.
+fn copies(attributes: &AttributeDict<Toy>) -> Result<bool, CheckedErr> {
+    Ok(attributes.clone()? == *attributes)
+}
+
 // Whether the copy lacks the text at `hidden` alone.
 fn skips_one(attributes: &AttributeDict<Toy>) -> Result<bool, CheckedErr> {
     let copy = attributes.clone_skip_outlined()?;
     let number = copy.get::<ToyInt>(&Identifier::new("count"));
     let text = copy.get::<ToyText>(&Identifier::new("text"));
     Ok(copy.len() == 2 && number.is_some() && text.is_some())
-}
-
-// The id of a live operation.
-fn id_of_handle(ctx: &Context<Toy>, op: Ptr<Operation<Toy>>) -> Result<OpId, CheckedErr> {
-    if !op.is_live(ctx) {
-        return Err(CheckedErr::Condition);
-    }
-    Ok(op.get_opid(ctx)?)
-}
-
-// Whether the id is that of constants.
-fn is_constant(id: &OpId) -> bool {
-    id.dialect.as_str() == "toy" && id.name.as_str() == "constant"
-}
-
-// Whether the id is that of numbers.
-fn is_number(id: &AttrId) -> bool {
-    id.dialect.as_str() == "toy" && id.name.as_str() == "int"
 }

@@ -56,28 +56,38 @@ impl ForestCall for DefinitionCall {
     }
 
     fn make(self, ctx: &mut Context<Toy>, forest: &Forest) -> Result<bool, CheckedErr> {
-        let maker = forest.made.maker;
-        let entry = forest.blocks.entry;
         match self {
-            DefinitionCall::PushResult => {
-                let index = push_result(ctx, maker, forest.ty)?;
-                Ok(index == 2 && is_at(ctx, result(ctx, maker, 2)?, 2))
-            }
-            DefinitionCall::InsertResult => {
-                insert_result(ctx, maker, 0, forest.ty)?;
-                Ok(is_at(ctx, result(ctx, maker, 0)?, 0) && is_at(ctx, forest.made.v, 1))
-            }
-            DefinitionCall::PushArgument => {
-                let index = push_argument(ctx, entry, forest.ty)?;
-                Ok(index == 2 && is_at(ctx, argument(ctx, entry, 2)?, 2))
-            }
-            DefinitionCall::InsertArgument => {
-                let before = argument(ctx, entry, 0)?;
-                insert_argument(ctx, entry, 0, forest.ty)?;
-                Ok(is_at(ctx, before, 1))
-            }
+            DefinitionCall::PushResult => result_pushed(ctx, forest),
+            DefinitionCall::InsertResult => result_inserted(ctx, forest),
+            DefinitionCall::PushArgument => argument_pushed(ctx, forest),
+            DefinitionCall::InsertArgument => argument_inserted(ctx, forest),
         }
     }
+}
+
+fn result_pushed(ctx: &mut Context<Toy>, forest: &Forest) -> Result<bool, CheckedErr> {
+    let maker = forest.made.maker;
+    let index = push_result(ctx, maker, forest.ty)?;
+    Ok(index == 2 && is_at(ctx, result(ctx, maker, 2)?, 2))
+}
+
+fn result_inserted(ctx: &mut Context<Toy>, forest: &Forest) -> Result<bool, CheckedErr> {
+    let maker = forest.made.maker;
+    insert_result(ctx, maker, 0, forest.ty)?;
+    Ok(is_at(ctx, result(ctx, maker, 0)?, 0) && is_at(ctx, forest.made.v, 1))
+}
+
+fn argument_pushed(ctx: &mut Context<Toy>, forest: &Forest) -> Result<bool, CheckedErr> {
+    let entry = forest.blocks.entry;
+    let index = push_argument(ctx, entry, forest.ty)?;
+    Ok(index == 2 && is_at(ctx, argument(ctx, entry, 2)?, 2))
+}
+
+fn argument_inserted(ctx: &mut Context<Toy>, forest: &Forest) -> Result<bool, CheckedErr> {
+    let entry = forest.blocks.entry;
+    let before = argument(ctx, entry, 0)?;
+    insert_argument(ctx, entry, 0, forest.ty)?;
+    Ok(is_at(ctx, before, 1))
 }
 
 // Whether the value stands there among the results or arguments.

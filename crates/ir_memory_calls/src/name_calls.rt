@@ -80,20 +80,26 @@ impl ForestCall for NameCall {
 
     fn make(self, ctx: &mut Context<Toy>, forest: &Forest) -> Result<bool, CheckedErr> {
         match self {
-            NameCall::OfValue(asked) => {
-                let name = name_of_value(ctx, forest.made.v, asked)?;
-                Ok(is_text(&name, "first", "v2", "first_v2", asked))
-            }
-            NameCall::OfBlock(asked) => {
-                let name = name_of_block(ctx, forest.blocks.entry, asked)?;
-                Ok(is_text(&name, "entry", "block1v1", "entry_block1v1", asked))
-            }
-            NameCall::OfRecord(asked) => {
-                let name = name_of_record(ctx, forest.blocks.entry, asked)?;
-                Ok(is_text(&name, "entry", "block1v1", "entry_block1v1", asked))
-            }
+            NameCall::OfValue(asked) => names_value(ctx, forest, asked),
+            NameCall::OfBlock(asked) => names_block(ctx, forest, asked),
+            NameCall::OfRecord(asked) => names_record(ctx, forest, asked),
         }
     }
+}
+
+fn names_value(ctx: &Context<Toy>, forest: &Forest, asked: Asked) -> Result<bool, CheckedErr> {
+    let name = name_of_value(ctx, forest.made.v, asked)?;
+    Ok(is_text(&name, "first", "v2", "first_v2", asked))
+}
+
+fn names_block(ctx: &Context<Toy>, forest: &Forest, asked: Asked) -> Result<bool, CheckedErr> {
+    let name = name_of_block(ctx, forest.blocks.entry, asked)?;
+    Ok(is_text(&name, "entry", "block1v1", "entry_block1v1", asked))
+}
+
+fn names_record(ctx: &Context<Toy>, forest: &Forest, asked: Asked) -> Result<bool, CheckedErr> {
+    let name = name_of_record(ctx, forest.blocks.entry, asked)?;
+    Ok(is_text(&name, "entry", "block1v1", "entry_block1v1", asked))
 }
 
 // Whether it is the text of what was asked for.

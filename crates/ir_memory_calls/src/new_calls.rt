@@ -60,16 +60,20 @@ impl ForestCall for NewCall {
         match self {
             NewCall::Operation => operation(ctx, forest),
             NewCall::Block => block(ctx, forest),
-            NewCall::Region => {
-                let made = add_region(ctx, forest.spare)?;
-                Ok(region(ctx, forest.spare, 0)? == made)
-            }
-            NewCall::MoveRegion => {
-                move_region(ctx, forest.inner, forest.spare)?;
-                Ok(region(ctx, forest.spare, 0)? == forest.inner)
-            }
+            NewCall::Region => region_is_added(ctx, forest),
+            NewCall::MoveRegion => region_moves(ctx, forest),
         }
     }
+}
+
+fn region_is_added(ctx: &mut Context<Toy>, forest: &Forest) -> Result<bool, CheckedErr> {
+    let made = add_region(ctx, forest.spare)?;
+    Ok(region(ctx, forest.spare, 0)? == made)
+}
+
+fn region_moves(ctx: &mut Context<Toy>, forest: &Forest) -> Result<bool, CheckedErr> {
+    move_region(ctx, forest.inner, forest.spare)?;
+    Ok(region(ctx, forest.spare, 0)? == forest.inner)
 }
 
 // Whether the live operation has so many results, operands, successors and regions.

@@ -69,38 +69,68 @@ impl ForestCall for OperandCall {
     }
 
     fn make(self, ctx: &mut Context<Toy>, forest: &Forest) -> Result<bool, CheckedErr> {
-        let user = forest.users.user;
-        let v = forest.made.v;
-        let w = forest.made.w;
         match self {
-            OperandCall::Push => {
-                let index = push_operand(ctx, user, v)?;
-                Ok(index == 2 && operand(ctx, user, 2)? == v && have_uses(ctx, forest, 3, 2)?)
-            }
-            OperandCall::Insert => {
-                insert_operand(ctx, user, 0, w)?;
-                Ok(operand(ctx, user, 0)? == w && have_uses(ctx, forest, 2, 3)?)
-            }
-            OperandCall::Replace => {
-                replace_operand(ctx, user, 1, w)?;
-                Ok(operand(ctx, user, 1)? == w && have_uses(ctx, forest, 1, 3)?)
-            }
-            OperandCall::ReplaceAllUses => {
-                replace_all_uses(ctx, v, w)?;
-                have_uses(ctx, forest, 0, 4)
-            }
-            OperandCall::ReplaceSomeUses => {
-                let first = operand_use(ctx, user, 0)?;
-                replace_one(ctx, v, first, w)?;
-                Ok(operand(ctx, user, 0)? == w && have_uses(ctx, forest, 1, 3)?)
-            }
-            OperandCall::ReplaceUse => {
-                let second = operand_use(ctx, user, 1)?;
-                replace_use(ctx, second, w)?;
-                Ok(operand(ctx, user, 1)? == w && have_uses(ctx, forest, 1, 3)?)
-            }
+            OperandCall::Push => push(ctx, forest),
+            OperandCall::Insert => insert(ctx, forest),
+            OperandCall::Replace => replace(ctx, forest),
+            OperandCall::ReplaceAllUses => replace_all(ctx, forest),
+            OperandCall::ReplaceSomeUses => replace_some(ctx, forest),
+            OperandCall::ReplaceUse => replace_second(ctx, forest),
         }
     }
+}
+
+// `push_operand` with v.
+fn push(ctx: &mut Context<Toy>, forest: &Forest) -> Result<bool, CheckedErr> {
+    let index = push_operand(ctx, forest.users.user, forest.made.v)?;
+    Ok(index == 2 && names(ctx, forest, 2, forest.made.v)? && have_uses(ctx, forest, 3, 2)?)
+}
+
+// `insert_operand` with w.
+fn insert(ctx: &mut Context<Toy>, forest: &Forest) -> Result<bool, CheckedErr> {
+    insert_operand(ctx, forest.users.user, 0, forest.made.w)?;
+    Ok(names(ctx, forest, 0, forest.made.w)? && have_uses(ctx, forest, 2, 3)?)
+}
+
+// `replace_operand` with w.
+fn replace(ctx: &mut Context<Toy>, forest: &Forest) -> Result<bool, CheckedErr> {
+    replace_operand(ctx, forest.users.user, 1, forest.made.w)?;
+    one_moved(ctx, forest, 1)
+}
+
+// `replace_all_uses_with`, from v to w.
+fn replace_all(ctx: &mut Context<Toy>, forest: &Forest) -> Result<bool, CheckedErr> {
+    replace_all_uses(ctx, forest.made.v, forest.made.w)?;
+    have_uses(ctx, forest, 0, 4)
+}
+
+// `replace_some_uses_with`, from v to w, which chooses the first use.
+fn replace_some(ctx: &mut Context<Toy>, forest: &Forest) -> Result<bool, CheckedErr> {
+    let first = operand_use(ctx, forest.users.user, 0)?;
+    replace_one(ctx, forest.made.v, first, forest.made.w)?;
+    one_moved(ctx, forest, 0)
+}
+
+// `replace_use_with` w, of the second use of v.
+fn replace_second(ctx: &mut Context<Toy>, forest: &Forest) -> Result<bool, CheckedErr> {
+    let second = operand_use(ctx, forest.users.user, 1)?;
+    replace_use(ctx, second, forest.made.w)?;
+    one_moved(ctx, forest, 1)
+}
+
+// Whether the operand at the index names the value.
+fn names(
+    ctx: &Context<Toy>,
+    forest: &Forest,
+    index: usize,
+    value: Value<Toy>,
+) -> Result<bool, CheckedErr> {
+    Ok(operand(ctx, forest.users.user, index)? == value)
+}
+
+// Whether the operand at the index has come to name w, and no other.
+fn one_moved(ctx: &Context<Toy>, forest: &Forest, index: usize) -> Result<bool, CheckedErr> {
+    Ok(names(ctx, forest, index, forest.made.w)? && have_uses(ctx, forest, 1, 3)?)
 }
 
 // Whether the two results have so many uses.

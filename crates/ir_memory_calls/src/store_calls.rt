@@ -6,7 +6,7 @@ use crate::forest_call::ForestCall;
 use ir_base::Identifier;
 use ir_checked::{CheckedErr, Context, TypeQueries};
 use ir_saved::{Uniqued, save};
-use ir_small_forest::Forest;
+use ir_small_forest::{Forest, STORED};
 use ir_toy::{Toy, ToySaved, ToyType};
 
 /// A call that stores something beside the forest.
@@ -67,9 +67,9 @@ impl ForestCall for StoreCall {
     fn make(self, ctx: &mut Context<Toy>, forest: &Forest) -> Result<bool, CheckedErr> {
         match self {
             StoreCall::InstantiateKey => instantiate_key(ctx),
-            StoreCall::Save => Ok(save(ctx, 9u64)?.index() == 4),
-            StoreCall::SaveValue => Ok(ctx.save_value(ToySaved::U64(9))? == 4),
-            StoreCall::Uniqued => Ok(Uniqued::new(ctx, 9u64)?.key().index() == 4),
+            StoreCall::Save => save_number(ctx),
+            StoreCall::SaveValue => save_value(ctx),
+            StoreCall::Uniqued => unique_number(ctx),
             StoreCall::InsertAux => insert_aux(ctx, forest),
             StoreCall::SetAuxName => set_aux_name(ctx, forest),
         }
@@ -78,7 +78,21 @@ impl ForestCall for StoreCall {
 
 fn instantiate_key(ctx: &mut Context<Toy>) -> Result<bool, CheckedErr> {
     let ty = ctx.instantiate_key(ToyType::Named(Identifier::new("named")))?;
-    Ok(ty.index() == 4 && ty.is_known(ctx))
+    Ok(ty.index() == STORED && ty.is_known(ctx))
+}
+
+fn save_number(ctx: &mut Context<Toy>) -> Result<bool, CheckedErr> {
+    let key = save(ctx, 9u64)?;
+    Ok(key.index() == STORED)
+}
+
+fn save_value(ctx: &mut Context<Toy>) -> Result<bool, CheckedErr> {
+    Ok(ctx.save_value(ToySaved::U64(9))? == STORED)
+}
+
+fn unique_number(ctx: &mut Context<Toy>) -> Result<bool, CheckedErr> {
+    let uniqued = Uniqued::new(ctx, 9u64)?;
+    Ok(uniqued.key().index() == STORED)
 }
 
 fn insert_aux(ctx: &mut Context<Toy>, forest: &Forest) -> Result<bool, CheckedErr> {

@@ -68,37 +68,69 @@ impl ForestCall for SuccessorCall {
     }
 
     fn make(self, ctx: &mut Context<Toy>, forest: &Forest) -> Result<bool, CheckedErr> {
-        let branch = forest.users.branch;
-        let exit = forest.blocks.exit;
-        let last = forest.blocks.last;
         match self {
-            SuccessorCall::Push => {
-                let index = push_successor(ctx, branch, exit)?;
-                Ok(index == 2 && successor(ctx, branch, 2)? == exit && have_uses(ctx, forest, 3, 2))
-            }
-            SuccessorCall::Insert => {
-                insert_successor(ctx, branch, 0, last)?;
-                Ok(successor(ctx, branch, 0)? == last && have_uses(ctx, forest, 2, 3))
-            }
-            SuccessorCall::Replace => {
-                replace_successor(ctx, branch, 1, last)?;
-                Ok(successor(ctx, branch, 1)? == last && have_uses(ctx, forest, 1, 3))
-            }
-            SuccessorCall::RetargetAll => {
-                retarget_all(ctx, exit, last)?;
-                Ok(have_uses(ctx, forest, 0, 4))
-            }
-            SuccessorCall::RetargetSome => {
-                retarget_from(ctx, exit, forest.blocks.entry, last)?;
-                Ok(have_uses(ctx, forest, 0, 4))
-            }
-            SuccessorCall::RetargetPred => {
-                let second = successor_use(ctx, branch, 1)?;
-                retarget_pred(ctx, second, last)?;
-                Ok(successor(ctx, branch, 1)? == last && have_uses(ctx, forest, 1, 3))
-            }
+            SuccessorCall::Push => push(ctx, forest),
+            SuccessorCall::Insert => insert(ctx, forest),
+            SuccessorCall::Replace => replace(ctx, forest),
+            SuccessorCall::RetargetAll => retarget_both(ctx, forest),
+            SuccessorCall::RetargetSome => retarget_some(ctx, forest),
+            SuccessorCall::RetargetPred => retarget_second(ctx, forest),
         }
     }
+}
+
+// `push_successor` with `exit`.
+fn push(ctx: &mut Context<Toy>, forest: &Forest) -> Result<bool, CheckedErr> {
+    let exit = forest.blocks.exit;
+    let index = push_successor(ctx, forest.users.branch, exit)?;
+    Ok(index == 2 && names(ctx, forest, 2, exit)? && have_uses(ctx, forest, 3, 2))
+}
+
+// `insert_successor` with `last`.
+fn insert(ctx: &mut Context<Toy>, forest: &Forest) -> Result<bool, CheckedErr> {
+    insert_successor(ctx, forest.users.branch, 0, forest.blocks.last)?;
+    Ok(names(ctx, forest, 0, forest.blocks.last)? && have_uses(ctx, forest, 2, 3))
+}
+
+// `replace_successor` with `last`.
+fn replace(ctx: &mut Context<Toy>, forest: &Forest) -> Result<bool, CheckedErr> {
+    replace_successor(ctx, forest.users.branch, 1, forest.blocks.last)?;
+    second_moved(ctx, forest)
+}
+
+// `retarget_all_preds_to`, from `exit` to `last`.
+fn retarget_both(ctx: &mut Context<Toy>, forest: &Forest) -> Result<bool, CheckedErr> {
+    retarget_all(ctx, forest.blocks.exit, forest.blocks.last)?;
+    Ok(have_uses(ctx, forest, 0, 4))
+}
+
+// `retarget_some_preds_to`, from `exit` to `last`, which chooses `entry`.
+fn retarget_some(ctx: &mut Context<Toy>, forest: &Forest) -> Result<bool, CheckedErr> {
+    let blocks = forest.blocks;
+    retarget_from(ctx, blocks.exit, blocks.entry, blocks.last)?;
+    Ok(have_uses(ctx, forest, 0, 4))
+}
+
+// `retarget_pred_to` `last`, of the second use of `exit`.
+fn retarget_second(ctx: &mut Context<Toy>, forest: &Forest) -> Result<bool, CheckedErr> {
+    let second = successor_use(ctx, forest.users.branch, 1)?;
+    retarget_pred(ctx, second, forest.blocks.last)?;
+    second_moved(ctx, forest)
+}
+
+// Whether the successor at the index names the block.
+fn names(
+    ctx: &Context<Toy>,
+    forest: &Forest,
+    index: usize,
+    block: Ptr<BasicBlock<Toy>>,
+) -> Result<bool, CheckedErr> {
+    Ok(successor(ctx, forest.users.branch, index)? == block)
+}
+
+// Whether the second successor has come to name `last`, and no other.
+fn second_moved(ctx: &Context<Toy>, forest: &Forest) -> Result<bool, CheckedErr> {
+    Ok(names(ctx, forest, 1, forest.blocks.last)? && have_uses(ctx, forest, 1, 3))
 }
 
 // Whether `exit` and `last` are named so often.

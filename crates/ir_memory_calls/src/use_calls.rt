@@ -55,32 +55,42 @@ impl ForestCall for UseCall {
     }
 
     fn make(self, ctx: &mut Context<Toy>, forest: &Forest) -> Result<bool, CheckedErr> {
-        let entry = forest.blocks.entry;
-        let exit = forest.blocks.exit;
         match self {
-            UseCall::OfValue => {
-                let uses = value_uses(ctx, forest.made.v)?;
-                Ok(uses.len() == 2 && uses.iter().all(|used| used.user_op() == forest.users.user))
-            }
-            UseCall::OfBlock => {
-                let uses = block_uses(ctx, exit)?;
-                Ok(
-                    uses.len() == 2
-                        && uses
-                            .iter()
-                            .all(|used| used.user_op() == forest.users.branch),
-                )
-            }
-            UseCall::Preds => {
-                let blocks = preds(ctx, exit)?;
-                Ok(blocks.len() == 2 && blocks.iter().all(|block| *block == entry))
-            }
-            UseCall::Succs => {
-                let blocks = succs(ctx, entry)?;
-                Ok(blocks.len() == 2 && blocks.iter().all(|block| *block == exit))
-            }
+            UseCall::OfValue => value_is_used(ctx, forest),
+            UseCall::OfBlock => block_is_used(ctx, forest),
+            UseCall::Preds => has_preds(ctx, forest),
+            UseCall::Succs => has_succs(ctx, forest),
         }
     }
+}
+
+// Whether v is used by both operands of its user.
+fn value_is_used(ctx: &Context<Toy>, forest: &Forest) -> Result<bool, CheckedErr> {
+    let uses = value_uses(ctx, forest.made.v)?;
+    Ok(uses.len() == 2 && uses.iter().all(|used| used.user_op() == forest.users.user))
+}
+
+// Whether `exit` is used by both successors of the branch.
+fn block_is_used(ctx: &Context<Toy>, forest: &Forest) -> Result<bool, CheckedErr> {
+    let uses = block_uses(ctx, forest.blocks.exit)?;
+    Ok(
+        uses.len() == 2
+            && uses
+                .iter()
+                .all(|used| used.user_op() == forest.users.branch),
+    )
+}
+
+// Whether `entry` leads to `exit` twice.
+fn has_preds(ctx: &Context<Toy>, forest: &Forest) -> Result<bool, CheckedErr> {
+    let blocks = preds(ctx, forest.blocks.exit)?;
+    Ok(blocks.len() == 2 && blocks.iter().all(|block| *block == forest.blocks.entry))
+}
+
+// Whether `entry` leads to `exit` alone, twice.
+fn has_succs(ctx: &Context<Toy>, forest: &Forest) -> Result<bool, CheckedErr> {
+    let blocks = succs(ctx, forest.blocks.entry)?;
+    Ok(blocks.len() == 2 && blocks.iter().all(|block| *block == forest.blocks.exit))
 }
 
 fn value_uses(ctx: &Context<Toy>, value: Value<Toy>) -> Result<Vec<Use<Value<Toy>>>, CheckedErr> {

@@ -1,13 +1,14 @@
-//! Each call that the surface names is tried, and each call that is tried is named. The names of the tests of calls end so that `tools/refuse-memory` knows that each of these calls asks for memory.
+//! Each call that the surface names is tried, and each call that is tried is named. The names of the tests of calls end so that `tools/refuse-memory` knows that each of these calls asks for memory, but for the ids of constant texts, which ask for none.
 
 use crate::surface::{
-    ATTRIBUTES, BELOW, BLOCKS, CONTEXT, NAMED, NAMES, OPERATIONS, SERVED, STORES, USES,
-    VERIFICATION, is_named,
+    ATTRIBUTES, BELOW, BLOCKS, CONTEXT, IDS, NAMED, NAMES, OPERATIONS, STORES, USES, VERIFICATION,
+    is_named,
 };
-use crate::trials::try_named;
+use crate::trials::{try_all, try_named};
 use ir_memory_calls::{
-    AttributeCall, CheckCall, DefinitionCall, ForestCall, IdCall, NameCall, NewCall, OperandCall,
-    StoreCall as StoringOnForest, SuccessorCall, TypeCall, UseCall, VerifyCall,
+    AttributeCall, CheckCall, ConstantIdCall, DefinitionCall, ForestCall, IdCall, MarkedCall,
+    NameCall, NewCall, OperandCall, StoreCall as StoringOnForest, SuccessorCall, TypeCall, UseCall,
+    VerifyCall,
 };
 use ir_store_calls::{
     DictionaryCall, IdentifierCall, LegaliserCall, ListCall, NameCall as NameMaking, StoreCall,
@@ -77,13 +78,26 @@ fn below_the_surface_with_memory(rt: HostRuntime) -> Result<(), Fail> {
 }
 
 #[test]
-fn served_with_or_without_memory(rt: HostRuntime) -> Result<(), Fail> {
-    try_named(&rt, rt.alloc(), &SERVED)?;
+fn ids_with_memory(rt: HostRuntime) -> Result<(), Fail> {
+    try_named(&rt, rt.alloc(), &IDS)?;
+    Ok(())
+}
+
+#[test]
+fn ids_of_constant_texts_without_memory(rt: HostRuntime) -> Result<(), Fail> {
+    try_all(&rt, rt.alloc(), &ConstantIdCall::ALL)?;
     Ok(())
 }
 
 // Asserts that each call of the group is named.
 fn expect_named<C: ForestCall>(rt: &impl Abort, group: &[C]) {
+    for call in group {
+        assert!(rt; is_named(call.name()), "{call:?}");
+    }
+}
+
+// Asserts that each call of the group is named.
+fn expect_marked_named<C: MarkedCall>(rt: &impl Abort, group: &[C]) {
     for call in group {
         assert!(rt; is_named(call.name()), "{call:?}");
     }
@@ -106,12 +120,11 @@ fn calls_on_a_context_are_named(rt: HostRuntime) {
     expect_named(&rt, &NameCall::ALL);
     expect_named(&rt, &StoringOnForest::ALL);
     expect_named(&rt, &AttributeCall::ALL);
-    expect_named(&rt, &IdCall::ALL);
+    expect_named(&rt, &ConstantIdCall::ALL);
     expect_named(&rt, &VerifyCall::ALL);
     expect_named(&rt, &CheckCall::ALL);
-    for call in TypeCall::ALL.iter() {
-        assert!(rt; is_named(call.name()), "{call:?}");
-    }
+    expect_marked_named(&rt, &IdCall::ALL);
+    expect_marked_named(&rt, &TypeCall::ALL);
 }
 
 #[test]

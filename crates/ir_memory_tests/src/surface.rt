@@ -1,4 +1,4 @@
-//! The calls that may ask for memory, by their names in the public surface, part by part: each of them asks wherever it is tried, but for the last part. Here alone it is said which these are.
+//! The calls that may ask for memory, by their names in the public surface, part by part: each of them asks wherever it is tried. Here alone it is said which these are.
 
 /// Of identifiers, names, ids and legalisers.
 pub(crate) const NAMES: [&str; 17] = [
@@ -22,9 +22,10 @@ pub(crate) const NAMES: [&str; 17] = [
 ];
 
 /// Of arenas, auxiliary data, verifier lists and dictionary keys.
-pub(crate) const CONTEXT: [&str; 4] = [
+pub(crate) const CONTEXT: [&str; 5] = [
     "Arena::insert_with",
     "insert_aux",
+    "set_aux_name",
     "collect_deduped_interface_verifiers",
     "DictKeyId::clone",
 ];
@@ -66,10 +67,33 @@ pub(crate) const BLOCKS: [&str; 5] = [
 ];
 
 /// Of types and saved data.
-pub(crate) const STORES: [&str; 2] = ["get_or_create_unique", "TypeSig::clone"];
+pub(crate) const STORES: [&str; 7] = [
+    "get_or_create_unique",
+    "instantiate_key",
+    "IrType::instantiate",
+    "TypeSig::clone",
+    "save",
+    "save_value",
+    "Uniqued::new",
+];
 
-/// Of attributes and of operations under types of their own.
-pub(crate) const ATTRIBUTES: [&str; 2] = ["AttributeDict::clone", "clone_skip_outlined"];
+/// Of attributes.
+pub(crate) const ATTRIBUTES: [&str; 3] = [
+    "AttributeDict::set",
+    "AttributeDict::clone",
+    "clone_skip_outlined",
+];
+
+/// Of ids, whose texts a dialect may copy.
+pub(crate) const IDS: [&str; 7] = [
+    "get_opid",
+    "Op::get_opid",
+    "Op::get_opid_static",
+    "Attribute::get_attr_id",
+    "Attribute::get_attr_id_static",
+    "IrType::get_type_id",
+    "IrType::get_type_id_static",
+];
 
 /// Of what has a name.
 pub(crate) const NAMED: [&str; 9] = [
@@ -108,24 +132,6 @@ pub(crate) const BELOW: [&str; 5] = [
     "Seq::extend",
 ];
 
-/// Of those that found what they needed where they were tried, at least once: an id is made of constant texts, a store has place left, and a key of a dictionary is there already.
-pub(crate) const SERVED: [&str; 14] = [
-    "IrType::instantiate",
-    "instantiate_key",
-    "IrType::get_type_id",
-    "IrType::get_type_id_static",
-    "save",
-    "save_value",
-    "Uniqued::new",
-    "set_aux_name",
-    "get_opid",
-    "Attribute::get_attr_id",
-    "Attribute::get_attr_id_static",
-    "Op::get_opid",
-    "Op::get_opid_static",
-    "AttributeDict::set",
-];
-
 /// Whether a part names the call.
 pub(crate) fn is_named(call: &str) -> bool {
     has(&NAMES, call)
@@ -135,10 +141,10 @@ pub(crate) fn is_named(call: &str) -> bool {
         || has(&BLOCKS, call)
         || has(&STORES, call)
         || has(&ATTRIBUTES, call)
+        || has(&IDS, call)
         || has(&NAMED, call)
         || has(&VERIFICATION, call)
         || has(&BELOW, call)
-        || has(&SERVED, call)
 }
 
 // Whether the part has the name.

@@ -3,9 +3,9 @@
 use ir_base::CoreError;
 use ir_checked::{CheckedErr, Context, end};
 use ir_memory_calls::{
-    AttributeCall, CheckCall, DefinitionCall, ForestCall, IdCall, NameCall, NewCall, OperandCall,
-    StoreCall as StoringOnForest, SuccessorCall, TypeCall, UseCall, VerifyCall, dump_marked,
-    make_types,
+    AttributeCall, CheckCall, DefinitionCall, ForestCall, IdCall, MarkedCall, NameCall, NewCall,
+    OperandCall, StoreCall as StoringOnForest, SuccessorCall, TypeCall, UseCall, VerifyCall,
+    dump_marked, make_types,
 };
 use ir_small_dialect::{MarkedForest, Small};
 use ir_small_forest::{Forest, dump, make_forest};
@@ -57,6 +57,21 @@ fn try_alone<R: Abort + Print, C: ForestCall>(
     end(ctx, outcome)
 }
 
+/// Makes each call of the group.
+///
+/// # Errors
+/// Where a request for memory was refused, whether a call's or one before.
+pub(crate) fn try_all<R: Abort + Print, C: ForestCall>(
+    rt: &R,
+    alloc: Global,
+    group: &[C],
+) -> Result<(), CheckedErr> {
+    for call in group {
+        try_alone(rt, alloc, *call)?;
+    }
+    Ok(())
+}
+
 // Makes each call of the group that has this name. Whether there is one.
 fn try_group<R: Abort + Print, C: ForestCall>(
     rt: &R,
@@ -93,18 +108,17 @@ fn try_beside_forest<R: Abort + Print>(
 ) -> Result<bool, CheckedErr> {
     let mut tried = try_group(rt, alloc, &StoringOnForest::ALL, name)?;
     tried |= try_group(rt, alloc, &AttributeCall::ALL, name)?;
-    tried |= try_group(rt, alloc, &IdCall::ALL, name)?;
     tried |= try_group(rt, alloc, &VerifyCall::ALL, name)?;
     tried |= try_group(rt, alloc, &CheckCall::ALL, name)?;
     Ok(tried)
 }
 
 // Makes the call on the forest over the small dialect, between two lines of output. Where it wants memory, nothing has changed.
-fn try_type_call<R: Abort + Print>(
+fn try_marked_call<R: Abort + Print, C: MarkedCall>(
     rt: &R,
     ctx: &mut Context<Small>,
     forest: &MarkedForest,
-    call: TypeCall,
+    call: C,
 ) -> Result<(), CheckedErr> {
     let before = dump_marked(ctx, forest)?;
     assert!(rt; println!(rt; "ready").is_ok());
@@ -119,26 +133,38 @@ fn try_type_call<R: Abort + Print>(
 }
 
 // Makes the forest over the small dialect and then the call.
-fn make_and_try_type<R: Abort + Print>(
+fn make_and_try_marked<R: Abort + Print, C: MarkedCall>(
     rt: &R,
     ctx: &mut Context<Small>,
-    call: TypeCall,
+    call: C,
 ) -> Result<(), CheckedErr> {
     let forest = make_types(ctx)?;
-    try_type_call(rt, ctx, &forest, call)
+    try_marked_call(rt, ctx, &forest, call)
 }
 
-// Makes each call on types with this name, on a forest of its own. Whether there is one.
-fn try_on_types<R: Abort + Print>(rt: &R, alloc: Global, name: &str) -> Result<bool, CheckedErr> {
+// Makes each call of the group that has this name, on a forest over the small dialect of its own. Whether there is one.
+fn try_marked<R: Abort + Print, C: MarkedCall>(
+    rt: &R,
+    alloc: Global,
+    group: &[C],
+    name: &str,
+) -> Result<bool, CheckedErr> {
     let mut tried = false;
-    for call in TypeCall::ALL.iter() {
+    for call in group {
         if call.name() == name {
             let mut ctx: Context<Small> = Context::new(alloc);
-            let outcome = make_and_try_type(rt, &mut ctx, *call);
+            let outcome = make_and_try_marked(rt, &mut ctx, *call);
             end(ctx, outcome)?;
             tried = true;
         }
     }
+    Ok(tried)
+}
+
+// Makes the calls with this name that are made over the small dialect. Whether there is one.
+fn try_on_marked<R: Abort + Print>(rt: &R, alloc: Global, name: &str) -> Result<bool, CheckedErr> {
+    let mut tried = try_marked(rt, alloc, &TypeCall::ALL, name)?;
+    tried |= try_marked(rt, alloc, &IdCall::ALL, name)?;
     Ok(tried)
 }
 
@@ -199,7 +225,7 @@ pub(crate) fn try_named<R: Abort + Print>(
     for name in names {
         let mut tried = try_on_forest(rt, alloc, name)?;
         tried |= try_beside_forest(rt, alloc, name)?;
-        tried |= try_on_types(rt, alloc, name)?;
+        tried |= try_on_marked(rt, alloc, name)?;
         tried |= try_without_context(rt, alloc, name)?;
         assert!(rt; tried, "no call is named {name}");
     }

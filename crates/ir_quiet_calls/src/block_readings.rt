@@ -120,19 +120,20 @@ impl QuietCall for BlockReading {
     }
 
     fn make(self, ctx: &mut Context<Toy>, forest: &Forest) -> Result<bool, CheckedErr> {
-        match self {
-            BlockReading::Handle => Ok(handle(ctx, forest.blocks.entry)),
-            BlockReading::Lent => Ok(lent(ctx, forest.blocks.entry)),
-            BlockReading::Arguments => arguments(ctx, forest.blocks.entry),
-            BlockReading::Rest => Ok(rest(ctx, forest.blocks.entry)),
-            BlockReading::Neighbours => Ok(neighbours(ctx, forest)),
-            BlockReading::Parents => Ok(parents(ctx, forest)),
-            BlockReading::Operations => operations(ctx, forest),
-            BlockReading::Preds => Ok(preds(ctx, forest.blocks.exit)),
-            BlockReading::PredBlocks => Ok(pred_blocks(ctx, forest)),
-            BlockReading::Succs => Ok(succs(ctx, forest)),
-            BlockReading::SuccBlocks => Ok(succ_blocks(ctx, forest)),
-        }
+        let entry = forest.blocks.entry;
+        Ok(match self {
+            BlockReading::Handle => handle(ctx, entry),
+            BlockReading::Lent => lent(ctx, entry),
+            BlockReading::Arguments => arguments(ctx, entry)?,
+            BlockReading::Rest => rest(ctx, entry),
+            BlockReading::Neighbours => neighbours(ctx, forest),
+            BlockReading::Parents => parents(ctx, forest),
+            BlockReading::Operations => operations(ctx, forest)?,
+            BlockReading::Preds => preds(ctx, forest.blocks.exit),
+            BlockReading::PredBlocks => pred_blocks(ctx, forest),
+            BlockReading::Succs => succs(ctx, forest),
+            BlockReading::SuccBlocks => succ_blocks(ctx, forest),
+        })
     }
 }
 

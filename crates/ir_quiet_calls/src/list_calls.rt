@@ -65,33 +65,45 @@ impl QuietCall for OpListCall {
     }
 
     fn make(self, ctx: &mut Context<Toy>, forest: &Forest) -> Result<bool, CheckedErr> {
-        let op = forest.users.user;
-        let mark = forest.users.jump;
-        let exit = forest.blocks.exit;
-        unlink_op(ctx, op)?;
+        unlink_op(ctx, forest.users.user)?;
         match self {
-            OpListCall::AtFront => {
-                op_at_front(ctx, op, exit)?;
-                Ok(block_head(ctx, exit)? == Some(op))
-            }
-            OpListCall::AtBack => {
-                op_at_back(ctx, op, exit)?;
-                Ok(block_tail(ctx, exit)? == Some(op))
-            }
-            OpListCall::Before => {
-                op_before(ctx, op, mark)?;
-                Ok(next_op(ctx, op)? == Some(mark))
-            }
-            OpListCall::After => {
-                op_after(ctx, op, mark)?;
-                Ok(next_op(ctx, mark)? == Some(op))
-            }
-            OpListCall::Append => {
-                append_ops(ctx, exit, forest.blocks.entry)?;
-                Ok(block_tail(ctx, exit)? == Some(forest.users.branch))
-            }
+            OpListCall::AtFront => op_goes_to_front(ctx, forest),
+            OpListCall::AtBack => op_goes_to_back(ctx, forest),
+            OpListCall::Before => op_goes_before(ctx, forest),
+            OpListCall::After => op_goes_after(ctx, forest),
+            OpListCall::Append => ops_go_to_back(ctx, forest),
         }
     }
+}
+
+fn op_goes_to_front(ctx: &mut Context<Toy>, forest: &Forest) -> Result<bool, CheckedErr> {
+    let op = forest.users.user;
+    op_at_front(ctx, op, forest.blocks.exit)?;
+    Ok(block_head(ctx, forest.blocks.exit)? == Some(op))
+}
+
+fn op_goes_to_back(ctx: &mut Context<Toy>, forest: &Forest) -> Result<bool, CheckedErr> {
+    let op = forest.users.user;
+    op_at_back(ctx, op, forest.blocks.exit)?;
+    Ok(block_tail(ctx, forest.blocks.exit)? == Some(op))
+}
+
+fn op_goes_before(ctx: &mut Context<Toy>, forest: &Forest) -> Result<bool, CheckedErr> {
+    let op = forest.users.user;
+    op_before(ctx, op, forest.users.jump)?;
+    Ok(next_op(ctx, op)? == Some(forest.users.jump))
+}
+
+fn op_goes_after(ctx: &mut Context<Toy>, forest: &Forest) -> Result<bool, CheckedErr> {
+    let op = forest.users.user;
+    op_after(ctx, op, forest.users.jump)?;
+    Ok(next_op(ctx, forest.users.jump)? == Some(op))
+}
+
+// All operations of `entry` go to the back of `exit`.
+fn ops_go_to_back(ctx: &mut Context<Toy>, forest: &Forest) -> Result<bool, CheckedErr> {
+    append_ops(ctx, forest.blocks.exit, forest.blocks.entry)?;
+    Ok(block_tail(ctx, forest.blocks.exit)? == Some(forest.users.branch))
 }
 
 /// An edit of the list of a region.
@@ -148,31 +160,43 @@ impl QuietCall for BlockListCall {
     }
 
     fn make(self, ctx: &mut Context<Toy>, forest: &Forest) -> Result<bool, CheckedErr> {
-        let block = forest.blocks.last;
-        let mark = forest.open;
-        let inner = forest.inner;
-        unlink_block(ctx, block)?;
+        unlink_block(ctx, forest.blocks.last)?;
         match self {
-            BlockListCall::AtFront => {
-                block_at_front(ctx, block, inner)?;
-                Ok(region_head(ctx, inner)? == Some(block))
-            }
-            BlockListCall::AtBack => {
-                block_at_back(ctx, block, inner)?;
-                Ok(region_tail(ctx, inner)? == Some(block))
-            }
-            BlockListCall::Before => {
-                block_before(ctx, block, mark)?;
-                Ok(next_block(ctx, block)? == Some(mark))
-            }
-            BlockListCall::After => {
-                block_after(ctx, block, mark)?;
-                Ok(next_block(ctx, mark)? == Some(block))
-            }
-            BlockListCall::Append => {
-                append_blocks(ctx, inner, forest.body)?;
-                Ok(region_tail(ctx, inner)? == Some(forest.blocks.exit))
-            }
+            BlockListCall::AtFront => block_goes_to_front(ctx, forest),
+            BlockListCall::AtBack => block_goes_to_back(ctx, forest),
+            BlockListCall::Before => block_goes_before(ctx, forest),
+            BlockListCall::After => block_goes_after(ctx, forest),
+            BlockListCall::Append => blocks_go_to_back(ctx, forest),
         }
     }
+}
+
+fn block_goes_to_front(ctx: &mut Context<Toy>, forest: &Forest) -> Result<bool, CheckedErr> {
+    let block = forest.blocks.last;
+    block_at_front(ctx, block, forest.inner)?;
+    Ok(region_head(ctx, forest.inner)? == Some(block))
+}
+
+fn block_goes_to_back(ctx: &mut Context<Toy>, forest: &Forest) -> Result<bool, CheckedErr> {
+    let block = forest.blocks.last;
+    block_at_back(ctx, block, forest.inner)?;
+    Ok(region_tail(ctx, forest.inner)? == Some(block))
+}
+
+fn block_goes_before(ctx: &mut Context<Toy>, forest: &Forest) -> Result<bool, CheckedErr> {
+    let block = forest.blocks.last;
+    block_before(ctx, block, forest.open)?;
+    Ok(next_block(ctx, block)? == Some(forest.open))
+}
+
+fn block_goes_after(ctx: &mut Context<Toy>, forest: &Forest) -> Result<bool, CheckedErr> {
+    let block = forest.blocks.last;
+    block_after(ctx, block, forest.open)?;
+    Ok(next_block(ctx, forest.open)? == Some(block))
+}
+
+// The other blocks of the module's region go to the back of the function's.
+fn blocks_go_to_back(ctx: &mut Context<Toy>, forest: &Forest) -> Result<bool, CheckedErr> {
+    append_blocks(ctx, forest.inner, forest.body)?;
+    Ok(region_tail(ctx, forest.inner)? == Some(forest.blocks.exit))
 }

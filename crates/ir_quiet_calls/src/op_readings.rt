@@ -145,35 +145,21 @@ impl QuietCall for OpReading {
 
     fn make(self, ctx: &mut Context<Toy>, forest: &Forest) -> Result<bool, CheckedErr> {
         let maker = forest.made.maker;
-        match self {
-            OpReading::Handle => Ok(handle(ctx, maker)),
-            OpReading::Lent => Ok(lent(ctx, maker)),
-            OpReading::Counts => Ok(
-                counts(ctx, maker, [0, 2, 0, 0, 0])
-                    && counts(ctx, forest.users.user, [4, 0, 2, 0, 0])
-                    && counts(ctx, forest.users.branch, [3, 0, 0, 2, 0])
-                    && counts(ctx, forest.module, [5, 0, 0, 0, 1]),
-            ),
-            OpReading::Parts => parts(ctx, forest),
-            OpReading::UsesAndTypes => Ok(uses_and_types(ctx, forest)),
-            OpReading::Iterators => Ok(
-                iterators(ctx, maker, [2, 0, 0, 0])
-                    && iterators(ctx, forest.users.user, [0, 2, 0, 0])
-                    && iterators(ctx, forest.users.branch, [0, 0, 2, 0])
-                    && iterators(ctx, forest.module, [0, 0, 0, 1]),
-            ),
-            OpReading::OtherIterators => Ok(
-                other_iterators(ctx, maker, [2, 0, 0])
-                    && other_iterators(ctx, forest.users.user, [0, 2, 0])
-                    && other_iterators(ctx, forest.users.branch, [0, 0, 2]),
-            ),
-            OpReading::Walk => Ok(walk(ctx, maker)),
-            OpReading::Rest => Ok(rest(ctx, maker)),
-            OpReading::Neighbours => Ok(neighbours(ctx, forest)),
-            OpReading::Parents => Ok(parents(ctx, forest)),
-            OpReading::ResultUses => Ok(result_uses(ctx, maker)),
-            OpReading::Kind => Ok(kind(ctx, maker)),
-        }
+        Ok(match self {
+            OpReading::Handle => handle(ctx, maker),
+            OpReading::Lent => lent(ctx, maker),
+            OpReading::Counts => all_counts(ctx, forest),
+            OpReading::Parts => parts(ctx, forest)?,
+            OpReading::UsesAndTypes => uses_and_types(ctx, forest),
+            OpReading::Iterators => all_iterators(ctx, forest),
+            OpReading::OtherIterators => all_other_iterators(ctx, forest),
+            OpReading::Walk => walk(ctx, maker),
+            OpReading::Rest => rest(ctx, maker),
+            OpReading::Neighbours => neighbours(ctx, forest),
+            OpReading::Parents => parents(ctx, forest),
+            OpReading::ResultUses => result_uses(ctx, maker),
+            OpReading::Kind => kind(ctx, maker),
+        })
     }
 }
 
@@ -191,6 +177,14 @@ fn lent(ctx: &mut Context<Toy>, op: Ptr<Operation<Toy>>) -> bool {
     }
     let record = Ptr::<Operation<Toy>>::deref_mut(ctx, op);
     record.loc == ToyLoc::Unknown
+}
+
+// The counts of the operations that have parts.
+fn all_counts(ctx: &Context<Toy>, forest: &Forest) -> bool {
+    counts(ctx, forest.made.maker, [0, 2, 0, 0, 0])
+        && counts(ctx, forest.users.user, [4, 0, 2, 0, 0])
+        && counts(ctx, forest.users.branch, [3, 0, 0, 2, 0])
+        && counts(ctx, forest.module, [5, 0, 0, 0, 1])
 }
 
 // Its kind, and how many results, operands, successors and regions it has.
@@ -250,6 +244,14 @@ fn first_successor_is_of(ctx: &Context<Toy>, op: Ptr<Operation<Toy>>) -> bool {
     }
 }
 
+// The iterators over the parts of the operations that have some.
+fn all_iterators(ctx: &Context<Toy>, forest: &Forest) -> bool {
+    iterators(ctx, forest.made.maker, [2, 0, 0, 0])
+        && iterators(ctx, forest.users.user, [0, 2, 0, 0])
+        && iterators(ctx, forest.users.branch, [0, 0, 2, 0])
+        && iterators(ctx, forest.module, [0, 0, 0, 1])
+}
+
 // The iterators over results, operands, successors and regions go over so many.
 fn iterators(ctx: &Context<Toy>, op: Ptr<Operation<Toy>>, counts: [usize; 4]) -> bool {
     let Ok(record) = op.try_deref(ctx) else {
@@ -260,6 +262,13 @@ fn iterators(ctx: &Context<Toy>, op: Ptr<Operation<Toy>>, counts: [usize; 4]) ->
         && record.operands().count() == operands
         && record.successors().count() == successors
         && record.regions().count() == regions
+}
+
+// The iterators over uses and types of the operations that have some.
+fn all_other_iterators(ctx: &Context<Toy>, forest: &Forest) -> bool {
+    other_iterators(ctx, forest.made.maker, [2, 0, 0])
+        && other_iterators(ctx, forest.users.user, [0, 2, 0])
+        && other_iterators(ctx, forest.users.branch, [0, 0, 2])
 }
 
 // The iterators over types of results, operands as uses and their types, and successors as uses go over so many.

@@ -115,20 +115,30 @@ fn place(ctx: &Context<Toy>, region: Ptr<Region>) -> bool {
     region.find_index_in_parent(ctx) == 0 && region.has_ssa_dominance(ctx)
 }
 
-// The ends of the list of blocks, the entry block, and the walk from both ends.
-fn blocks(ctx: &Context<Toy>, forest: &Forest) -> Result<bool, CheckedErr> {
+// Whether the list of blocks has these ends.
+fn has_ends(ctx: &Context<Toy>, forest: &Forest) -> Result<bool, CheckedErr> {
+    let ends = (
+        region_head(ctx, forest.body)?,
+        region_tail(ctx, forest.body)?,
+    );
+    Ok(ends == (Some(forest.blocks.entry), Some(forest.blocks.last)))
+}
+
+// The entry block, and the walk from both ends.
+fn walks(ctx: &Context<Toy>, forest: &Forest) -> bool {
     let region = forest.body;
-    let ends = (region_head(ctx, region)?, region_tail(ctx, region)?);
     if !region.is_live(ctx) {
-        return Err(CheckedErr::Condition);
+        return false;
     }
     let mut blocks = region.iter(ctx);
-    Ok(
-        ends == (Some(forest.blocks.entry), Some(forest.blocks.last))
-            && region.get_entry_block(ctx) == Some(forest.blocks.entry)
-            && blocks.next() == Some(forest.blocks.entry)
-            && blocks.next_back() == Some(forest.blocks.last),
-    )
+    region.get_entry_block(ctx) == Some(forest.blocks.entry)
+        && blocks.next() == Some(forest.blocks.entry)
+        && blocks.next_back() == Some(forest.blocks.last)
+}
+
+// The ends of the list of blocks, the entry block, and the walk from both ends.
+fn blocks(ctx: &Context<Toy>, forest: &Forest) -> Result<bool, CheckedErr> {
+    Ok(has_ends(ctx, forest)? && walks(ctx, forest))
 }
 
 fn nesting(ctx: &Context<Toy>, forest: &Forest) -> Result<bool, CheckedErr> {

@@ -79,35 +79,57 @@ impl QuietCall for RemovalCall {
     }
 
     fn make(self, ctx: &mut Context<Toy>, forest: &Forest) -> Result<bool, CheckedErr> {
-        let users = forest.users;
-        let made = forest.made;
-        let entry = forest.blocks.entry;
-        let exit = forest.blocks.exit;
         match self {
-            RemovalCall::Operand => Ok(remove_operand(ctx, users.user, 0)? == made.v),
-            RemovalCall::LastOperand => Ok(pop_operand(ctx, users.user)? == made.v),
-            RemovalCall::Successor => Ok(remove_successor(ctx, users.branch, 0)? == exit),
-            RemovalCall::LastSuccessor => Ok(pop_successor(ctx, users.branch)? == exit),
-            RemovalCall::Argument => {
-                remove_argument(ctx, entry, 0)?;
-                Ok(true)
-            }
-            RemovalCall::LastArgument => {
-                pop_argument(ctx, entry)?;
-                Ok(true)
-            }
-            RemovalCall::Result => {
-                drop_op_uses(ctx, users.user)?;
-                remove_result(ctx, made.maker, 0)?;
-                Ok(num_uses(ctx, made.w)? == 2)
-            }
-            RemovalCall::LastResult => {
-                drop_op_uses(ctx, users.other)?;
-                pop_result(ctx, made.maker)?;
-                Ok(num_uses(ctx, made.v)? == 2)
-            }
+            RemovalCall::Operand => operand_goes(ctx, forest),
+            RemovalCall::LastOperand => last_operand_goes(ctx, forest),
+            RemovalCall::Successor => successor_goes(ctx, forest),
+            RemovalCall::LastSuccessor => last_successor_goes(ctx, forest),
+            RemovalCall::Argument => argument_goes(ctx, forest),
+            RemovalCall::LastArgument => last_argument_goes(ctx, forest),
+            RemovalCall::Result => result_goes(ctx, forest),
+            RemovalCall::LastResult => last_result_goes(ctx, forest),
         }
     }
+}
+
+fn operand_goes(ctx: &mut Context<Toy>, forest: &Forest) -> Result<bool, CheckedErr> {
+    Ok(remove_operand(ctx, forest.users.user, 0)? == forest.made.v)
+}
+
+fn last_operand_goes(ctx: &mut Context<Toy>, forest: &Forest) -> Result<bool, CheckedErr> {
+    Ok(pop_operand(ctx, forest.users.user)? == forest.made.v)
+}
+
+fn successor_goes(ctx: &mut Context<Toy>, forest: &Forest) -> Result<bool, CheckedErr> {
+    Ok(remove_successor(ctx, forest.users.branch, 0)? == forest.blocks.exit)
+}
+
+fn last_successor_goes(ctx: &mut Context<Toy>, forest: &Forest) -> Result<bool, CheckedErr> {
+    Ok(pop_successor(ctx, forest.users.branch)? == forest.blocks.exit)
+}
+
+fn argument_goes(ctx: &mut Context<Toy>, forest: &Forest) -> Result<bool, CheckedErr> {
+    remove_argument(ctx, forest.blocks.entry, 0)?;
+    Ok(true)
+}
+
+fn last_argument_goes(ctx: &mut Context<Toy>, forest: &Forest) -> Result<bool, CheckedErr> {
+    pop_argument(ctx, forest.blocks.entry)?;
+    Ok(true)
+}
+
+// The first result goes, once nothing uses it; the second one is used as before.
+fn result_goes(ctx: &mut Context<Toy>, forest: &Forest) -> Result<bool, CheckedErr> {
+    drop_op_uses(ctx, forest.users.user)?;
+    remove_result(ctx, forest.made.maker, 0)?;
+    Ok(num_uses(ctx, forest.made.w)? == 2)
+}
+
+// The second result goes, once nothing uses it; the first one is used as before.
+fn last_result_goes(ctx: &mut Context<Toy>, forest: &Forest) -> Result<bool, CheckedErr> {
+    drop_op_uses(ctx, forest.users.other)?;
+    pop_result(ctx, forest.made.maker)?;
+    Ok(num_uses(ctx, forest.made.v)? == 2)
 }
 
 /// A call that erases entities, or drops all uses inside them.
@@ -167,32 +189,47 @@ impl QuietCall for EraseCall {
 
     fn make(self, ctx: &mut Context<Toy>, forest: &Forest) -> Result<bool, CheckedErr> {
         match self {
-            EraseCall::Op => {
-                erase_op(ctx, forest.func)?;
-                Ok(!forest.open.is_live(ctx))
-            }
-            EraseCall::Block => {
-                erase_block(ctx, forest.open)?;
-                Ok(!forest.open.is_live(ctx))
-            }
-            EraseCall::Region => {
-                erase_region(ctx, forest.module, 0)?;
-                Ok(!forest.blocks.entry.is_live(ctx))
-            }
-            EraseCall::BlockUses => {
-                drop_block_uses(ctx, forest.blocks.entry)?;
-                Ok(num_uses(ctx, forest.made.v)? == 0)
-            }
-            EraseCall::RegionUses => {
-                drop_region_uses(ctx, forest.body)?;
-                Ok(num_uses(ctx, forest.made.w)? == 0)
-            }
-            EraseCall::Sweep => {
-                drop_block_uses(ctx, forest.blocks.entry)?;
-                Ok(swept(ctx, forest.blocks.entry) == Some(1))
-            }
+            EraseCall::Op => op_is_erased(ctx, forest),
+            EraseCall::Block => block_is_erased(ctx, forest),
+            EraseCall::Region => region_is_erased(ctx, forest),
+            EraseCall::BlockUses => block_uses_go(ctx, forest),
+            EraseCall::RegionUses => region_uses_go(ctx, forest),
+            EraseCall::Sweep => one_is_swept(ctx, forest),
         }
     }
+}
+
+// The function goes, and with it the block inside.
+fn op_is_erased(ctx: &mut Context<Toy>, forest: &Forest) -> Result<bool, CheckedErr> {
+    erase_op(ctx, forest.func)?;
+    Ok(!forest.open.is_live(ctx))
+}
+
+fn block_is_erased(ctx: &mut Context<Toy>, forest: &Forest) -> Result<bool, CheckedErr> {
+    erase_block(ctx, forest.open)?;
+    Ok(!forest.open.is_live(ctx))
+}
+
+// The region of the module goes, and with it the blocks inside.
+fn region_is_erased(ctx: &mut Context<Toy>, forest: &Forest) -> Result<bool, CheckedErr> {
+    erase_region(ctx, forest.module, 0)?;
+    Ok(!forest.blocks.entry.is_live(ctx))
+}
+
+fn block_uses_go(ctx: &mut Context<Toy>, forest: &Forest) -> Result<bool, CheckedErr> {
+    drop_block_uses(ctx, forest.blocks.entry)?;
+    Ok(num_uses(ctx, forest.made.v)? == 0)
+}
+
+fn region_uses_go(ctx: &mut Context<Toy>, forest: &Forest) -> Result<bool, CheckedErr> {
+    drop_region_uses(ctx, forest.body)?;
+    Ok(num_uses(ctx, forest.made.w)? == 0)
+}
+
+// Where nothing in the block is used, its one pure operation goes.
+fn one_is_swept(ctx: &mut Context<Toy>, forest: &Forest) -> Result<bool, CheckedErr> {
+    drop_block_uses(ctx, forest.blocks.entry)?;
+    Ok(swept(ctx, forest.blocks.entry) == Some(1))
 }
 
 // How many operations went in a sweep of the live block.

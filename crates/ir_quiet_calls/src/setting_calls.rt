@@ -78,20 +78,22 @@ impl QuietCall for SettingCall {
     }
 
     fn make(self, ctx: &mut Context<Toy>, forest: &Forest) -> Result<bool, CheckedErr> {
-        match self {
-            SettingCall::Type => {
-                set_type(ctx, forest.made.v, forest.ty)?;
-                Ok(true)
-            }
-            SettingCall::Name => take_name(ctx, forest.made.v),
-            SettingCall::Label => Ok(set_label(ctx, forest.open)),
-            SettingCall::Location => Ok(set_location(ctx, forest.func)),
-            SettingCall::BlockLocation => Ok(set_block_location(ctx, forest.open)),
-            SettingCall::Body => Ok(set_body(ctx, forest.ty)),
-            SettingCall::Attribute => Ok(remove_attribute(ctx, forest.made.maker)),
-            SettingCall::RemoveAux => Ok(ctx.remove_aux(forest.beside.aux).is_some()),
-        }
+        Ok(match self {
+            SettingCall::Type => sets_type(ctx, forest)?,
+            SettingCall::Name => take_name(ctx, forest.made.v)?,
+            SettingCall::Label => set_label(ctx, forest.open),
+            SettingCall::Location => set_location(ctx, forest.func),
+            SettingCall::BlockLocation => set_block_location(ctx, forest.open),
+            SettingCall::Body => set_body(ctx, forest.ty),
+            SettingCall::Attribute => remove_attribute(ctx, forest.made.maker),
+            SettingCall::RemoveAux => ctx.remove_aux(forest.beside.aux).is_some(),
+        })
     }
+}
+
+fn sets_type(ctx: &mut Context<Toy>, forest: &Forest) -> Result<bool, CheckedErr> {
+    set_type(ctx, forest.made.v, forest.ty)?;
+    Ok(true)
 }
 
 fn take_name(ctx: &mut Context<Toy>, value: Value<Toy>) -> Result<bool, CheckedErr> {

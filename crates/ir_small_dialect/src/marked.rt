@@ -153,17 +153,37 @@ fn mark_block<T: Attribute<Small> + Drop>(
     Ok(())
 }
 
+// A new operation with results of the types, at the back of the block.
+fn add_inner(
+    ctx: &mut Context<Small>,
+    block: Ptr<BasicBlock<Small>>,
+    types: MarkedTypes,
+) -> Result<Ptr<Operation<Small>>, LabErr> {
+    let inner = new_op(ctx, 4, 0)?;
+    push_result(ctx, inner, types.listed)?;
+    push_result(ctx, inner, types.sized)?;
+    put_op(ctx, inner, block)?;
+    Ok(inner)
+}
+
+// A new block with an argument of the type, at the back of the region.
+fn add_block(
+    ctx: &mut Context<Small>,
+    region: Ptr<Region>,
+    ty: TypeHandle,
+) -> Result<Ptr<BasicBlock<Small>>, LabErr> {
+    let block = new_block(ctx, ty)?;
+    put_block(ctx, block, region)?;
+    Ok(block)
+}
+
 // Makes the forest without attributes.
 fn make_plain(ctx: &mut Context<Small>) -> Result<MarkedForest, LabErr> {
     let types = make_types(ctx)?;
     let module = new_op(ctx, 5, 1)?;
     let region = first_region(ctx, module)?;
-    let block = new_block(ctx, types.bare)?;
-    put_block(ctx, block, region)?;
-    let inner = new_op(ctx, 4, 0)?;
-    push_result(ctx, inner, types.listed)?;
-    push_result(ctx, inner, types.sized)?;
-    put_op(ctx, inner, block)?;
+    let block = add_block(ctx, region, types.bare)?;
+    let inner = add_inner(ctx, block, types)?;
     let alone = new_op(ctx, 4, 0)?;
     Ok(MarkedForest {
         module,

@@ -1,4 +1,4 @@
-//! The small dialect: types and attributes are numbers, of a few kinds each.
+//! The small dialect: types and attributes are numbers, of a few kinds each. Each text of an id lies in memory of its own, which is asked for at each question.
 
 ghost use Rattle.std.specs.Prelude.{◌≡◌, ◌==◌, ◌&&◌, ◌||◌, None, codes, false, refl};
 ghost use Rattle.std.proofs.Common.{sym, true≢false};
@@ -7,8 +7,7 @@ use crate::small_attributes::{MarkedAttr, PlainAttr};
 use crate::small_types::{ListedType, SIZED};
 use ir_base::interfaces::{NO_TERMINATOR, TERMINATOR};
 use ir_base::{
-    AttrId, AttrName, CoreError, DialectName, Dialects, Identifier, OpId, OpName, TypeHandle,
-    TypeId, TypeName,
+    AttrId, AttrName, CoreError, DialectName, Dialects, OpId, OpName, TypeHandle, TypeId, TypeName,
 };
 use std::alloc::Global;
 
@@ -134,25 +133,37 @@ impl Dialects for Small {
         })
     }
 
-    fn op_id(_alloc: Global, _kind: u32) -> Result<OpId, CoreError> {
-        Ok(OpId {
-            dialect: DialectName::from(Identifier::new("small")),
-            name: OpName::from(Identifier::new("unknown")),
-        })
+    fn op_id(alloc: Global, _kind: u32) -> Result<OpId, CoreError> {
+        // The texts are names, so that only memory can lack.
+        let Ok(dialect) = DialectName::try_new(alloc, "small") else {
+            return Err(CoreError::OutOfMemory);
+        };
+        let Ok(name) = OpName::try_new(alloc, "unknown") else {
+            return Err(CoreError::OutOfMemory);
+        };
+        Ok(OpId { dialect, name })
     }
 
-    fn attr_id(_alloc: Global, _kind: u32) -> Result<AttrId, CoreError> {
-        Ok(AttrId {
-            dialect: DialectName::from(Identifier::new("small")),
-            name: AttrName::from(Identifier::new("unknown")),
-        })
+    fn attr_id(alloc: Global, _kind: u32) -> Result<AttrId, CoreError> {
+        // The texts are names, so that only memory can lack.
+        let Ok(dialect) = DialectName::try_new(alloc, "small") else {
+            return Err(CoreError::OutOfMemory);
+        };
+        let Ok(name) = AttrName::try_new(alloc, "unknown") else {
+            return Err(CoreError::OutOfMemory);
+        };
+        Ok(AttrId { dialect, name })
     }
 
-    fn type_id(_alloc: Global, _kind: u32) -> Result<TypeId, CoreError> {
-        Ok(TypeId {
-            dialect: DialectName::from(Identifier::new("small")),
-            name: TypeName::from(Identifier::new("unknown")),
-        })
+    fn type_id(alloc: Global, _kind: u32) -> Result<TypeId, CoreError> {
+        // The texts are names, so that only memory can lack.
+        let Ok(dialect) = DialectName::try_new(alloc, "small") else {
+            return Err(CoreError::OutOfMemory);
+        };
+        let Ok(name) = TypeName::try_new(alloc, "unknown") else {
+            return Err(CoreError::OutOfMemory);
+        };
+        Ok(TypeId { dialect, name })
     }
 
     ghost default_loc = { λ l d. d };

@@ -5,7 +5,7 @@
 use crate::making::{Blocks, Forest};
 use ir_arena::Link;
 use ir_base::attribute::AttributeDict;
-use ir_base::{CoreError, Dialects, Identifier, TypeHandle};
+use ir_base::{CoreError, Dialects, Identifier, Ptr, TypeHandle};
 use ir_checked::Context;
 use ir_records::{BasicBlock, Definition, Operation, Region, Uses};
 use ir_toy::Toy;
@@ -13,12 +13,18 @@ use ir_view::TypeQueries;
 use std::alloc::Global;
 use std::fmt::Debug;
 
-// The numbers of the uses, in rising order.
-fn write_uses(alloc: Global, out: &mut String, uses: &Uses) -> Result<(), CoreError> {
+// The numbers of the uses.
+fn numbers_of(alloc: Global, uses: &Uses) -> Result<Vec<u64>, CoreError> {
     let mut numbers = Vec::with_capacity(alloc, uses.len())?;
     for used in uses.as_slice() {
         numbers.push(used.used().number)?;
     }
+    Ok(numbers)
+}
+
+// The numbers of the uses, in rising order.
+fn write_uses(alloc: Global, out: &mut String, uses: &Uses) -> Result<(), CoreError> {
+    let mut numbers = numbers_of(alloc, uses)?;
     numbers.sort()?;
     for number in numbers.as_slice() {
         write!(out, " u{number}")?;
@@ -26,18 +32,27 @@ fn write_uses(alloc: Global, out: &mut String, uses: &Uses) -> Result<(), CoreEr
     Ok(())
 }
 
-// Results or arguments: numbers, types, names and uses.
+// A result or an argument: its number, its type, its name and its uses.
+fn write_definition(
+    alloc: Global,
+    out: &mut String,
+    definition: &Definition,
+) -> Result<(), CoreError> {
+    write!(out, "\n v{} t{}", definition.number, definition.ty)?;
+    if let Some(name) = &definition.name {
+        write!(out, " {}", name.as_str())?;
+    }
+    write_uses(alloc, out, &definition.uses)
+}
+
+// Results or arguments.
 fn write_definitions(
     alloc: Global,
     out: &mut String,
     definitions: &[Definition],
 ) -> Result<(), CoreError> {
     for definition in definitions {
-        write!(out, "\n v{} t{}", definition.number, definition.ty)?;
-        if let Some(name) = &definition.name {
-            write!(out, " {}", name.as_str())?;
-        }
-        write_uses(alloc, out, &definition.uses)?;
+        write_definition(alloc, out, definition)?;
     }
     Ok(())
 }
@@ -65,8 +80,8 @@ where
     Ok(())
 }
 
-// The operands, successors and regions, in order.
-fn write_parts<D: Dialects>(out: &mut String, op: &Operation<D>) -> Result<(), CoreError> {
+// The operands in order.
+fn write_operands<D: Dialects>(out: &mut String, op: &Operation<D>) -> Result<(), CoreError> {
     for operand in op.operands.as_slice() {
         write!(
             out,
@@ -74,14 +89,46 @@ fn write_parts<D: Dialects>(out: &mut String, op: &Operation<D>) -> Result<(), C
             operand.number, operand.names.number
         )?;
     }
+    Ok(())
+}
+
+// The successors in order.
+fn write_successors<D: Dialects>(out: &mut String, op: &Operation<D>) -> Result<(), CoreError> {
     for successor in op.successors.as_slice() {
         let block = successor.names.index;
         write!(out, "\n successor u{} {block}", successor.number)?;
     }
+    Ok(())
+}
+
+// The regions in order.
+fn write_regions<D: Dialects>(out: &mut String, op: &Operation<D>) -> Result<(), CoreError> {
     for region in op.regions.as_slice() {
         write!(out, "\n region {region}")?;
     }
     Ok(())
+}
+
+// The operands, successors, regions and attributes.
+fn write_parts<D: Dialects>(out: &mut String, op: &Operation<D>) -> Result<(), CoreError>
+where
+    D::Attr: Debug,
+{
+    write_operands(out, op)?;
+    write_successors(out, op)?;
+    write_regions(out, op)?;
+    write_attributes(out, &op.rest.attributes)
+}
+
+// An operation's number, its kind, its location and what it is linked to.
+fn write_op_head<D: Dialects>(out: &mut String, op: &Operation<D>) -> Result<(), CoreError>
+where
+    D::Loc: Debug,
+{
+    write!(out, "\nop {} kind {} {:?}", op.index, op.kind, op.rest.loc)?;
+    write_link(out, "next", op.next)?;
+    write_link(out, "prev", op.prev)?;
+    write_link(out, "parent", op.parent)
 }
 
 /// Writes an operation, if it is live.
@@ -97,29 +144,55 @@ where
     let Some(op) = op else {
         return Ok(out.push_str("\ndead op")?);
     };
-    write!(out, "\nop {} kind {} {:?}", op.index, op.kind, op.rest.loc)?;
-    write_link(out, "next", op.next)?;
-    write_link(out, "prev", op.prev)?;
-    write_link(out, "parent", op.parent)?;
+    write_op_head(out, op)?;
     write_definitions(alloc, out, op.results.as_slice())?;
-    write_parts(out, op)?;
-    write_attributes(out, &op.rest.attributes)
+    write_parts(out, op)
 }
 
-// A block's number, its label, its location and what it is linked to.
+// A block's label, if it has one.
+fn write_label<D: Dialects>(out: &mut String, block: &BasicBlock<D>) -> Result<(), CoreError> {
+    if let Some(label) = &block.rest.label {
+        write!(out, " {}", label.as_str())?;
+    }
+    Ok(())
+}
+
+// What a block is linked to.
+fn write_links<D: Dialects>(out: &mut String, block: &BasicBlock<D>) -> Result<(), CoreError> {
+    for (name, link) in [
+        ("next", block.next),
+        ("prev", block.prev),
+        ("parent", block.parent),
+        ("first", block.first),
+        ("last", block.last),
+    ] {
+        write_link(out, name, link)?;
+    }
+    Ok(())
+}
+
+// A block's number, its location, its label and what it is linked to.
 fn write_block_head<D: Dialects>(out: &mut String, block: &BasicBlock<D>) -> Result<(), CoreError>
 where
     D::Loc: Debug,
 {
     write!(out, "\nblock {} {:?}", block.index, block.rest.loc)?;
-    if let Some(label) = &block.rest.label {
-        write!(out, " {}", label.as_str())?;
-    }
-    write_link(out, "next", block.next)?;
-    write_link(out, "prev", block.prev)?;
-    write_link(out, "parent", block.parent)?;
-    write_link(out, "first", block.first)?;
-    write_link(out, "last", block.last)
+    write_label(out, block)?;
+    write_links(out, block)
+}
+
+// A block's uses, arguments and attributes.
+fn write_block_parts<D: Dialects>(
+    alloc: Global,
+    out: &mut String,
+    block: &BasicBlock<D>,
+) -> Result<(), CoreError>
+where
+    D::Attr: Debug,
+{
+    write_uses(alloc, out, &block.uses)?;
+    write_definitions(alloc, out, block.arguments.as_slice())?;
+    write_attributes(out, &block.rest.attributes)
 }
 
 /// Writes a block, if it is live.
@@ -136,9 +209,7 @@ where
         return Ok(out.push_str("\ndead block")?);
     };
     write_block_head(out, block)?;
-    write_uses(alloc, out, &block.uses)?;
-    write_definitions(alloc, out, block.arguments.as_slice())?;
-    write_attributes(out, &block.rest.attributes)
+    write_block_parts(alloc, out, block)
 }
 
 /// Writes a region, if it is live.
@@ -189,27 +260,41 @@ fn write_aux_name(
     Ok(())
 }
 
-// Auxiliary data and its names: what is there, and the name that there isn't yet.
-fn write_aux(ctx: &Context<Toy>, out: &mut String, forest: &Forest) -> Result<(), CoreError> {
+// The auxiliary data that is there.
+fn write_aux_data(ctx: &Context<Toy>, out: &mut String, forest: &Forest) -> Result<(), CoreError> {
     let [first, second, third] = forest.beside.others;
     for index in [forest.beside.aux, first, second, third] {
         if let Some(data) = ctx.get_aux(index) {
             write!(out, "\naux {}", data.as_str())?;
         }
     }
-    for name in ["data", "first", "second", "more"] {
+    Ok(())
+}
+
+// The names of auxiliary data: those that are there, and the one that isn't yet.
+fn write_aux_names(ctx: &Context<Toy>, out: &mut String) -> Result<(), CoreError> {
+    for name in [
+        "data", "first", "second", "third", "fourth", "fifth", "sixth", "seventh", "eighth", "more",
+    ] {
         write_aux_name(ctx, out, &Identifier::new(name))?;
     }
     Ok(())
 }
 
-// Types, saved values and auxiliary data: what is there, and the places behind.
-fn write_beside(ctx: &Context<Toy>, out: &mut String, forest: &Forest) -> Result<(), CoreError> {
-    for place in 0..8 {
+// Types and saved values: what is there, and the places behind.
+fn write_stored(ctx: &Context<Toy>, out: &mut String) -> Result<(), CoreError> {
+    for place in 0..16 {
         write_type(ctx, out, place)?;
         write_saved(ctx, out, place)?;
     }
-    write_aux(ctx, out, forest)
+    Ok(())
+}
+
+// Types, saved values and auxiliary data.
+fn write_beside(ctx: &Context<Toy>, out: &mut String, forest: &Forest) -> Result<(), CoreError> {
+    write_stored(ctx, out)?;
+    write_aux_data(ctx, out, forest)?;
+    write_aux_names(ctx, out)
 }
 
 /// Writes how many entities there are.
@@ -223,39 +308,55 @@ pub fn write_counts<D: Dialects>(ctx: &Context<D>, out: &mut String) -> Result<(
 
 // The operations.
 fn write_ops(ctx: &Context<Toy>, out: &mut String, forest: &Forest) -> Result<(), CoreError> {
-    let alloc = ctx.alloc();
-    let ops = &ctx.records().ops;
     let users = forest.users;
-    write_op(alloc, out, ops.get(forest.module))?;
-    write_op(alloc, out, ops.get(forest.func))?;
-    write_op(alloc, out, ops.get(forest.made.maker))?;
-    write_op(alloc, out, ops.get(users.user))?;
-    write_op(alloc, out, ops.get(users.other))?;
-    write_op(alloc, out, ops.get(users.branch))?;
-    write_op(alloc, out, ops.get(users.jump))?;
-    write_op(alloc, out, ops.get(forest.spare))
+    for op in [
+        forest.module,
+        forest.func,
+        forest.made.maker,
+        users.user,
+        users.other,
+        users.branch,
+        users.jump,
+        forest.spare,
+    ] {
+        write_op(ctx.alloc(), out, ctx.records().ops.get(op))?;
+    }
+    Ok(())
+}
+
+// The region, and behind it the blocks that were made in it.
+fn write_list(
+    ctx: &Context<Toy>,
+    out: &mut String,
+    region: Ptr<Region>,
+    blocks: &[Ptr<BasicBlock<Toy>>],
+) -> Result<(), CoreError> {
+    let records = ctx.records();
+    write_region(out, records.regions.get(region))?;
+    for block in blocks {
+        write_block(ctx.alloc(), out, records.blocks.get(*block))?;
+    }
+    Ok(())
 }
 
 // The blocks, each behind the region that it was made in.
 fn write_blocks(ctx: &Context<Toy>, out: &mut String, forest: &Forest) -> Result<(), CoreError> {
-    let alloc = ctx.alloc();
-    let blocks = &ctx.records().blocks;
-    let regions = &ctx.records().regions;
     let Blocks { entry, exit, last } = forest.blocks;
-    write_region(out, regions.get(forest.body))?;
-    write_block(alloc, out, blocks.get(entry))?;
-    write_block(alloc, out, blocks.get(exit))?;
-    write_block(alloc, out, blocks.get(last))?;
-    write_region(out, regions.get(forest.inner))?;
-    write_block(alloc, out, blocks.get(forest.open))
+    write_list(ctx, out, forest.body, &[entry, exit, last])?;
+    write_list(ctx, out, forest.inner, &[forest.open])
+}
+
+// How many entities there are, and each of them.
+fn write_entities(ctx: &Context<Toy>, out: &mut String, forest: &Forest) -> Result<(), CoreError> {
+    write_counts(ctx, out)?;
+    write_ops(ctx, out, forest)?;
+    write_blocks(ctx, out, forest)
 }
 
 /// All that the context tells of the forest.
 pub fn dump(ctx: &Context<Toy>, forest: &Forest) -> Result<String, CoreError> {
     let mut out = String::with_capacity(ctx.alloc(), 4096)?;
-    write_counts(ctx, &mut out)?;
-    write_ops(ctx, &mut out, forest)?;
-    write_blocks(ctx, &mut out, forest)?;
+    write_entities(ctx, &mut out, forest)?;
     write_beside(ctx, &mut out, forest)?;
     Ok(out)
 }

@@ -7,4 +7,6 @@ mod making;
 
 pub use constant::Constant;
 pub use dumping::{dump, write_block, write_counts, write_op, write_region, write_type};
-pub use making::{Beside, Blocks, Forest, Made, Users, make_forest, name_value, owned, text};
+pub use making::{
+    Beside, Blocks, Forest, Made, STORED, Users, make_forest, name_value, owned, text,
+};
