@@ -78,7 +78,7 @@ pub trait Named<D: Dialects>: Copy + Drop {
 
     // How many places a live operation has.
     fn place_count(records: &Records<D>, user: ArenaIndex) -> usize
-        requires { IsLive records.now.ops user }
+        requires live { IsLive records.now.ops user }
         ensures { result ≡ length (places_at records.now user) };
 
     // The place at an index of a live operation.
@@ -104,7 +104,7 @@ pub trait Named<D: Dialects>: Copy + Drop {
         names: Self,
         place: usize,
     ) -> Result<(), AllocError>
-        requires { IsLive records.old.ops user }
+        requires live { IsLive records.old.ops user }
         ensures { records.new ≡ (if is_ok result then with_places records.old user (places_at records.old user ++ record { number = number; names = names; place = place } ∷ []) else records.old) };
 
     // Puts a place at an index, before the one that stands there.

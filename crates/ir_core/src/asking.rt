@@ -59,7 +59,7 @@ pub(crate) fn answers<D: Dialects, C: Shown<D>, P: Fn(&C, Use<Value<D>>) -> bool
     kept: &[KeptUse],
     pred: &P,
 ) -> Result<Vec<bool>, CoreError>
-    requires { (context : _) (used : _) → C.shows context.now ctx.now → In used.index kept.now → P.pre pred.now context used }
+    requires callable { (context : _) (used : _) → C.shows context.now ctx.now → In used.index kept.now → P.pre pred.now context used }
     ensures answers { IfOk result (λ answers. AreAnswers (MayAnswer P.Fn (λ c. C.shows c ctx.now) (λ h u. use_of h.index ≡ u) pred.now) kept.now answers.items) }
     ensures memory { IfErr result (λ e. e ≡ CoreError.OutOfMemory) }
 {
@@ -73,7 +73,7 @@ pub(crate) fn answers<D: Dialects, C: Shown<D>, P: Fn(&C, Use<Value<D>>) -> bool
 
 // The block that a linked operation stands in.
 fn block_of_user<D: Dialects>(ctx: &Context<D>, user: ArenaIndex) -> ArenaIndex
-    requires { IsLinked (forest_of ctx.now) (an_op user) }
+    requires linked { IsLinked (forest_of ctx.now) (an_op user) }
     ensures { In user (ops_of (forest_of ctx.now) result) }
 {
     ctx.holds_together();

@@ -36,7 +36,7 @@ pub push_place-requires : goal.push_place-requires
 push_place-requires g c =
     let C = g.met.N.Named.chain in
     let used = rw c.in_ok-place.was at c.push_use.ensures.records in
-    subst (λ r. IsOp r c.args.user) (sym used) (C.live_stays _ _ _ c.args.user c.requires.live)
+    record { live = subst (λ r. IsOp r c.args.user) (sym used) (C.live_stays _ _ _ c.args.user c.requires.live) }
 
 pub take_use-requires-clause-named : goal.take_use-requires-clause-named
 take_use-requires-clause-named g c =

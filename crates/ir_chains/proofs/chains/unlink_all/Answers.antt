@@ -7,7 +7,7 @@ pub loop-user-init : goal.loop-user-init
 loop-user-init g c = relinks-start g.met.N.Named.chain c.args.records.now c.args.records.now c.args.user refl c.requires.linked c.requires.live
 
 pub place_count-requires : goal.place_count-requires
-place_count-requires g c = c.loop-user.invariant.live
+place_count-requires g c = record { live = c.loop-user.invariant.live }
 
 pub pop_linked-requires-clause-linked : goal.pop_linked-requires-clause-linked
 pop_linked-requires-clause-linked g c = c.loop-user.invariant.linked

@@ -17,7 +17,7 @@ loop-index-init g c = (
 pub pred-requires : goal.pred-requires
 pred-requires g c =
     let at = slice_get-get_or c.args.kept.now c.loop-index.index-index _ c.loop-index-test.true in
-    c.requires _ _ c.of.ensures (subst (λ u. In u c.args.kept.now) (sym (c.from_index-used.ensures ∙ c.used.ensures ∙ c.index-item.is)) (slice_get-in c.args.kept.now c.loop-index.index-index _ at))
+    c.requires.callable _ _ c.of.ensures (subst (λ u. In u c.args.kept.now) (sym (c.from_index-used.ensures ∙ c.used.ensures ∙ c.index-item.is)) (slice_get-in c.args.kept.now c.loop-index.index-index _ at))
 
 pub loop-index-preserved : goal.loop-index-preserved
 loop-index-preserved g c =

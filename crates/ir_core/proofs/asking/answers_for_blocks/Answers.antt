@@ -20,7 +20,7 @@ loop-index-init g c = (
 pub block_of_user-requires : goal.block_of_user-requires
 block_of_user-requires g c =
     let at = slice_get-get_or c.args.kept.now c.loop-index.index-index _ c.loop-index-test.true in
-    rw (c.user.ensures, c.index-item.is) (c.requires.linked _ (slice_get-in c.args.kept.now c.loop-index.index-index _ at))
+    record { linked = rw (c.user.ensures, c.index-item.is) (c.requires.linked _ (slice_get-in c.args.kept.now c.loop-index.index-index _ at)) }
 
 pub pred-requires : goal.pred-requires
 pred-requires g c =

@@ -8,7 +8,7 @@ pub unreachable-requires-in-Some-Region : goal.unreachable-requires-in-Some-Regi
 unreachable-requires-in-Some-Region g c = parent-no_region c.records.result.now c.args.ctx.now.records c.records.ensures c.args.user c.parent_of.result c.parent_of.ensures c.in-Some-Region.field-0 c.in-Some-Region.field-0-0 c.in-Some-Region.is c.in-Some-Region.field-0-is
 
 pub unreachable-requires-in-None : goal.unreachable-requires-in-None
-unreachable-requires-in-None g c = parent-there c.records.result.now c.args.ctx.now.records c.records.ensures c.args.user c.parent_of.result c.parent_of.ensures c.requires c.in-None.is
+unreachable-requires-in-None g c = parent-there c.records.result.now c.args.ctx.now.records c.records.ensures c.args.user c.parent_of.result c.parent_of.ensures c.requires.linked c.in-None.is
 
 pub returns : goal.returns
 returns g c = parent-block c.records.result.now c.args.ctx.now.records c.records.ensures c.args.user c.parent_of.result c.parent_of.ensures c.in-Some-Block.field-0 c.in-Some-Block.block c.in-Some-Block.is c.in-Some-Block.field-0-is
