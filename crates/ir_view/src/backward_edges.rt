@@ -88,7 +88,7 @@ fn all_linked<D: Dialects>(ctx: &Context<D>, uses: &[KeptUse]) -> bool
 
 // The block that a linked operation stands in.
 fn linked_block<D: Dialects>(ctx: &Context<D>, op: ArenaIndex) -> Ptr<BasicBlock<D>>
-    requires { IsLinked (forest_of ctx.now) (an_op op) }
+    requires linked { IsLinked (forest_of ctx.now) (an_op op) }
     ensures found { In op (ops_of (forest_of ctx.now) result.index) }
     ensures live { IsLive (forest_of ctx.now) (a_block result.index) }
 {
@@ -103,7 +103,7 @@ fn blocks_of_users<D: Dialects>(
     ctx: &Context<D>,
     uses: &[KeptUse],
 ) -> Result<Vec<Ptr<BasicBlock<D>>>, CoreError>
-    requires { All (λ u. IsLinked (forest_of ctx.now) (an_op u.user)) uses.now }
+    requires linked { All (λ u. IsLinked (forest_of ctx.now) (an_op u.user)) uses.now }
     ensures found { IfOk result (λ blocks. AllZip (λ u p. In u.user (ops_of (forest_of ctx.now) p.index)) uses.now blocks.items) }
     ensures live { IfOk result (λ blocks. All (λ p. IsLive (forest_of ctx.now) (a_block p.index)) blocks.items) }
     ensures memory { IfErr result (λ e. e ≡ CoreError.OutOfMemory) }

@@ -8,7 +8,7 @@ use Rattle.ir_view.proofs.backward_edges.blocks_of_users.Goals as goal
 
 pub linked_block-requires : goal.linked_block-requires
 linked_block-requires g c =
-    rw (c.user.ensures, c.used-item.is) (c.requires c.loop-used.used-index c.used-item.result c.loop-used-test.true)
+    record { linked = rw (c.user.ensures, c.used-item.is) (c.requires.linked c.loop-used.used-index c.used-item.result c.loop-used-test.true) }
 
 pub loop-used-preserved : goal.loop-used-preserved
 loop-used-preserved g c =
