@@ -37,7 +37,7 @@ fn answers_for_uses<D: Dialects, C: Shown<D>, P: Fn(&C, Use<Value<D>>) -> bool>(
     ensures memory { IfErr result (λ e. e ≡ CoreError.OutOfMemory) }
 {
     ctx.uses_are_exact();
-    answers(ctx, uses(ctx.records(), value).as_slice(), pred)
+    answers(ctx, uses(&ctx.records, value).as_slice(), pred)
 }
 
 /// How a live value is changed, and what names it.
