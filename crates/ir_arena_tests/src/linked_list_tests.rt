@@ -385,7 +385,7 @@ impl<T: LinkedList, C: ContainsLinkedList<T>> Lists<T, C> {
     fn is_read_by_turns(
         &self,
         container: Ptr<C>,
-        expected: &[Ptr<T>],
+        expected: [Ptr<T>; 3],
         last: Ptr<T>,
     ) -> Result<bool, AllocError> {
         if !self.containers.is_live(container) {
@@ -406,18 +406,15 @@ impl<T: LinkedList, C: ContainsLinkedList<T>> Lists<T, C> {
 }
 
 // Whether front and back by turns give these nodes, the front first, and then none from either end.
-fn gives_by_turns<T: LinkedList>(both: &mut Iter<'_, T>, expected: &[Ptr<T>]) -> bool {
-    for (place, node) in expected.iter().enumerate() {
-        let given = if place % 2 == 0 {
-            both.next()
-        } else {
-            both.next_back()
-        };
-        if given != Some(*node) {
-            return false;
-        }
-    }
-    both.next().is_none() && both.next_back().is_none()
+fn gives_by_turns<T: LinkedList>(
+    both: &mut Iter<'_, T>,
+    [first, last, middle]: [Ptr<T>; 3],
+) -> bool {
+    both.next() == Some(first)
+        && both.next_back() == Some(last)
+        && both.next() == Some(middle)
+        && both.next().is_none()
+        && both.next_back().is_none()
 }
 
 fn a_node(payload: u64) -> Node
@@ -557,7 +554,7 @@ fn list_inserts_from_both_ends(rt: HostRuntime) -> Result<(), Fail> {
         nodes: [n1, n2, _, n4],
     } = Fixture::new(rt.alloc())?;
     put_in_turn(&rt, &mut lists, root, [n1, n2, n4]);
-    assert!(rt; lists.is_read_by_turns(root, &[n1, n4, n2], n4)?);
+    assert!(rt; lists.is_read_by_turns(root, [n1, n4, n2], n4)?);
     Ok(())
 }
 
