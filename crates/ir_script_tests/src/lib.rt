@@ -1,17 +1,13 @@
-//! Tests of the dialect Toy, and of scripts: what the program prints for them, and its status.
+//! Tests of scripts: what the program prints for them, and its status.
 #![tactic(auto)]
 
 #[cfg(test)]
 mod change_tests;
-#[cfg(test)]
-mod dictionary_tests;
 #[cfg(test)]
 mod memory_tests;
 #[cfg(test)]
 mod outcome;
 #[cfg(test)]
 mod script_tests;
-#[cfg(test)]
-mod toy_tests;
 #[cfg(test)]
 mod verify_tests;
