@@ -13,10 +13,12 @@ pub uses-requires : goal.uses-requires
 uses-requires g c = live-value c.ctx.inside.records c.args.value (rw (sym c.ctx.view_is) at c.requires.live)
 
 pub answers-requires : goal.answers-requires
-answers-requires g c = record { callable = λ context used shown here.
-        let kept = c.as_slice.ensures ∙ c.uses.ensures ∙ ap (λ (s : State _ _ _ _ _ _ _). uses_at s.records c.args.value) c.ctx.view_is in
-        let among = In-map use_in used.index (uses_at c.args.ctx.now.records c.args.value) (subst (λ (us : List UseIndex). In used.index us) kept here) in
-        c.requires.callable context used shown (((c.uses_are_exact.ensures.values c.args.value c.requires.live).exact (use_in used.index)).0 among) }
+answers-requires g c = record {
+  callable = λ context used shown here.
+      let kept = c.as_slice.ensures ∙ c.uses.ensures ∙ ap (λ (s : State _ _ _ _ _ _ _). uses_at s.records c.args.value) c.ctx.view_is in
+      let among = In-map use_in used.index (uses_at c.args.ctx.now.records c.args.value) (subst (λ (us : List UseIndex). In used.index us) kept here) in
+      c.requires.callable context used shown (((c.uses_are_exact.ensures.values c.args.value c.requires.live).exact (use_in used.index)).0 among);
+}
 
 pub returns-clause-answers : goal.returns-clause-answers
 returns-clause-answers g c =
