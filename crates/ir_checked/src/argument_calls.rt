@@ -2,7 +2,7 @@
 
 use crate::error::CheckedErr;
 use ir_base::{Dialects, Ptr, TypeHandle};
-use ir_view::{ArgumentEdits, BasicBlock, BlockPtr, Context, TypeQueries, ValueQueries};
+use ir_values::{ArgumentEdits, BasicBlock, BlockPtr, Context, TypeQueries, ValueQueries};
 
 /// Puts an argument of the type behind the others, and answers its index.
 ///

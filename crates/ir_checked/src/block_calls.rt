@@ -2,9 +2,8 @@
 
 use crate::error::CheckedErr;
 use ir_base::{Dialects, Ptr};
-use ir_view::{
-    BasicBlock, BlockList, BlockPlace, BlockPtr, Context, Entity, Region, RegionPtr, is_inside,
-};
+use ir_values::{BasicBlock, BlockList, BlockPtr, Context, Region, RegionPtr};
+use ir_walk::{BlockPlace, Entity, is_inside};
 
 /// Puts the block at the front of the region.
 ///

@@ -2,7 +2,7 @@
 
 use crate::error::CheckedErr;
 use ir_base::{Dialects, Limits, TypeHandle};
-use ir_view::Context;
+use ir_values::Context;
 use std::alloc::Global;
 
 /// A new context with these limits.

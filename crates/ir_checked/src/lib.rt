@@ -26,10 +26,11 @@ pub use erase_calls::{
     can_erase, drop_block_uses, drop_op_uses, drop_region_uses, erase_block, erase_op, erase_region,
 };
 pub use error::CheckedErr;
-pub use ir_view::{
-    BasicBlock, BlockPlace, BlockPtr, Context, Entity, Operation, OperationPlace, OperationPtr,
-    Region, RegionPlace, RegionPtr, TypeQueries, Use, UseQueries, Value, ValueQueries, is_inside,
+pub use ir_values::{
+    BasicBlock, BlockPtr, Context, Operation, OperationPtr, Region, RegionPtr, TypeQueries, Use,
+    UseQueries, Value, ValueQueries,
 };
+pub use ir_walk::{BlockPlace, Entity, OperationPlace, RegionPlace, is_inside};
 pub use new_calls::{add_region, new_block, new_op};
 pub use operand_calls::{
     insert_operand, pop_operand, push_operand, remove_operand, replace_operand,

@@ -2,7 +2,7 @@
 
 use crate::error::CheckedErr;
 use ir_base::{Dialects, Ptr};
-use ir_view::{Context, OperandEdits, Operation, OperationPtr, Value, ValueQueries};
+use ir_values::{Context, OperandEdits, Operation, OperationPtr, Value, ValueQueries};
 
 /// Puts an operand that names the value behind the others, and answers its index.
 ///

@@ -2,10 +2,8 @@
 
 use crate::error::CheckedErr;
 use ir_base::{Dialects, Ptr};
-use ir_view::{
-    BasicBlock, BlockPtr, Context, Entity, Operation, OperationList, OperationPlace, OperationPtr,
-    is_inside,
-};
+use ir_values::{BasicBlock, BlockPtr, Context, Operation, OperationList, OperationPtr};
+use ir_walk::{Entity, OperationPlace, is_inside};
 
 /// Puts the operation at the front of the block.
 ///

@@ -2,7 +2,7 @@
 
 use crate::error::CheckedErr;
 use ir_base::{Dialects, Ptr};
-use ir_view::{BasicBlock, BlockPtr, Context, Operation, OperationPtr, Region, Value};
+use ir_values::{BasicBlock, BlockPtr, Context, Operation, OperationPtr, Region, Value};
 
 /// The result at the index.
 ///

@@ -2,10 +2,8 @@
 
 use crate::error::CheckedErr;
 use ir_base::{Dialects, Ptr};
-use ir_view::{
-    BasicBlock, BlockPlace, BlockPtr, Context, Operation, OperationPlace, OperationPtr, Region,
-    RegionPlace, RegionPtr,
-};
+use ir_values::{BasicBlock, BlockPtr, Context, Operation, OperationPtr, Region, RegionPtr};
+use ir_walk::{BlockPlace, OperationPlace, RegionPlace};
 
 /// The first operation of the block, if it has one.
 ///

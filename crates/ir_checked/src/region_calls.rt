@@ -2,10 +2,11 @@
 
 use crate::error::CheckedErr;
 use ir_base::{Dialects, Ptr};
-use ir_view::{
-    BasicBlock, BlockContainer, BlockPtr, Context, Entity, Operation, OperationContainer,
-    OperationPtr, Region, RegionMoves, RegionPtr, is_inside,
+use ir_values::{
+    BasicBlock, BlockContainer, BlockPtr, Context, Operation, OperationContainer, OperationPtr,
+    Region, RegionMoves, RegionPtr,
 };
+use ir_walk::{Entity, is_inside};
 
 /// Moves all operations of the donor behind those of the donee.
 ///

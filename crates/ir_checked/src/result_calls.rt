@@ -2,7 +2,7 @@
 
 use crate::error::CheckedErr;
 use ir_base::{Dialects, Ptr, TypeHandle};
-use ir_view::{Context, Operation, OperationPtr, ResultEdits, TypeQueries, ValueQueries};
+use ir_values::{Context, Operation, OperationPtr, ResultEdits, TypeQueries, ValueQueries};
 
 /// Puts a result of the type behind the others, and answers its index.
 ///

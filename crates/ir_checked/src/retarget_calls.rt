@@ -2,7 +2,8 @@
 
 use crate::error::CheckedErr;
 use ir_base::{Dialects, Ptr};
-use ir_view::{BasicBlock, BlockPredecessors, BlockPtr, BlockUseQueries, Context, Retarget, Use};
+use ir_values::{BasicBlock, BlockPtr, BlockUseQueries, Context, Retarget, Use};
+use ir_walk::BlockPlace;
 
 /// Lets each successor that names the one block name the other.
 ///

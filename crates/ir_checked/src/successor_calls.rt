@@ -2,7 +2,7 @@
 
 use crate::error::CheckedErr;
 use ir_base::{Dialects, Ptr};
-use ir_view::{BasicBlock, BlockPtr, Context, Operation, OperationPtr, SuccessorEdits};
+use ir_values::{BasicBlock, BlockPtr, Context, Operation, OperationPtr, SuccessorEdits};
 
 /// Puts a successor that names the block behind the others, and answers its index.
 ///

@@ -2,7 +2,7 @@
 
 use crate::error::CheckedErr;
 use ir_base::{Dialects, TypeHandle};
-use ir_view::{Context, TypeQueries, Use, UseQueries, Value, ValueEdits, ValueQueries};
+use ir_values::{Context, TypeQueries, Use, UseQueries, Value, ValueEdits, ValueQueries};
 
 /// How many uses the value has.
 ///

@@ -5,7 +5,7 @@ use Rattle.std.specs.List.{filter}
 use Rattle.std.specs.Option.{option_map}
 use Rattle.std.specs.Prelude.{IfSome}
 use Rattle.ir_model.specs.Sessions.{Session}
-use Rattle.ir_view.specs.Calls.{SameButForest}
+use Rattle.ir_walk.specs.Calls.{SameButForest}
 use Rattle.ir_model.specs.declared.ids.ArenaIndex.{ArenaIndex}
 use Rattle.ir_model.specs.ContextIds.{context_ids, same_id}
 use Rattle.ir_model.specs.Forest.{Dialect, Behaviour, Forest, BlockRecord, Entity, an_op, a_block}

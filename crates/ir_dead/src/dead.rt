@@ -9,16 +9,14 @@ ghost use Rattle.ir_model.specs.Forest.{a_block, a_value, an_op};
 ghost use Rattle.ir_model.specs.Nesting.{In, IsLive, IsLiveNamed, ops_of};
 ghost use Rattle.ir_model.specs.SweepLaws.{NoneIsClosed};
 ghost use Rattle.ir_records.specs.Meaning.{value_of};
-ghost use Rattle.ir_view.specs.State.{bare, behaviour, forest_of};
-ghost use Rattle.ir_view.specs.Calls.{SameButForest};
+ghost use Rattle.ir_walk.specs.State.{bare, behaviour, forest_of};
+ghost use Rattle.ir_walk.specs.Calls.{SameButForest};
 ghost use Rattle.ir_dead.specs.Going.{CanGo, NoneGoesUpTo, rank};
 
 use ir_base::interfaces::PURE_OPERATION;
 use ir_base::{Dialects, Ptr};
-use ir_view::{
-    BasicBlock, BlockPlace, Context, Entity, Erase, Operation, OperationPlace, OperationPtr, Value,
-    can_erase,
-};
+use ir_values::{BasicBlock, Context, Erase, Operation, OperationPtr, Value};
+use ir_walk::{BlockPlace, Entity, OperationPlace, can_erase};
 
 // What holds of every block: its list has fewer operations than a `usize` can count.
 fn lists_are_short<D: Dialects>(ctx: &Context<D>, block: Ptr<BasicBlock<D>>)

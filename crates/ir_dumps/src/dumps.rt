@@ -11,7 +11,7 @@ use crate::tables::{NOWHERE, Tables};
 use crate::uses::{block_count, block_places, value_count, value_places};
 use ir_base::{CoreError, Ptr, TypeHandle};
 use ir_toy::{Toy, ToyType};
-use ir_view::{
+use ir_values::{
     BasicBlock, BlockPtr, Context, DefiningEntity, Operation, OperationPtr, Region, RegionPtr,
     TypeQueries, Value, ValueQueries,
 };

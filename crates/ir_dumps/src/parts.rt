@@ -2,7 +2,7 @@
 
 use crate::tables::Tables;
 use ir_toy::Toy;
-use ir_view::{BasicBlock, Operation};
+use ir_values::{BasicBlock, Operation};
 use std::alloc::{AllocError, Global};
 
 /// The results of an operation.

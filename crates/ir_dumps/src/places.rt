@@ -3,10 +3,8 @@
 use crate::tables::Tables;
 use ir_base::Ptr;
 use ir_toy::Toy;
-use ir_view::{
-    BasicBlock, BlockPlace, BlockPtr, Context, Operation, OperationPlace, OperationPtr, Region,
-    RegionPlace, RegionPtr,
-};
+use ir_values::{BasicBlock, BlockPtr, Context, Operation, OperationPtr, Region, RegionPtr};
+use ir_walk::{BlockPlace, OperationPlace, RegionPlace};
 use std::alloc::AllocError;
 
 /// What an operation or a block stands in, and its neighbours there, by their numbers.

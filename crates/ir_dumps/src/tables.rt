@@ -2,7 +2,7 @@
 
 use ir_base::{Ptr, TypeHandle};
 use ir_toy::Toy;
-use ir_view::{BasicBlock, Operation, Region, Value};
+use ir_values::{BasicBlock, Operation, Region, Value};
 use std::alloc::Global;
 
 /// Stands for the number of what is in no table.

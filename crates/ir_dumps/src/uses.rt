@@ -3,7 +3,7 @@
 use crate::tables::{NOWHERE, Tables};
 use ir_base::{CoreError, Ptr};
 use ir_toy::Toy;
-use ir_view::{
+use ir_values::{
     BasicBlock, BlockPtr, BlockUseQueries, BlockUses, Context, Use, UseQueries, Value, ValueQueries,
 };
 

@@ -5,7 +5,7 @@ use ir_checked::{
     BasicBlock, BlockPtr, CheckedErr, Context, Operation, OperationPtr, Use, new_block, new_op,
     op_at_back, successor,
 };
-use ir_view::{BlockPredecessors, BlockUseQueries, BlockUses, Retarget};
+use ir_view::{BlockPlace, BlockUseQueries, BlockUses, Retarget};
 use std::process::Abort;
 
 /// Two new blocks without arguments.

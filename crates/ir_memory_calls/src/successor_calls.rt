@@ -10,7 +10,7 @@ use ir_checked::{
 };
 use ir_small_forest::Forest;
 use ir_toy::Toy;
-use ir_view::{BlockPredecessors, BlockUses, Retarget};
+use ir_view::{BlockPlace, BlockUses, Retarget};
 
 /// A call that puts a successor in, or lets one name another block.
 #[derive(Clone, Copy, Debug, Drop)]

@@ -7,7 +7,7 @@ use ir_base::Ptr;
 use ir_checked::{BasicBlock, BlockPtr, CheckedErr, Context, Use, Value, ValueQueries};
 use ir_small_forest::Forest;
 use ir_toy::Toy;
-use ir_view::{BlockPredecessors, BlockSuccessors, BlockUses};
+use ir_view::{BlockPlace, BlockPredecessors, BlockSuccessors, BlockUses};
 
 /// A call that lists uses or blocks.
 #[derive(Clone, Copy, Debug, Drop)]

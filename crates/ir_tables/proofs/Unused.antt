@@ -8,8 +8,8 @@ use Rattle.ir_model.specs.Edits.{Unused}
 use Rattle.ir_model.specs.Forest.{Definer, Definition, Dialect, Forest, Value, a_value}
 use Rattle.ir_model.specs.Nesting.{definitions_of, numbers_of}
 use Rattle.ir_model.specs.Uses.{IsUse, Use}
-use Rattle.ir_view.specs.Definitions.{UnusedAt}
-use Rattle.ir_view.specs.Named.{unused-value, use-names}
+use Rattle.ir_walk.specs.Definitions.{UnusedAt}
+use Rattle.ir_walk.specs.Named.{unused-value, use-names}
 
 module _ {W : Dialect} (f : Forest context_ids W) (d : Definer context_ids) (at : ℕ) where
   -- what isn't named is there

@@ -4,15 +4,15 @@ ghost use Rattle.std.specs.Prelude.{◌≡◌, ℕ, IfSome, IsNone, Some, slice_
 ghost use Rattle.std.specs.Option.{option_map};
 ghost use Rattle.ir_model.specs.declared.ids.ArenaIndex.{ArenaIndex};
 ghost use Rattle.ir_model.specs.Forest.{a_block, an_op, of_block, of_op};
-ghost use Rattle.ir_view.specs.Definitions.{UnusedAt};
-ghost use Rattle.ir_view.specs.State.{forest_of};
+ghost use Rattle.ir_walk.specs.Definitions.{UnusedAt};
+ghost use Rattle.ir_walk.specs.State.{forest_of};
 ghost use Rattle.ir_tables.specs.Named.{NamesLive};
 ghost use Rattle.ir_tables.specs.SessionTables.{entries_of};
 
 use crate::entities::{EntityEntry, find};
 use crate::session_tables::Tables;
 use ir_base::{Dialects, Ptr, TypeHandle};
-use ir_view::{BasicBlock, BlockPtr, Context, Operation, OperationPtr, ValueQueries};
+use ir_values::{BasicBlock, BlockPtr, Context, Operation, OperationPtr, ValueQueries};
 
 /// The type with this number; none where no type has it. A type is known for good.
 pub fn find_type<D: Dialects>(tables: &Tables<D>, number: usize) -> Option<TypeHandle>

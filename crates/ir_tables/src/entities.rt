@@ -2,15 +2,16 @@
 
 ghost use Rattle.std.specs.Prelude.{MatchOption};
 ghost use Rattle.ir_model.specs.declared.ids.ArenaIndex.{ArenaIndex};
-ghost use Rattle.ir_view.specs.State.{forest_of};
-ghost use Rattle.ir_view.specs.Entities.{meant};
+ghost use Rattle.ir_walk.specs.State.{forest_of};
+ghost use Rattle.ir_walk.specs.Entities.{meant};
 ghost use Rattle.ir_tables.specs.Named.{NamesLive};
 ghost use Rattle.ir_tables.specs.SessionTables.{entries_of};
 
 use crate::lookups::{Entry, live_entry};
 use crate::session_tables::Tables;
 use ir_base::{Dialects, Ptr};
-use ir_view::{BasicBlock, Context, Entity, Operation, Region};
+use ir_values::{BasicBlock, Context, Operation, Region};
+use ir_walk::Entity;
 
 /// An entry that is an operation, a block or a region.
 pub trait EntityEntry<D: Dialects>: Entry<D> {

@@ -5,14 +5,15 @@ ghost use Rattle.ir_model.specs.declared.ids.ArenaIndex.{ArenaIndex};
 ghost use Rattle.ir_model.specs.Edits.{The};
 ghost use Rattle.ir_model.specs.Forest.{a_region, an_op};
 ghost use Rattle.ir_model.specs.Nesting.{IsClosed, regions_of};
-ghost use Rattle.ir_view.specs.State.{forest_of};
+ghost use Rattle.ir_walk.specs.State.{forest_of};
 ghost use Rattle.ir_tables.specs.Named.{NamesLive};
 ghost use Rattle.ir_tables.specs.SessionTables.{entries_of};
 
 use crate::entities::{EntityEntry, find};
 use crate::session_tables::Tables;
 use ir_base::{Dialects, Ptr};
-use ir_view::{Context, Entity, Operation, OperationPtr, can_erase};
+use ir_values::{Context, Operation, OperationPtr};
+use ir_walk::{Entity, can_erase};
 
 /// The live entity with this number, where it can be erased.
 pub fn find_closed<D: Dialects, E: EntityEntry<D>>(

@@ -16,7 +16,7 @@ pub use definition_conditions::{
 };
 pub use entities::{EntityEntry, find};
 pub use erase_conditions::{find_closed, find_closed_region};
-pub use ir_view::{
+pub use ir_values::{
     AddRegion, ArgumentEdits, BasicBlock, BlockContainer, BlockList, BlockPtr, Context, DropUses,
     Erase, EraseRegion, Needs, NewBlock, NewOperation, OperandEdits, Operation, OperationContainer,
     OperationList, OperationPtr, Region, RegionMoves, RegionPtr, ResultEdits, Retarget,

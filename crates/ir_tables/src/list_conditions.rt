@@ -9,17 +9,16 @@ ghost use Rattle.ir_model.specs.Edits.{MayGoBeside, MayGoInto, MayJoin};
 ghost use Rattle.ir_model.specs.Forest.{a_region, an_op};
 ghost use Rattle.ir_model.specs.Nesting.{Inside, IsLinked, IsLive};
 ghost use Rattle.ir_model.specs.Parent.{IsParent, IsUnlinked};
-ghost use Rattle.ir_view.specs.State.{forest_of};
-ghost use Rattle.ir_view.specs.Entities.{meant};
+ghost use Rattle.ir_walk.specs.State.{forest_of};
+ghost use Rattle.ir_walk.specs.Entities.{meant};
 ghost use Rattle.ir_tables.specs.Named.{NamesLive};
 ghost use Rattle.ir_tables.specs.SessionTables.{entries_of};
 
 use crate::entities::{EntityEntry, find};
 use crate::session_tables::Tables;
 use ir_base::{Dialects, Ptr};
-use ir_view::{
-    BlockPlace, Context, Entity, Operation, OperationPlace, Region, RegionPtr, is_inside,
-};
+use ir_values::{Context, Operation, Region, RegionPtr};
+use ir_walk::{BlockPlace, Entity, OperationPlace, is_inside};
 
 /// The live entity with this number, where it stands in a list.
 pub fn find_linked<D: Dialects, E: EntityEntry<D>>(

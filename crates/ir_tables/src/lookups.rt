@@ -2,10 +2,10 @@
 
 ghost use Rattle.std.specs.Prelude.{◌≡◌, ◌<◌, ◌↔◌, Some, length, IfOk, IfSome, IsNone, IsTrue, slice_get};
 ghost use Rattle.ir_model.specs.Edits.{Each, The, these};
-ghost use Rattle.ir_view.specs.State.{forest_of};
+ghost use Rattle.ir_walk.specs.State.{forest_of};
 
 use ir_base::{Dialects, Ptr};
-use ir_view::{
+use ir_values::{
     BasicBlock, BlockPtr, Context, Operation, OperationPtr, Region, RegionPtr, Value, ValueQueries,
 };
 use std::alloc::{AllocError, Global};

@@ -4,11 +4,11 @@ ghost use Rattle.std.specs.Prelude.{◌≡◌, ◌+◌, ◌≤◌, ◌++◌, [],
 ghost use Rattle.ir_model.specs.Forest.{of_block, of_op};
 ghost use Rattle.ir_model.specs.Edits.{numbered};
 ghost use Rattle.ir_records.specs.Meaning.{block_index, block_record, op_index, op_record, value_of};
-ghost use Rattle.ir_view.specs.Calls.{counts_of};
+ghost use Rattle.ir_walk.specs.Calls.{counts_of};
 ghost use Rattle.ir_tables.specs.SessionTables.{entries_of, with_block, with_op, with_region, with_type, with_value, HasPlace};
 
 use ir_base::{Dialects, Ptr, TypeHandle};
-use ir_view::{BasicBlock, Needs, Operation, Region, Value};
+use ir_values::{BasicBlock, Needs, Operation, Region, Value};
 use std::alloc::{AllocError, Global};
 
 /// The types, operations, blocks, regions and values that edits made. Nothing is ever taken out.

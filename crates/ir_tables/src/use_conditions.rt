@@ -6,7 +6,7 @@ ghost use Rattle.ir_model.specs.ContextIds.{context_ids};
 ghost use Rattle.ir_model.specs.Edits.{UsersLinked};
 ghost use Rattle.ir_model.specs.Forest.{Value as PlainValue, a_block, an_op};
 ghost use Rattle.ir_records.specs.Meaning.{value_of};
-ghost use Rattle.ir_view.specs.State.{forest_of};
+ghost use Rattle.ir_walk.specs.State.{forest_of};
 ghost use Rattle.ir_tables.specs.Named.{NamesLive, NamesLiveValue};
 ghost use Rattle.ir_tables.specs.SessionTables.{entries_of};
 
@@ -14,7 +14,8 @@ use crate::entities::{EntityEntry, find};
 use crate::lookups::live_entry;
 use crate::session_tables::Tables;
 use ir_base::{Dialects, Ptr};
-use ir_view::{BasicBlock, BlockPredecessors, Context, Operation, Value};
+use ir_values::{BasicBlock, Context, Operation, Value};
+use ir_walk::BlockPlace;
 
 /// The live value with this number; none where no live one has it.
 pub fn find_value<D: Dialects>(

@@ -7,15 +7,15 @@ ghost use Rattle.ir_model.specs.Nesting.{IsLiveNamed};
 ghost use Rattle.ir_model.specs.Uses.{IsUse};
 ghost use Rattle.ir_records.specs.Meaning.{use_of, value_of};
 ghost use Rattle.ir_records.specs.Values.{IsLiveUse};
-ghost use Rattle.ir_view.specs.State.{forest_of, types_of};
-ghost use Rattle.ir_view.specs.Values.{HasType};
+ghost use Rattle.ir_walk.specs.State.{forest_of, types_of};
+ghost use Rattle.ir_values.specs.Values.{HasType};
 
 use ir_base::{Dialects, TypeHandle};
-use ir_view::{Context, Use, UseQueries, Value, ValueQueries};
+use ir_values::{Context, Use, UseQueries, Value, ValueQueries};
 
 /// What has a type. It stands for pliron's trait `Typed`.
 pub trait Typed<D: Dialects> {
-    ghost use Rattle.ir_view.specs.State.{State};
+    ghost use Rattle.ir_walk.specs.State.{State};
 
     // It is live, or known.
     ghost IsThere: { State D D.Attr D.TypeKey D.TypeBody D.Saved D.Aux D.Loc → Self → Type 0 };

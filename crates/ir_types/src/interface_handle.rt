@@ -3,8 +3,8 @@
 ghost use Rattle.std.specs.Prelude.{◌≡◌, ◌<◌, ◌↔◌, length, true, Some, IsOk, IsTrue, IfErr, IfOk, slice_get};
 ghost use Rattle.std.specs.Option.{option_map};
 ghost use Rattle.ir_model.specs.Kinds.{Implements, LacksInterface};
-ghost use Rattle.ir_view.specs.Dominance.{kinds};
-ghost use Rattle.ir_view.specs.State.{types_of};
+ghost use Rattle.ir_walk.specs.Dominance.{kinds};
+ghost use Rattle.ir_walk.specs.State.{types_of};
 ghost use Rattle.ir_types.specs.Handles.{interface_place, typed_place};
 
 use crate::error::TypeInterfaceHandleErr;
@@ -12,7 +12,7 @@ use crate::ir_type::IrType;
 use crate::typed_handle::TypedHandle;
 use ir_base::interfaces::TypeInterfaceMarker;
 use ir_base::{Dialects, TypeHandle};
-use ir_view::{Context, TypeQueries};
+use ir_values::{Context, TypeQueries};
 use std::marker::PhantomData;
 
 /// What stands for types of a kind that implements the interface: the dialect's table says so.

@@ -5,14 +5,14 @@ ghost use Rattle.std.specs.Option.{option_copied, option_map};
 ghost use Rattle.ir_model.specs.Edits.{type_place, with_type};
 ghost use Rattle.ir_model.specs.Kinds.{HasKind};
 ghost use Rattle.ir_model.specs.declared.error.CoreError.TheVariants.{OutOfMemory};
-ghost use Rattle.ir_view.specs.Calls.{SameButTypes};
-ghost use Rattle.ir_view.specs.Dominance.{kinds};
-ghost use Rattle.ir_view.specs.State.{bare, behaviour, types_of};
+ghost use Rattle.ir_walk.specs.Calls.{SameButTypes};
+ghost use Rattle.ir_walk.specs.Dominance.{kinds};
+ghost use Rattle.ir_walk.specs.State.{bare, behaviour, types_of};
 ghost use Rattle.ir_types.specs.Handles.{typed_place};
 
 use crate::typed_handle::TypedHandle;
 use ir_base::{CoreError, Dialects, TypeHandle, TypeId};
-use ir_view::Context;
+use ir_values::Context;
 use std::alloc::Global;
 
 /// What stands for the types of one kind of the dialect. It stands for pliron's trait `Type`.

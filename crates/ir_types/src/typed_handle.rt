@@ -2,14 +2,14 @@
 
 ghost use Rattle.std.specs.Prelude.{◌≡◌, ◌<◌, ◌↔◌, length, Some, IsOk, IsTrue, IfErr, IfOk, option_and_then, slice_get};
 ghost use Rattle.ir_model.specs.Kinds.{HasKind, IsOtherKind};
-ghost use Rattle.ir_view.specs.Dominance.{kinds};
-ghost use Rattle.ir_view.specs.State.{types_of};
+ghost use Rattle.ir_walk.specs.Dominance.{kinds};
+ghost use Rattle.ir_walk.specs.State.{types_of};
 ghost use Rattle.ir_types.specs.Handles.{typed_place};
 
 use crate::error::TypedHandleErr;
 use crate::ir_type::IrType;
 use ir_base::{Dialects, TypeHandle};
-use ir_view::{Context, TypeQueries};
+use ir_values::{Context, TypeQueries};
 use std::marker::PhantomData;
 
 /// The handle of a type that is a `T`. It stands for pliron's `TypedHandle`.

@@ -1,10 +1,9 @@
 -- Facts of all items of a list, and of the items of two lists place by place.
-use Rattle.std.proofs.Common.{◌≡◌, ◌∙◌, ◌⊎◌, ap, Bool, true, false, ◌||◌, nat_lt, None, ℕ, zero, suc, ◌+◌, ◌<◌, ◌≤◌, List, [], ◌∷◌, ◌++◌, length, map, take, get_or, All, Some, refl, subst, sym, inl, inr, arith, slice_get}
-use Rattle.std.specs.Bool.{MatchBool}
+use Rattle.std.proofs.Common.{◌≡◌, ◌∙◌, ap, Bool, true, false, ◌||◌, nat_lt, ℕ, suc, ◌+◌, ◌<◌, List, [], ◌∷◌, ◌++◌, length, map, take, get_or, All, Some, refl, subst, sym, inl, inr, arith, slice_get}
 use Rattle.std.specs.Prelude.{◌↔◌, Any, IsTrue}
-use Rattle.std.specs.List.{AllWithin, AllZip, HoldsAt, list_any}
+use Rattle.std.specs.List.{AllZip, list_any}
 use Rattle.std.proofs.lemmas.List.Elements.{All-nil, All-cons, All-head, All-tail}
-use Rattle.std.proofs.lemmas.Option.{slice_get-get_or, slice_get_cases, slice_get_within, get_or_from_slice_get}
+use Rattle.std.proofs.lemmas.Option.{slice_get-get_or, slice_get_within, get_or_from_slice_get}
 use Rattle.std.proofs.lemmas.Bool.{lt-ltb}
 use Rattle.std.proofs.Math.Bool.{or-true}
 use Rattle.std.proofs.Math.Seq.{take-suc}
@@ -15,17 +14,6 @@ use Rattle.ir_model.proofs.Edges.{got_in}
 use Rattle.ir_model.proofs.IdCases.{id_cases, id_differs, id_same}
 
 module _ {A : Type 0} (P : A → Type 0) where
-  -- of what stands in the list, to all
-  pub all-in : (xs : List A) → ((x : A) → In x xs → P x) → All P xs
-  all-in [] each = All-nil P
-  all-in (x ∷ xs) each = All-cons P x xs (each x (inl refl)) (all-in xs (λ y h. each y (inr h)))
-
-  -- and back
-  pub in-all : (xs : List A) (x : A) → All P xs → In x xs → P x
-  in-all [] x all h = absurd h
-  in-all (y ∷ ys) x all (inl e) = subst P (sym e) (All-head P y ys all)
-  in-all (y ∷ ys) x all (inr h) = in-all ys x (All-tail P y ys all) h
-
   -- the place of what stands in the list
   pub place-in : (xs : List A) (x : A) → In x xs → (k : ℕ) × (slice_get xs k ≡ Some x)
   place-in [] x h = absurd h
@@ -98,17 +86,6 @@ listed-told i xs b is = (λ t. to xs (sym is ∙ t), λ h. is ∙ from xs h)
     from [] h = absurd h
     from (y ∷ ys) (inl e) = ap (λ b. b || list_any (λ j. same_id j i) ys) (ap (λ z. same_id z i) (sym e) ∙ id_same i)
     from (y ∷ ys) (inr h) = ap (λ b. same_id y i || b) (from ys h) ∙ or-true (same_id y i)
-
--- all items have P where a test of each says so
-pub all-told : {A : Type 0} (P : A → Type 0) (r : Bool) (xs : List A) → MatchBool r (AllWithin P xs 0 (length xs)) ((k : ℕ) × (k < length xs) × HoldsAt (λ x. P x → ⊥) xs k) → IsTrue r ↔ All P xs
-all-told P true xs all = (λ t k d below. all k d (omega arith) below, λ h. refl)
-all-told P false xs some = (
-  λ t. absurd cc,
-  λ all. elim (slice_get_cases xs some.0).1 [
-    | inl at ↦ absurd (some.2 at.0 (all some.0 at.0 some.1))
-    | inr past ↦ absurd (omega (arith, some.1, past.0))
-  ],
-)
 
 -- of all that is read, to all items
 pub all-read : {A B : Type 0} (P : B → Type 0) (g : A → B) (xs : List A) → All P (map g xs) → All (λ x. P (g x)) xs

@@ -1,12 +1,12 @@
 -- Operations stand in blocks alone.
-use Rattle.std.proofs.Common.{◌≡◌, ◌∙◌, ℕ, Bool, true, false, Option, Some, None, is_some, refl, sym, ap, subst, inl, inr}
+use Rattle.std.proofs.Common.{◌≡◌, ◌∙◌, ℕ, Bool, Option, Some, None, refl, sym, ap, subst, inl, inr}
 use Rattle.std.specs.Prelude.{◌↔◌, IsSome, IsTrue}
 use Rattle.std.specs.Option.{option_map}
 use Rattle.ir_model.specs.declared.ids.ArenaIndex.{ArenaIndex}
 use Rattle.ir_model.specs.ContextIds.{context_ids, same_id}
 use Rattle.ir_model.specs.Forest.{BlockRecord, Dialect, Entity, Forest, a_block, a_region, an_op}
 use Rattle.ir_model.specs.Nesting.{In, IsLinked, IsLive, WellFormed, blocks_of, children, list_of, ops_of, regions_of}
-use Rattle.ir_model.specs.Parent.{FindsOne, IsParent}
+use Rattle.ir_model.specs.Parent.{IsParent}
 use Rattle.ir_model.proofs.IdCases.{id_cases, id_differs, id_same}
 use Rattle.ir_model.proofs.Nests.{In-map, In-map_back}
 use Rattle.ir_model.proofs.Relinks.{one_block}
@@ -14,7 +14,7 @@ use Rattle.ir_model.proofs.TwoRuns.{lawful}
 use Rattle.ir_records.specs.declared.record.EntityIndex.{EntityIndex}
 use Rattle.ir_records.specs.declared.record.EntityIndex.TheVariants.{Op, Block, Region}
 use Rattle.ir_records.specs.declared.records.Records.{Records}
-use Rattle.ir_records.specs.Meaning.{closed, entity_of, forest_of}
+use Rattle.ir_records.specs.Meaning.{entity_of, forest_of}
 
 module _ {W : Dialect} (f : Forest context_ids W) where
   -- what has an operation in its list is a block
@@ -31,10 +31,6 @@ module _ {W : Dialect} (f : Forest context_ids W) where
   pub linked-in : (o : ArenaIndex) → IsLinked f (an_op o) → (a : ArenaIndex) × In o (ops_of f a)
   linked-in o h = let at = in-block o h.0 h.1 in (at.0, at.2)
 
-  -- and what stands in one is linked
-  pub in-linked : (o a : ArenaIndex) → In o (ops_of f a) → IsLinked f (an_op o)
-  in-linked o a h = (a_block a, In-map an_op o (ops_of f a) h)
-
   -- what an operation stands in is live
   pub stands-live : (o a : ArenaIndex) → In o (ops_of f a) → IsLive f (a_block a)
   stands-live o a h = by (f.blocks a) h
@@ -43,12 +39,7 @@ module _ {W : Dialect} (f : Forest context_ids W) where
       by None k = absurd k
       by (Some r) k = refl
 
-  -- an operation is linked where its block is found
-  pub linked-found : (o : ArenaIndex) (r : Option ArenaIndex) (b : Bool) → b ≡ is_some r → FindsOne (λ a. In o (ops_of f a)) r → IsTrue b ↔ IsLinked f (an_op o)
-  linked-found o None b is finds = (λ e. absurd cc, λ h. (let at = linked-in o h in absurd (finds at.0 at.1)))
-  linked-found o (Some a) b is finds = (λ e. in-linked o a finds, λ h. is)
-
-  -- it stands in a block where that is the one that is found
+  -- an operation stands in a block where that is the one that is found
   pub stands-found : (keys : ℕ) → WellFormed f keys → (o a c : ArenaIndex) (b : Bool) → b ≡ same_id a c → In o (ops_of f a) → IsTrue b ↔ In o (ops_of f c)
   stands-found keys formed o a c b is here = elim (id_cases a c) [
     | inl e ↦ (λ t. subst (λ z. In o (ops_of f z)) e here, λ h. is ∙ ap (λ z. same_id z c) e ∙ id_same c)

@@ -8,30 +8,18 @@ ghost use Rattle.ir_model.specs.declared.ids.ArenaIndex.{ArenaIndex as Index};
 ghost use Rattle.ir_model.specs.BlockGraph.{IsPredecessor, IsSuccessor, IsSuccessorOf};
 ghost use Rattle.ir_model.specs.DefinitionLaws.{OnlyTerminatorsBranch};
 ghost use Rattle.ir_model.specs.Edits.{UsersLinked};
-ghost use Rattle.ir_model.specs.Forest.{a_block, an_op, the_block};
+ghost use Rattle.ir_model.specs.Forest.{a_block, an_op};
 ghost use Rattle.ir_model.specs.Nesting.{In, IsLinked, IsLive, ops_of};
 ghost use Rattle.ir_model.specs.Parent.{FindsOne};
 ghost use Rattle.ir_model.specs.Predecessors.{ArePredecessorsBy, IsPredecessorAt};
-ghost use Rattle.ir_model.specs.Uses.{AreUses};
-ghost use Rattle.ir_records.specs.Meaning.{use_of};
 ghost use Rattle.ir_walk.specs.State.{behaviour, block_uses_of, forest_of};
 
 use crate::forward_edges::{names_block, tail};
 use ir_base::{ArenaIndex, CoreError, Dialects, Ptr};
-use ir_records::{EntityIndex, KeptUse, block_uses};
+use ir_records::{EntityIndex, KeptUse};
 use ir_tree::parent_of;
-use ir_values::{BasicBlock, BlockIndex, Context, OperationPtr};
-
-// The kept uses of a live block.
-fn kept_uses<D: Dialects>(ctx: &Context<D>, block: Ptr<BasicBlock<D>>) -> &[KeptUse]
-    requires { IsLive (forest_of ctx.now) (a_block block.index) }
-    ensures kept { map use_of result.now ≡ block_uses_of ctx.now block.index }
-    ensures exact { AreUses (forest_of ctx.now) (the_block block.index) (map use_of result.now) }
-{
-    ctx.uses_are_exact();
-    let uses = block_uses(ctx.records(), BlockIndex { index: block.index });
-    uses.as_slice()
-}
+use ir_values::{BasicBlock, Context, OperationPtr};
+use ir_walk::kept_uses;
 
 // The block that an operation stands in.
 fn parent_block<D: Dialects>(ctx: &Context<D>, op: ArenaIndex) -> Option<ArenaIndex>
@@ -58,32 +46,11 @@ fn stands_in<D: Dialects>(ctx: &Context<D>, op: ArenaIndex, block: ArenaIndex) -
     }
 }
 
-// Whether an operation stands in a block at all.
-fn is_linked<D: Dialects>(ctx: &Context<D>, op: ArenaIndex) -> bool
-    ensures { IsTrue result ↔ IsLinked (forest_of ctx.now) (an_op op) }
-{
-    parent_block(ctx, op).is_some()
-}
-
 // Whether one of the users of these uses stands in a block.
 fn any_stands_in<D: Dialects>(ctx: &Context<D>, uses: &[KeptUse], block: ArenaIndex) -> bool
     ensures { IsTrue result ↔ Any (λ u. In u.user (ops_of (forest_of ctx.now) block)) uses.now }
 {
     uses.iter().any(|used| stands_in(ctx, used.user(), block))
-}
-
-// Whether the user of a use stands in a block.
-fn is_user_linked<D: Dialects>(ctx: &Context<D>, used: &KeptUse) -> bool
-    ensures { IsTrue result ↔ IsLinked (forest_of ctx.now) (an_op used.now.user) }
-{
-    is_linked(ctx, used.user())
-}
-
-// Whether each of the users of these uses stands in a block.
-fn all_linked<D: Dialects>(ctx: &Context<D>, uses: &[KeptUse]) -> bool
-    ensures { IsTrue result ↔ All (λ u. IsLinked (forest_of ctx.now) (an_op u.user)) uses.now }
-{
-    uses.iter().all(|used| is_user_linked(ctx, used))
 }
 
 // The block that a linked operation stands in.
@@ -128,11 +95,6 @@ pub trait BlockPredecessors<D: Dialects> {
         requires { IsLive (forest_of ctx.now) (a_block (index_of self)) }
         ensures { IsTrue result ↔ IsPredecessor (forest_of ctx.now) (index_of self) (index_of pred) };
 
-    /// Whether each operation that names the live block stands in a block. So it is where none names it.
-    fn preds_are_linked(self, ctx: &Context<D>) -> bool
-        requires { IsLive (forest_of ctx.now) (a_block (index_of self)) }
-        ensures { IsTrue result ↔ UsersLinked (forest_of ctx.now) (index_of self) };
-
     /// The predecessors of the live block, whose users are linked: one for each use, in the order in which the uses are kept. Where terminators alone name successors, they are exactly the blocks that have it among their successors. It stands for pliron's `preds`.
     ///
     /// # Errors
@@ -165,10 +127,6 @@ impl<D: Dialects> BlockPredecessors<D> for Ptr<BasicBlock<D>> {
 
     fn is_pred(self, ctx: &Context<D>, pred: Self) -> bool {
         any_stands_in(ctx, kept_uses(ctx, self), pred.index)
-    }
-
-    fn preds_are_linked(self, ctx: &Context<D>) -> bool {
-        all_linked(ctx, kept_uses(ctx, self))
     }
 
     fn preds(self, ctx: &Context<D>) -> Result<Vec<Ptr<BasicBlock<D>>>, CoreError> {

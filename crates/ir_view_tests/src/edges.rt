@@ -2,7 +2,7 @@
 
 use ir_base::{Dialects, Ptr};
 use ir_checked::{BasicBlock, BlockPtr, CheckedErr, Context, Operation, Use};
-use ir_view::{BlockPredecessors, BlockSuccessors, BlockUses};
+use ir_view::{BlockPlace, BlockPredecessors, BlockSuccessors, BlockUses};
 use std::process::Abort;
 
 /// The successors of the block.

@@ -1,7 +1,8 @@
-//! Where a block stands, and the list of its operations.
+//! Where a block stands, the list of its operations, and whether what names it stands in a block.
 
 ghost use Rattle.std.specs.Prelude.{◌≡◌, ◌↔◌, All, IsTrue, IfSome};
 ghost use Rattle.std.specs.Option.{option_map};
+ghost use Rattle.ir_model.specs.Edits.{UsersLinked};
 ghost use Rattle.ir_model.specs.Forest.{a_block, a_region, an_op};
 ghost use Rattle.ir_model.specs.Nesting.{IsLinked, IsLive, ops_of};
 ghost use Rattle.ir_model.specs.Parent.{first_of, IsNext, IsParent, IsPrevious, last_of};
@@ -10,11 +11,12 @@ ghost use Rattle.ir_walk.specs.Above.{IsAbove};
 
 use crate::entity::is_linked;
 use crate::links::{block, handle};
+use crate::users::{all_linked, kept_uses};
 use ir_base::{Dialects, Iter, Ptr, linked_list};
 use ir_core::{Context, RegionPtr};
 use ir_records::{BasicBlock, EntityIndex, Operation, Region};
 
-/// Where a block stands, and the list of its operations. It stands for pliron's calls of `BasicBlock`, and of `LinkedList` and `ContainsLinkedList` on `Ptr<BasicBlock>`.
+/// Where a block stands, the list of its operations, and whether what names it stands in a block. It stands for pliron's calls of `BasicBlock`, and of `LinkedList` and `ContainsLinkedList` on `Ptr<BasicBlock>`.
 pub trait BlockPlace<D: Dialects> {
     ghost use Rattle.ir_model.specs.declared.ids.ArenaIndex.{ArenaIndex};
 
@@ -35,6 +37,11 @@ pub trait BlockPlace<D: Dialects> {
     /// Whether the block stands in a region. It doesn't where the handle is dead. It stands for pliron's `is_linked`.
     fn is_linked(self, ctx: &Context<D>) -> bool
         ensures { IsTrue result ↔ IsLinked (forest_of ctx.now) (a_block (index_of self)) };
+
+    /// Whether each operation that names the live block stands in a block. So it is where none names it.
+    fn preds_are_linked(self, ctx: &Context<D>) -> bool
+        requires { IsLive (forest_of ctx.now) (a_block (index_of self)) }
+        ensures { IsTrue result ↔ UsersLinked (forest_of ctx.now) (index_of self) };
 
     /// The block right after the live one in its region, if there is one. It stands for pliron's `get_next`.
     fn get_next(self, ctx: &Context<D>) -> Option<Ptr<BasicBlock<D>>>
@@ -82,6 +89,10 @@ impl<D: Dialects> BlockPlace<D> for Ptr<BasicBlock<D>> {
 
     fn is_linked(self, ctx: &Context<D>) -> bool {
         is_linked(ctx, EntityIndex::Block(self.index()))
+    }
+
+    fn preds_are_linked(self, ctx: &Context<D>) -> bool {
+        all_linked(ctx, kept_uses(ctx, self))
     }
 
     fn get_next(self, ctx: &Context<D>) -> Option<Ptr<BasicBlock<D>>> {

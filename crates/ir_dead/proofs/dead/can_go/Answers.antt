@@ -1,5 +1,5 @@
 use Rattle.ir_dead.proofs.Purity.{goes_where}
-use Rattle.ir_view.specs.State.{behaviour, forest_of}
+use Rattle.ir_walk.specs.State.{behaviour, forest_of}
 use Rattle.ir_dead.proofs.dead.can_go.Goals as goal
 
 pub returns-then-op_impls : goal.returns-then-op_impls

@@ -1,6 +1,6 @@
 use Rattle.std.proofs.Common.{subst, IfSome}
 use Rattle.ir_model.specs.Nesting.{In, ops_of}
-use Rattle.ir_view.specs.State.{forest_of}
+use Rattle.ir_walk.specs.State.{forest_of}
 use Rattle.ir_dead.proofs.Ranks.{listed_live}
 use Rattle.ir_dead.proofs.dead.freed.Goals as goal
 

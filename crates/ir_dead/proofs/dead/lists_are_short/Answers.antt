@@ -4,7 +4,7 @@ use Rattle.ir_model.specs.Nesting.{In, ops_of}
 use Rattle.ir_model.specs.Arenas.{get, arena_len}
 use Rattle.ir_records.specs.declared.records.Records.{Records}
 use Rattle.ir_records.specs.Meaning.{op_record}
-use Rattle.ir_view.specs.State.{forest_of}
+use Rattle.ir_walk.specs.State.{forest_of}
 use Rattle.ir_dead.proofs.Ranks.{listed_live, once}
 use Rattle.ir_dead.proofs.Walks.{live_few, live_under}
 use Rattle.ir_dead.proofs.dead.lists_are_short.Goals as goal

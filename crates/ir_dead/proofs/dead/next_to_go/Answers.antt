@@ -2,7 +2,7 @@ use Rattle.std.proofs.Common.{refl, sym, ap, ◌∙◌, subst, Option, Some, IfS
 use Rattle.std.specs.Option.{option_map}
 use Rattle.ir_model.specs.Forest.{an_op}
 use Rattle.ir_model.specs.Nesting.{In, ops_of}
-use Rattle.ir_view.specs.State.{behaviour, forest_of}
+use Rattle.ir_walk.specs.State.{behaviour, forest_of}
 use Rattle.ir_dead.proofs.Ranks.{listed_live, before_listed, as_index, rank_smaller, not_both}
 use Rattle.ir_dead.proofs.Walks.{Walking, walk_starts, walk_ends, walk_goes_on}
 use Rattle.ir_dead.proofs.dead.next_to_go.Goals as goal

@@ -1,7 +1,7 @@
 use Rattle.std.proofs.Common.{IfSome}
 use Rattle.std.specs.Option.{option_map}
 use Rattle.ir_model.specs.Nesting.{In, ops_of}
-use Rattle.ir_view.specs.State.{behaviour, forest_of}
+use Rattle.ir_walk.specs.State.{behaviour, forest_of}
 use Rattle.ir_dead.specs.Going.{rank}
 use Rattle.ir_dead.proofs.Walks.{Walking}
 use Rattle.ir_dead.proofs.dead.next_to_go.Given as goal

@@ -2,7 +2,7 @@ use Rattle.std.proofs.Common.{Option, Some, None, IfSome, ◌≢◌}
 use Rattle.std.specs.Option.{option_map}
 use Rattle.ir_model.specs.Forest.{an_op}
 use Rattle.ir_model.specs.Nesting.{In, ops_of}
-use Rattle.ir_view.specs.State.{forest_of}
+use Rattle.ir_walk.specs.State.{forest_of}
 use Rattle.ir_dead.proofs.Ranks.{listed_live, before_listed, before_other}
 use Rattle.ir_dead.proofs.dead.place_beside.Goals as goal
 

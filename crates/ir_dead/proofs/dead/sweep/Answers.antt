@@ -1,7 +1,7 @@
 use Rattle.std.proofs.Common.{◌≡◌, refl, sym, ap, ◌∙◌, subst, ◌+◌, ◌≤◌, ◌<◌, ◌^◌, suc, length, not, Option, Some, None, IfSome, IsNone, is_some, arith}
 use Rattle.ir_model.specs.Nesting.{In, ops_of}
 use Rattle.ir_model.specs.SweepLaws.{NoneIsClosed}
-use Rattle.ir_view.specs.State.{bare, behaviour, forest_of}
+use Rattle.ir_walk.specs.State.{bare, behaviour, forest_of}
 use Rattle.ir_dead.specs.Going.{CanGo, none_goes}
 use Rattle.ir_dead.proofs.Ranks.{not_both}
 use Rattle.ir_dead.proofs.Sequences.{goes-one, goes-formed, goes-live, goes-sweeps, goes-fewer, list_fewer, stay_listed, same_joined}

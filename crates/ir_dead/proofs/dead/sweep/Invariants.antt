@@ -1,8 +1,8 @@
 use Rattle.std.proofs.Common.{length, IfSome, IsNone}
 use Rattle.ir_model.specs.Nesting.{In, ops_of}
 use Rattle.ir_model.specs.SweepLaws.{NoneIsClosed}
-use Rattle.ir_view.specs.State.{bare, behaviour, forest_of}
-use Rattle.ir_view.specs.Calls.{SameButForest}
+use Rattle.ir_walk.specs.State.{bare, behaviour, forest_of}
+use Rattle.ir_walk.specs.Calls.{SameButForest}
 use Rattle.ir_dead.specs.Going.{CanGo, Goes}
 use Rattle.ir_dead.proofs.dead.sweep.Given as goal
 

@@ -1,4 +1,4 @@
-use Rattle.ir_view.specs.State.{behaviour, forest_of}
+use Rattle.ir_walk.specs.State.{behaviour, forest_of}
 use Rattle.ir_dead.proofs.Walks.{tail_listed, none_from_tail}
 use Rattle.ir_dead.proofs.dead.to_go_from.Goals as goal
 

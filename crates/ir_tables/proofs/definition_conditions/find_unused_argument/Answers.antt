@@ -2,8 +2,8 @@ use Rattle.std.proofs.Common.{◌∙◌, ap, arith}
 use Rattle.ir_model.specs.Forest.{of_block}
 use Rattle.ir_model.specs.Nesting.{ops_of}
 use Rattle.ir_records.specs.Meaning.{definer_of, block_record, value_of}
-use Rattle.ir_view.specs.Definitions.{UnusedAt}
-use Rattle.ir_view.specs.State.{forest_of}
+use Rattle.ir_walk.specs.Definitions.{UnusedAt}
+use Rattle.ir_walk.specs.State.{forest_of}
 use Rattle.ir_tables.specs.DefinitionEntries.{argument_count, argument_number}
 use Rattle.ir_tables.specs.Named.{not_this}
 use Rattle.ir_tables.specs.SessionLists.{clash}

@@ -1,8 +1,8 @@
 use Rattle.std.proofs.Common.{◌∙◌, ap, arith}
 use Rattle.ir_model.specs.Forest.{of_op}
 use Rattle.ir_records.specs.Meaning.{definer_of, op_record, value_of}
-use Rattle.ir_view.specs.Definitions.{UnusedAt}
-use Rattle.ir_view.specs.State.{forest_of}
+use Rattle.ir_walk.specs.Definitions.{UnusedAt}
+use Rattle.ir_walk.specs.State.{forest_of}
 use Rattle.ir_tables.specs.DefinitionEntries.{result_count, result_number}
 use Rattle.ir_tables.specs.Named.{not_this}
 use Rattle.ir_tables.specs.SessionLists.{clash}

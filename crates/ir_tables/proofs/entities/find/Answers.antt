@@ -1,5 +1,5 @@
 use Rattle.ir_model.specs.Nesting.{IsLive}
-use Rattle.ir_view.specs.State.{forest_of}
+use Rattle.ir_walk.specs.State.{forest_of}
 use Rattle.ir_tables.proofs.Placing.{looked_up}
 use Rattle.ir_tables.proofs.entities.find.Goals as goal
 

@@ -1,5 +1,5 @@
 use Rattle.ir_model.specs.Nesting.{IsClosed}
-use Rattle.ir_view.specs.State.{forest_of}
+use Rattle.ir_walk.specs.State.{forest_of}
 use Rattle.ir_tables.specs.Named.{not_this}
 use Rattle.ir_tables.specs.SessionLists.{clash}
 use Rattle.ir_tables.proofs.erase_conditions.find_closed.Goals as goal

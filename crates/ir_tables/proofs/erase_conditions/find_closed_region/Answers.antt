@@ -4,7 +4,7 @@ use Rattle.ir_model.specs.Edits.{The}
 use Rattle.ir_model.specs.Forest.{a_region}
 use Rattle.ir_model.specs.Nesting.{IsClosed, regions_of}
 use Rattle.ir_records.specs.Meaning.{op_record}
-use Rattle.ir_view.specs.State.{forest_of}
+use Rattle.ir_walk.specs.State.{forest_of}
 use Rattle.ir_tables.specs.Named.{not_this}
 use Rattle.ir_tables.specs.SessionLists.{clash}
 use Rattle.ir_tables.proofs.Regions.{closed_there, not_closed, within}

@@ -1,6 +1,6 @@
 use Rattle.ir_model.specs.Nesting.{IsLinked}
-use Rattle.ir_view.specs.State.{forest_of}
-use Rattle.ir_view.specs.Entities.{meant}
+use Rattle.ir_walk.specs.State.{forest_of}
+use Rattle.ir_walk.specs.Entities.{meant}
 use Rattle.ir_tables.specs.Named.{not_this}
 use Rattle.ir_tables.proofs.list_conditions.find_linked.Goals as goal
 

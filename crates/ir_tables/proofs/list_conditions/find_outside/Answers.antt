@@ -1,6 +1,6 @@
 use Rattle.ir_model.specs.Forest.{a_region, an_op}
 use Rattle.ir_model.specs.Nesting.{Inside}
-use Rattle.ir_view.specs.State.{forest_of}
+use Rattle.ir_walk.specs.State.{forest_of}
 use Rattle.ir_tables.specs.Named.{not_these}
 use Rattle.ir_tables.proofs.list_conditions.find_outside.Goals as goal
 

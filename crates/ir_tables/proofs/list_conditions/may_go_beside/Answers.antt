@@ -1,5 +1,5 @@
-use Rattle.ir_view.specs.State.{forest_of}
-use Rattle.ir_view.specs.Entities.{meant}
+use Rattle.ir_walk.specs.State.{forest_of}
+use Rattle.ir_walk.specs.Entities.{meant}
 use Rattle.ir_tables.proofs.Placing.{beside_so, both_ways}
 use Rattle.ir_tables.proofs.list_conditions.may_go_beside.Goals as goal
 

@@ -1,5 +1,5 @@
-use Rattle.ir_view.specs.State.{forest_of}
-use Rattle.ir_view.specs.Entities.{meant}
+use Rattle.ir_walk.specs.State.{forest_of}
+use Rattle.ir_walk.specs.Entities.{meant}
 use Rattle.ir_tables.proofs.Placing.{both_ways, join_so, not_so}
 use Rattle.ir_tables.proofs.list_conditions.may_join.Goals as goal
 

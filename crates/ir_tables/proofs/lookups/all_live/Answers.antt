@@ -2,7 +2,7 @@ use Rattle.std.proofs.Common.{ℕ, rules}
 use Rattle.std.specs.Prelude.{slice_get}
 use Rattle.std.proofs.lemmas.Iterator.{cases_from_all, YieldsList-from_slice}
 use Rattle.ir_model.specs.Edits.{The}
-use Rattle.ir_view.specs.State.{forest_of}
+use Rattle.ir_walk.specs.State.{forest_of}
 use Rattle.ir_tables.specs.SessionLists.{Each-from_cases}
 use Rattle.ir_tables.proofs.lookups.all_live.Goals as goal
 

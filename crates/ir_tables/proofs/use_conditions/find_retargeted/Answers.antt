@@ -1,5 +1,5 @@
 use Rattle.ir_model.specs.Edits.{UsersLinked}
-use Rattle.ir_view.specs.State.{forest_of}
+use Rattle.ir_walk.specs.State.{forest_of}
 use Rattle.ir_tables.specs.Named.{not_these}
 use Rattle.ir_tables.specs.SessionLists.{clash}
 use Rattle.ir_tables.proofs.use_conditions.find_retargeted.Goals as goal

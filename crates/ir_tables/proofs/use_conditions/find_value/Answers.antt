@@ -2,7 +2,7 @@ use Rattle.std.proofs.Common.{ap, map}
 use Rattle.ir_model.specs.Forest.{a_value}
 use Rattle.ir_model.specs.Nesting.{IsLiveNamed}
 use Rattle.ir_records.specs.Meaning.{value_of}
-use Rattle.ir_view.specs.State.{forest_of}
+use Rattle.ir_walk.specs.State.{forest_of}
 use Rattle.ir_tables.specs.SessionTables.{entries_of}
 use Rattle.ir_tables.proofs.Placing.{looked_up}
 use Rattle.ir_tables.proofs.use_conditions.find_value.Goals as goal

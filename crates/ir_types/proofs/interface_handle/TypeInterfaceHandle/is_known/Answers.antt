@@ -1,7 +1,7 @@
 use Rattle.std.proofs.Common.{◌∙◌, sym}
 use Rattle.std.proofs.lemmas.Bool.{false≢true}
-use Rattle.ir_view.specs.Dominance.{kinds}
-use Rattle.ir_view.specs.State.{types_of}
+use Rattle.ir_walk.specs.Dominance.{kinds}
+use Rattle.ir_walk.specs.State.{types_of}
 use Rattle.ir_types.specs.Handles.{interface_place}
 use Rattle.ir_types.proofs.KeyKinds.{implemented, implements, kind-known}
 use Rattle.ir_types.proofs.interface_handle.TypeInterfaceHandle.is_known.Goals as goal

@@ -1,7 +1,7 @@
 use Rattle.std.proofs.Common.{◌∙◌, ap, is_some, sym}
 use Rattle.std.proofs.lemmas.Bool.{eqb-true}
-use Rattle.ir_view.specs.Dominance.{kinds}
-use Rattle.ir_view.specs.State.{behaviour, types_of}
+use Rattle.ir_walk.specs.Dominance.{kinds}
+use Rattle.ir_walk.specs.State.{behaviour, types_of}
 use Rattle.ir_types.specs.Handles.{typed_place}
 use Rattle.ir_types.proofs.KeyKinds.{made-kind}
 use Rattle.ir_types.proofs.ir_type.IrType.instantiate.Goals as goal

@@ -1,6 +1,6 @@
 use Rattle.std.proofs.Common.{◌∙◌, refl, sym}
-use Rattle.ir_view.specs.Dominance.{kinds}
-use Rattle.ir_view.specs.State.{types_of}
+use Rattle.ir_walk.specs.Dominance.{kinds}
+use Rattle.ir_walk.specs.State.{types_of}
 use Rattle.ir_types.proofs.KeyKinds.{of-kind}
 use Rattle.ir_types.proofs.typed_handle.TypedHandle.from_handle.Goals as goal
 

@@ -1,7 +1,7 @@
 use Rattle.std.proofs.Common.{◌∙◌, sym}
 use Rattle.std.proofs.lemmas.Bool.{eq-eqb, eqb-true, false≢true}
-use Rattle.ir_view.specs.Dominance.{kinds}
-use Rattle.ir_view.specs.State.{types_of}
+use Rattle.ir_walk.specs.Dominance.{kinds}
+use Rattle.ir_walk.specs.State.{types_of}
 use Rattle.ir_types.specs.Handles.{typed_place}
 use Rattle.ir_types.proofs.KeyKinds.{kind-known, of-kind, one-kind}
 use Rattle.ir_types.proofs.typed_handle.TypedHandle.is_known.Goals as goal

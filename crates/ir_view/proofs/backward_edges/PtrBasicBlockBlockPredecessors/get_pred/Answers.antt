@@ -9,7 +9,7 @@ linked_block-requires g c =
     let b = c.args.self.index in
     let kept = c.kept_uses-uses.result.now in
     let exact = c.kept_uses-uses.ensures.exact in
-    record { linked = rw (c.user.ensures, c.index-uses-index.is) (user-linked f b kept exact c.args.index _ (slice_get-get_or kept c.args.index _ (kept-within f b kept exact (block_uses_of c.args.ctx.now b) c.kept_uses-uses.ensures.kept c.args.index c.requires.within)) c.requires.linked) }
+    record { linked = rw (c.user.ensures, c.index-uses-index.is) (user-linked f b kept c.kept_uses-uses.ensures.users c.requires.linked c.args.index _ (slice_get-get_or kept c.args.index _ (kept-within f b kept exact (block_uses_of c.args.ctx.now b) c.kept_uses-uses.ensures.kept c.args.index c.requires.within))) }
 
 pub returns-clause-found : goal.returns-clause-found
 returns-clause-found g c =

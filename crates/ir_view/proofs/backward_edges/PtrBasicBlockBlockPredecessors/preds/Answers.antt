@@ -1,10 +1,10 @@
 use Rattle.std.proofs.Common.{length}
 use Rattle.ir_walk.specs.State.{behaviour, block_uses_of, forest_of, types_of}
-use Rattle.ir_view.proofs.Users.{edges-ok, predecessors-ok, users-linked}
+use Rattle.ir_view.proofs.Users.{edges-ok, predecessors-ok}
 use Rattle.ir_view.proofs.backward_edges.PtrBasicBlockBlockPredecessors.preds.Goals as goal
 
 pub blocks_of_users-requires : goal.blocks_of_users-requires
-blocks_of_users-requires g c = record { linked = (users-linked (forest_of c.args.ctx.now) c.args.self.index c.kept_uses.result.now c.kept_uses.ensures.exact).1 c.requires.linked }
+blocks_of_users-requires g c = record { linked = c.kept_uses.ensures.linked.1 c.requires.linked }
 
 pub returns-clause-exact : goal.returns-clause-exact
 returns-clause-exact g c =

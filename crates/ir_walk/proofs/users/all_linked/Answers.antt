@@ -3,9 +3,9 @@ use Rattle.std.proofs.lemmas.Iterator.{cases_from_all, YieldsList-from_slice}
 use Rattle.ir_model.specs.Forest.{an_op}
 use Rattle.ir_model.specs.Nesting.{IsLinked}
 use Rattle.ir_records.specs.declared.record.UseIndex.{UseIndex}
-use Rattle.ir_walk.specs.State.{forest_of}
-use Rattle.ir_view.proofs.Items.{all-told}
-use Rattle.ir_view.proofs.backward_edges.all_linked.Goals as goal
+use Rattle.ir_core.specs.State.{forest_of}
+use Rattle.ir_walk.proofs.Users.{all-told}
+use Rattle.ir_walk.proofs.users.all_linked.Goals as goal
 
 pub returns : goal.returns
 returns g c =
