@@ -26,7 +26,7 @@ pub(crate) fn expect_block<D: Dialects>(
         return Err(CheckedErr::Condition);
     };
     assert!(rt; record.get_self_ptr() == block);
-    assert_eq!(rt; record.get_num_arguments(), num_arguments);
+    assert!(rt; record.get_num_arguments() == num_arguments);
     let _loc = record.loc();
     Ok(())
 }
@@ -102,7 +102,7 @@ pub(crate) fn expect_successor<D: Dialects>(
     used: Use<Ptr<BasicBlock<D>>>,
     place: Result<usize, IndexErr>,
 ) {
-    assert_eq!(rt; used.try_find_index(ctx), place);
+    assert!(rt; used.try_find_index(ctx) == place);
 }
 
 /// The block that a live use names.

@@ -78,8 +78,8 @@ fn tell_number_and_type<D: Dialects>(
     made: &Branch<D>,
 ) -> Result<(), CheckedErr> {
     expect_number(rt, ctx, made.argument, 1)?;
-    assert_eq!(rt; num_uses(ctx, made.argument)?, 1);
-    assert_eq!(rt; value_type(ctx, made.argument)?, 0);
+    assert!(rt; num_uses(ctx, made.argument)? == 1);
+    assert!(rt; value_type(ctx, made.argument)? == 0);
     let _loc = value_loc(ctx, made.argument)?;
     Ok(())
 }
@@ -113,7 +113,7 @@ fn tell_parts<D: Dialects>(
     ctx: &Context<D>,
     made: &Branch<D>,
 ) -> Result<(), CheckedErr> {
-    assert_eq!(rt; counts(ctx, made.op)?, [0, 1, 2, 0]);
+    assert!(rt; counts(ctx, made.op)? == [0, 1, 2, 0]);
     assert!(rt; operand(ctx, made.op, 0)? == made.argument);
     assert!(rt; successor(ctx, made.op, 0)? == made.block);
     assert!(rt; successor(ctx, made.op, 1)? == made.block);
@@ -144,7 +144,7 @@ fn tell_block_uses<D: Dialects>(
     let second = tell_use(rt, ctx, made, 1)?;
     assert!(rt; first != second);
     let uses = block_uses(ctx, made.block)?;
-    assert_eq!(rt; uses.len(), 2);
+    assert!(rt; uses.len() == 2);
     assert!(rt; uses.contains(&first) && uses.contains(&second));
     Ok(())
 }
@@ -156,7 +156,7 @@ fn tell_predecessors<D: Dialects>(
     made: &Branch<D>,
 ) -> Result<(), CheckedErr> {
     assert!(rt; has_pred(ctx, made.block)?);
-    assert_eq!(rt; num_preds(ctx, made.block)?, 2);
+    assert!(rt; num_preds(ctx, made.block)? == 2);
     tell_block_uses(rt, ctx, made)
 }
 
@@ -212,9 +212,9 @@ fn add_one_region<D: Dialects>(rt: &impl Abort, ctx: &mut Context<D>) -> Result<
     let op = new_op(ctx, 5, &[], &[], &[], 1)?;
     let added = add_region(ctx, op)?;
     expect_region(rt, ctx, added, op);
-    assert_eq!(rt; counts(ctx, op)?, [0, 0, 0, 2]);
+    assert!(rt; counts(ctx, op)? == [0, 0, 0, 2]);
     assert!(rt; region(ctx, op, 1)? == added);
-    assert_eq!(rt; room(ctx).regions, u32::MAX - 3);
+    assert!(rt; room(ctx).regions == u32::MAX - 3);
     Ok(())
 }
 
@@ -237,7 +237,7 @@ fn use_an_argument<D: Dialects>(
     let block = new_block(ctx, None, &[ty])?;
     let value = argument(ctx, block, 0)?;
     let refused = refusal(new_op(ctx, 4, &[], &[value, value, value], &[], 0))?;
-    assert_eq!(rt; refused, wanted);
+    assert!(rt; refused == wanted);
     Ok(())
 }
 
@@ -268,7 +268,7 @@ fn make_with_arguments<D: Dialects>(
 ) -> Result<(), CheckedErr> {
     let ty = new_type(ctx, key)?;
     let refused = refusal(new_block(ctx, None, &[ty, ty]))?;
-    assert_eq!(rt; refused, wanted);
+    assert!(rt; refused == wanted);
     Ok(())
 }
 
@@ -278,7 +278,7 @@ fn make_without_slots<D: Dialects>(
     ctx: &mut Context<D>,
 ) -> Result<(), CheckedErr> {
     let refused = refusal(new_block(ctx, None, &[]))?;
-    assert_eq!(rt; refused, Some(CoreError::SlotsSpent));
+    assert!(rt; refused == Some(CoreError::SlotsSpent));
     Ok(())
 }
 

@@ -99,7 +99,7 @@ fn make_and_walk<D: Dialects>(
     let Ok(record) = last.try_deref(ctx) else {
         return Err(CheckedErr::Condition);
     };
-    assert_eq!(rt; walk(ctx, record), 3);
+    assert!(rt; walk(ctx, record) == 3);
     Ok(())
 }
 
@@ -115,7 +115,7 @@ fn what_live_operations_give_is_live(rt: HostRuntime) -> Result<(), Fail> {
 fn make_and_ask(rt: &impl Abort, ctx: &mut Context<Toy>) -> Result<(), CheckedErr> {
     let op: Ptr<Operation<Toy>> = Operation::new(ctx, 5, &[], &[], &[], 1)?;
     assert!(rt; !op.has_use(ctx));
-    assert_eq!(rt; op.deref(ctx).num_regions(), 1);
+    assert!(rt; op.deref(ctx).num_regions() == 1);
     assert!(rt; op.is_live(ctx));
     Ok(())
 }

@@ -18,7 +18,7 @@ pub(crate) fn refusal<T: Drop>(
 
 /// Asserts whether the context has no operation, block or region.
 pub(crate) fn expect_empty<D: Dialects>(rt: &impl Abort, ctx: &Context<D>, empty: bool) {
-    assert_eq!(rt; ctx.is_ir_empty(), empty);
+    assert!(rt; ctx.is_ir_empty() == empty);
 }
 
 /// How many numbers and slots are left.

@@ -47,7 +47,7 @@ fn tell_result<D: Dialects>(
     ctx: &Context<D>,
     made: &TwoUses<D>,
 ) -> Result<(), CheckedErr> {
-    assert_eq!(rt; result_type(ctx, made.user, 0)?, 0);
+    assert!(rt; result_type(ctx, made.user, 0)? == 0);
     assert!(rt; result(ctx, made.user, 0)? != made.value);
     Ok(())
 }
@@ -72,7 +72,7 @@ fn tell_operations<D: Dialects>(
     assert!(rt; made.maker != made.user);
     expect_live(rt, ctx, made.maker);
     expect_kind(rt, ctx, made.user, 4)?;
-    assert_eq!(rt; counts(ctx, made.user)?, [1, 2, 0, 0]);
+    assert!(rt; counts(ctx, made.user)? == [1, 2, 0, 0]);
     tell_result(rt, ctx, made)?;
     tell_operands(rt, ctx, made)
 }
@@ -84,8 +84,8 @@ fn tell_used_result<D: Dialects>(
     made: &TwoUses<D>,
 ) -> Result<(), CheckedErr> {
     assert!(rt; has_result_use(ctx, made.maker)?);
-    assert_eq!(rt; num_result_uses(ctx, made.maker)?, 2);
-    assert_eq!(rt; count_result_uses(ctx, made.maker)?, 2);
+    assert!(rt; num_result_uses(ctx, made.maker)? == 2);
+    assert!(rt; count_result_uses(ctx, made.maker)? == 2);
     expect_only_user(rt, ctx, made.maker, made.user)
 }
 
@@ -96,7 +96,7 @@ fn tell_unused_result<D: Dialects>(
     made: &TwoUses<D>,
 ) -> Result<(), CheckedErr> {
     assert!(rt; !has_result_use(ctx, made.user)?);
-    assert_eq!(rt; num_result_uses(ctx, made.user)?, 0);
+    assert!(rt; num_result_uses(ctx, made.user)? == 0);
     Ok(())
 }
 
@@ -124,9 +124,9 @@ fn tell_count_and_type<D: Dialects>(
     ctx: &Context<D>,
     value: Value<D>,
 ) -> Result<(), CheckedErr> {
-    assert_eq!(rt; num_uses(ctx, value)?, 2);
+    assert!(rt; num_uses(ctx, value)? == 2);
     assert!(rt; is_used(ctx, value)?);
-    assert_eq!(rt; value_type(ctx, value)?, 0);
+    assert!(rt; value_type(ctx, value)? == 0);
     Ok(())
 }
 
@@ -149,7 +149,7 @@ fn tell_named<D: Dialects>(
     value: Value<D>,
 ) -> Result<(), CheckedErr> {
     assert!(rt; used_value(ctx, used)? == value);
-    assert_eq!(rt; used_type(ctx, used)?, 0);
+    assert!(rt; used_type(ctx, used)? == 0);
     Ok(())
 }
 
@@ -177,7 +177,7 @@ fn tell_uses<D: Dialects>(
     let second = tell_use(rt, ctx, made, 1)?;
     assert!(rt; first != second);
     let uses = uses(ctx, made.value)?;
-    assert_eq!(rt; uses.len(), 2);
+    assert!(rt; uses.len() == 2);
     assert!(rt; uses.contains(&first) && uses.contains(&second));
     Ok(())
 }
@@ -269,9 +269,9 @@ fn tell_both_regions<D: Dialects>(
 fn tell_regions<D: Dialects>(rt: &impl Abort, ctx: &mut Context<D>) -> Result<(), CheckedErr> {
     let op = new_op(ctx, 7, &[], &[], &[], 2)?;
     expect_kind(rt, ctx, op, 7)?;
-    assert_eq!(rt; counts(ctx, op)?, [0, 0, 0, 2]);
+    assert!(rt; counts(ctx, op)? == [0, 0, 0, 2]);
     tell_both_regions(rt, ctx, op)?;
-    assert_eq!(rt; room(ctx).regions, u32::MAX - 3);
+    assert!(rt; room(ctx).regions == u32::MAX - 3);
     Ok(())
 }
 
@@ -304,8 +304,8 @@ fn expect_type_at<D: Dialects>(
     place: usize,
     ty: Option<TypeHandle>,
 ) {
-    assert_eq!(rt; ctx.type_at(place), ty);
-    assert_eq!(rt; TypeHandle::at(place).is_known(ctx), ty.is_some());
+    assert!(rt; ctx.type_at(place) == ty);
+    assert!(rt; TypeHandle::at(place).is_known(ctx) == ty.is_some());
 }
 
 // Makes a type, another one, and the first again.
@@ -338,7 +338,7 @@ fn tell_chain<D: Dialects>(
     let last = chain(ctx, key, 10)?;
     expect_live_value(rt, ctx, last, true);
     assert!(rt; !is_used(ctx, last)?);
-    assert_eq!(rt; room(ctx).uses, u64::MAX - 10);
+    assert!(rt; room(ctx).uses == u64::MAX - 10);
     Ok(())
 }
 

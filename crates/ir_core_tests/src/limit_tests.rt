@@ -16,7 +16,7 @@ fn expect_no_slots<D: Dialects>(
     regions: usize,
 ) -> Result<(), CheckedErr> {
     let refused = refusal(new_op(ctx, 0, &[], &[], &[], regions))?;
-    assert_eq!(rt; refused, Some(CoreError::SlotsSpent));
+    assert!(rt; refused == Some(CoreError::SlotsSpent));
     expect_empty(rt, ctx, true);
     Ok(())
 }
@@ -41,7 +41,7 @@ fn expect_no_values<D: Dialects>(
 ) -> Result<(), CheckedErr> {
     let ty = new_type(ctx, key)?;
     let refused = refusal(new_op(ctx, 0, &[ty], &[], &[], 0))?;
-    assert_eq!(rt; refused, Some(CoreError::CounterSpent));
+    assert!(rt; refused == Some(CoreError::CounterSpent));
     expect_empty(rt, ctx, true);
     Ok(())
 }
@@ -53,7 +53,7 @@ fn make_without_values<D: Dialects>(
 ) -> Result<(), CheckedErr> {
     let op = new_op(ctx, 0, &[], &[], &[], 0)?;
     expect_live(rt, ctx, op);
-    assert_eq!(rt; room(ctx).values, 0);
+    assert!(rt; room(ctx).values == 0);
     Ok(())
 }
 
@@ -80,7 +80,7 @@ fn make_with_one_region<D: Dialects>(
     let op = new_op(ctx, 0, &[], &[], &[], 1)?;
     expect_live(rt, ctx, op);
     let room = room(ctx);
-    assert_eq!(rt; (room.ops, room.regions), (0, 0));
+    assert!(rt; (room.ops, room.regions) == (0, 0));
     Ok(())
 }
 
@@ -108,7 +108,7 @@ fn make_or_stay<D: Dialects>(
     let made = new_op(ctx, 5, &[], &[value, value, value], &[], 2);
     let wanted = if made.is_ok() { 5 } else { 2 };
     expect_empty(rt, ctx, false);
-    assert_eq!(rt; num_uses(ctx, value)?, wanted);
+    assert!(rt; num_uses(ctx, value)? == wanted);
     made?;
     Ok(())
 }
@@ -140,9 +140,9 @@ fn spend_uses<D: Dialects>(
 ) -> Result<(), CheckedErr> {
     let ty = new_type(ctx, key)?;
     let made = two_uses(ctx, ty)?;
-    assert_eq!(rt; room(ctx).uses, 0);
+    assert!(rt; room(ctx).uses == 0);
     let refused = refusal(new_op(ctx, 4, &[], &[made.value], &[], 0))?;
-    assert_eq!(rt; refused, Some(CoreError::CounterSpent));
+    assert!(rt; refused == Some(CoreError::CounterSpent));
     Ok(())
 }
 

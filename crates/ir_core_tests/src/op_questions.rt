@@ -27,7 +27,7 @@ pub(crate) fn expect_kind<D: Dialects>(
         return Err(CheckedErr::Condition);
     };
     assert!(rt; record.get_self_ptr() == op);
-    assert_eq!(rt; record.kind(), kind);
+    assert!(rt; record.kind() == kind);
     let _loc = record.loc();
     Ok(())
 }

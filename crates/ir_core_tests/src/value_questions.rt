@@ -12,7 +12,7 @@ pub(crate) fn expect_live_value<D: Dialects>(
     value: Value<D>,
     live: bool,
 ) {
-    assert_eq!(rt; value.is_live(ctx), live);
+    assert!(rt; value.is_live(ctx) == live);
 }
 
 /// Asserts where the value stands among the results or arguments, or why it stands nowhere.
@@ -22,7 +22,7 @@ pub(crate) fn expect_place<D: Dialects>(
     value: Value<D>,
     place: Result<usize, IndexErr>,
 ) {
-    assert_eq!(rt; value.try_find_index(ctx), place);
+    assert!(rt; value.try_find_index(ctx) == place);
 }
 
 // Where a live value stands among the results or arguments.
@@ -41,7 +41,7 @@ pub(crate) fn expect_number<D: Dialects>(
     number: usize,
 ) -> Result<(), CheckedErr> {
     expect_place(rt, ctx, value, Ok(number));
-    assert_eq!(rt; place(ctx, value)?, number);
+    assert!(rt; place(ctx, value)? == number);
     Ok(())
 }
 
@@ -94,7 +94,7 @@ pub(crate) fn expect_operand<D: Dialects>(
     used: Use<Value<D>>,
     place: Result<usize, IndexErr>,
 ) {
-    assert_eq!(rt; used.try_find_index(ctx), place);
+    assert!(rt; used.try_find_index(ctx) == place);
 }
 
 // Where a live use stands among the operands of its user.
@@ -113,7 +113,7 @@ pub(crate) fn expect_operand_number<D: Dialects>(
     number: usize,
 ) -> Result<(), CheckedErr> {
     expect_operand(rt, ctx, used, Ok(number));
-    assert_eq!(rt; operand_place(ctx, used)?, number);
+    assert!(rt; operand_place(ctx, used)? == number);
     Ok(())
 }
 

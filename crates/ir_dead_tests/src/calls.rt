@@ -115,6 +115,6 @@ pub(crate) fn expect_sweep<D: Dialects>(
     count: usize,
     left: &[Ptr<Operation<D>>],
 ) -> Result<(), CheckedErr> {
-    assert_eq!(rt; swept(ctx, block)?, count);
+    assert!(rt; swept(ctx, block)? == count);
     expect_ops(rt, ctx, block, left)
 }

@@ -5,7 +5,8 @@ use crate::calls::{
 };
 use ir_base::{Dialects, Ptr, TypeHandle};
 use ir_checked::{
-    BasicBlock, BlockPtr, CheckedErr, Context, Operation, OperationPtr, end, new_block, result,
+    BasicBlock, BlockPtr, CheckedErr, Context, Operation, OperationPtr, end, new_block,
+    push_operand, result,
 };
 use ir_toy::{Toy, ToyType};
 use std::process::Abort;
@@ -112,6 +113,53 @@ fn constant_behind<D: Dialects>(
 fn sweep_of_a_constant_behind(rt: HostRuntime) -> Result<(), Fail> {
     let mut ctx: Context<Toy> = Context::new(rt.alloc());
     let outcome = constant_behind(&rt, &mut ctx, TYPE);
+    end(ctx, outcome)?;
+    Ok(())
+}
+
+// An addition of two constants that stand behind it, with an operation that isn't pure in front of all: when the addition is gone, a walk that goes on to the front passes over one of the constants.
+fn two_constants_behind<D: Dialects>(
+    rt: &impl Abort,
+    ctx: &mut Context<D>,
+    key: D::TypeKey,
+) -> Result<(), CheckedErr> {
+    let (ty, block) = type_and_block(ctx, key)?;
+    let u = put(ctx, block, ty, 4, &[])?;
+    let x = put(ctx, block, ty, 1, &[])?;
+    let (_, v) = put_result(ctx, block, ty, 0)?;
+    let (_, w) = put_result(ctx, block, ty, 0)?;
+    push_operand(ctx, x, v)?;
+    push_operand(ctx, x, w)?;
+    expect_sweep(rt, ctx, block, 3, &[u])
+}
+
+#[test]
+fn sweep_of_two_constants_behind(rt: HostRuntime) -> Result<(), Fail> {
+    let mut ctx: Context<Toy> = Context::new(rt.alloc());
+    let outcome = two_constants_behind(&rt, &mut ctx, TYPE);
+    end(ctx, outcome)?;
+    Ok(())
+}
+
+// A constant of another block is used by nothing but an addition that goes.
+fn constant_of_another_block<D: Dialects>(
+    rt: &impl Abort,
+    ctx: &mut Context<D>,
+    key: D::TypeKey,
+) -> Result<(), CheckedErr> {
+    let (ty, block) = type_and_block(ctx, key)?;
+    let other = new_block(ctx, None, &[])?;
+    let (c, v) = put_result(ctx, other, ty, 0)?;
+    put(ctx, block, ty, 1, &[v, v])?;
+    expect_sweep(rt, ctx, block, 1, &[])?;
+    assert!(rt; c.is_live(ctx));
+    Ok(())
+}
+
+#[test]
+fn sweep_beside_another_block(rt: HostRuntime) -> Result<(), Fail> {
+    let mut ctx: Context<Toy> = Context::new(rt.alloc());
+    let outcome = constant_of_another_block(&rt, &mut ctx, TYPE);
     end(ctx, outcome)?;
     Ok(())
 }

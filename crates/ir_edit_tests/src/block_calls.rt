@@ -102,7 +102,7 @@ fn expect_preds<D: Dialects>(
     if !block.is_live(ctx) {
         return Err(CheckedErr::Condition);
     }
-    assert_eq!(rt; block.num_preds(ctx), count);
+    assert!(rt; block.num_preds(ctx) == count);
     Ok(())
 }
 

@@ -32,7 +32,7 @@ pub(crate) fn expect_num_uses<D: Dialects>(
     count: usize,
 ) -> Result<(), CheckedErr> {
     let uses = num_uses(ctx, value)?;
-    assert_eq!(rt; uses, count);
+    assert!(rt; uses == count);
     Ok(())
 }
 
@@ -45,7 +45,7 @@ pub(crate) fn push_at<D: Dialects>(
     index: usize,
 ) -> Result<(), CheckedErr> {
     let place = push_operand(ctx, op, value)?;
-    assert_eq!(rt; place, index);
+    assert!(rt; place == index);
     Ok(())
 }
 
@@ -74,7 +74,7 @@ pub(crate) fn expect_spent<T: Drop>(
 ) -> Result<(), CheckedErr> {
     match answer {
         Err(CheckedErr::Core(CoreError::OutOfMemory)) => Err(CoreError::OutOfMemory.into()),
-        Err(CheckedErr::Core(error)) => Ok(assert_eq!(rt; error, CoreError::CounterSpent)),
+        Err(CheckedErr::Core(error)) => Ok(assert!(rt; error == CoreError::CounterSpent)),
         _ => Ok(assert!(rt; false)),
     }
 }
@@ -131,7 +131,7 @@ pub(crate) fn expect_use<D: Dialects>(
     used: Use<Value<D>>,
     place: Result<usize, IndexErr>,
 ) {
-    assert_eq!(rt; used.try_find_index(ctx), place);
+    assert!(rt; used.try_find_index(ctx) == place);
 }
 
 /// Asserts where the use stands among the successors of its user.
@@ -141,7 +141,7 @@ pub(crate) fn expect_block_use<D: Dialects>(
     used: Use<Ptr<BasicBlock<D>>>,
     index: usize,
 ) {
-    assert_eq!(rt; used.try_find_index(ctx), Ok(index));
+    assert!(rt; used.try_find_index(ctx) == Ok(index));
 }
 
 /// How many successors name the block.
@@ -171,7 +171,7 @@ pub(crate) fn expect_op<D: Dialects>(
     op: Ptr<Operation<D>>,
     live: bool,
 ) {
-    assert_eq!(rt; op.is_live(ctx), live);
+    assert!(rt; op.is_live(ctx) == live);
 }
 
 /// Asserts whether the block is live.
@@ -181,7 +181,7 @@ pub(crate) fn expect_block<D: Dialects>(
     block: Ptr<BasicBlock<D>>,
     live: bool,
 ) {
-    assert_eq!(rt; block.is_live(ctx), live);
+    assert!(rt; block.is_live(ctx) == live);
 }
 
 /// Asserts whether the region is live.
@@ -191,7 +191,7 @@ pub(crate) fn expect_region<D: Dialects>(
     region: Ptr<Region>,
     live: bool,
 ) {
-    assert_eq!(rt; region.is_live(ctx), live);
+    assert!(rt; region.is_live(ctx) == live);
 }
 
 /// How many slots are left for operations, blocks and regions together.

@@ -157,7 +157,7 @@ fn erase_nest<D: Dialects>(
     let left = slots_left(ctx);
     erase_op(ctx, nest.outer)?;
     expect_nest(rt, ctx, nest, false);
-    assert_eq!(rt; slots_left(ctx), left.wrapping_add(4));
+    assert!(rt; slots_left(ctx) == left.wrapping_add(4));
     Ok(())
 }
 
@@ -209,7 +209,7 @@ fn erase_with_user<D: Dialects>(
     erase_block(ctx, block)?;
     expect_block(rt, ctx, block, false);
     expect_op(rt, ctx, op, false);
-    assert_eq!(rt; slots_left(ctx), left.wrapping_add(2));
+    assert!(rt; slots_left(ctx) == left.wrapping_add(2));
     assert!(rt; ctx.is_ir_empty());
     Ok(())
 }
@@ -218,7 +218,7 @@ fn erase_with_user<D: Dialects>(
 fn erase_own_user<D: Dialects>(rt: &impl Abort, ctx: &mut Context<D>) -> Result<(), CheckedErr> {
     let block = new_block(ctx, None, &[])?;
     let op = new_op(ctx, 3, &[], &[], &[], 0)?;
-    assert_eq!(rt; push_successor(ctx, op, block)?, 0);
+    assert!(rt; push_successor(ctx, op, block)? == 0);
     expect_condition(rt, erase_block(ctx, block));
     op_at_back(ctx, op, block)?;
     expect_erasable(rt, ctx, Entity::Block(block), true)?;
@@ -252,7 +252,7 @@ fn expect_two_regions<D: Dialects>(
     first: Ptr<Region>,
     second: Ptr<Region>,
 ) -> Result<(), CheckedErr> {
-    assert_eq!(rt; counts(ctx, op)?, [0, 0, 2]);
+    assert!(rt; counts(ctx, op)? == [0, 0, 2]);
     assert!(rt; region(ctx, op, 0)? == first);
     assert!(rt; region(ctx, op, 1)? == second);
     Ok(())
@@ -284,8 +284,8 @@ fn expect_emptied<D: Dialects>(
     ctx: &Context<D>,
     nest: &Nest<D>,
 ) -> Result<(), CheckedErr> {
-    assert_eq!(rt; counts(ctx, nest.outer)?, [0, 0, 1]);
-    assert_eq!(rt; counts(ctx, nest.inner)?, [0, 0, 0]);
+    assert!(rt; counts(ctx, nest.outer)? == [0, 0, 1]);
+    assert!(rt; counts(ctx, nest.inner)? == [0, 0, 0]);
     expect_nest(rt, ctx, nest, true);
     Ok(())
 }

@@ -34,7 +34,7 @@ pub(crate) fn expect_operands<D: Dialects>(
     expected: &[Value<D>],
 ) -> Result<(), CheckedErr> {
     let [operands, _successors, _regions] = counts(ctx, op)?;
-    assert_eq!(rt; operands, expected.len());
+    assert!(rt; operands == expected.len());
     for (index, value) in expected.iter().enumerate() {
         expect_operand(rt, ctx, op, index, *value)?;
     }

@@ -33,7 +33,7 @@ fn expect_successors<D: Dialects>(
     expected: &[Ptr<BasicBlock<D>>],
 ) -> Result<(), CheckedErr> {
     let [_operands, successors, _regions] = counts(ctx, op)?;
-    assert_eq!(rt; successors, expected.len());
+    assert!(rt; successors == expected.len());
     for (index, block) in expected.iter().enumerate() {
         expect_successor(rt, ctx, op, index, *block)?;
     }
@@ -47,8 +47,8 @@ fn put_in<D: Dialects>(
     op: Ptr<Operation<D>>,
     [a, b]: [Ptr<BasicBlock<D>>; 2],
 ) -> Result<(), CheckedErr> {
-    assert_eq!(rt; push_successor(ctx, op, a)?, 0);
-    assert_eq!(rt; push_successor(ctx, op, b)?, 1);
+    assert!(rt; push_successor(ctx, op, a)? == 0);
+    assert!(rt; push_successor(ctx, op, b)? == 1);
     insert_successor(ctx, op, 0, b)?;
     insert_successor(ctx, op, 3, a)?;
     expect_condition(rt, insert_successor(ctx, op, 5, a));
@@ -65,8 +65,8 @@ fn replace<D: Dialects>(
     replace_successor(ctx, op, 1, b)?;
     expect_condition(rt, replace_successor(ctx, op, 4, b));
     expect_successors(rt, ctx, op, &[b, b, b, a])?;
-    assert_eq!(rt; num_preds(ctx, b)?, 3);
-    assert_eq!(rt; num_preds(ctx, a)?, 1);
+    assert!(rt; num_preds(ctx, b)? == 3);
+    assert!(rt; num_preds(ctx, a)? == 1);
     Ok(())
 }
 
@@ -81,7 +81,7 @@ fn take_out<D: Dialects>(
     expect_condition(rt, remove_successor(ctx, op, 3));
     assert!(rt; pop_successor(ctx, op)? == a);
     expect_successors(rt, ctx, op, &[b, b])?;
-    assert_eq!(rt; num_preds(ctx, a)?, 0);
+    assert!(rt; num_preds(ctx, a)? == 0);
     Ok(())
 }
 
@@ -118,7 +118,7 @@ fn refuse_second<D: Dialects>(
 fn spend_uses<D: Dialects>(rt: &impl Abort, ctx: &mut Context<D>) -> Result<(), CheckedErr> {
     let op = new_op(ctx, 3, &[], &[], &[], 0)?;
     let a = new_block(ctx, None, &[])?;
-    assert_eq!(rt; push_successor(ctx, op, a)?, 0);
+    assert!(rt; push_successor(ctx, op, a)? == 0);
     refuse_second(rt, ctx, op, a)?;
     expect_successors(rt, ctx, op, &[a])
 }

@@ -78,10 +78,10 @@ fn expect_parents(rt: &impl Abort, lab: &Lab, plain: &Plain) {
 
 // Asserts that a list is shown forward and backward.
 fn expect_list(rt: &impl Abort, forward: &[usize], backward: &[usize], list: &[usize]) {
-    assert_eq!(rt; forward, list);
-    assert_eq!(rt; backward.len(), list.len());
+    assert!(rt; forward == list);
+    assert!(rt; backward.len() == list.len());
     for (shown, wanted) in backward.iter().zip(list.iter().rev()) {
-        assert_eq!(rt; *shown, *wanted);
+        assert!(rt; *shown == *wanted);
     }
 }
 

@@ -76,7 +76,7 @@ fn names_lead_to_the_last_index(rt: HostRuntime) -> Result<(), Fail> {
 
 // Asserts that so many slots for auxiliary data are left.
 fn expect_slots<D: Dialects>(rt: &impl Abort, ctx: &Context<D>, count: u32) {
-    assert_eq!(rt; slots_left(ctx), count);
+    assert!(rt; slots_left(ctx) == count);
 }
 
 // The only slot with its only version is used, and then there is none.

@@ -126,8 +126,8 @@ fn spent_counters_and_slots(rt: HostRuntime) -> Result<(), Fail> {
         return Err("out of memory")?;
     }
     let wanted = b"made t0\nrefused counter\nmade b0\nrefused counter\nrefused slots\nv0:\nb0:\n";
-    assert_eq!(rt; status, 0);
-    assert_eq!(rt; printed.as_slice(), wanted.as_slice());
+    assert!(rt; status == 0);
+    assert!(rt; printed.as_slice() == wanted.as_slice());
     Ok(())
 }
 
@@ -257,9 +257,9 @@ fn run_edits(session: &mut Session<Toy>, edits: Vec<Edit<Toy>>) -> Result<Vec<An
 
 // Asserts that both edits made a type, and that it is the same.
 fn expect_same_type(rt: &impl Abort, session: &Session<Toy>, answers: &[Answer]) {
-    assert_eq!(rt; answers, [Answer::Made(0), Answer::Made(1)].as_slice());
+    assert!(rt; answers == [Answer::Made(0), Answer::Made(1)].as_slice());
     assert!(rt; session.ty(0).is_some());
-    assert_eq!(rt; session.ty(0), session.ty(1));
+    assert!(rt; session.ty(0) == session.ty(1));
 }
 
 // A session of its own makes the same type twice.
@@ -288,7 +288,7 @@ fn unwritable_output(rt: HostRuntime) -> Result<(), Fail> {
     if status == 1 {
         return Err("out of memory")?;
     }
-    assert_eq!(rt; status, 3);
+    assert!(rt; status == 3);
     assert!(rt; told.is_empty());
     Ok(())
 }
@@ -302,9 +302,9 @@ fn unreadable_input(rt: HostRuntime) -> Result<(), Fail> {
     if status == 1 || told.len() < wanted.len() {
         return Err("out of memory")?;
     }
-    assert_eq!(rt; status, 2);
+    assert!(rt; status == 2);
     assert!(rt; printed.is_empty());
-    assert_eq!(rt; told.as_slice(), wanted.as_slice());
+    assert!(rt; told.as_slice() == wanted.as_slice());
     Ok(())
 }
 
@@ -316,6 +316,6 @@ fn fault_unwritable(rt: HostRuntime) -> Result<(), Fail> {
     if status == 1 {
         return Err("out of memory")?;
     }
-    assert_eq!(rt; status, 2);
+    assert!(rt; status == 2);
     Ok(())
 }

@@ -14,7 +14,7 @@ fn expect_difference(
     wanted: &str,
 ) -> Result<(), LabError> {
     match first_difference(alloc, Limits::default(), "new-block - - => made b0", text)? {
-        Some(difference) => assert_eq!(rt; difference.as_str(), wanted),
+        Some(difference) => assert!(rt; difference.as_str() == wanted),
         None => assert!(rt; false, "{text}"),
     }
     Ok(())

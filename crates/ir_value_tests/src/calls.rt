@@ -55,7 +55,7 @@ pub(crate) fn expect_operands<D: Dialects>(
     op: Ptr<Operation<D>>,
     expected: &[Value<D>],
 ) -> Result<(), CheckedErr> {
-    assert_eq!(rt; num_operands(ctx, op)?, expected.len());
+    assert!(rt; num_operands(ctx, op)? == expected.len());
     for (index, value) in expected.iter().enumerate() {
         assert!(rt; operand(ctx, op, index)? == *value);
     }
@@ -69,7 +69,7 @@ pub(crate) fn expect_use_count<D: Dialects>(
     value: Value<D>,
     count: usize,
 ) {
-    assert_eq!(rt; num_uses(ctx, value), Ok(count));
+    assert!(rt; num_uses(ctx, value) == Ok(count));
 }
 
 /// Asserts at which index the use is found, and what it names.
@@ -86,5 +86,5 @@ pub(crate) fn expect_use<D: Dialects>(
 
 /// Asserts that the call was refused because its condition doesn't hold.
 pub(crate) fn expect_condition(rt: &impl Abort, answer: Result<(), CheckedErr>) {
-    assert_eq!(rt; answer, Err(CheckedErr::Condition));
+    assert!(rt; answer == Err(CheckedErr::Condition));
 }

@@ -123,7 +123,7 @@ fn remove_and_push<D: Dialects>(
 ) -> Result<(), CheckedErr> {
     assert!(rt; remove_operand(ctx, op, 0)? == v);
     let spent = push_operand(ctx, op, v);
-    assert_eq!(rt; spent, Err(CheckedErr::Core(CoreError::CounterSpent)));
+    assert!(rt; spent == Err(CheckedErr::Core(CoreError::CounterSpent)));
     Ok(())
 }
 
@@ -222,8 +222,8 @@ fn expect_forty<D: Dialects>(
     value: Value<D>,
 ) -> Result<(), CheckedErr> {
     let uses = uses_of(ctx, value)?;
-    assert_eq!(rt; uses.len(), 40);
-    assert_eq!(rt; old.len(), 40);
+    assert!(rt; uses.len() == 40);
+    assert!(rt; old.len() == 40);
     expect_kept(rt, ctx, old, &uses);
     Ok(())
 }

@@ -88,7 +88,7 @@ fn expect_preds<D: Dialects>(
     expect_preds_linked(rt, ctx, block, true)?;
     let listed = preds(ctx, block)?;
     assert!(rt; listed.as_slice() == expected);
-    assert_eq!(rt; num_preds(ctx, block)?, expected.len());
+    assert!(rt; num_preds(ctx, block)? == expected.len());
     expect_each_pred(rt, ctx, block, expected)
 }
 
@@ -177,7 +177,7 @@ fn expect_only_user<D: Dialects>(
     user: Ptr<Operation<D>>,
 ) -> Result<(), CheckedErr> {
     let uses = uses_of(ctx, block)?;
-    assert_eq!(rt; uses.len(), 1);
+    assert!(rt; uses.len() == 1);
     for used in uses.iter() {
         assert!(rt; used.user_op() == user);
     }

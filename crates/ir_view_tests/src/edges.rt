@@ -26,8 +26,8 @@ pub(crate) fn expect_num_succ<D: Dialects>(
     if !block.is_live(ctx) {
         return Err(CheckedErr::Condition);
     }
-    assert_eq!(rt; block.num_succ(ctx), count);
-    assert_eq!(rt; block.has_succ(ctx), count > 0);
+    assert!(rt; block.num_succ(ctx) == count);
+    assert!(rt; block.has_succ(ctx) == (count > 0));
     Ok(())
 }
 

@@ -12,8 +12,8 @@ fn copy<V, S: HasParts<V>>(parts: &Parts<V, S>) -> Result<Parts<V, S>, CoreError
 
 // Asserts that so many parts are left.
 fn expect_count<V, S: HasParts<V>>(rt: &impl Abort, parts: &Parts<V, S>, count: usize) {
-    assert_eq!(rt; parts.len(), count);
-    assert_eq!(rt; parts.size_hint(), (count, Some(count)));
+    assert!(rt; parts.len() == count);
+    assert!(rt; parts.size_hint() == (count, Some(count)));
 }
 
 // Asserts that the parts are exactly these from the front on.

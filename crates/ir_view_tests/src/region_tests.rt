@@ -21,7 +21,7 @@ fn expect_place<D: Dialects>(
     if !region.is_live(ctx) {
         return Err(CheckedErr::Condition);
     }
-    assert_eq!(rt; region.find_index_in_parent(ctx), index);
+    assert!(rt; region.find_index_in_parent(ctx) == index);
     assert!(rt; region.get_parent_op(ctx) == op);
     Ok(())
 }
@@ -139,7 +139,7 @@ fn expect_dominance<D: Dialects>(
     if !region.is_live(ctx) {
         return Err(CheckedErr::Condition);
     }
-    assert_eq!(rt; region.has_ssa_dominance(ctx), expected);
+    assert!(rt; region.has_ssa_dominance(ctx) == expected);
     Ok(())
 }
 

@@ -51,7 +51,7 @@ fn expect_use<D: Dialects>(
     uses: &[Use<Value<D>>],
 ) {
     assert!(rt; used.user_op() == user);
-    assert_eq!(rt; used.try_find_index(ctx), Ok(index));
+    assert!(rt; used.try_find_index(ctx) == Ok(index));
     assert!(rt; uses.contains(&used));
 }
 
@@ -64,7 +64,7 @@ fn expect_two_uses<D: Dialects>(
 ) -> Result<(), CheckedErr> {
     let uses = uses_of(ctx, value)?;
     let operands = operand_uses(ctx, user)?;
-    assert_eq!(rt; operands.len(), 2);
+    assert!(rt; operands.len() == 2);
     for (index, used) in operands.iter().enumerate() {
         expect_use(rt, ctx, *used, user, index, uses.as_slice());
     }
@@ -93,7 +93,7 @@ fn name_twice<D: Dialects>(
 ) -> Result<(), CheckedErr> {
     let value = new_value(ctx, ty)?;
     let user = new_op(ctx, 4, &[ty], &[value, value], &[], 0)?;
-    assert_eq!(rt; num_uses(ctx, value)?, 2);
+    assert!(rt; num_uses(ctx, value)? == 2);
     expect_two_uses(rt, ctx, value, user)?;
     expect_unused(rt, ctx, user)
 }
@@ -121,8 +121,8 @@ fn make_or_stay<D: Dialects>(
 ) -> Result<(), CheckedErr> {
     let made = new_op(ctx, 5, &[], &[value, value, value], &[block, block], 2);
     let (uses, preds) = if made.is_ok() { (4, 3) } else { (1, 1) };
-    assert_eq!(rt; num_uses(ctx, value)?, uses);
-    assert_eq!(rt; num_preds(ctx, block)?, preds);
+    assert!(rt; num_uses(ctx, value)? == uses);
+    assert!(rt; num_preds(ctx, block)? == preds);
     assert!(rt; !ctx.is_ir_empty());
     made?;
     Ok(())

@@ -69,9 +69,9 @@ fn size_of_block(ctx: &Context<Calc>, block: Ptr<BasicBlock<Calc>>) -> Option<u6
 // Asserts the three numbers.
 fn expect_sizes(rt: &impl Abort, ctx: &Context<Calc>, made: &Made, sizes: [Option<u64>; 3]) {
     let [maker, user, block] = sizes;
-    assert_eq!(rt; size_of_op(ctx, made.maker), maker);
-    assert_eq!(rt; size_of_op(ctx, made.user), user);
-    assert_eq!(rt; size_of_block(ctx, made.block), block);
+    assert!(rt; size_of_op(ctx, made.maker) == maker);
+    assert!(rt; size_of_op(ctx, made.user) == user);
+    assert!(rt; size_of_block(ctx, made.block) == block);
 }
 
 // An operation with a result, one without, and a block, none of which has an attribute.
@@ -96,9 +96,9 @@ fn expect_op(
     let Ok(record) = op.try_deref(ctx) else {
         return Err(CheckedErr::Condition);
     };
-    assert_eq!(rt; record.kind(), kind);
-    assert_eq!(rt; record.get_num_results(), results);
-    assert_eq!(rt; *record.loc(), 0);
+    assert!(rt; record.kind() == kind);
+    assert!(rt; record.get_num_results() == results);
+    assert!(rt; *record.loc() == 0);
     Ok(())
 }
 
@@ -111,7 +111,7 @@ fn expect_no_loc(
     let Ok(record) = block.try_deref(ctx) else {
         return Err(CheckedErr::Condition);
     };
-    assert_eq!(rt; *record.loc(), 0);
+    assert!(rt; *record.loc() == 0);
     Ok(())
 }
 
