@@ -6,4 +6,4 @@ pub mod Handles
 pub mod Shallow
 pub mod Dominance
 pub mod Places
-pub mod Users
+pub mod BlockUsers

@@ -4,7 +4,7 @@ use Rattle.ir_model.specs.Forest.{an_op}
 use Rattle.ir_model.specs.Nesting.{IsLinked}
 use Rattle.ir_records.specs.declared.record.UseIndex.{UseIndex}
 use Rattle.ir_core.specs.State.{forest_of}
-use Rattle.ir_walk.proofs.Users.{all-told}
+use Rattle.ir_walk.proofs.BlockUsers.{all-told}
 use Rattle.ir_walk.proofs.users.all_linked.Goals as goal
 
 pub returns : goal.returns

@@ -3,7 +3,7 @@ use Rattle.ir_model.specs.ContextIds.{context_ids}
 use Rattle.ir_model.specs.Forest.{the_block}
 use Rattle.ir_model.specs.Uses.{AreUses, Use}
 use Rattle.ir_core.specs.State.{forest_of}
-use Rattle.ir_walk.proofs.Users.{kept-meant, users-linked, users-named}
+use Rattle.ir_walk.proofs.BlockUsers.{kept-meant, users-linked, users-named}
 use Rattle.ir_walk.proofs.users.kept_uses.Goals as goal
 
 pub returns-clause-kept : goal.returns-clause-kept
