@@ -1,5 +1,6 @@
-//! What the tests of blocks that are named make, move and expect, each with the condition of its call tested.
+//! What the tests of blocks that are named make, move and expect.
 
+use crate::calls::{counts, done, expect, expect_answer};
 use ir_base::{Dialects, Ptr};
 use ir_checked::{
     BasicBlock, BlockPtr, CheckedErr, Context, Operation, OperationPtr, Use, new_block, new_op,
@@ -8,31 +9,50 @@ use ir_checked::{
 use ir_view::{BlockPlace, BlockUseQueries, BlockUses, Retarget};
 use std::process::Abort;
 
+/// A new block without arguments.
+pub(crate) fn bare_block<D: Dialects>(rt: &impl Abort, ctx: &mut Context<D>) -> Ptr<BasicBlock<D>> {
+    done(rt, new_block(ctx, None, &[]))
+}
+
 /// Two new blocks without arguments.
 pub(crate) fn two_blocks<D: Dialects>(
+    rt: &impl Abort,
     ctx: &mut Context<D>,
-) -> Result<[Ptr<BasicBlock<D>>; 2], CheckedErr> {
-    let target = new_block(ctx, None, &[])?;
-    let other = new_block(ctx, None, &[])?;
-    Ok([target, other])
+) -> [Ptr<BasicBlock<D>>; 2] {
+    let target = bare_block(rt, ctx);
+    let other = bare_block(rt, ctx);
+    [target, other]
 }
 
 /// A new operation at the back of the block, with these successors.
 pub(crate) fn branch<D: Dialects>(
+    rt: &impl Abort,
     ctx: &mut Context<D>,
     from: Ptr<BasicBlock<D>>,
     to: &[Ptr<BasicBlock<D>>],
-) -> Result<Ptr<Operation<D>>, CheckedErr> {
-    let op = new_op(ctx, 3, &[], &[], to, 0)?;
-    op_at_back(ctx, op, from)?;
-    Ok(op)
+) -> Ptr<Operation<D>> {
+    let op = done(rt, new_op(ctx, 3, &[], &[], to, 0));
+    done(rt, op_at_back(ctx, op, from));
+    op
 }
 
-/// Lets the successors of those operations name the other block that name the one and stand in the chosen block.
-pub(crate) fn retarget_from<D: Dialects>(
+// Whether the block is the chosen one or, where none is, whether something names it, as the context that is handed in shows it.
+fn is_meant<D: Dialects>(
+    shown: &Context<D>,
+    chosen: Option<Ptr<BasicBlock<D>>>,
+    block: Ptr<BasicBlock<D>>,
+) -> bool {
+    match chosen {
+        Some(one) => block == one,
+        None => block.is_live(shown) && block.has_pred(shown),
+    }
+}
+
+/// Lets the successors of those operations name the other block that name the one and stand in the chosen block or, where none is, in a block that something names, in the context before.
+pub(crate) fn retarget_some<D: Dialects>(
     ctx: &mut Context<D>,
     block: Ptr<BasicBlock<D>>,
-    chosen: Ptr<BasicBlock<D>>,
+    chosen: Option<Ptr<BasicBlock<D>>>,
     other: Ptr<BasicBlock<D>>,
 ) -> Result<(), CheckedErr> {
     if !block.is_live(ctx) || !other.is_live(ctx) || !block.preds_are_linked(ctx) {
@@ -40,70 +60,45 @@ pub(crate) fn retarget_from<D: Dialects>(
     }
     block.retarget_some_preds_to(
         ctx,
-        |_shown: &Context<D>, pred: Ptr<BasicBlock<D>>| pred == chosen,
+        |shown: &Context<D>, pred: Ptr<BasicBlock<D>>| is_meant(shown, chosen, pred),
         other,
     )?;
     Ok(())
 }
 
-// Whether something names the block, as the context that is handed in shows it.
-fn is_named<D: Dialects>(shown: &Context<D>, block: Ptr<BasicBlock<D>>) -> bool {
-    block.is_live(shown) && block.has_pred(shown)
-}
-
-/// Lets the successors of those operations name the other block that name the one and stand in a block that something names, in the context before.
-pub(crate) fn retarget_from_named<D: Dialects>(
-    ctx: &mut Context<D>,
-    block: Ptr<BasicBlock<D>>,
-    other: Ptr<BasicBlock<D>>,
-) -> Result<(), CheckedErr> {
-    if !block.is_live(ctx) || !other.is_live(ctx) || !block.preds_are_linked(ctx) {
-        return Err(CheckedErr::Condition);
-    }
-    block.retarget_some_preds_to(
-        ctx,
-        |shown: &Context<D>, pred: Ptr<BasicBlock<D>>| is_named(shown, pred),
-        other,
-    )?;
-    Ok(())
-}
-
-/// Asserts what the operation's successor at the index is.
-pub(crate) fn expect_successor<D: Dialects>(
+/// The successor at the index, as a use.
+pub(crate) fn successor_use<D: Dialects>(
     rt: &impl Abort,
     ctx: &Context<D>,
     op: Ptr<Operation<D>>,
     index: usize,
-    block: Ptr<BasicBlock<D>>,
-) -> Result<(), CheckedErr> {
-    let named = successor(ctx, op, index)?;
-    assert!(rt; named == block);
-    Ok(())
+) -> Use<Ptr<BasicBlock<D>>> {
+    let record = op.try_deref(ctx).expect(rt, "the operation is live");
+    assert!(rt; index < record.get_num_successors());
+    record.get_successor_as_use(index)
 }
 
-/// Asserts what the operation's first two successors are.
-pub(crate) fn expect_successors<D: Dialects>(
+/// Asserts at which index the use stands among the successors of its user, and what it names.
+pub(crate) fn expect_block_use<D: Dialects>(
     rt: &impl Abort,
     ctx: &Context<D>,
-    op: Ptr<Operation<D>>,
-    [first, second]: [Ptr<BasicBlock<D>>; 2],
-) -> Result<(), CheckedErr> {
-    expect_successor(rt, ctx, op, 0, first)?;
-    expect_successor(rt, ctx, op, 1, second)
+    used: Use<Ptr<BasicBlock<D>>>,
+    index: usize,
+    block: Ptr<BasicBlock<D>>,
+) {
+    assert!(rt; used.try_find_index(ctx) == Ok(index));
+    expect(rt, used.get_def(ctx), block);
 }
 
-// Asserts how many successors name the block.
-fn expect_preds<D: Dialects>(
+/// Asserts how many successors name the block.
+pub(crate) fn expect_preds<D: Dialects>(
     rt: &impl Abort,
     ctx: &Context<D>,
     block: Ptr<BasicBlock<D>>,
     count: usize,
-) -> Result<(), CheckedErr> {
-    if !block.is_live(ctx) {
-        return Err(CheckedErr::Condition);
-    }
+) {
+    assert!(rt; block.is_live(ctx));
     assert!(rt; block.num_preds(ctx) == count);
-    Ok(())
 }
 
 /// Asserts how many successors name each of the two blocks.
@@ -112,19 +107,33 @@ pub(crate) fn expect_preds_of_both<D: Dialects>(
     ctx: &Context<D>,
     [target, other]: [Ptr<BasicBlock<D>>; 2],
     [of_target, of_other]: [usize; 2],
-) -> Result<(), CheckedErr> {
-    expect_preds(rt, ctx, target, of_target)?;
-    expect_preds(rt, ctx, other, of_other)
+) {
+    expect_preds(rt, ctx, target, of_target);
+    expect_preds(rt, ctx, other, of_other);
 }
 
-/// Asserts at which index the use is found, and what it names.
-pub(crate) fn expect_use_of<D: Dialects>(
+// Asserts what the successor at the index names, and that its use finds this index.
+fn expect_successor<D: Dialects>(
     rt: &impl Abort,
     ctx: &Context<D>,
-    used: Use<Ptr<BasicBlock<D>>>,
+    op: Ptr<Operation<D>>,
     index: usize,
     block: Ptr<BasicBlock<D>>,
 ) {
-    assert!(rt; used.try_find_index(ctx) == Ok(index));
-    assert!(rt; used.get_def(ctx) == block);
+    expect_answer(rt, successor(ctx, op, index), block);
+    expect_block_use(rt, ctx, successor_use(rt, ctx, op, index), index, block);
+}
+
+/// Asserts that the operation has exactly these successors, in this order, and that each use finds its index.
+pub(crate) fn expect_successors<D: Dialects>(
+    rt: &impl Abort,
+    ctx: &Context<D>,
+    op: Ptr<Operation<D>>,
+    expected: &[Ptr<BasicBlock<D>>],
+) {
+    let [_operands, successors, _regions] = done(rt, counts(ctx, op));
+    assert!(rt; successors == expected.len());
+    for (index, block) in expected.iter().enumerate() {
+        expect_successor(rt, ctx, op, index, *block);
+    }
 }

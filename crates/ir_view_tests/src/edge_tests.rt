@@ -1,13 +1,14 @@
 //! Edges between blocks, forward by terminators and back by uses.
 
-use crate::edges::{
-    expect_num_succ, expect_pred, expect_preds_linked, expect_succ, expect_succ_of,
-    expect_terminator, num_preds, pred_at, preds, succ_at, succs, uses_of,
-};
+use crate::edges::{num_preds, pred_at, succ_at};
 use crate::making::{branch, two_blocks};
+use crate::same::expect_same;
 use ir_base::{Dialects, Ptr};
-use ir_checked::{BasicBlock, CheckedErr, Context, Operation, end, new_op};
+use ir_checked::{
+    BasicBlock, BlockPlace, BlockPtr, CheckedErr, Context, Operation, Use, end, new_op,
+};
 use ir_toy::Toy;
+use ir_view::{BlockPredecessors, BlockSuccessors, BlockUses};
 use std::process::Abort;
 use std::test::Fail;
 
@@ -18,10 +19,10 @@ fn expect_succ_at<D: Dialects>(
     block: Ptr<BasicBlock<D>>,
     index: usize,
     succ: Ptr<BasicBlock<D>>,
-) -> Result<(), CheckedErr> {
-    let found = succ_at(ctx, block, index)?;
-    assert!(rt; found == succ);
-    expect_succ(rt, ctx, block, succ, true)
+) {
+    assert!(rt; block.is_live(ctx));
+    expect_same(rt, succ_at(ctx, block, index), Ok(succ));
+    expect_same(rt, block.is_succ(ctx, succ), true);
 }
 
 // Asserts that the block has these successors at the indices from 0 on, and none after them.
@@ -30,25 +31,27 @@ fn expect_each_succ<D: Dialects>(
     ctx: &Context<D>,
     block: Ptr<BasicBlock<D>>,
     expected: &[Ptr<BasicBlock<D>>],
-) -> Result<(), CheckedErr> {
+) {
     for (index, succ) in expected.iter().enumerate() {
-        expect_succ_at(rt, ctx, block, index, *succ)?;
+        expect_succ_at(rt, ctx, block, index, *succ);
     }
-    assert!(rt; succ_at(ctx, block, expected.len()) == Err(CheckedErr::Condition));
-    Ok(())
+    let after = succ_at(ctx, block, expected.len());
+    expect_same(rt, after, Err(CheckedErr::Condition));
 }
 
-// Asserts that the block has exactly these successors in this order, however they are read.
-fn expect_succs<D: Dialects>(
+// Asserts that exactly these are the successors of the block in this order, as a list.
+fn expect_listed_succs<D: Dialects>(
     rt: &impl Abort,
     ctx: &Context<D>,
     block: Ptr<BasicBlock<D>>,
     expected: &[Ptr<BasicBlock<D>>],
 ) -> Result<(), CheckedErr> {
-    let listed = succs(ctx, block)?;
+    assert!(rt; block.is_live(ctx));
+    expect_same(rt, block.num_succ(ctx), expected.len());
+    expect_same(rt, block.has_succ(ctx), expected.len() > 0);
+    let listed = block.succs(ctx)?;
     assert!(rt; listed.as_slice() == expected);
-    expect_num_succ(rt, ctx, block, expected.len())?;
-    expect_each_succ(rt, ctx, block, expected)
+    Ok(())
 }
 
 // Asserts that the block has this predecessor at the index.
@@ -58,10 +61,10 @@ fn expect_pred_at<D: Dialects>(
     block: Ptr<BasicBlock<D>>,
     index: usize,
     pred: Ptr<BasicBlock<D>>,
-) -> Result<(), CheckedErr> {
-    let found = pred_at(ctx, block, index)?;
-    assert!(rt; found == pred);
-    expect_pred(rt, ctx, block, pred, true)
+) {
+    assert!(rt; block.is_live(ctx));
+    expect_same(rt, pred_at(ctx, block, index), Ok(pred));
+    expect_same(rt, block.is_pred(ctx, pred), true);
 }
 
 // Asserts that the block has these predecessors at the indices from 0 on, and none after them.
@@ -70,26 +73,41 @@ fn expect_each_pred<D: Dialects>(
     ctx: &Context<D>,
     block: Ptr<BasicBlock<D>>,
     expected: &[Ptr<BasicBlock<D>>],
-) -> Result<(), CheckedErr> {
+) {
     for (index, pred) in expected.iter().enumerate() {
-        expect_pred_at(rt, ctx, block, index, *pred)?;
+        expect_pred_at(rt, ctx, block, index, *pred);
     }
-    assert!(rt; pred_at(ctx, block, expected.len()) == Err(CheckedErr::Condition));
-    Ok(())
+    let after = pred_at(ctx, block, expected.len());
+    expect_same(rt, after, Err(CheckedErr::Condition));
 }
 
-// Asserts that the block's users are linked, and that exactly these are its predecessors.
-fn expect_preds<D: Dialects>(
+// Asserts that the block's users are linked, and that exactly these are its predecessors, as a list.
+fn expect_listed_preds<D: Dialects>(
     rt: &impl Abort,
     ctx: &Context<D>,
     block: Ptr<BasicBlock<D>>,
     expected: &[Ptr<BasicBlock<D>>],
 ) -> Result<(), CheckedErr> {
-    expect_preds_linked(rt, ctx, block, true)?;
-    let listed = preds(ctx, block)?;
+    assert!(rt; block.is_live(ctx));
+    assert!(rt; block.preds_are_linked(ctx));
+    expect_same(rt, num_preds(ctx, block), Ok(expected.len()));
+    let listed = block.preds(ctx)?;
     assert!(rt; listed.as_slice() == expected);
-    assert!(rt; num_preds(ctx, block)? == expected.len());
-    expect_each_pred(rt, ctx, block, expected)
+    Ok(())
+}
+
+// Asserts that the block has exactly these successors and these predecessors, however they are read.
+fn expect_edges<D: Dialects>(
+    rt: &impl Abort,
+    ctx: &Context<D>,
+    block: Ptr<BasicBlock<D>>,
+    succs: &[Ptr<BasicBlock<D>>],
+    preds: &[Ptr<BasicBlock<D>>],
+) -> Result<(), CheckedErr> {
+    expect_each_succ(rt, ctx, block, succs);
+    expect_each_pred(rt, ctx, block, preds);
+    expect_listed_succs(rt, ctx, block, succs)?;
+    expect_listed_preds(rt, ctx, block, preds)
 }
 
 // Asserts that the last operation of a names b and is no terminator, and that no operation in b names either.
@@ -98,23 +116,24 @@ fn expect_named_by_last<D: Dialects>(
     ctx: &Context<D>,
     a: Ptr<BasicBlock<D>>,
     b: Ptr<BasicBlock<D>>,
-) -> Result<(), CheckedErr> {
-    expect_succ_of(rt, ctx, b, a, true)?;
-    expect_succ_of(rt, ctx, a, b, false)?;
-    expect_succ(rt, ctx, a, b, false)?;
-    expect_pred(rt, ctx, b, b, false)?;
-    expect_pred(rt, ctx, a, b, false)?;
-    expect_terminator(rt, ctx, a, None)
+) {
+    assert!(rt; a.is_live(ctx));
+    assert!(rt; b.is_live(ctx));
+    expect_same(rt, b.is_succ_of(ctx, a), true);
+    expect_same(rt, a.is_succ_of(ctx, b), false);
+    expect_same(rt, a.is_succ(ctx, b), false);
+    expect_same(rt, b.is_pred(ctx, b), false);
+    expect_same(rt, a.is_pred(ctx, b), false);
+    expect_same(rt, a.get_terminator(ctx), None);
 }
 
 // An operation of kind 4, last in the block a, names b twice.
 fn name_twice<D: Dialects>(rt: &impl Abort, ctx: &mut Context<D>) -> Result<(), CheckedErr> {
     let [a, b] = two_blocks(ctx)?;
     branch(ctx, 4, a, &[b, b])?;
-    expect_preds(rt, ctx, b, &[a, a])?;
-    expect_preds(rt, ctx, a, &[])?;
-    expect_succs(rt, ctx, a, &[])?;
-    expect_named_by_last(rt, ctx, a, b)
+    expect_named_by_last(rt, ctx, a, b);
+    expect_edges(rt, ctx, a, &[], &[])?;
+    expect_edges(rt, ctx, b, &[], &[a, a])
 }
 
 #[test]
@@ -125,26 +144,25 @@ fn preds_twice(rt: HostRuntime) -> Result<(), Fail> {
     Ok(())
 }
 
-// Asserts that the successors of a are b and a, and that b has none.
-fn expect_both_named<D: Dialects>(
+// Asserts that the operation is the terminator of the block, and that it names the block.
+fn expect_named_by_terminator<D: Dialects>(
     rt: &impl Abort,
     ctx: &Context<D>,
-    a: Ptr<BasicBlock<D>>,
-    b: Ptr<BasicBlock<D>>,
-) -> Result<(), CheckedErr> {
-    expect_succs(rt, ctx, a, &[b, a])?;
-    expect_succs(rt, ctx, b, &[])?;
-    expect_preds(rt, ctx, a, &[a])?;
-    expect_preds(rt, ctx, b, &[a])
+    block: Ptr<BasicBlock<D>>,
+    terminator: Ptr<Operation<D>>,
+) {
+    assert!(rt; block.is_live(ctx));
+    expect_same(rt, block.get_terminator(ctx), Some(terminator));
+    expect_same(rt, block.is_succ_of(ctx, block), true);
 }
 
 // A terminator, of kind 3, at the end of the block a names b and then a.
 fn end_by_branch<D: Dialects>(rt: &impl Abort, ctx: &mut Context<D>) -> Result<(), CheckedErr> {
     let [a, b] = two_blocks(ctx)?;
     let last = branch(ctx, 3, a, &[b, a])?;
-    expect_both_named(rt, ctx, a, b)?;
-    expect_terminator(rt, ctx, a, Some(last))?;
-    expect_succ_of(rt, ctx, a, a, true)
+    expect_named_by_terminator(rt, ctx, a, last);
+    expect_edges(rt, ctx, a, &[b, a], &[a])?;
+    expect_edges(rt, ctx, b, &[], &[a])
 }
 
 #[test]
@@ -161,12 +179,26 @@ fn expect_no_edge<D: Dialects>(
     ctx: &Context<D>,
     a: Ptr<BasicBlock<D>>,
     b: Ptr<BasicBlock<D>>,
-) -> Result<(), CheckedErr> {
-    expect_pred(rt, ctx, b, a, false)?;
-    expect_pred(rt, ctx, b, b, false)?;
-    expect_preds_linked(rt, ctx, b, false)?;
-    expect_preds_linked(rt, ctx, a, true)?;
-    expect_succ_of(rt, ctx, b, a, false)
+) {
+    assert!(rt; a.is_live(ctx));
+    assert!(rt; b.is_live(ctx));
+    expect_same(rt, b.is_pred(ctx, a), false);
+    expect_same(rt, b.is_pred(ctx, b), false);
+    expect_same(rt, b.preds_are_linked(ctx), false);
+    expect_same(rt, a.preds_are_linked(ctx), true);
+    expect_same(rt, b.is_succ_of(ctx, a), false);
+}
+
+// Asserts that there is one use, and that it is the user's.
+fn expect_only_use<D: Dialects>(
+    rt: &impl Abort,
+    uses: &[Use<Ptr<BasicBlock<D>>>],
+    user: Ptr<Operation<D>>,
+) {
+    expect_same(rt, uses.len(), 1);
+    for used in uses {
+        expect_same(rt, used.user_op(), user);
+    }
 }
 
 // Asserts that the block has one use, and that this is the user's.
@@ -176,11 +208,9 @@ fn expect_only_user<D: Dialects>(
     block: Ptr<BasicBlock<D>>,
     user: Ptr<Operation<D>>,
 ) -> Result<(), CheckedErr> {
-    let uses = uses_of(ctx, block)?;
-    assert!(rt; uses.len() == 1);
-    for used in uses.iter() {
-        assert!(rt; used.user_op() == user);
-    }
+    assert!(rt; block.is_live(ctx));
+    let uses = block.uses(ctx)?;
+    expect_only_use(rt, uses.as_slice(), user);
     Ok(())
 }
 
@@ -188,7 +218,7 @@ fn expect_only_user<D: Dialects>(
 fn name_unlinked<D: Dialects>(rt: &impl Abort, ctx: &mut Context<D>) -> Result<(), CheckedErr> {
     let [a, b] = two_blocks(ctx)?;
     let user = new_op(ctx, 4, &[], &[], &[b], 0)?;
-    expect_no_edge(rt, ctx, a, b)?;
+    expect_no_edge(rt, ctx, a, b);
     expect_only_user(rt, ctx, b, user)
 }
 

@@ -22,4 +22,6 @@ mod place_tests;
 #[cfg(test)]
 mod region_tests;
 #[cfg(test)]
+mod same;
+#[cfg(test)]
 mod use_tests;

@@ -2,8 +2,8 @@
 
 use ir_base::{Dialects, Ptr, TypeHandle};
 use ir_checked::{
-    BasicBlock, CheckedErr, Context, Operation, Region, block_at_back, new_block, new_op,
-    op_at_back, region,
+    BasicBlock, CheckedErr, Context, Operation, Region, Value, block_at_back, new_block, new_op,
+    op_at_back, region, result,
 };
 use ir_toy::{Toy, ToyType};
 
@@ -20,6 +20,25 @@ pub(crate) fn bare_op<D: Dialects>(
     regions: usize,
 ) -> Result<Ptr<Operation<D>>, CheckedErr> {
     new_op(ctx, kind, &[], &[], &[], regions)
+}
+
+/// A new operation that has one region, and this region.
+pub(crate) fn op_with_region<D: Dialects>(
+    ctx: &mut Context<D>,
+) -> Result<(Ptr<Operation<D>>, Ptr<Region>), CheckedErr> {
+    let op = bare_op(ctx, 5, 1)?;
+    let region = region(ctx, op, 0)?;
+    Ok((op, region))
+}
+
+/// A new operation that has one result, and this result.
+pub(crate) fn op_with_result<D: Dialects>(
+    ctx: &mut Context<D>,
+    ty: TypeHandle,
+) -> Result<(Ptr<Operation<D>>, Value<D>), CheckedErr> {
+    let op = new_op(ctx, 0, &[ty], &[], &[], 0)?;
+    let value = result(ctx, op, 0)?;
+    Ok((op, value))
 }
 
 /// A new block without arguments, which stands in no region.
@@ -55,8 +74,7 @@ pub(crate) fn branch<D: Dialects>(
 pub(crate) fn two_blocks<D: Dialects>(
     ctx: &mut Context<D>,
 ) -> Result<[Ptr<BasicBlock<D>>; 2], CheckedErr> {
-    let parent = bare_op(ctx, 5, 1)?;
-    let region = region(ctx, parent, 0)?;
+    let (_parent, region) = op_with_region(ctx)?;
     let first = block_in(ctx, region)?;
     let second = block_in(ctx, region)?;
     Ok([first, second])

@@ -1,9 +1,10 @@
 //! What operations, blocks, regions and values stand in.
 
+use crate::same::expect_same;
 use ir_base::{Dialects, Ptr};
 use ir_checked::{
-    BasicBlock, BlockPlace, BlockPtr, CheckedErr, Context, Operation, OperationPlace, OperationPtr,
-    Region, RegionPlace, RegionPtr, Value, ValueQueries,
+    BasicBlock, BlockPlace, BlockPtr, Context, Operation, OperationPlace, OperationPtr, Region,
+    RegionPlace, RegionPtr, Value, ValueQueries,
 };
 use ir_view::ValuePlace;
 use std::process::Abort;
@@ -16,14 +17,11 @@ pub(crate) fn expect_op_in<D: Dialects>(
     block: Option<Ptr<BasicBlock<D>>>,
     region: Option<Ptr<Region>>,
     parent: Option<Ptr<Operation<D>>>,
-) -> Result<(), CheckedErr> {
-    if !op.is_live(ctx) {
-        return Err(CheckedErr::Condition);
-    }
-    assert!(rt; op.get_parent_block(ctx) == block);
-    assert!(rt; op.get_parent_region(ctx) == region);
-    assert!(rt; op.get_parent_op(ctx) == parent);
-    Ok(())
+) {
+    assert!(rt; op.is_live(ctx));
+    expect_same(rt, op.get_parent_block(ctx), block);
+    expect_same(rt, op.get_parent_region(ctx), region);
+    expect_same(rt, op.get_parent_op(ctx), parent);
 }
 
 /// Asserts in which region and operation the block stands.
@@ -33,13 +31,10 @@ pub(crate) fn expect_block_in<D: Dialects>(
     block: Ptr<BasicBlock<D>>,
     region: Option<Ptr<Region>>,
     parent: Option<Ptr<Operation<D>>>,
-) -> Result<(), CheckedErr> {
-    if !block.is_live(ctx) {
-        return Err(CheckedErr::Condition);
-    }
-    assert!(rt; block.get_parent_region(ctx) == region);
-    assert!(rt; block.get_parent_op(ctx) == parent);
-    Ok(())
+) {
+    assert!(rt; block.is_live(ctx));
+    expect_same(rt, block.get_parent_region(ctx), region);
+    expect_same(rt, block.get_parent_op(ctx), parent);
 }
 
 /// Asserts to which operation the region belongs, and in which block and region that one stands.
@@ -50,14 +45,11 @@ pub(crate) fn expect_region_in<D: Dialects>(
     op: Ptr<Operation<D>>,
     block: Option<Ptr<BasicBlock<D>>>,
     parent: Option<Ptr<Region>>,
-) -> Result<(), CheckedErr> {
-    if !region.is_live(ctx) {
-        return Err(CheckedErr::Condition);
-    }
-    assert!(rt; region.get_parent_op(ctx) == op);
-    assert!(rt; region.get_parent_block(ctx) == block);
-    assert!(rt; region.get_parent_region(ctx) == parent);
-    Ok(())
+) {
+    assert!(rt; region.is_live(ctx));
+    expect_same(rt, region.get_parent_op(ctx), op);
+    expect_same(rt, region.get_parent_block(ctx), block);
+    expect_same(rt, region.get_parent_region(ctx), parent);
 }
 
 /// Asserts in which block and region the value stands.
@@ -67,11 +59,8 @@ pub(crate) fn expect_value_in<D: Dialects>(
     value: Value<D>,
     block: Option<Ptr<BasicBlock<D>>>,
     region: Option<Ptr<Region>>,
-) -> Result<(), CheckedErr> {
-    if !value.is_live(ctx) {
-        return Err(CheckedErr::Condition);
-    }
-    assert!(rt; value.get_parent_block(ctx) == block);
-    assert!(rt; value.get_parent_region(ctx) == region);
-    Ok(())
+) {
+    assert!(rt; value.is_live(ctx));
+    expect_same(rt, value.get_parent_block(ctx), block);
+    expect_same(rt, value.get_parent_region(ctx), region);
 }

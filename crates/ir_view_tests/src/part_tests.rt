@@ -1,7 +1,8 @@
 //! The parts of an operation and of a block, walked from both ends.
 
 use crate::making::int;
-use crate::parts::{expect_parts, expect_regions};
+use crate::parts::expect_parts;
+use crate::same::{expect_same, expect_two};
 use ir_base::{Dialects, Ptr, TypeHandle};
 use ir_checked::{
     BasicBlock, BlockPtr, CheckedErr, Context, Operation, OperationPtr, Use, Value, argument, end,
@@ -31,99 +32,11 @@ fn make<D: Dialects>(ctx: &mut Context<D>, types: [TypeHandle; 2]) -> Result<Mad
     Ok(Made { block, x, y, op })
 }
 
-// Asserts that these are the arguments of the block, and these their types.
-fn expect_arguments<D: Dialects>(
-    rt: &impl Abort,
-    ctx: &Context<D>,
-    block: Ptr<BasicBlock<D>>,
-    arguments: &[Value<D>],
-    types: &[TypeHandle],
-) -> Result<(), CheckedErr> {
-    let Ok(record) = block.try_deref(ctx) else {
-        return Err(CheckedErr::Condition);
-    };
-    expect_parts(rt, record.arguments(), arguments)?;
-    expect_parts(rt, record.argument_types(), types)
-}
-
-// Asserts that these are the results of the operation, and these their types.
-fn expect_results<D: Dialects>(
-    rt: &impl Abort,
-    ctx: &Context<D>,
-    op: Ptr<Operation<D>>,
-    results: &[Value<D>],
-    types: &[TypeHandle],
-) -> Result<(), CheckedErr> {
-    let Ok(record) = op.try_deref(ctx) else {
-        return Err(CheckedErr::Condition);
-    };
-    expect_parts(rt, record.results(), results)?;
-    expect_parts(rt, record.result_types(), types)
-}
-
-// Asserts that these are the values that the operation names, and these their types.
-fn expect_operands<D: Dialects>(
-    rt: &impl Abort,
-    ctx: &Context<D>,
-    op: Ptr<Operation<D>>,
-    values: &[Value<D>],
-    types: &[TypeHandle],
-) -> Result<(), CheckedErr> {
-    let Ok(record) = op.try_deref(ctx) else {
-        return Err(CheckedErr::Condition);
-    };
-    expect_parts(rt, record.operands(), values)?;
-    expect_parts(rt, record.operand_types(ctx), types)
-}
-
-// Asserts that these are the operation's operands as uses.
-fn expect_operand_uses<D: Dialects>(
-    rt: &impl Abort,
-    ctx: &Context<D>,
-    op: Ptr<Operation<D>>,
-    uses: &[Use<Value<D>>],
-) -> Result<(), CheckedErr> {
-    let Ok(record) = op.try_deref(ctx) else {
-        return Err(CheckedErr::Condition);
-    };
-    expect_parts(rt, record.operands_as_uses(), uses)
-}
-
-// Asserts that these are the blocks that the operation names.
-fn expect_successors<D: Dialects>(
-    rt: &impl Abort,
-    ctx: &Context<D>,
-    op: Ptr<Operation<D>>,
-    blocks: &[Ptr<BasicBlock<D>>],
-) -> Result<(), CheckedErr> {
-    let Ok(record) = op.try_deref(ctx) else {
-        return Err(CheckedErr::Condition);
-    };
-    expect_parts(rt, record.successors(), blocks)
-}
-
-// Asserts that these are the operation's successors as uses.
-fn expect_successor_uses<D: Dialects>(
-    rt: &impl Abort,
-    ctx: &Context<D>,
-    op: Ptr<Operation<D>>,
-    uses: &[Use<Ptr<BasicBlock<D>>>],
-) -> Result<(), CheckedErr> {
-    let Ok(record) = op.try_deref(ctx) else {
-        return Err(CheckedErr::Condition);
-    };
-    expect_parts(rt, record.successors_as_uses(), uses)
-}
-
 // The operand at the index, as a use.
 fn operand_use<D: Dialects>(
-    ctx: &Context<D>,
-    op: Ptr<Operation<D>>,
+    record: &Operation<D>,
     index: usize,
 ) -> Result<Use<Value<D>>, CheckedErr> {
-    let Ok(record) = op.try_deref(ctx) else {
-        return Err(CheckedErr::Condition);
-    };
     if index >= record.get_num_operands() {
         return Err(CheckedErr::Condition);
     }
@@ -132,13 +45,9 @@ fn operand_use<D: Dialects>(
 
 // The successor at the index, as a use.
 fn successor_use<D: Dialects>(
-    ctx: &Context<D>,
-    op: Ptr<Operation<D>>,
+    record: &Operation<D>,
     index: usize,
 ) -> Result<Use<Ptr<BasicBlock<D>>>, CheckedErr> {
-    let Ok(record) = op.try_deref(ctx) else {
-        return Err(CheckedErr::Condition);
-    };
     if index >= record.get_num_successors() {
         return Err(CheckedErr::Condition);
     }
@@ -150,11 +59,17 @@ fn tell_arguments<D: Dialects>(
     rt: &impl Abort,
     ctx: &Context<D>,
     made: &Made<D>,
-    types: [TypeHandle; 2],
+    types: &[TypeHandle],
 ) -> Result<(), CheckedErr> {
-    assert!(rt; made.x != made.y);
-    assert!(rt; argument(ctx, made.block, 2) == Err(CheckedErr::Condition));
-    expect_arguments(rt, ctx, made.block, &[made.x, made.y], &types)
+    let Ok(record) = made.block.try_deref(ctx) else {
+        return Err(CheckedErr::Condition);
+    };
+    expect_two(rt, made.x, made.y);
+    let third = argument(ctx, made.block, 2);
+    expect_same(rt, third, Err(CheckedErr::Condition));
+    expect_parts(rt, record.arguments(), &[made.x, made.y]);
+    expect_parts(rt, record.argument_types(), types);
+    Ok(())
 }
 
 // The results and their types, of which there are two.
@@ -162,14 +77,17 @@ fn tell_results<D: Dialects>(
     rt: &impl Abort,
     ctx: &Context<D>,
     op: Ptr<Operation<D>>,
-    types: [TypeHandle; 2],
+    record: &Operation<D>,
+    types: &[TypeHandle],
 ) -> Result<(), CheckedErr> {
-    let [t0, t1] = types;
     let v = result(ctx, op, 0)?;
     let w = result(ctx, op, 1)?;
-    assert!(rt; v != w);
-    assert!(rt; result(ctx, op, 2) == Err(CheckedErr::Condition));
-    expect_results(rt, ctx, op, &[v, w], &[t1, t0])
+    expect_two(rt, v, w);
+    let third = result(ctx, op, 2);
+    expect_same(rt, third, Err(CheckedErr::Condition));
+    expect_parts(rt, record.results(), &[v, w]);
+    expect_parts(rt, record.result_types(), types);
+    Ok(())
 }
 
 // The regions, of which there are two.
@@ -177,43 +95,75 @@ fn tell_regions<D: Dialects>(
     rt: &impl Abort,
     ctx: &Context<D>,
     op: Ptr<Operation<D>>,
+    record: &Operation<D>,
 ) -> Result<(), CheckedErr> {
     let first = region(ctx, op, 0)?;
     let second = region(ctx, op, 1)?;
-    assert!(rt; first != second);
-    assert!(rt; region(ctx, op, 2) == Err(CheckedErr::Condition));
-    expect_regions(rt, ctx, op, &[first, second])
+    expect_two(rt, first, second);
+    let third = region(ctx, op, 2);
+    expect_same(rt, third, Err(CheckedErr::Condition));
+    expect_parts(rt, record.regions(), &[first, second]);
+    Ok(())
 }
 
-// The operands, as values and as uses, and the types of what they name.
-fn tell_operands<D: Dialects>(
+// The operands as uses, of which there are three.
+fn tell_operand_uses<D: Dialects>(
+    rt: &impl Abort,
+    record: &Operation<D>,
+) -> Result<(), CheckedErr> {
+    let first = operand_use(record, 0)?;
+    let second = operand_use(record, 1)?;
+    let third = operand_use(record, 2)?;
+    expect_two(rt, first, second);
+    expect_two(rt, second, third);
+    expect_two(rt, first, third);
+    expect_same(rt, operand_use(record, 3), Err(CheckedErr::Condition));
+    expect_parts(rt, record.operands_as_uses(), &[first, second, third]);
+    Ok(())
+}
+
+// The successors as uses, of which there are two.
+fn tell_successor_uses<D: Dialects>(
+    rt: &impl Abort,
+    record: &Operation<D>,
+) -> Result<(), CheckedErr> {
+    let first = successor_use(record, 0)?;
+    let second = successor_use(record, 1)?;
+    expect_two(rt, first, second);
+    expect_same(rt, successor_use(record, 2), Err(CheckedErr::Condition));
+    expect_parts(rt, record.successors_as_uses(), &[first, second]);
+    Ok(())
+}
+
+// What the operation names: the values and their types, and the blocks, and both as uses.
+fn tell_named<D: Dialects>(
     rt: &impl Abort,
     ctx: &Context<D>,
     made: &Made<D>,
-    types: [TypeHandle; 2],
+    types: &[TypeHandle],
 ) -> Result<(), CheckedErr> {
-    let [t0, t1] = types;
-    expect_operands(rt, ctx, made.op, &[made.x, made.y, made.x], &[t0, t1, t0])?;
-    let first = operand_use(ctx, made.op, 0)?;
-    let second = operand_use(ctx, made.op, 1)?;
-    let third = operand_use(ctx, made.op, 2)?;
-    assert!(rt; first != second && second != third && first != third);
-    assert!(rt; operand_use(ctx, made.op, 3) == Err(CheckedErr::Condition));
-    expect_operand_uses(rt, ctx, made.op, &[first, second, third])
+    let Ok(record) = made.op.try_deref(ctx) else {
+        return Err(CheckedErr::Condition);
+    };
+    expect_parts(rt, record.operands(), &[made.x, made.y, made.x]);
+    expect_parts(rt, record.operand_types(ctx), types);
+    expect_parts(rt, record.successors(), &[made.block, made.block]);
+    tell_operand_uses(rt, record)?;
+    tell_successor_uses(rt, record)
 }
 
-// The successors, as blocks and as uses.
-fn tell_successors<D: Dialects>(
+// What the operation has: results of these types, and regions.
+fn tell_owned<D: Dialects>(
     rt: &impl Abort,
     ctx: &Context<D>,
-    made: &Made<D>,
+    op: Ptr<Operation<D>>,
+    types: &[TypeHandle],
 ) -> Result<(), CheckedErr> {
-    expect_successors(rt, ctx, made.op, &[made.block, made.block])?;
-    let first = successor_use(ctx, made.op, 0)?;
-    let second = successor_use(ctx, made.op, 1)?;
-    assert!(rt; first != second);
-    assert!(rt; successor_use(ctx, made.op, 2) == Err(CheckedErr::Condition));
-    expect_successor_uses(rt, ctx, made.op, &[first, second])
+    let Ok(record) = op.try_deref(ctx) else {
+        return Err(CheckedErr::Condition);
+    };
+    tell_results(rt, ctx, op, record, types)?;
+    tell_regions(rt, ctx, op, record)
 }
 
 // A block and an operation over the two types, and all that is told of their parts.
@@ -222,12 +172,11 @@ fn tell_parts<D: Dialects>(
     ctx: &mut Context<D>,
     types: [TypeHandle; 2],
 ) -> Result<(), CheckedErr> {
+    let [t0, t1] = types;
     let made = make(ctx, types)?;
-    tell_arguments(rt, ctx, &made, types)?;
-    tell_results(rt, ctx, made.op, types)?;
-    tell_regions(rt, ctx, made.op)?;
-    tell_operands(rt, ctx, &made, types)?;
-    tell_successors(rt, ctx, &made)
+    tell_arguments(rt, ctx, &made, &types)?;
+    tell_named(rt, ctx, &made, &[t0, t1, t0])?;
+    tell_owned(rt, ctx, made.op, &[t1, t0])
 }
 
 // The same over the dialect Toy, with two integer types.

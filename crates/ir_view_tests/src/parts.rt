@@ -1,19 +1,13 @@
 //! Iterators over parts, compared with lists.
 
-use ir_base::{CoreError, Dialects, Ptr};
-use ir_checked::{CheckedErr, Context, Operation, OperationPtr, Region};
-use ir_view::{HasParts, OperationParts, Parts};
+use crate::same::expect_same;
+use ir_view::{HasParts, Parts};
 use std::process::Abort;
-
-// A copy of the iterator.
-fn copy<V, S: HasParts<V>>(parts: &Parts<V, S>) -> Result<Parts<V, S>, CoreError> {
-    Ok(parts.clone()?)
-}
 
 // Asserts that so many parts are left.
 fn expect_count<V, S: HasParts<V>>(rt: &impl Abort, parts: &Parts<V, S>, count: usize) {
-    assert!(rt; parts.len() == count);
-    assert!(rt; parts.size_hint() == (count, Some(count)));
+    expect_same(rt, parts.len(), count);
+    expect_same(rt, parts.size_hint(), (count, Some(count)));
 }
 
 // Asserts that the parts are exactly these from the front on.
@@ -24,9 +18,9 @@ fn expect_forward<V, T: Copy + PartialEq + Drop, S: HasParts<V, Item = T>>(
 ) {
     let mut forward = parts;
     for item in expected {
-        assert!(rt; forward.next() == Some(*item));
+        expect_same(rt, forward.next(), Some(*item));
     }
-    assert!(rt; forward.next().is_none());
+    expect_same(rt, forward.next(), None);
 }
 
 // Asserts that the parts are exactly these from the back on.
@@ -37,33 +31,21 @@ fn expect_back<V, T: Copy + PartialEq + Drop, S: HasParts<V, Item = T>>(
 ) {
     let mut back = parts;
     for item in expected.iter().rev() {
-        assert!(rt; back.next_back() == Some(*item));
+        expect_same(rt, back.next_back(), Some(*item));
     }
-    assert!(rt; back.next_back().is_none());
+    expect_same(rt, back.next_back(), None);
 }
 
-/// Asserts that the parts are exactly these, from both ends.
+/// Asserts that the parts are exactly these, from both ends. A copy of them takes no memory, and is never refused.
 pub(crate) fn expect_parts<V, T: Copy + PartialEq + Drop, S: HasParts<V, Item = T>>(
     rt: &impl Abort,
     parts: Parts<V, S>,
     expected: &[T],
-) -> Result<(), CheckedErr> {
+) {
     expect_count(rt, &parts, expected.len());
-    let back = copy(&parts)?;
+    match parts.clone() {
+        Ok(copy) => expect_back(rt, copy, expected),
+        Err(_) => assert!(rt; false),
+    }
     expect_forward(rt, parts, expected);
-    expect_back(rt, back, expected);
-    Ok(())
-}
-
-/// Asserts that these are the regions of the operation.
-pub(crate) fn expect_regions<D: Dialects>(
-    rt: &impl Abort,
-    ctx: &Context<D>,
-    op: Ptr<Operation<D>>,
-    regions: &[Ptr<Region>],
-) -> Result<(), CheckedErr> {
-    let Ok(record) = op.try_deref(ctx) else {
-        return Err(CheckedErr::Condition);
-    };
-    expect_parts(rt, record.regions(), regions)
 }

@@ -2,12 +2,14 @@
 //!
 //! Step by step they are sessions as texts: what these show of a list is how it is walked forward and backward, its ends, and the neighbours and the place of each node.
 
-use crate::making::{bare_block, bare_op, block_in};
+use crate::making::{bare_block, bare_op, block_in, op_with_region};
 use crate::parents::expect_op_in;
-use ir_base::{Dialects, Limits, Ptr};
+use crate::same::expect_same;
+use ir_base::linked_list::LinkedList;
+use ir_base::{Dialects, Iter, Limits, Ptr};
 use ir_checked::{
     BasicBlock, BlockPlace, BlockPtr, CheckedErr, Context, Operation, OperationPlace, OperationPtr,
-    Region, RegionPlace, RegionPtr, block_head, block_tail, end, op_at_back, region, region_head,
+    Region, RegionPlace, RegionPtr, block_head, block_tail, end, op_at_back, region_head,
     region_tail, unlink_block, unlink_op,
 };
 use ir_lab::{LabError, first_difference};
@@ -74,45 +76,33 @@ fn expect_op<D: Dialects>(
     linked: bool,
     previous: Option<Ptr<Operation<D>>>,
     next: Option<Ptr<Operation<D>>>,
-) -> Result<(), CheckedErr> {
-    if !op.is_live(ctx) {
-        return Err(CheckedErr::Condition);
-    }
-    assert!(rt; op.is_linked(ctx) == linked);
-    assert!(rt; op.get_prev(ctx) == previous);
-    assert!(rt; op.get_next(ctx) == next);
-    Ok(())
+) {
+    assert!(rt; op.is_live(ctx));
+    expect_same(rt, op.is_linked(ctx), linked);
+    expect_same(rt, op.get_prev(ctx), previous);
+    expect_same(rt, op.get_next(ctx), next);
 }
 
-// What a walk over the block gives from its front and from its back by turns, and then from both.
-fn op_turns<D: Dialects>(
-    ctx: &Context<D>,
-    block: Ptr<BasicBlock<D>>,
-) -> Result<[Option<Ptr<Operation<D>>>; 5], CheckedErr> {
-    if !block.is_live(ctx) {
-        return Err(CheckedErr::Condition);
-    }
-    let mut turns = block.iter(ctx);
-    Ok([
-        turns.next(),
-        turns.next_back(),
-        turns.next(),
-        turns.next(),
-        turns.next_back(),
-    ])
+// Asserts that a walk from its front and from its back by turns, and then from both, gives the first, the last and the middle one.
+fn expect_turns<T: LinkedList>(rt: &impl Abort, walk: Iter<'_, T>, nodes: [Ptr<T>; 3]) {
+    let [first, middle, last] = nodes;
+    let mut turns = walk;
+    expect_same(rt, turns.next(), Some(first));
+    expect_same(rt, turns.next_back(), Some(last));
+    expect_same(rt, turns.next(), Some(middle));
+    expect_same(rt, turns.next(), None);
+    expect_same(rt, turns.next_back(), None);
 }
 
-// Asserts that a walk over the block from both ends by turns gives the first, the last and the middle one.
+// Asserts that a walk over the block from both ends by turns gives these three.
 fn expect_op_turns<D: Dialects>(
     rt: &impl Abort,
     ctx: &Context<D>,
     block: Ptr<BasicBlock<D>>,
     nodes: [Ptr<Operation<D>>; 3],
-) -> Result<(), CheckedErr> {
-    let [first, middle, last] = nodes;
-    let turns = op_turns(ctx, block)?;
-    assert!(rt; turns == [Some(first), Some(last), Some(middle), None, None]);
-    Ok(())
+) {
+    assert!(rt; block.is_live(ctx));
+    expect_turns(rt, block.iter(ctx), nodes);
 }
 
 // Asserts that the block has these ends.
@@ -122,12 +112,9 @@ fn expect_op_ends<D: Dialects>(
     block: Ptr<BasicBlock<D>>,
     first: Option<Ptr<Operation<D>>>,
     last: Option<Ptr<Operation<D>>>,
-) -> Result<(), CheckedErr> {
-    let head = block_head(ctx, block)?;
-    let tail = block_tail(ctx, block)?;
-    assert!(rt; head == first);
-    assert!(rt; tail == last);
-    Ok(())
+) {
+    expect_same(rt, block_head(ctx, block), Ok(first));
+    expect_same(rt, block_tail(ctx, block), Ok(last));
 }
 
 // Four new operations, which stand in no block.
@@ -147,12 +134,13 @@ fn put_in<D: Dialects>(
     nodes: [Ptr<Operation<D>>; 3],
 ) -> Result<(), CheckedErr> {
     let [first, _middle, last] = nodes;
-    expect_op_ends(rt, ctx, root, None, None)?;
+    expect_op_ends(rt, ctx, root, None, None);
     for op in nodes.iter() {
         op_at_back(ctx, *op, root)?;
     }
-    expect_op_ends(rt, ctx, root, Some(first), Some(last))?;
-    expect_op_turns(rt, ctx, root, nodes)
+    expect_op_ends(rt, ctx, root, Some(first), Some(last));
+    expect_op_turns(rt, ctx, root, nodes);
+    Ok(())
 }
 
 // Asserts the neighbours of a block's three operations and of one that stands in no block.
@@ -161,12 +149,12 @@ fn expect_neighbours<D: Dialects>(
     ctx: &Context<D>,
     nodes: [Ptr<Operation<D>>; 3],
     alone: Ptr<Operation<D>>,
-) -> Result<(), CheckedErr> {
+) {
     let [first, middle, last] = nodes;
-    expect_op(rt, ctx, first, true, None, Some(middle))?;
-    expect_op(rt, ctx, middle, true, Some(first), Some(last))?;
-    expect_op(rt, ctx, alone, false, None, None)?;
-    expect_op(rt, ctx, last, true, Some(middle), None)
+    expect_op(rt, ctx, first, true, None, Some(middle));
+    expect_op(rt, ctx, middle, true, Some(first), Some(last));
+    expect_op(rt, ctx, alone, false, None, None);
+    expect_op(rt, ctx, last, true, Some(middle), None);
 }
 
 // Asserts that the three stand in the block, and the other operation in none.
@@ -176,21 +164,22 @@ fn expect_only_in<D: Dialects>(
     root: Ptr<BasicBlock<D>>,
     nodes: [Ptr<Operation<D>>; 3],
     alone: Ptr<Operation<D>>,
-) -> Result<(), CheckedErr> {
+) {
     for op in nodes.iter() {
-        expect_op_in(rt, ctx, *op, Some(root), None, None)?;
+        expect_op_in(rt, ctx, *op, Some(root), None, None);
     }
-    expect_op_in(rt, ctx, alone, None, None, None)
+    expect_op_in(rt, ctx, alone, None, None, None);
 }
 
 // The operations 1, 2 and 4 are in a block, and 3 isn't; then 2, 1 and 4 are taken out.
 fn insert_and_unlink<D: Dialects>(rt: &impl Abort, ctx: &mut Context<D>) -> Result<(), CheckedErr> {
     let root = bare_block(ctx)?;
     let [n1, n2, n3, n4] = four_ops(ctx)?;
-    put_in(rt, ctx, root, [n1, n2, n4])?;
-    expect_neighbours(rt, ctx, [n1, n2, n4], n3)?;
-    expect_only_in(rt, ctx, root, [n1, n2, n4], n3)?;
-    take_out(rt, ctx, root, [n1, n2, n4])
+    let nodes = [n1, n2, n4];
+    put_in(rt, ctx, root, nodes)?;
+    expect_neighbours(rt, ctx, nodes, n3);
+    expect_only_in(rt, ctx, root, nodes, n3);
+    take_out(rt, ctx, root, nodes)
 }
 
 // Of the two operations that are left in a block, the first and the last are taken out.
@@ -202,23 +191,19 @@ fn take_out_ends<D: Dialects>(
     last: Ptr<Operation<D>>,
 ) -> Result<(), CheckedErr> {
     unlink_op(ctx, first)?;
-    expect_op_ends(rt, ctx, root, Some(last), Some(last))?;
-    expect_op(rt, ctx, last, true, None, None)?;
+    expect_op_ends(rt, ctx, root, Some(last), Some(last));
+    expect_op(rt, ctx, last, true, None, None);
     unlink_op(ctx, last)?;
-    expect_op_ends(rt, ctx, root, None, None)
+    expect_op_ends(rt, ctx, root, None, None);
+    Ok(())
 }
 
 // Asserts that none of the operations stands in a block or has a neighbour.
-fn expect_unlinked<D: Dialects>(
-    rt: &impl Abort,
-    ctx: &Context<D>,
-    nodes: [Ptr<Operation<D>>; 3],
-) -> Result<(), CheckedErr> {
+fn expect_unlinked<D: Dialects>(rt: &impl Abort, ctx: &Context<D>, nodes: [Ptr<Operation<D>>; 3]) {
     for op in nodes.iter() {
-        expect_op(rt, ctx, *op, false, None, None)?;
-        expect_op_in(rt, ctx, *op, None, None, None)?;
+        expect_op(rt, ctx, *op, false, None, None);
+        expect_op_in(rt, ctx, *op, None, None, None);
     }
-    Ok(())
 }
 
 // The middle one, the first and the last of a block's three operations are taken out.
@@ -230,10 +215,11 @@ fn take_out<D: Dialects>(
 ) -> Result<(), CheckedErr> {
     let [first, middle, last] = nodes;
     unlink_op(ctx, middle)?;
-    expect_op(rt, ctx, first, true, None, Some(last))?;
-    expect_op(rt, ctx, last, true, Some(first), None)?;
+    expect_op(rt, ctx, first, true, None, Some(last));
+    expect_op(rt, ctx, last, true, Some(first), None);
     take_out_ends(rt, ctx, root, first, last)?;
-    expect_unlinked(rt, ctx, nodes)
+    expect_unlinked(rt, ctx, nodes);
+    Ok(())
 }
 
 #[test]
@@ -277,16 +263,11 @@ fn expect_entry<D: Dialects>(
     region: Ptr<Region>,
     entry: Option<Ptr<BasicBlock<D>>>,
     last: Option<Ptr<BasicBlock<D>>>,
-) -> Result<(), CheckedErr> {
-    let head = region_head(ctx, region)?;
-    let tail = region_tail(ctx, region)?;
-    assert!(rt; head == entry);
-    assert!(rt; tail == last);
-    if !region.is_live(ctx) {
-        return Err(CheckedErr::Condition);
-    }
-    assert!(rt; region.get_entry_block(ctx) == entry);
-    Ok(())
+) {
+    expect_same(rt, region_head(ctx, region), Ok(entry));
+    expect_same(rt, region_tail(ctx, region), Ok(last));
+    assert!(rt; region.is_live(ctx));
+    expect_same(rt, region.get_entry_block(ctx), entry);
 }
 
 // Asserts whether the block stands in a region, and what stands right before and right after it.
@@ -297,45 +278,22 @@ fn expect_block<D: Dialects>(
     linked: bool,
     previous: Option<Ptr<BasicBlock<D>>>,
     next: Option<Ptr<BasicBlock<D>>>,
-) -> Result<(), CheckedErr> {
-    if !block.is_live(ctx) {
-        return Err(CheckedErr::Condition);
-    }
-    assert!(rt; block.is_linked(ctx) == linked);
-    assert!(rt; block.get_prev(ctx) == previous);
-    assert!(rt; block.get_next(ctx) == next);
-    Ok(())
+) {
+    assert!(rt; block.is_live(ctx));
+    expect_same(rt, block.is_linked(ctx), linked);
+    expect_same(rt, block.get_prev(ctx), previous);
+    expect_same(rt, block.get_next(ctx), next);
 }
 
-// What a walk over the region gives from its front and from its back by turns, and then from both.
-fn block_turns<D: Dialects>(
-    ctx: &Context<D>,
-    region: Ptr<Region>,
-) -> Result<[Option<Ptr<BasicBlock<D>>>; 5], CheckedErr> {
-    if !region.is_live(ctx) {
-        return Err(CheckedErr::Condition);
-    }
-    let mut turns = region.iter(ctx);
-    Ok([
-        turns.next(),
-        turns.next_back(),
-        turns.next(),
-        turns.next(),
-        turns.next_back(),
-    ])
-}
-
-// Asserts that a walk over the region from both ends by turns gives the first, the last and the middle one.
+// Asserts that a walk over the region from both ends by turns gives these three.
 fn expect_block_turns<D: Dialects>(
     rt: &impl Abort,
     ctx: &Context<D>,
     region: Ptr<Region>,
     nodes: [Ptr<BasicBlock<D>>; 3],
-) -> Result<(), CheckedErr> {
-    let [first, middle, last] = nodes;
-    let turns = block_turns(ctx, region)?;
-    assert!(rt; turns == [Some(first), Some(last), Some(middle), None, None]);
-    Ok(())
+) {
+    assert!(rt; region.is_live(ctx));
+    expect_turns(rt, region.iter(ctx), nodes);
 }
 
 // Three new blocks at the back of the region.
@@ -355,11 +313,11 @@ fn expect_three_blocks<D: Dialects>(
     ctx: &Context<D>,
     root: Ptr<Region>,
     nodes: [Ptr<BasicBlock<D>>; 3],
-) -> Result<(), CheckedErr> {
+) {
     let [first, middle, last] = nodes;
-    expect_entry(rt, ctx, root, Some(first), Some(last))?;
-    expect_block_turns(rt, ctx, root, nodes)?;
-    expect_block(rt, ctx, middle, true, Some(first), Some(last))
+    expect_entry(rt, ctx, root, Some(first), Some(last));
+    expect_block_turns(rt, ctx, root, nodes);
+    expect_block(rt, ctx, middle, true, Some(first), Some(last));
 }
 
 // The first of a region's three blocks is taken out, and the next one is its entry.
@@ -371,17 +329,17 @@ fn take_out_entry<D: Dialects>(
 ) -> Result<(), CheckedErr> {
     let [first, middle, last] = nodes;
     unlink_block(ctx, first)?;
-    expect_entry(rt, ctx, root, Some(middle), Some(last))?;
-    expect_block(rt, ctx, first, false, None, None)
+    expect_entry(rt, ctx, root, Some(middle), Some(last));
+    expect_block(rt, ctx, first, false, None, None);
+    Ok(())
 }
 
 // A region with three blocks, of which the first is then taken out.
 fn blocks_and_entry<D: Dialects>(rt: &impl Abort, ctx: &mut Context<D>) -> Result<(), CheckedErr> {
-    let parent = bare_op(ctx, 5, 1)?;
-    let root = region(ctx, parent, 0)?;
-    expect_entry(rt, ctx, root, None, None)?;
+    let (_parent, root) = op_with_region(ctx)?;
+    expect_entry(rt, ctx, root, None, None);
     let nodes = three_blocks(ctx, root)?;
-    expect_three_blocks(rt, ctx, root, nodes)?;
+    expect_three_blocks(rt, ctx, root, nodes);
     take_out_entry(rt, ctx, root, nodes)
 }
 

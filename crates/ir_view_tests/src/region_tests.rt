@@ -1,12 +1,15 @@
 //! Regions: their order after moves, and what the dialect says of them.
 
 use crate::making::bare_op;
-use crate::parts::expect_regions;
+use crate::parts::expect_parts;
+use crate::same::expect_same;
 use ir_base::{Dialects, Ptr};
 use ir_checked::{
-    CheckedErr, Context, Operation, Region, RegionPlace, RegionPtr, end, move_region, region,
+    CheckedErr, Context, Operation, OperationPtr, Region, RegionPlace, RegionPtr, end, move_region,
+    region,
 };
 use ir_toy::Toy;
+use ir_view::OperationParts;
 use std::process::Abort;
 use std::test::Fail;
 
@@ -17,13 +20,10 @@ fn expect_place<D: Dialects>(
     region: Ptr<Region>,
     op: Ptr<Operation<D>>,
     index: usize,
-) -> Result<(), CheckedErr> {
-    if !region.is_live(ctx) {
-        return Err(CheckedErr::Condition);
-    }
-    assert!(rt; region.find_index_in_parent(ctx) == index);
-    assert!(rt; region.get_parent_op(ctx) == op);
-    Ok(())
+) {
+    assert!(rt; region.is_live(ctx));
+    expect_same(rt, region.find_index_in_parent(ctx), index);
+    expect_same(rt, region.get_parent_op(ctx), op);
 }
 
 // Asserts that the operation has exactly these regions in this order, and that each knows its index.
@@ -32,12 +32,14 @@ fn expect_order<D: Dialects>(
     ctx: &Context<D>,
     op: Ptr<Operation<D>>,
     expected: &[Ptr<Region>],
-) -> Result<(), CheckedErr> {
-    expect_regions(rt, ctx, op, expected)?;
-    for (index, region) in expected.iter().enumerate() {
-        expect_place(rt, ctx, *region, op, index)?;
+) {
+    match op.try_deref(ctx) {
+        Ok(record) => expect_parts(rt, record.regions(), expected),
+        Err(_) => assert!(rt; false),
     }
-    Ok(())
+    for (index, region) in expected.iter().enumerate() {
+        expect_place(rt, ctx, *region, op, index);
+    }
 }
 
 // Asserts that the two operations have exactly these regions.
@@ -47,10 +49,10 @@ fn expect_orders<D: Dialects>(
     ops: [Ptr<Operation<D>>; 2],
     of_first: &[Ptr<Region>],
     of_second: &[Ptr<Region>],
-) -> Result<(), CheckedErr> {
+) {
     let [a, b] = ops;
-    expect_order(rt, ctx, a, of_first)?;
-    expect_order(rt, ctx, b, of_second)
+    expect_order(rt, ctx, a, of_first);
+    expect_order(rt, ctx, b, of_second);
 }
 
 // The region goes over to the second operation, and then the two have exactly these regions.
@@ -64,7 +66,8 @@ fn move_over<D: Dialects>(
 ) -> Result<(), CheckedErr> {
     let [_a, b] = ops;
     move_region(ctx, moved, b)?;
-    expect_orders(rt, ctx, ops, of_first, of_second)
+    expect_orders(rt, ctx, ops, of_first, of_second);
+    Ok(())
 }
 
 // Two new operations with so many regions.
@@ -93,7 +96,7 @@ fn three_regions<D: Dialects>(
 fn move_the_first<D: Dialects>(rt: &impl Abort, ctx: &mut Context<D>) -> Result<(), CheckedErr> {
     let [a, b] = two_ops(ctx, 3, 0)?;
     let [r0, r1, r2] = three_regions(ctx, a)?;
-    expect_orders(rt, ctx, [a, b], &[r0, r1, r2], &[])?;
+    expect_orders(rt, ctx, [a, b], &[r0, r1, r2], &[]);
     for _ in 0..2 {
         move_over(rt, ctx, r0, [a, b], &[r1, r2], &[r0])?;
     }
@@ -136,10 +139,8 @@ fn expect_dominance<D: Dialects>(
     expected: bool,
 ) -> Result<(), CheckedErr> {
     let region = region(ctx, op, index)?;
-    if !region.is_live(ctx) {
-        return Err(CheckedErr::Condition);
-    }
-    assert!(rt; region.has_ssa_dominance(ctx) == expected);
+    assert!(rt; region.is_live(ctx));
+    expect_same(rt, region.has_ssa_dominance(ctx), expected);
     Ok(())
 }
 

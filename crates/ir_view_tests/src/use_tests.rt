@@ -1,22 +1,17 @@
 //! Uses of values and of blocks, and a refused operation that leaves them as they were.
 
 use crate::edges::num_preds;
-use crate::making::{bare_block, int};
+use crate::making::{bare_block, int, op_with_result};
+use crate::same::expect_same;
 use ir_base::{CoreError, Dialects, Ptr, TypeHandle};
 use ir_checked::{
     BasicBlock, CheckedErr, Context, Operation, OperationPtr, Use, UseQueries, Value, ValueQueries,
-    end, new_op, num_uses, result,
+    end, new_op, num_uses,
 };
 use ir_toy::Toy;
 use ir_view::{OperationParts, ResultUses};
 use std::process::Abort;
 use std::test::Fail;
-
-// The result of a new operation.
-fn new_value<D: Dialects>(ctx: &mut Context<D>, ty: TypeHandle) -> Result<Value<D>, CheckedErr> {
-    let op = new_op(ctx, 0, &[ty], &[], &[], 0)?;
-    result(ctx, op, 0)
-}
 
 // The operands of an operation, as uses.
 fn operand_uses<D: Dialects>(
@@ -50,9 +45,23 @@ fn expect_use<D: Dialects>(
     index: usize,
     uses: &[Use<Value<D>>],
 ) {
-    assert!(rt; used.user_op() == user);
-    assert!(rt; used.try_find_index(ctx) == Ok(index));
+    expect_same(rt, used.user_op(), user);
+    expect_same(rt, used.try_find_index(ctx), Ok(index));
     assert!(rt; uses.contains(&used));
+}
+
+// Asserts that these are the user's two operands as uses, and that both are among the uses of a value.
+fn expect_operands<D: Dialects>(
+    rt: &impl Abort,
+    ctx: &Context<D>,
+    operands: &[Use<Value<D>>],
+    user: Ptr<Operation<D>>,
+    uses: &[Use<Value<D>>],
+) {
+    expect_same(rt, operands.len(), 2);
+    for (index, used) in operands.iter().enumerate() {
+        expect_use(rt, ctx, *used, user, index, uses);
+    }
 }
 
 // Asserts that the user has two operands, and that both are uses of the value.
@@ -64,25 +73,15 @@ fn expect_two_uses<D: Dialects>(
 ) -> Result<(), CheckedErr> {
     let uses = uses_of(ctx, value)?;
     let operands = operand_uses(ctx, user)?;
-    assert!(rt; operands.len() == 2);
-    for (index, used) in operands.iter().enumerate() {
-        expect_use(rt, ctx, *used, user, index, uses.as_slice());
-    }
+    expect_operands(rt, ctx, operands.as_slice(), user, uses.as_slice());
     Ok(())
 }
 
 // Asserts that no result of the operation has a use.
-fn expect_unused<D: Dialects>(
-    rt: &impl Abort,
-    ctx: &Context<D>,
-    op: Ptr<Operation<D>>,
-) -> Result<(), CheckedErr> {
-    if !op.is_live(ctx) {
-        return Err(CheckedErr::Condition);
-    }
-    assert!(rt; !op.has_use(ctx));
-    assert!(rt; op.uses(ctx).next().is_none());
-    Ok(())
+fn expect_unused<D: Dialects>(rt: &impl Abort, ctx: &Context<D>, op: Ptr<Operation<D>>) {
+    assert!(rt; op.is_live(ctx));
+    expect_same(rt, op.has_use(ctx), false);
+    expect_same(rt, op.uses(ctx).next(), None);
 }
 
 // An operation with one result names a value twice, and nothing names the result.
@@ -91,11 +90,11 @@ fn name_twice<D: Dialects>(
     ctx: &mut Context<D>,
     ty: TypeHandle,
 ) -> Result<(), CheckedErr> {
-    let value = new_value(ctx, ty)?;
+    let (_maker, value) = op_with_result(ctx, ty)?;
     let user = new_op(ctx, 4, &[ty], &[value, value], &[], 0)?;
-    assert!(rt; num_uses(ctx, value)? == 2);
-    expect_two_uses(rt, ctx, value, user)?;
-    expect_unused(rt, ctx, user)
+    expect_same(rt, num_uses(ctx, value), Ok(2));
+    expect_unused(rt, ctx, user);
+    expect_two_uses(rt, ctx, value, user)
 }
 
 // The same over the dialect Toy, with an integer type.
@@ -121,9 +120,9 @@ fn make_or_stay<D: Dialects>(
 ) -> Result<(), CheckedErr> {
     let made = new_op(ctx, 5, &[], &[value, value, value], &[block, block], 2);
     let (uses, preds) = if made.is_ok() { (4, 3) } else { (1, 1) };
-    assert!(rt; num_uses(ctx, value)? == uses);
-    assert!(rt; num_preds(ctx, block)? == preds);
-    assert!(rt; !ctx.is_ir_empty());
+    expect_same(rt, num_uses(ctx, value), Ok(uses));
+    expect_same(rt, num_preds(ctx, block), Ok(preds));
+    expect_same(rt, ctx.is_ir_empty(), false);
     made?;
     Ok(())
 }
@@ -134,7 +133,7 @@ fn name_or_stay<D: Dialects>(
     ctx: &mut Context<D>,
     ty: TypeHandle,
 ) -> Result<(), CheckedErr> {
-    let value = new_value(ctx, ty)?;
+    let (_maker, value) = op_with_result(ctx, ty)?;
     let block = bare_block(ctx)?;
     new_op(ctx, 3, &[], &[value], &[block], 0)?;
     make_or_stay(rt, ctx, value, block)
