@@ -1,6 +1,6 @@
 //! What the workloads build: operations and blocks, made and put in their place.
 
-use ir_base::{Dialects, Ptr, TypeHandle};
+use ir_base::{CoreError, Dialects, Ptr, TypeHandle};
 use ir_checked::{
     BasicBlock, CheckedErr, Context, Operation, Region, Value, argument, block_at_back, new_block,
     new_op, op_at_back, result,
@@ -79,6 +79,12 @@ fn build_from<D: Dialects>(
         first = second;
         second = result(ctx, op, 0)?;
     }
+    Ok(())
+}
+
+/// Puts a thing behind the others.
+pub(crate) fn keep<T: Drop>(others: &mut Vec<T>, one: T) -> Result<(), CoreError> {
+    others.push(one)?;
     Ok(())
 }
 

@@ -1,7 +1,7 @@
 //! Chains of operations, each of which uses the results of the two before.
 
-use crate::building::{build, pair_block};
-use crate::outcome::{Run, block_sum, nanos_now, nanos_of, nanos_since, run_to, uses_sum};
+use crate::building::{build, keep, pair_block};
+use crate::outcome::{Nanos, Run, block_sum, nanos_now, nanos_of, run_to, uses_sum};
 use ir_base::{Dialects, Ptr, TypeHandle};
 use ir_checked::{
     BasicBlock, CheckedErr, Context, Operation, Value, block_head, erase_op, new_op, next_op,
@@ -18,7 +18,7 @@ fn timed_checked<D: Dialects>(
     second: Value<D>,
     count: usize,
     made: &mut Vec<Ptr<Operation<D>>>,
-) -> anyhow::Result<()> {
+) -> Result<(), CheckedErr> {
     let mut first = first;
     let mut second = second;
     let successors = [];
@@ -26,7 +26,7 @@ fn timed_checked<D: Dialects>(
         let types = [ty];
         let operands = [first, second];
         let op = new_op(ctx, 1, &types, &operands, &successors, 0)?;
-        made.push(op)?;
+        keep(made, op)?;
         first = second;
         second = result(ctx, op, 0)?;
     }
@@ -56,11 +56,13 @@ fn checked_nanos<C: CpuClock, D: Dialects>(
     ty: TypeHandle,
     count: usize,
     made: &mut Vec<Ptr<Operation<D>>>,
-) -> anyhow::Result<u64> {
+) -> Nanos {
     let (first, second) = two_values(ctx, ty)?;
-    let start = nanos_now(rt)?;
-    timed_checked(ctx, ty, first, second, count, made)?;
-    nanos_since(rt, start)
+    nanos_of(
+        rt,
+        nanos_now(rt),
+        timed_checked(ctx, ty, first, second, count, made),
+    )
 }
 
 /// N operations without a block, by calls whose conditions are tested.
@@ -71,7 +73,7 @@ pub(crate) fn unlinked_checked<C: CpuClock, D: Dialects>(
     count: usize,
 ) -> Run {
     let mut made = Vec::with_capacity(ctx.alloc(), count)?;
-    let nanos = checked_nanos(rt, ctx, ty, count, &mut made)?;
+    let nanos = checked_nanos(rt, ctx, ty, count, &mut made);
     run_to(nanos, count, uses_sum(ctx, made.as_slice()))
 }
 
@@ -86,18 +88,6 @@ fn timed_building<D: Dialects>(
     build(ctx, ty, block, count)
 }
 
-// How long that takes.
-fn building_nanos<C: CpuClock, D: Dialects>(
-    rt: &C,
-    ctx: &mut Context<D>,
-    ty: TypeHandle,
-    block: Ptr<BasicBlock<D>>,
-    count: usize,
-) -> anyhow::Result<u64> {
-    let start = nanos_now(rt)?;
-    nanos_of(rt, start, timed_building(ctx, ty, block, count))
-}
-
 /// N operations at the back of a block. All of it is timed but the block.
 pub(crate) fn building<C: CpuClock, D: Dialects>(
     rt: &C,
@@ -106,7 +96,7 @@ pub(crate) fn building<C: CpuClock, D: Dialects>(
     count: usize,
 ) -> Run {
     let block = pair_block(ctx, ty)?;
-    let nanos = building_nanos(rt, ctx, ty, block, count)?;
+    let nanos = nanos_of(rt, nanos_now(rt), timed_building(ctx, ty, block, count));
     run_to(nanos, count, block_sum(ctx, block))
 }
 
@@ -157,18 +147,6 @@ fn timed_rebuilding<D: Dialects>(
     Ok(())
 }
 
-// How long that takes.
-fn rebuilding_nanos<C: CpuClock, D: Dialects>(
-    rt: &C,
-    ctx: &mut Context<D>,
-    ty: TypeHandle,
-    block: Ptr<BasicBlock<D>>,
-    count: usize,
-) -> anyhow::Result<u64> {
-    let start = nanos_now(rt)?;
-    nanos_of(rt, start, timed_rebuilding(ctx, ty, block, count))
-}
-
 /// Over N operations of a block, a new one behind each takes its uses, and the old one is erased. The building of the first ones isn't timed.
 pub(crate) fn rebuilding<C: CpuClock, D: Dialects>(
     rt: &C,
@@ -178,6 +156,6 @@ pub(crate) fn rebuilding<C: CpuClock, D: Dialects>(
 ) -> Run {
     let block = pair_block(ctx, ty)?;
     build(ctx, ty, block, count)?;
-    let nanos = rebuilding_nanos(rt, ctx, ty, block, count)?;
+    let nanos = nanos_of(rt, nanos_now(rt), timed_rebuilding(ctx, ty, block, count));
     run_to(nanos, count, block_sum(ctx, block))
 }

@@ -25,19 +25,6 @@ fn timed_results<D: Dialects>(
     Ok(())
 }
 
-// How long that takes.
-fn results_nanos<C: CpuClock, D: Dialects>(
-    rt: &C,
-    ctx: &mut Context<D>,
-    op: Ptr<Operation<D>>,
-    first: TypeHandle,
-    second: TypeHandle,
-    count: usize,
-) -> anyhow::Result<u64> {
-    let start = nanos_now(rt)?;
-    nanos_of(rt, start, timed_results(ctx, op, first, second, count))
-}
-
 // Puts so many arguments in front of the others, of one type and the other in turn.
 #[inline(never)]
 fn timed_arguments<D: Dialects>(
@@ -52,19 +39,6 @@ fn timed_arguments<D: Dialects>(
         insert_argument(ctx, block, 0, ty)?;
     }
     Ok(())
-}
-
-// How long that takes.
-fn arguments_nanos<C: CpuClock, D: Dialects>(
-    rt: &C,
-    ctx: &mut Context<D>,
-    block: Ptr<BasicBlock<D>>,
-    first: TypeHandle,
-    second: TypeHandle,
-    count: usize,
-) -> anyhow::Result<u64> {
-    let start = nanos_now(rt)?;
-    nanos_of(rt, start, timed_arguments(ctx, block, first, second, count))
 }
 
 // Whether a value has a type, as 2 or 1.
@@ -119,7 +93,7 @@ pub(crate) fn results_front<C: CpuClock>(
 ) -> Run {
     let other = ctx.instantiate_key(ToyType::Int { width: 64 })?;
     let op = new_op(ctx, 4, &[], &[], &[], 0)?;
-    let nanos = results_nanos(rt, ctx, op, ty, other, count)?;
+    let nanos = nanos_of(rt, nanos_now(rt), timed_results(ctx, op, ty, other, count));
     run_to(nanos, count, results_sum(ctx, op, ty, count))
 }
 
@@ -132,6 +106,10 @@ pub(crate) fn arguments_front<C: CpuClock>(
 ) -> Run {
     let other = ctx.instantiate_key(ToyType::Int { width: 64 })?;
     let block = new_block(ctx, None, &[])?;
-    let nanos = arguments_nanos(rt, ctx, block, ty, other, count)?;
+    let nanos = nanos_of(
+        rt,
+        nanos_now(rt),
+        timed_arguments(ctx, block, ty, other, count),
+    );
     run_to(nanos, count, arguments_sum(ctx, block, ty, count))
 }

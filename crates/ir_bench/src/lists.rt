@@ -29,18 +29,6 @@ fn timed_front_to_back<D: Dialects>(
     Ok(())
 }
 
-// How long that takes.
-fn front_to_back_nanos<C: CpuClock, D: Dialects>(
-    rt: &C,
-    ctx: &mut Context<D>,
-    from: Ptr<BasicBlock<D>>,
-    to: Ptr<BasicBlock<D>>,
-    count: usize,
-) -> anyhow::Result<u64> {
-    let start = nanos_now(rt)?;
-    nanos_of(rt, start, timed_front_to_back(ctx, from, to, count))
-}
-
 // Makes two unlinked blocks, the first with an argument of a type, and answers them and it.
 fn two_blocks<D: Dialects>(
     ctx: &mut Context<D>,
@@ -61,7 +49,7 @@ pub(crate) fn front_to_back<C: CpuClock, D: Dialects>(
 ) -> Run {
     let (from, to, value) = two_blocks(ctx, ty)?;
     let _made = add_marked(ctx, from, from, value, count)?;
-    let nanos = front_to_back_nanos(rt, ctx, from, to, count)?;
+    let nanos = nanos_of(rt, nanos_now(rt), timed_front_to_back(ctx, from, to, count));
     run_to(nanos, count, block_sum(ctx, to))
 }
 
@@ -117,17 +105,6 @@ fn timed_random_moves<D: Dialects>(
     Ok(())
 }
 
-// How long that takes.
-fn random_moves_nanos<C: CpuClock, D: Dialects>(
-    rt: &C,
-    ctx: &mut Context<D>,
-    ops: &[Ptr<Operation<D>>],
-) -> anyhow::Result<u64> {
-    let mut random = Random::new();
-    let start = nanos_now(rt)?;
-    nanos_of(rt, start, timed_random_moves(ctx, ops, &mut random))
-}
-
 // The sums of two blocks, in one number.
 fn both_sums<D: Dialects>(
     ctx: &Context<D>,
@@ -147,7 +124,12 @@ pub(crate) fn random_moves<C: CpuClock, D: Dialects>(
 ) -> Run {
     let (even, odd, value) = two_blocks(ctx, ty)?;
     let made = add_marked(ctx, even, odd, value, count)?;
-    let nanos = random_moves_nanos(rt, ctx, made.as_slice())?;
+    let mut random = Random::new();
+    let nanos = nanos_of(
+        rt,
+        nanos_now(rt),
+        timed_random_moves(ctx, made.as_slice(), &mut random),
+    );
     run_to(nanos, count, both_sums(ctx, even, odd))
 }
 
@@ -169,16 +151,12 @@ fn timed_blocks<D: Dialects>(
     Ok(())
 }
 
-// How long that takes.
-fn blocks_nanos<C: CpuClock, D: Dialects>(
-    rt: &C,
-    ctx: &mut Context<D>,
-    from: Ptr<Region>,
-    to: Ptr<Region>,
-    count: usize,
-) -> anyhow::Result<u64> {
-    let start = nanos_now(rt)?;
-    nanos_of(rt, start, timed_blocks(ctx, from, to, count))
+// How many arguments a block has where it is live, and else 0.
+fn argument_count<D: Dialects>(ctx: &Context<D>, block: Ptr<BasicBlock<D>>) -> usize {
+    match block.try_deref(ctx) {
+        Ok(block) => block.get_num_arguments(),
+        Err(_) => 0,
+    }
 }
 
 // How many arguments each block of a region has.
@@ -188,9 +166,7 @@ fn arguments_sum<D: Dialects>(ctx: &Context<D>, region: Ptr<Region>) -> Result<u
     }
     let mut sum = 0;
     for block in region.iter(ctx) {
-        if let Ok(block) = block.try_deref(ctx) {
-            sum = mix(sum, block.get_num_arguments() as u64);
-        }
+        sum = mix(sum, argument_count(ctx, block) as u64);
     }
     Ok(sum)
 }
@@ -228,6 +204,6 @@ pub(crate) fn blocks<C: CpuClock, D: Dialects>(
 ) -> Run {
     let (from, to) = two_regions(ctx)?;
     add_blocks(ctx, from, ty, count)?;
-    let nanos = blocks_nanos(rt, ctx, from, to, count)?;
+    let nanos = nanos_of(rt, nanos_now(rt), timed_blocks(ctx, from, to, count));
     run_to(nanos, count, arguments_sum(ctx, to))
 }

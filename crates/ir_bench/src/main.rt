@@ -51,20 +51,20 @@ fn repeat_same<C: CpuClock>(
     Ok(())
 }
 
-// Runs a workload so often, once at least, each time on a new context, and gives the times and what came out.
+// Runs a workload so often, once at least, each time on a new context, adds the times and puts them in order, and gives what came out.
 fn repeat<C: CpuClock>(
     rt: &C,
     alloc: Global,
     workload: Workload,
     count: usize,
     times: usize,
-) -> anyhow::Result<(Timing, Outcome)> {
-    let mut timing = Timing::new(alloc);
+    timing: &mut Timing,
+) -> anyhow::Result<Outcome> {
     let (nanos, outcome) = workload.run(rt, alloc, count)?;
     timing.add(nanos)?;
-    repeat_same(rt, alloc, workload, count, times, outcome, &mut timing)?;
+    repeat_same(rt, alloc, workload, count, times, outcome, timing)?;
     timing.sort()?;
-    Ok((timing, outcome))
+    Ok(outcome)
 }
 
 // The line of a workload that ran with these times to this outcome.
@@ -86,21 +86,44 @@ fn print_times<R: CpuClock + Files + Print + Alloc<A = Global>>(
     Ok(())
 }
 
+// The line of a workload that ran to this outcome, without what differs from run to run.
+fn print_outcome<R: Print>(
+    rt: &R,
+    name: &str,
+    count: usize,
+    outcome: Outcome,
+) -> anyhow::Result<()> {
+    let Outcome { units, checksum } = outcome;
+    println!(rt; "ir_bench {name} {count} - - - {checksum:016x} - {units}")?;
+    Ok(())
+}
+
+// Runs a workload, adds its times and prints its line.
+fn run_and_print<R: CpuClock + Files + Print + Alloc<A = Global>>(
+    rt: &R,
+    workload: Workload,
+    name: &str,
+    count: usize,
+    times: usize,
+    timing: &mut Timing,
+) -> anyhow::Result<()> {
+    let outcome = repeat(rt, rt.alloc(), workload, count, times, timing)?;
+    if times == 0 {
+        return print_outcome(rt, name, count, outcome);
+    }
+    print_times(rt, name, count, timing, outcome)
+}
+
 // The line of a workload.
 fn print_line<R: CpuClock + Files + Print + Alloc<A = Global>>(
     rt: &R,
     workload: Workload,
+    name: &str,
     count: usize,
     times: usize,
 ) -> anyhow::Result<()> {
-    let name = workload.name();
-    let (timing, outcome) = repeat(rt, rt.alloc(), workload, count, times)?;
-    if times == 0 {
-        let Outcome { units, checksum } = outcome;
-        println!(rt; "ir_bench {name} {count} - - - {checksum:016x} - {units}")?;
-        return Ok(());
-    }
-    print_times(rt, name, count, &timing, outcome)
+    let mut timing = Timing::new(rt.alloc());
+    run_and_print(rt, workload, name, count, times, &mut timing)
 }
 
 // The lines of the wanted workloads.
@@ -111,9 +134,9 @@ fn print_lines<R: CpuClock + Files + Print + Alloc<A = Global>>(
     times: usize,
 ) -> anyhow::Result<()> {
     let mut printed = 0u32;
-    for workload in Workload::all() {
-        if wanted == "all" || wanted == workload.name() {
-            print_line(rt, workload, count, times)?;
+    for (workload, name) in Workload::all() {
+        if wanted == "all" || wanted == name {
+            print_line(rt, workload, name, count, times)?;
             printed = 1;
         }
     }

@@ -1,7 +1,7 @@
 //! Nests of operations: what is built, asked, verified, and erased with all inside.
 
 use crate::building::{add_block, add_op, build};
-use crate::outcome::{Run, nanos_now, nanos_since, run_of};
+use crate::outcome::{Nanos, Run, nanos_now, nanos_of, nanos_where, run_to};
 use anyhow::bail;
 use ir_base::{Dialects, Ptr, TypeHandle};
 use ir_checked::{
@@ -51,14 +51,15 @@ fn timed_module<D: Dialects>(
     ctx: &mut Context<D>,
     ty: TypeHandle,
     functions: usize,
-) -> Result<Ptr<Operation<D>>, CheckedErr> {
-    module(ctx, ty, functions)
+) -> Result<(), CheckedErr> {
+    module(ctx, ty, functions)?;
+    Ok(())
 }
 
 /// What comes of a module of so many functions that was built, erased or verified in so many nanoseconds. The units are its entities, itself counted.
-pub(crate) fn module_outcome(nanos: u64, functions: usize) -> Run {
+pub(crate) fn module_outcome(nanos: Nanos, functions: usize) -> Run {
     let entities = functions.wrapping_mul(8).wrapping_add(3);
-    run_of(nanos, entities, entities as u64)
+    run_to(nanos, entities, Ok(entities as u64))
 }
 
 /// A module of N/8 functions is built. The units are the entities.
@@ -68,9 +69,7 @@ pub(crate) fn module_built<C: CpuClock, D: Dialects>(
     ty: TypeHandle,
     count: usize,
 ) -> Run {
-    let start = nanos_now(rt)?;
-    timed_module(ctx, ty, count / 8)?;
-    let nanos = nanos_since(rt, start)?;
+    let nanos = nanos_of(rt, nanos_now(rt), timed_module(ctx, ty, count / 8));
     module_outcome(nanos, count / 8)
 }
 
@@ -85,10 +84,8 @@ fn erase_nanos<C: CpuClock, D: Dialects>(
     rt: &C,
     ctx: &mut Context<D>,
     op: Ptr<Operation<D>>,
-) -> anyhow::Result<u64> {
-    let start = nanos_now(rt)?;
-    timed_erase(ctx, op)?;
-    let nanos = nanos_since(rt, start)?;
+) -> Nanos {
+    let nanos = nanos_of(rt, nanos_now(rt), timed_erase(ctx, op))?;
     if !ctx.is_ir_empty() {
         bail!("something is left");
     }
@@ -103,7 +100,7 @@ pub(crate) fn module_erased<C: CpuClock, D: Dialects>(
     count: usize,
 ) -> Run {
     let root = module(ctx, ty, count / 8)?;
-    let nanos = erase_nanos(rt, ctx, root)?;
+    let nanos = erase_nanos(rt, ctx, root);
     module_outcome(nanos, count / 8)
 }
 
@@ -168,24 +165,24 @@ fn is_below<D: Dialects>(
     down && !is_inside(ctx, Entity::Op(outer), Entity::Op(inner))
 }
 
-// Makes a nest from above, and asks whether each end is inside the other: the inner one is, and the outer one isn't.
+// Makes a nest from above, and asks whether each end is inside the other: where there is a level, the inner one is, and the outer one isn't.
 #[inline(never)]
 fn timed_nest_above<D: Dialects>(ctx: &mut Context<D>, levels: usize) -> Result<bool, CheckedErr> {
     let (outer, inner) = nest_from_above(ctx, levels)?;
-    Ok(is_below(ctx, inner, outer))
+    Ok(is_below(ctx, inner, outer) || levels == 0)
 }
 
 // Makes a nest from below, and asks the same.
 #[inline(never)]
 fn timed_nest_below<D: Dialects>(ctx: &mut Context<D>, levels: usize) -> Result<bool, CheckedErr> {
     let (outer, inner) = nest_from_below(ctx, levels)?;
-    Ok(is_below(ctx, inner, outer))
+    Ok(is_below(ctx, inner, outer) || levels == 0)
 }
 
 /// What comes of a nest so many levels deep that was built, asked, erased or verified in so many nanoseconds.
-pub(crate) fn nest_outcome(nanos: u64, levels: usize) -> Run {
+pub(crate) fn nest_outcome(nanos: Nanos, levels: usize) -> Run {
     let units = levels.wrapping_mul(3).wrapping_add(2);
-    run_of(nanos, units, levels as u64)
+    run_to(nanos, units, Ok(levels as u64))
 }
 
 /// A nest N/3 deep is built from the outermost operation on, and its ends are asked whether each is inside the other. The units are the entities.
@@ -194,12 +191,7 @@ pub(crate) fn nest_above<C: CpuClock, D: Dialects>(
     ctx: &mut Context<D>,
     count: usize,
 ) -> Run {
-    let start = nanos_now(rt)?;
-    let right = timed_nest_above(ctx, count / 3)?;
-    let nanos = nanos_since(rt, start)?;
-    if !right && count >= 3 {
-        bail!("the nest is another one");
-    }
+    let nanos = nanos_where(rt, nanos_now(rt), timed_nest_above(ctx, count / 3));
     nest_outcome(nanos, count / 3)
 }
 
@@ -209,12 +201,7 @@ pub(crate) fn nest_below<C: CpuClock, D: Dialects>(
     ctx: &mut Context<D>,
     count: usize,
 ) -> Run {
-    let start = nanos_now(rt)?;
-    let right = timed_nest_below(ctx, count / 3)?;
-    let nanos = nanos_since(rt, start)?;
-    if !right && count >= 3 {
-        bail!("the nest is another one");
-    }
+    let nanos = nanos_where(rt, nanos_now(rt), timed_nest_below(ctx, count / 3));
     nest_outcome(nanos, count / 3)
 }
 
@@ -228,21 +215,6 @@ fn timed_asking<D: Dialects>(
     can_erase(ctx, Entity::Op(op))
 }
 
-// How long that takes, where it can.
-fn asking_nanos<C: CpuClock, D: Dialects>(
-    rt: &C,
-    ctx: &mut Context<D>,
-    op: Ptr<Operation<D>>,
-) -> anyhow::Result<u64> {
-    let start = nanos_now(rt)?;
-    let may = timed_asking(ctx, op)?;
-    let nanos = nanos_since(rt, start)?;
-    if !may {
-        bail!("something outside names what is inside");
-    }
-    Ok(nanos)
-}
-
 /// In a nest N/3 deep all uses are dropped, and it is asked whether it can be erased. The units are the entities.
 pub(crate) fn deep_asked<C: CpuClock, D: Dialects>(
     rt: &C,
@@ -250,7 +222,7 @@ pub(crate) fn deep_asked<C: CpuClock, D: Dialects>(
     count: usize,
 ) -> Run {
     let (outer, _inner) = nest_from_above(ctx, count / 3)?;
-    let nanos = asking_nanos(rt, ctx, outer)?;
+    let nanos = nanos_where(rt, nanos_now(rt), timed_asking(ctx, outer));
     nest_outcome(nanos, count / 3)
 }
 
@@ -258,6 +230,6 @@ pub(crate) fn deep_asked<C: CpuClock, D: Dialects>(
 pub(crate) fn deep<C: CpuClock, D: Dialects>(rt: &C, ctx: &mut Context<D>, count: usize) -> Run {
     let (outer, _inner) = nest_from_above(ctx, count / 3)?;
     drop_op_uses(ctx, outer)?;
-    let nanos = erase_nanos(rt, ctx, outer)?;
+    let nanos = erase_nanos(rt, ctx, outer);
     nest_outcome(nanos, count / 3)
 }

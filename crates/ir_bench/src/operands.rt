@@ -2,7 +2,7 @@
 
 use crate::building::{add_op, pair_block, used_value, wide};
 use crate::outcome::{
-    Run, mix, naming_sum, nanos_now, nanos_of, nanos_since, operand_count, run_of, run_to, uses_of,
+    Nanos, Run, mix, naming_sum, nanos_now, nanos_of, nanos_since, operand_count, run_to, uses_of,
 };
 use crate::random::random_places;
 use ir_base::{Dialects, Ptr, TypeHandle};
@@ -26,18 +26,6 @@ fn timed_push_and_remove<D: Dialects>(
     Ok(())
 }
 
-// How long it takes to put such an operand in and take it out again, so often.
-fn push_and_remove_nanos<C: CpuClock, D: Dialects>(
-    rt: &C,
-    ctx: &mut Context<D>,
-    op: Ptr<Operation<D>>,
-    value: Value<D>,
-    count: usize,
-) -> anyhow::Result<u64> {
-    let start = nanos_now(rt)?;
-    nanos_of(rt, start, timed_push_and_remove(ctx, op, value, count))
-}
-
 // How many uses a value and how many operands an operation has, in one number.
 fn uses_and_operands<D: Dialects>(
     ctx: &Context<D>,
@@ -57,7 +45,11 @@ pub(crate) fn push_and_remove<C: CpuClock, D: Dialects>(
 ) -> Run {
     let used = used_value(ctx, ty, count)?;
     let op = add_op(ctx, used.block, 4, &[], &[], 0)?;
-    let nanos = push_and_remove_nanos(rt, ctx, op, used.value, count)?;
+    let nanos = nanos_of(
+        rt,
+        nanos_now(rt),
+        timed_push_and_remove(ctx, op, used.value, count),
+    );
     run_to(nanos, count, uses_and_operands(ctx, used.value, op))
 }
 
@@ -101,19 +93,6 @@ fn push_and_remove_all<D: Dialects>(
     Ok(middle)
 }
 
-// How long that takes, and the uses between.
-fn push_and_remove_all_nanos<C: CpuClock, D: Dialects>(
-    rt: &C,
-    ctx: &mut Context<D>,
-    op: Ptr<Operation<D>>,
-    value: Value<D>,
-    count: usize,
-) -> anyhow::Result<(u64, u64)> {
-    let start = nanos_now(rt)?;
-    let middle = push_and_remove_all(ctx, op, value, count)?;
-    Ok((nanos_since(rt, start)?, middle))
-}
-
 // Makes an operation without operands in a block, and answers it and an argument of the block.
 fn op_and_argument<D: Dialects>(
     ctx: &mut Context<D>,
@@ -132,8 +111,10 @@ pub(crate) fn pushes_and_removals<C: CpuClock, D: Dialects>(
     count: usize,
 ) -> Run {
     let (op, value) = op_and_argument(ctx, ty)?;
-    let (nanos, middle) = push_and_remove_all_nanos(rt, ctx, op, value, count)?;
-    run_of(nanos, count, mix(middle, uses_of(ctx, value)?))
+    let start = nanos_now(rt);
+    let middle = push_and_remove_all(ctx, op, value, count)?;
+    let nanos = nanos_since(rt, start)?;
+    run_to(Ok(nanos), count, Ok(mix(middle, uses_of(ctx, value)?)))
 }
 
 // Lets the first operand of the operations at these places name one value and the other in turn.
@@ -157,23 +138,6 @@ fn timed_replacements<D: Dialects>(
     Ok(())
 }
 
-// How long it takes to let the first operand of random ones of the operations, as many as there are, name one value and the other in turn.
-fn replacements_nanos<C: CpuClock, D: Dialects>(
-    rt: &C,
-    ctx: &mut Context<D>,
-    ops: &[Ptr<Operation<D>>],
-    first: Value<D>,
-    second: Value<D>,
-) -> anyhow::Result<u64> {
-    let order = random_places(ctx.alloc(), ops.len())?;
-    let start = nanos_now(rt)?;
-    nanos_of(
-        rt,
-        start,
-        timed_replacements(ctx, ops, order.as_slice(), first, second),
-    )
-}
-
 /// The operand of N random users of one value is replaced.
 pub(crate) fn replacements<C: CpuClock, D: Dialects>(
     rt: &C,
@@ -183,7 +147,12 @@ pub(crate) fn replacements<C: CpuClock, D: Dialects>(
 ) -> Run {
     let used = used_value(ctx, ty, count)?;
     let users = used.users.as_slice();
-    let nanos = replacements_nanos(rt, ctx, users, used.other, used.value)?;
+    let order = random_places(ctx.alloc(), count)?;
+    let nanos = nanos_of(
+        rt,
+        nanos_now(rt),
+        timed_replacements(ctx, users, order.as_slice(), used.other, used.value),
+    );
     run_to(nanos, count, naming_sum(ctx, users, used.value))
 }
 
@@ -192,10 +161,10 @@ fn wide_outcome<D: Dialects>(
     ctx: &Context<D>,
     op: Ptr<Operation<D>>,
     value: Value<D>,
-    nanos: u64,
+    nanos: Nanos,
 ) -> Run {
-    let sum = naming_sum(ctx, &[op], value)?;
-    run_of(nanos, operand_count(ctx, op), sum)
+    let operands = operand_count(ctx, op);
+    run_to(nanos, operands, naming_sum(ctx, &[op], value))
 }
 
 // Lets so many operands of an operation name a value, from the first on.
@@ -212,18 +181,6 @@ fn timed_from_front<D: Dialects>(
     Ok(())
 }
 
-// How long that takes.
-fn from_front_nanos<C: CpuClock, D: Dialects>(
-    rt: &C,
-    ctx: &mut Context<D>,
-    op: Ptr<Operation<D>>,
-    value: Value<D>,
-    count: usize,
-) -> anyhow::Result<u64> {
-    let start = nanos_now(rt)?;
-    nanos_of(rt, start, timed_from_front(ctx, op, value, count))
-}
-
 /// The N operands of one operation are replaced one by one, the first first.
 pub(crate) fn replaced_front<C: CpuClock, D: Dialects>(
     rt: &C,
@@ -232,7 +189,7 @@ pub(crate) fn replaced_front<C: CpuClock, D: Dialects>(
     count: usize,
 ) -> Run {
     let (op, value, other) = wide(ctx, ty, count)?;
-    let nanos = from_front_nanos(rt, ctx, op, other, count)?;
+    let nanos = nanos_of(rt, nanos_now(rt), timed_from_front(ctx, op, other, count));
     wide_outcome(ctx, op, value, nanos)
 }
 
@@ -250,18 +207,6 @@ fn timed_from_back<D: Dialects>(
     Ok(())
 }
 
-// How long that takes.
-fn from_back_nanos<C: CpuClock, D: Dialects>(
-    rt: &C,
-    ctx: &mut Context<D>,
-    op: Ptr<Operation<D>>,
-    value: Value<D>,
-    count: usize,
-) -> anyhow::Result<u64> {
-    let start = nanos_now(rt)?;
-    nanos_of(rt, start, timed_from_back(ctx, op, value, count))
-}
-
 /// The N operands of one operation are replaced one by one, the last first.
 pub(crate) fn replaced_back<C: CpuClock, D: Dialects>(
     rt: &C,
@@ -270,7 +215,7 @@ pub(crate) fn replaced_back<C: CpuClock, D: Dialects>(
     count: usize,
 ) -> Run {
     let (op, value, other) = wide(ctx, ty, count)?;
-    let nanos = from_back_nanos(rt, ctx, op, other, count)?;
+    let nanos = nanos_of(rt, nanos_now(rt), timed_from_back(ctx, op, other, count));
     wide_outcome(ctx, op, value, nanos)
 }
 
@@ -292,19 +237,6 @@ fn timed_in_order<D: Dialects>(
     Ok(())
 }
 
-// How long that takes.
-fn in_order_nanos<C: CpuClock, D: Dialects>(
-    rt: &C,
-    ctx: &mut Context<D>,
-    op: Ptr<Operation<D>>,
-    order: &[usize],
-    first: Value<D>,
-    second: Value<D>,
-) -> anyhow::Result<u64> {
-    let start = nanos_now(rt)?;
-    nanos_of(rt, start, timed_in_order(ctx, op, order, first, second))
-}
-
 /// A random one of the N operands of one operation is replaced, N times.
 pub(crate) fn replaced_random<C: CpuClock, D: Dialects>(
     rt: &C,
@@ -314,6 +246,10 @@ pub(crate) fn replaced_random<C: CpuClock, D: Dialects>(
 ) -> Run {
     let (op, value, other) = wide(ctx, ty, count)?;
     let order = random_places(ctx.alloc(), count)?;
-    let nanos = in_order_nanos(rt, ctx, op, order.as_slice(), other, value)?;
+    let nanos = nanos_of(
+        rt,
+        nanos_now(rt),
+        timed_in_order(ctx, op, order.as_slice(), other, value),
+    );
     wide_outcome(ctx, op, value, nanos)
 }

@@ -1,10 +1,13 @@
 //! What a run comes to: how long its timed part took, and sums of what it left, which are the same for each library.
 
+use anyhow::bail;
 use ir_base::{Dialects, Ptr};
 use ir_checked::{
     BasicBlock, BlockPlace, BlockPtr, CheckedErr, Context, Operation, OperationPtr, Value,
     num_uses, operand, result,
 };
+use std::error::Error;
+use std::io;
 use std::time::CpuClock;
 
 /// What comes out of a run, each time the same.
@@ -16,6 +19,9 @@ pub struct Outcome {
     pub checksum: u64,
 }
 
+/// How long the timed part of a run took, where it succeeded.
+pub type Nanos = anyhow::Result<u64>;
+
 /// A run's nanoseconds in its timed part, and what came out of it.
 pub type Run = anyhow::Result<(u64, Outcome)>;
 
@@ -25,36 +31,47 @@ pub(crate) fn mix(sum: u64, number: u64) -> u64 {
 }
 
 /// The nanoseconds of the thread so far.
-pub(crate) fn nanos_now<C: CpuClock>(rt: &C) -> anyhow::Result<u64> {
+pub(crate) fn nanos_now<C: CpuClock>(rt: &C) -> io::Result<u64> {
     let time = rt.thread_cpu_time()?;
     Ok(u64::try_from(time.as_nanos()).unwrap_or(u64::MAX))
 }
 
-/// The nanoseconds of the thread since it had so many.
-pub(crate) fn nanos_since<C: CpuClock>(rt: &C, start: u64) -> anyhow::Result<u64> {
+/// The nanoseconds of the thread since a start.
+pub(crate) fn nanos_since<C: CpuClock>(rt: &C, start: io::Result<u64>) -> io::Result<u64> {
     let end = nanos_now(rt)?;
-    Ok(end.saturating_sub(start))
+    Ok(end.saturating_sub(start?))
 }
 
-/// The nanoseconds of the thread since it had so many, where what was timed since succeeded.
-pub(crate) fn nanos_of<C: CpuClock>(
+/// The nanoseconds of the thread since a start, where what was timed since succeeded. Arguments are worked out in their order, so in `nanos_of(rt, nanos_now(rt), timed_..(..))` the clock is read just before the timed part and just after it.
+pub(crate) fn nanos_of<C: CpuClock, E: Error>(
     rt: &C,
-    start: u64,
-    done: Result<(), CheckedErr>,
-) -> anyhow::Result<u64> {
+    start: io::Result<u64>,
+    done: Result<(), E>,
+) -> Nanos {
+    let nanos = nanos_since(rt, start)?;
     done?;
-    nanos_since(rt, start)
+    Ok(nanos)
 }
 
-/// A run whose timed part took so many nanoseconds, with so many units.
-pub(crate) fn run_of(nanos: u64, units: usize, checksum: u64) -> Run {
+/// The same where the timed part answers whether all is as it has to be.
+pub(crate) fn nanos_where<C: CpuClock>(
+    rt: &C,
+    start: io::Result<u64>,
+    well: Result<bool, CheckedErr>,
+) -> Nanos {
+    let nanos = nanos_since(rt, start)?;
+    if !well? {
+        bail!("the timed part found something wrong");
+    }
+    Ok(nanos)
+}
+
+/// A run with so many units, where its timed part and its checksum succeeded.
+pub(crate) fn run_to(nanos: Nanos, units: usize, checksum: Result<u64, CheckedErr>) -> Run {
+    let nanos = nanos?;
+    let checksum = checksum?;
     let units = units as u64;
     Ok((nanos, Outcome { units, checksum }))
-}
-
-/// The same where the checksum has to be read, which may fail.
-pub(crate) fn run_to(nanos: u64, units: usize, checksum: Result<u64, CheckedErr>) -> Run {
-    run_of(nanos, units, checksum?)
 }
 
 // How many results an operation has where it is live, and else 0.

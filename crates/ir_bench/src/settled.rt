@@ -7,7 +7,7 @@ ghost use Rattle.ir_records.specs.Meaning.{value_of};
 ghost use Rattle.ir_view.specs.State.{forest_of, types_of};
 
 use crate::chains::two_values;
-use crate::outcome::{Run, nanos_now, nanos_since, run_to, uses_sum};
+use crate::outcome::{Nanos, Run, nanos_now, nanos_of, run_to, uses_sum};
 use anyhow::bail;
 use ir_base::{CoreError, Dialects, Ptr, TypeHandle};
 use ir_view::{Context, NewOperation, Operation, OperationPtr, TypeQueries, Value, ValueQueries};
@@ -46,14 +46,16 @@ fn unlinked_nanos<C: CpuClock, D: Dialects>(
     ty: TypeHandle,
     count: usize,
     made: &mut Vec<Ptr<Operation<D>>>,
-) -> anyhow::Result<u64> {
+) -> Nanos {
     let (first, second) = two_values(ctx, ty)?;
     if !ty.is_known(ctx) || !first.is_live(ctx) || !second.is_live(ctx) {
         bail!("a type or a value is gone");
     }
-    let start = nanos_now(rt)?;
-    timed_unlinked(ctx, ty, first, second, count, made)?;
-    nanos_since(rt, start)
+    nanos_of(
+        rt,
+        nanos_now(rt),
+        timed_unlinked(ctx, ty, first, second, count, made),
+    )
 }
 
 /// N operations without a block.
@@ -64,6 +66,6 @@ pub(crate) fn unlinked<C: CpuClock, D: Dialects>(
     count: usize,
 ) -> Run {
     let mut made = Vec::with_capacity(ctx.alloc(), count)?;
-    let nanos = unlinked_nanos(rt, ctx, ty, count, &mut made)?;
+    let nanos = unlinked_nanos(rt, ctx, ty, count, &mut made);
     run_to(nanos, count, uses_sum(ctx, made.as_slice()))
 }

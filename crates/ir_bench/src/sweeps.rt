@@ -1,7 +1,7 @@
 //! Blocks that are swept: dead chains, whichever way they run, and a block with nothing dead.
 
 use crate::building::add_op;
-use crate::outcome::{Run, mix, nanos_now, nanos_since, run_of};
+use crate::outcome::{Run, mix, nanos_now, nanos_since, run_to};
 use ir_base::{Dialects, Ptr, TypeHandle};
 use ir_checked::{
     BasicBlock, BlockPlace, BlockPtr, CheckedErr, Context, Operation, Value, new_block, new_op,
@@ -41,11 +41,11 @@ fn swept<C: CpuClock, D: Dialects>(
     block: Ptr<BasicBlock<D>>,
     count: usize,
 ) -> Run {
-    let start = nanos_now(rt)?;
+    let start = nanos_now(rt);
     let gone = timed_sweep(ctx, block)?;
     let nanos = nanos_since(rt, start)?;
     let left = length_of(ctx, block)?;
-    run_of(nanos, count, mix(gone as u64, left))
+    run_to(Ok(nanos), count, Ok(mix(gone as u64, left)))
 }
 
 // Makes a block with an operation that has one result, and answers both.

@@ -1,8 +1,8 @@
 //! Types that are asked for by their keys.
 
-use crate::outcome::{Run, mix, nanos_now, nanos_since, run_of};
+use crate::outcome::{Run, mix, nanos_now, nanos_of, run_to};
 use ir_base::{CoreError, TypeHandle};
-use ir_checked::{Context, TypeQueries};
+use ir_checked::{CheckedErr, Context, TypeQueries};
 use ir_toy_verifiers::{Toy, ToyType};
 use std::collections::HashSet;
 use std::time::CpuClock;
@@ -23,21 +23,14 @@ fn timed_interning(
     Ok(())
 }
 
-// How long that takes.
-fn interning_nanos<C: CpuClock>(
-    rt: &C,
-    ctx: &mut Context<Toy>,
-    pool: usize,
-    count: usize,
-    made: &mut Vec<TypeHandle>,
-) -> anyhow::Result<u64> {
-    let start = nanos_now(rt)?;
-    timed_interning(ctx, pool, count, made)?;
-    nanos_since(rt, start)
+// Adds a place to others.
+fn add_place(places: &mut HashSet<usize>, place: usize) -> Result<(), CoreError> {
+    places.insert(place)?;
+    Ok(())
 }
 
 // The width of each type, and how many types there are.
-fn types_sum(ctx: &Context<Toy>, types: &[TypeHandle]) -> anyhow::Result<u64> {
+fn types_sum(ctx: &Context<Toy>, types: &[TypeHandle]) -> Result<u64, CheckedErr> {
     let mut sum = 0u64;
     let mut distinct = HashSet::new(ctx.alloc());
     for ty in types {
@@ -46,7 +39,7 @@ fn types_sum(ctx: &Context<Toy>, types: &[TypeHandle]) -> anyhow::Result<u64> {
                 sum = mix(sum, *width as u64);
             }
         }
-        distinct.insert(ty.place)?;
+        add_place(&mut distinct, ty.place)?;
     }
     Ok(mix(sum, distinct.len() as u64))
 }
@@ -54,6 +47,11 @@ fn types_sum(ctx: &Context<Toy>, types: &[TypeHandle]) -> anyhow::Result<u64> {
 /// N types out of N/10 keys.
 pub(crate) fn interning<C: CpuClock>(rt: &C, ctx: &mut Context<Toy>, count: usize) -> Run {
     let mut made = Vec::with_capacity(ctx.alloc(), count)?;
-    let nanos = interning_nanos(rt, ctx, count / 10, count, &mut made)?;
-    run_of(nanos, count, types_sum(ctx, made.as_slice())?)
+    let pool = count / 10;
+    let nanos = nanos_of(
+        rt,
+        nanos_now(rt),
+        timed_interning(ctx, pool, count, &mut made),
+    );
+    run_to(nanos, count, types_sum(ctx, made.as_slice()))
 }

@@ -28,17 +28,6 @@ fn both_uses<D: Dialects>(
     Ok(others.wrapping_mul(3).wrapping_add(uses_of(ctx, value)?))
 }
 
-// Lets all uses of one value name another, and tells how long that took.
-fn redirected<C: CpuClock, D: Dialects>(
-    rt: &C,
-    ctx: &mut Context<D>,
-    value: Value<D>,
-    other: Value<D>,
-) -> anyhow::Result<u64> {
-    let start = nanos_now(rt)?;
-    nanos_of(rt, start, timed_replacing(ctx, value, other))
-}
-
 // Lets all uses of one value name another, and back. Tells how long both took, and how many uses the two had between.
 fn there_and_back<C: CpuClock, D: Dialects>(
     rt: &C,
@@ -46,9 +35,9 @@ fn there_and_back<C: CpuClock, D: Dialects>(
     value: Value<D>,
     other: Value<D>,
 ) -> anyhow::Result<(u64, u64)> {
-    let forth = redirected(rt, ctx, value, other)?;
+    let forth = nanos_of(rt, nanos_now(rt), timed_replacing(ctx, value, other))?;
     let between = both_uses(ctx, value, other)?;
-    let back = redirected(rt, ctx, other, value)?;
+    let back = nanos_of(rt, nanos_now(rt), timed_replacing(ctx, other, value))?;
     Ok((forth.saturating_add(back), between))
 }
 
@@ -75,7 +64,7 @@ pub(crate) fn replacing<C: CpuClock, D: Dialects>(
     let (nanos, between) = there_and_back(rt, ctx, used.value, used.other)?;
     let users = used.users.as_slice();
     let checksum = returned_sum(ctx, users, used.value, used.other, between);
-    run_to(nanos, count.wrapping_mul(2), checksum)
+    run_to(Ok(nanos), count.wrapping_mul(2), checksum)
 }
 
 /// The same with all uses in one operation.
@@ -88,7 +77,7 @@ pub(crate) fn replacing_in_one<C: CpuClock, D: Dialects>(
     let (op, value, other) = wide(ctx, ty, count)?;
     let (nanos, _between) = there_and_back(rt, ctx, value, other)?;
     let checksum = operand_sum(ctx, &[op], value);
-    run_to(nanos, count.wrapping_mul(2), checksum)
+    run_to(Ok(nanos), count.wrapping_mul(2), checksum)
 }
 
 // Makes an operation for each argument of a block with so many, at its back, that uses the argument.
@@ -104,17 +93,6 @@ fn timed_argument_users<D: Dialects>(
         add_op(ctx, block, 4, &[], &operands, 0)?;
     }
     Ok(())
-}
-
-// How long that takes.
-fn argument_users_nanos<C: CpuClock, D: Dialects>(
-    rt: &C,
-    ctx: &mut Context<D>,
-    block: Ptr<BasicBlock<D>>,
-    count: usize,
-) -> anyhow::Result<u64> {
-    let start = nanos_now(rt)?;
-    nanos_of(rt, start, timed_argument_users(ctx, block, count))
 }
 
 // Makes an unlinked block with so many arguments of a type.
@@ -135,6 +113,6 @@ pub(crate) fn argument_users<C: CpuClock, D: Dialects>(
     count: usize,
 ) -> Run {
     let block = wide_block(ctx, ty, count)?;
-    let nanos = argument_users_nanos(rt, ctx, block, count)?;
+    let nanos = nanos_of(rt, nanos_now(rt), timed_argument_users(ctx, block, count));
     run_to(nanos, count, block_sum(ctx, block))
 }

@@ -2,8 +2,7 @@
 
 use crate::building::{add_op, build};
 use crate::nests::{add_function, module_outcome, nest_from_above, nest_outcome, with_block};
-use crate::outcome::{Run, nanos_now, nanos_since};
-use anyhow::bail;
+use crate::outcome::{Run, nanos_now, nanos_where};
 use ir_base::{Dialects, Ptr, TypeHandle};
 use ir_checked::{BasicBlock, CheckedErr, Context, Operation, OperationPtr};
 use ir_toy_verifiers::{Toy, ToyVerifiers, verify_operation};
@@ -51,23 +50,13 @@ pub(crate) fn verifying<C: CpuClock>(
     count: usize,
 ) -> Run {
     let root = ended_module(ctx, ty, count / 8)?;
-    let start = nanos_now(rt)?;
-    let well = timed_verifying(ctx, root);
-    let nanos = nanos_since(rt, start)?;
-    if !well {
-        bail!("something is wrong with the module");
-    }
+    let nanos = nanos_where(rt, nanos_now(rt), Ok(timed_verifying(ctx, root)));
     module_outcome(nanos, count / 8)
 }
 
 /// A nest N/3 deep is verified. Its building isn't timed. The units are the entities.
 pub(crate) fn verifying_deep<C: CpuClock>(rt: &C, ctx: &mut Context<Toy>, count: usize) -> Run {
     let (outer, _inner) = nest_from_above(ctx, count / 3)?;
-    let start = nanos_now(rt)?;
-    let well = timed_verifying(ctx, outer);
-    let nanos = nanos_since(rt, start)?;
-    if !well {
-        bail!("something is wrong with the nest");
-    }
+    let nanos = nanos_where(rt, nanos_now(rt), Ok(timed_verifying(ctx, outer)));
     nest_outcome(nanos, count / 3)
 }

@@ -2,70 +2,40 @@
 
 use ir_base::{Dialects, Ptr};
 use ir_checked::{BasicBlock, BlockPtr, CheckedErr, Context, Operation, OperationPtr, Use};
-use ir_view::{BlockUseQueries, BlockUses, DanglingPtrDerefError, IndexErr};
-use std::process::Abort;
+use ir_view::{BlockUseQueries, BlockUses};
 
-/// Asserts that the handle leads to no block.
-pub(crate) fn expect_no_block<D: Dialects>(
-    rt: &impl Abort,
+/// What a block tells of itself: its own handle, its label, how many arguments it has, and whether it has no attributes.
+pub(crate) type BlockFacts<'a, D> = (Ptr<BasicBlock<D>>, &'a str, usize, bool);
+
+/// What a labelled block tells of itself. It is asked for its location too.
+pub(crate) fn block_facts<D: Dialects>(
     ctx: &Context<D>,
     block: Ptr<BasicBlock<D>>,
-) {
-    assert!(rt; !block.is_live(ctx));
-    assert!(rt; matches!(block.try_deref(ctx), Err(DanglingPtrDerefError)));
-}
-
-/// Asserts that the block knows its own handle, and has so many arguments.
-pub(crate) fn expect_block<D: Dialects>(
-    rt: &impl Abort,
-    ctx: &Context<D>,
-    block: Ptr<BasicBlock<D>>,
-    num_arguments: usize,
-) -> Result<(), CheckedErr> {
+) -> Result<BlockFacts<'_, D>, CheckedErr> {
     let Ok(record) = block.try_deref(ctx) else {
         return Err(CheckedErr::Condition);
     };
-    assert!(rt; record.get_self_ptr() == block);
-    assert!(rt; record.get_num_arguments() == num_arguments);
+    let Some(label) = record.label() else {
+        return Err(CheckedErr::Condition);
+    };
     let _loc = record.loc();
-    Ok(())
+    Ok((
+        record.get_self_ptr(),
+        label.as_str(),
+        record.get_num_arguments(),
+        record.attributes().is_empty(),
+    ))
 }
 
-/// Asserts that the block has the label, and no attributes.
-pub(crate) fn expect_label<D: Dialects>(
-    rt: &impl Abort,
+/// Whether something names the block, and how many successors do.
+pub(crate) fn predecessors<D: Dialects>(
     ctx: &Context<D>,
     block: Ptr<BasicBlock<D>>,
-    text: &str,
-) -> Result<(), CheckedErr> {
-    let Ok(record) = block.try_deref(ctx) else {
-        return Err(CheckedErr::Condition);
-    };
-    assert!(rt; record.label().is_some_and(|label| label.as_str() == text));
-    assert!(rt; record.attributes().is_empty());
-    Ok(())
-}
-
-/// Whether something names the block.
-pub(crate) fn has_pred<D: Dialects>(
-    ctx: &Context<D>,
-    block: Ptr<BasicBlock<D>>,
-) -> Result<bool, CheckedErr> {
+) -> Result<(bool, usize), CheckedErr> {
     if !block.is_live(ctx) {
         return Err(CheckedErr::Condition);
     }
-    Ok(block.has_pred(ctx))
-}
-
-/// How many successors name the block.
-pub(crate) fn num_preds<D: Dialects>(
-    ctx: &Context<D>,
-    block: Ptr<BasicBlock<D>>,
-) -> Result<usize, CheckedErr> {
-    if !block.is_live(ctx) {
-        return Err(CheckedErr::Condition);
-    }
-    Ok(block.num_preds(ctx))
+    Ok((block.has_pred(ctx), block.num_preds(ctx)))
 }
 
 /// The uses of the block as a successor.
@@ -95,23 +65,13 @@ pub(crate) fn successor_use<D: Dialects>(
     Ok(record.get_successor_as_use(index))
 }
 
-/// Asserts where the use stands among the successors of its user, or why it stands nowhere.
-pub(crate) fn expect_successor<D: Dialects>(
-    rt: &impl Abort,
+/// Where a live use stands among the successors of its user, and the block that it names.
+pub(crate) fn successor_facts<D: Dialects>(
     ctx: &Context<D>,
     used: Use<Ptr<BasicBlock<D>>>,
-    place: Result<usize, IndexErr>,
-) {
-    assert!(rt; used.try_find_index(ctx) == place);
-}
-
-/// The block that a live use names.
-pub(crate) fn used_block<D: Dialects>(
-    ctx: &Context<D>,
-    used: Use<Ptr<BasicBlock<D>>>,
-) -> Result<Ptr<BasicBlock<D>>, CheckedErr> {
-    if used.try_find_index(ctx).is_err() {
+) -> Result<(usize, Ptr<BasicBlock<D>>), CheckedErr> {
+    let Ok(place) = used.try_find_index(ctx) else {
         return Err(CheckedErr::Condition);
-    }
-    Ok(used.get_def(ctx))
+    };
+    Ok((place, used.get_def(ctx)))
 }

@@ -1,25 +1,24 @@
 //! Blocks, their arguments, successors and uses as successors, regions that are added, and the texts of faults, over the dialect Toy.
 
 use crate::block_questions::{
-    block_uses, expect_block, expect_label, expect_no_block, expect_successor, has_pred, num_preds,
-    successor_use, used_block,
+    block_facts, block_uses, predecessors, successor_facts, successor_use,
 };
-use crate::contexts::{call_laws, expect_empty, refusal, room};
-use crate::op_questions::{counts, expect_region};
-use crate::value_questions::{
-    expect_live_value, expect_number, expect_place, uses, value_loc, value_type,
-};
+use crate::contexts::{COUNTER_SPENT, SLOTS_SPENT, call_laws, expect_same};
+use crate::op_questions::{op_facts, region_owner};
+use crate::value_questions::{expect_both, uses, value_facts};
 use ir_base::{ArenaIndex, CoreError, Dialects, Identifier, Limits, Ptr};
 use ir_checked::{
-    BasicBlock, CheckedErr, Context, Operation, Use, Value, add_region, argument, end, new_block,
-    new_op, new_type, num_uses, operand, region, successor, with_limits,
+    BasicBlock, BlockPtr, CheckedErr, Context, Operation, Use, Value, ValueQueries, add_region,
+    argument, end, new_block, new_op, new_type, num_uses, operand, region, successor, with_limits,
 };
 use ir_toy::{Toy, ToyType};
 use ir_view::{
-    DanglingPtrDerefError, DefiningEntity, IndexErr, UseError, UseIndex, ValueError, ValueIndex,
+    BlockUseQueries, DanglingPtrDerefError, DefiningEntity, IndexErr, UseError, UseIndex,
+    ValueError, ValueIndex,
 };
 use std::alloc::Global;
 use std::fmt::Display;
+use std::panic::Expect;
 use std::process::Abort;
 use std::test::Fail;
 
@@ -32,92 +31,79 @@ struct Branch<D: Dialects> {
 }
 
 // Makes the block and the operation.
-fn make_branch<D: Dialects>(
-    ctx: &mut Context<D>,
-    key: D::TypeKey,
-) -> Result<Branch<D>, CheckedErr> {
-    let ty = new_type(ctx, key)?;
+fn make_branch<D: Dialects>(rt: &impl Abort, ctx: &mut Context<D>, key: D::TypeKey) -> Branch<D> {
+    let ty = new_type(ctx, key).expect(rt, "the type");
     let label = Some(Identifier::new("entry"));
-    let block = new_block(ctx, label, &[ty, ty])?;
-    let argument = argument(ctx, block, 1)?;
-    let op = new_op(ctx, 3, &[], &[argument], &[block, block], 0)?;
-    Ok(Branch {
+    let block = new_block(ctx, label, &[ty, ty]).expect(rt, "the block");
+    let argument = argument(ctx, block, 1).expect(rt, "its second argument");
+    let op = new_op(ctx, 3, &[], &[argument], &[block, block], 0).expect(rt, "the operation");
+    Branch {
         block,
         argument,
         op,
-    })
+    }
 }
 
 // What the block tells of itself.
-fn tell_block<D: Dialects>(
-    rt: &impl Abort,
-    ctx: &Context<D>,
-    made: &Branch<D>,
-) -> Result<(), CheckedErr> {
-    expect_block(rt, ctx, made.block, 2)?;
-    expect_label(rt, ctx, made.block, "entry")?;
-    let first = argument(ctx, made.block, 0)?;
-    let second = argument(ctx, made.block, 1)?;
-    assert!(rt; first != second);
-    assert!(rt; second == made.argument);
-    Ok(())
+fn tell_block<D: Dialects>(rt: &impl Abort, ctx: &Context<D>, made: &Branch<D>) {
+    let block = made.block;
+    expect_same(
+        rt,
+        block_facts(ctx, block),
+        Ok((block, "entry", 2, true)),
+        "the block",
+    );
+    let first = argument(ctx, block, 0).expect(rt, "its first argument");
+    let second = argument(ctx, block, 1).expect(rt, "its second argument");
+    expect_same(rt, first == second, false, "two arguments");
+    expect_same(rt, second, made.argument, "its second argument");
 }
 
 // What the second argument tells of what defines it.
 fn tell_definer<D: Dialects>(rt: &impl Abort, made: &Branch<D>) {
-    let value = made.argument;
-    assert!(rt; value.defining_entity() == DefiningEntity::Block(made.block));
-    assert!(rt; value.defining_block() == Some(made.block));
-    assert!(rt; value.defining_op().is_none());
+    let (value, block) = (made.argument, made.block);
+    expect_same(
+        rt,
+        value.defining_entity(),
+        DefiningEntity::Block(block),
+        "its definer",
+    );
+    expect_same(rt, value.defining_block(), Some(block), "its block");
+    expect_same(rt, value.defining_op(), None, "its operation");
 }
 
-// What the second argument tells of its number, of how many uses it has, of its type and of its location.
-fn tell_number_and_type<D: Dialects>(
-    rt: &impl Abort,
-    ctx: &Context<D>,
-    made: &Branch<D>,
-) -> Result<(), CheckedErr> {
-    expect_number(rt, ctx, made.argument, 1)?;
-    assert!(rt; num_uses(ctx, made.argument)? == 1);
-    assert!(rt; value_type(ctx, made.argument)? == 0);
-    let _loc = value_loc(ctx, made.argument)?;
-    Ok(())
+// The one use is of the operation.
+fn expect_user<D: Dialects>(rt: &impl Abort, uses: &[Use<Value<D>>], user: Ptr<Operation<D>>) {
+    assert!(rt; matches!(*uses, [used] if used.user_op() == user));
 }
 
-// No other operation than the one that was made uses the second argument.
-fn tell_user<D: Dialects>(
-    rt: &impl Abort,
-    ctx: &Context<D>,
-    made: &Branch<D>,
-) -> Result<(), CheckedErr> {
-    for used in uses(ctx, made.argument)?.iter() {
-        assert!(rt; used.user_op() == made.op);
-    }
-    Ok(())
-}
-
-// What the second argument tells of itself.
-fn tell_argument<D: Dialects>(
-    rt: &impl Abort,
-    ctx: &Context<D>,
-    made: &Branch<D>,
-) -> Result<(), CheckedErr> {
+// What the second argument tells of itself. No other operation than the one that was made uses it.
+fn tell_argument<D: Dialects>(rt: &impl Abort, ctx: &Context<D>, made: &Branch<D>) {
     tell_definer(rt, made);
-    tell_number_and_type(rt, ctx, made)?;
-    tell_user(rt, ctx, made)
+    let value = made.argument;
+    expect_same(
+        rt,
+        value_facts(ctx, value),
+        Ok((1, 1, true, 0)),
+        "the argument",
+    );
+    expect_same(rt, num_uses(ctx, value), Ok(1), "how many uses it has");
+    let uses = uses(ctx, value).expect(rt, "its uses");
+    expect_user(rt, &uses, made.op);
 }
 
 // What the operation tells of its parts.
-fn tell_parts<D: Dialects>(
-    rt: &impl Abort,
-    ctx: &Context<D>,
-    made: &Branch<D>,
-) -> Result<(), CheckedErr> {
-    assert!(rt; counts(ctx, made.op)? == [0, 1, 2, 0]);
-    assert!(rt; operand(ctx, made.op, 0)? == made.argument);
-    assert!(rt; successor(ctx, made.op, 0)? == made.block);
-    assert!(rt; successor(ctx, made.op, 1)? == made.block);
-    Ok(())
+fn tell_parts<D: Dialects>(rt: &impl Abort, ctx: &Context<D>, made: &Branch<D>) {
+    let (op, block) = (made.op, made.block);
+    expect_same(
+        rt,
+        op_facts(ctx, op),
+        Ok((op, 3, [0, 1, 2, 0])),
+        "the operation",
+    );
+    expect_same(rt, operand(ctx, op, 0), Ok(made.argument), "its operand");
+    expect_same(rt, successor(ctx, op, 0), Ok(block), "its first successor");
+    expect_same(rt, successor(ctx, op, 1), Ok(block), "its second successor");
 }
 
 // What the use of the successor at the index tells of itself.
@@ -126,38 +112,31 @@ fn tell_use<D: Dialects>(
     ctx: &Context<D>,
     made: &Branch<D>,
     index: usize,
-) -> Result<Use<Ptr<BasicBlock<D>>>, CheckedErr> {
-    let used = successor_use(ctx, made.op, index)?;
-    assert!(rt; used.user_op() == made.op);
-    expect_successor(rt, ctx, used, Ok(index));
-    assert!(rt; used_block(ctx, used)? == made.block);
-    Ok(used)
+) -> Use<Ptr<BasicBlock<D>>> {
+    let used = successor_use(ctx, made.op, index).expect(rt, "a successor");
+    expect_same(rt, used.user_op(), made.op, "its user");
+    expect_same(
+        rt,
+        successor_facts(ctx, used),
+        Ok((index, made.block)),
+        "the use",
+    );
+    used
 }
 
-// The two uses of the block are those of the two successors.
-fn tell_block_uses<D: Dialects>(
-    rt: &impl Abort,
-    ctx: &Context<D>,
-    made: &Branch<D>,
-) -> Result<(), CheckedErr> {
-    let first = tell_use(rt, ctx, made, 0)?;
-    let second = tell_use(rt, ctx, made, 1)?;
-    assert!(rt; first != second);
-    let uses = block_uses(ctx, made.block)?;
-    assert!(rt; uses.len() == 2);
-    assert!(rt; uses.contains(&first) && uses.contains(&second));
-    Ok(())
-}
-
-// What the block tells of the successors that name it.
-fn tell_predecessors<D: Dialects>(
-    rt: &impl Abort,
-    ctx: &Context<D>,
-    made: &Branch<D>,
-) -> Result<(), CheckedErr> {
-    assert!(rt; has_pred(ctx, made.block)?);
-    assert!(rt; num_preds(ctx, made.block)? == 2);
-    tell_block_uses(rt, ctx, made)
+// What the block tells of the successors that name it: the uses of it are those of the two successors.
+fn tell_predecessors<D: Dialects>(rt: &impl Abort, ctx: &Context<D>, made: &Branch<D>) {
+    let block = made.block;
+    expect_same(
+        rt,
+        predecessors(ctx, block),
+        Ok((true, 2)),
+        "what names the block",
+    );
+    let first = tell_use(rt, ctx, made, 0);
+    let second = tell_use(rt, ctx, made, 1);
+    let uses = block_uses(ctx, block).expect(rt, "its uses");
+    expect_both(rt, &uses, first, second);
 }
 
 // What a handle, a value and a use answer that this context never gave.
@@ -166,64 +145,63 @@ fn tell_strangers<D: Dialects>(rt: &impl Abort, ctx: &Context<D>, made: &Branch<
         slot: 9,
         version: 1,
     });
-    expect_no_block(rt, ctx, gone);
+    let dangling = Some(DanglingPtrDerefError);
+    expect_same(rt, gone.is_live(ctx), false, "a strange block");
+    expect_same(rt, gone.try_deref(ctx).err(), dangling, "its record");
     let value: Value<D> = Value::from_index(ValueIndex {
         number: 9,
         ..made.argument.index
     });
-    expect_live_value(rt, ctx, value, false);
-    let missing = IndexErr::ValueError(ValueError::NotInBlockArgument);
-    expect_place(rt, ctx, value, Err(missing));
+    let missing = Err(IndexErr::ValueError(ValueError::NotInBlockArgument));
+    expect_same(rt, value.is_live(ctx), false, "a strange value");
+    expect_same(rt, value.try_find_index(ctx), missing, "its place");
     let used: Use<Ptr<BasicBlock<D>>> = Use::from_index(UseIndex {
         user: made.op.index,
         number: 9,
     });
-    let missing = IndexErr::UseError(UseError::SuccessorNotInUserOp);
-    expect_successor(rt, ctx, used, Err(missing));
+    let missing = Err(IndexErr::UseError(UseError::SuccessorNotInUserOp));
+    expect_same(rt, used.try_find_index(ctx), missing, "a strange use");
 }
 
 // Makes the block and the operation, and asks both.
-fn tell_all<D: Dialects>(
-    rt: &impl Abort,
-    ctx: &mut Context<D>,
-    key: D::TypeKey,
-) -> Result<(), CheckedErr> {
-    let made = make_branch(ctx, key)?;
-    tell_block(rt, ctx, &made)?;
-    tell_argument(rt, ctx, &made)?;
-    tell_parts(rt, ctx, &made)?;
-    tell_predecessors(rt, ctx, &made)?;
+fn tell_all<D: Dialects>(rt: &impl Abort, ctx: &mut Context<D>, key: D::TypeKey) {
+    let made = make_branch(rt, ctx, key);
+    tell_block(rt, ctx, &made);
+    tell_argument(rt, ctx, &made);
+    tell_parts(rt, ctx, &made);
+    tell_predecessors(rt, ctx, &made);
     tell_strangers(rt, ctx, &made);
     call_laws(ctx);
-    expect_empty(rt, ctx, false);
-    Ok(())
+    expect_same(rt, ctx.is_ir_empty(), false, "the context");
 }
 
 #[test]
-fn blocks_arguments_and_successors(rt: HostRuntime) -> Result<(), Fail> {
+fn blocks_arguments_and_successors(rt: HostRuntime) {
     let mut ctx: Context<Toy> = Context::new(rt.alloc());
-    let outcome = tell_all(&rt, &mut ctx, ToyType::Int { width: 32 });
-    end(ctx, outcome)?;
-    Ok(())
+    tell_all(&rt, &mut ctx, ToyType::Int { width: 32 });
+    end(ctx, ());
 }
 
 // Adds a region to an operation that has one.
-fn add_one_region<D: Dialects>(rt: &impl Abort, ctx: &mut Context<D>) -> Result<(), CheckedErr> {
-    let op = new_op(ctx, 5, &[], &[], &[], 1)?;
-    let added = add_region(ctx, op)?;
-    expect_region(rt, ctx, added, op);
-    assert!(rt; counts(ctx, op)? == [0, 0, 0, 2]);
-    assert!(rt; region(ctx, op, 1)? == added);
-    assert!(rt; room(ctx).regions == u32::MAX - 3);
-    Ok(())
+fn add_one_region<D: Dialects>(rt: &impl Abort, ctx: &mut Context<D>) {
+    let op = new_op(ctx, 5, &[], &[], &[], 1).expect(rt, "the operation");
+    let added = add_region(ctx, op).expect(rt, "the region");
+    expect_same(rt, region_owner(ctx, added), Ok(op), "the region");
+    expect_same(rt, region(ctx, op, 1), Ok(added), "the second region");
+    expect_same(
+        rt,
+        op_facts(ctx, op),
+        Ok((op, 5, [0, 0, 0, 2])),
+        "the operation",
+    );
+    expect_same(rt, ctx.room().regions, u32::MAX - 3, "the room");
 }
 
 #[test]
-fn regions_are_added(rt: HostRuntime) -> Result<(), Fail> {
+fn regions_are_added(rt: HostRuntime) {
     let mut ctx: Context<Toy> = Context::new(rt.alloc());
-    let outcome = add_one_region(&rt, &mut ctx);
-    end(ctx, outcome)?;
-    Ok(())
+    add_one_region(&rt, &mut ctx);
+    end(ctx, ());
 }
 
 // Asserts how an operation is answered that uses the argument of a new block three times.
@@ -231,32 +209,29 @@ fn use_an_argument<D: Dialects>(
     rt: &impl Abort,
     ctx: &mut Context<D>,
     key: D::TypeKey,
-    wanted: Option<CoreError>,
-) -> Result<(), CheckedErr> {
-    let ty = new_type(ctx, key)?;
-    let block = new_block(ctx, None, &[ty])?;
-    let value = argument(ctx, block, 0)?;
-    let refused = refusal(new_op(ctx, 4, &[], &[value, value, value], &[], 0))?;
-    assert!(rt; refused == wanted);
-    Ok(())
+    wanted: Option<CheckedErr>,
+) {
+    let ty = new_type(ctx, key).expect(rt, "the type");
+    let block = new_block(ctx, None, &[ty]).expect(rt, "the block");
+    let value = argument(ctx, block, 0).expect(rt, "its argument");
+    let made = new_op(ctx, 4, &[], &[value, value, value], &[], 0);
+    expect_same(rt, made.err(), wanted, "three uses");
 }
 
 #[test]
-fn uses_of_an_argument_are_counted(rt: HostRuntime) -> Result<(), Fail> {
+fn uses_of_an_argument_are_counted(rt: HostRuntime) {
     let limits = Limits {
         uses: 2,
         slots: 1,
         ..Limits::default()
     };
-    let mut ctx: Context<Toy> = with_limits(rt.alloc(), limits)?;
-    let spent = Some(CoreError::CounterSpent);
-    let outcome = use_an_argument(&rt, &mut ctx, ToyType::Int { width: 32 }, spent);
-    end(ctx, outcome)?;
+    let mut ctx: Context<Toy> = with_limits(rt.alloc(), limits).expect(&rt, "the limits");
+    use_an_argument(&rt, &mut ctx, ToyType::Int { width: 32 }, COUNTER_SPENT);
+    end(ctx, ());
     let limits = Limits { uses: 3, ..limits };
-    let mut ctx: Context<Toy> = with_limits(rt.alloc(), limits)?;
-    let outcome = use_an_argument(&rt, &mut ctx, ToyType::Int { width: 32 }, None);
-    end(ctx, outcome)?;
-    Ok(())
+    let mut ctx: Context<Toy> = with_limits(rt.alloc(), limits).expect(&rt, "the limits");
+    use_an_argument(&rt, &mut ctx, ToyType::Int { width: 32 }, None);
+    end(ctx, ());
 }
 
 // Asserts how a block with two arguments is answered.
@@ -264,52 +239,44 @@ fn make_with_arguments<D: Dialects>(
     rt: &impl Abort,
     ctx: &mut Context<D>,
     key: D::TypeKey,
-    wanted: Option<CoreError>,
-) -> Result<(), CheckedErr> {
-    let ty = new_type(ctx, key)?;
-    let refused = refusal(new_block(ctx, None, &[ty, ty]))?;
-    assert!(rt; refused == wanted);
-    Ok(())
+    wanted: Option<CheckedErr>,
+) {
+    let ty = new_type(ctx, key).expect(rt, "the type");
+    let made = new_block(ctx, None, &[ty, ty]);
+    expect_same(rt, made.err(), wanted, "two arguments");
 }
 
 // Asserts that a block without arguments is refused for slots.
-fn make_without_slots<D: Dialects>(
-    rt: &impl Abort,
-    ctx: &mut Context<D>,
-) -> Result<(), CheckedErr> {
-    let refused = refusal(new_block(ctx, None, &[]))?;
-    assert!(rt; refused == Some(CoreError::SlotsSpent));
-    Ok(())
+fn make_without_slots<D: Dialects>(rt: &impl Abort, ctx: &mut Context<D>) {
+    let made = new_block(ctx, None, &[]);
+    expect_same(rt, made.err(), SLOTS_SPENT, "a block without a slot");
 }
 
 #[test]
-fn blocks_without_room(rt: HostRuntime) -> Result<(), Fail> {
+fn blocks_without_room(rt: HostRuntime) {
     let limits = Limits {
         slots: 0,
         values: 1,
         ..Limits::default()
     };
-    let mut ctx: Context<Toy> = with_limits(rt.alloc(), limits)?;
-    let spent = Some(CoreError::CounterSpent);
-    let outcome = make_with_arguments(&rt, &mut ctx, ToyType::Int { width: 32 }, spent);
-    end(ctx, outcome)?;
-    let mut ctx: Context<Toy> = with_limits(rt.alloc(), limits)?;
-    let outcome = make_without_slots(&rt, &mut ctx);
-    end(ctx, outcome)?;
-    Ok(())
+    let mut ctx: Context<Toy> = with_limits(rt.alloc(), limits).expect(&rt, "the limits");
+    make_with_arguments(&rt, &mut ctx, ToyType::Int { width: 32 }, COUNTER_SPENT);
+    end(ctx, ());
+    let mut ctx: Context<Toy> = with_limits(rt.alloc(), limits).expect(&rt, "the limits");
+    make_without_slots(&rt, &mut ctx);
+    end(ctx, ());
 }
 
 #[test]
-fn blocks_with_room(rt: HostRuntime) -> Result<(), Fail> {
+fn blocks_with_room(rt: HostRuntime) {
     let limits = Limits {
         slots: 1,
         values: 2,
         ..Limits::default()
     };
-    let mut ctx: Context<Toy> = with_limits(rt.alloc(), limits)?;
-    let outcome = make_with_arguments(&rt, &mut ctx, ToyType::Int { width: 32 }, None);
-    end(ctx, outcome)?;
-    Ok(())
+    let mut ctx: Context<Toy> = with_limits(rt.alloc(), limits).expect(&rt, "the limits");
+    make_with_arguments(&rt, &mut ctx, ToyType::Int { width: 32 }, None);
+    end(ctx, ());
 }
 
 // Asserts that a fault is told by this text.
@@ -319,7 +286,8 @@ fn expect_text<T: Display>(
     fault: &T,
     text: &str,
 ) -> Result<(), CoreError> {
-    assert!(rt; format!(in alloc; "{fault}")?.as_str() == text);
+    let told = format!(in alloc; "{fault}")?;
+    expect_same(rt, told.as_str(), text, "the text of a fault");
     Ok(())
 }
 

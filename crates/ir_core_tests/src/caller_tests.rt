@@ -4,16 +4,17 @@ ghost use Rattle.std.specs.Prelude.{length};
 ghost use Rattle.ir_view.specs.Calls.{LeadsToLive};
 ghost use Rattle.ir_view.specs.State.{forest_of, types_of};
 
+use crate::contexts::expect_same;
 use crate::core_tests::two_uses;
-use ir_base::{Dialects, Ptr};
+use ir_base::{CoreError, Dialects, Ptr};
 use ir_checked::{
-    CheckedErr, Context, Operation, OperationPtr, RegionPtr, TypeQueries, UseQueries, ValueQueries,
-    end, new_op, new_type,
+    Context, Operation, OperationPtr, RegionPtr, TypeQueries, UseQueries, ValueQueries, end,
+    new_op, new_type,
 };
 use ir_toy::{Toy, ToyType};
 use ir_view::{NewOperation, ResultUses};
+use std::panic::Expect;
 use std::process::Abort;
-use std::test::Fail;
 
 // From a live operation to a result, and whether it is used.
 fn walk_to_result<D: Dialects>(ctx: &Context<D>, op: &Operation<D>, index: usize)
@@ -88,42 +89,38 @@ fn walk<D: Dialects>(ctx: &Context<D>, op: &Operation<D>) -> usize
 }
 
 // Makes an operation that uses a value for the third time, and walks from there.
-fn make_and_walk<D: Dialects>(
-    rt: &impl Abort,
-    ctx: &mut Context<D>,
-    key: D::TypeKey,
-) -> Result<(), CheckedErr> {
-    let ty = new_type(ctx, key)?;
-    let made = two_uses(ctx, ty)?;
-    let last = new_op(ctx, 5, &[ty], &[made.value], &[], 2)?;
-    let Ok(record) = last.try_deref(ctx) else {
-        return Err(CheckedErr::Condition);
-    };
-    assert!(rt; walk(ctx, record) == 3);
-    Ok(())
+fn make_and_walk<D: Dialects>(rt: &impl Abort, ctx: &mut Context<D>, key: D::TypeKey) {
+    let ty = new_type(ctx, key).expect(rt, "the type");
+    let made = two_uses(ctx, ty).expect(rt, "the operations");
+    let last = new_op(ctx, 5, &[ty], &[made.value], &[], 2).expect(rt, "the third");
+    let record = last.try_deref(ctx).expect(rt, "its record");
+    expect_same(rt, walk(ctx, record), 3, "how often its operand is used");
 }
 
 #[test]
-fn what_live_operations_give_is_live(rt: HostRuntime) -> Result<(), Fail> {
+fn what_live_operations_give_is_live(rt: HostRuntime) {
     let mut ctx: Context<Toy> = Context::new(rt.alloc());
-    let outcome = make_and_walk(&rt, &mut ctx, ToyType::Int { width: 32 });
-    end(ctx, outcome)?;
-    Ok(())
+    make_and_walk(&rt, &mut ctx, ToyType::Int { width: 32 });
+    end(ctx, ());
 }
 
 // Makes an operation, which is live then, and asks it. One dialect is all that this caller has.
-fn make_and_ask(rt: &impl Abort, ctx: &mut Context<Toy>) -> Result<(), CheckedErr> {
-    let op: Ptr<Operation<Toy>> = Operation::new(ctx, 5, &[], &[], &[], 1)?;
-    assert!(rt; !op.has_use(ctx));
-    assert!(rt; op.deref(ctx).num_regions() == 1);
-    assert!(rt; op.is_live(ctx));
-    Ok(())
+fn make_and_ask(rt: &impl Abort, ctx: &mut Context<Toy>) {
+    let made: Result<Ptr<Operation<Toy>>, CoreError> = Operation::new(ctx, 5, &[], &[], &[], 1);
+    let op = made.expect(rt, "the operation");
+    expect_same(rt, op.has_use(ctx), false, "a use");
+    expect_same(
+        rt,
+        op.deref(ctx).num_regions(),
+        1,
+        "how many regions it has",
+    );
+    expect_same(rt, op.is_live(ctx), true, "the operation");
 }
 
 #[test]
-fn calls_over_one_dialect(rt: HostRuntime) -> Result<(), Fail> {
+fn calls_over_one_dialect(rt: HostRuntime) {
     let mut ctx: Context<Toy> = Context::new(rt.alloc());
-    let outcome = make_and_ask(&rt, &mut ctx);
-    end(ctx, outcome)?;
-    Ok(())
+    make_and_ask(&rt, &mut ctx);
+    end(ctx, ());
 }

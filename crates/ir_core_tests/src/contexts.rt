@@ -1,30 +1,21 @@
-//! Contexts that the tests make and let go, and what such a context tells as a whole, each with the condition of its call tested.
+//! How the tests compare, how a context refuses what it has no room for, and what it tells as a whole.
 
-use ir_base::{CoreError, Dialects, Room};
+use ir_base::{CoreError, Dialects};
 use ir_checked::{CheckedErr, Context};
 use std::process::Abort;
 
-/// Why a call was refused, if it was. Want of memory ends the test, and so does a condition that doesn't hold.
-pub(crate) fn refusal<T: Drop>(
-    answer: Result<T, CheckedErr>,
-) -> Result<Option<CoreError>, CheckedErr> {
-    match answer {
-        Ok(_) => Ok(None),
-        Err(CheckedErr::Core(CoreError::OutOfMemory)) => Err(CoreError::OutOfMemory.into()),
-        Err(CheckedErr::Core(error)) => Ok(Some(error)),
-        Err(CheckedErr::Condition) => Err(CheckedErr::Condition),
-    }
+/// Asserts that what was told is what was wanted; `what` says of what. A function that calls this has one way to its end, where an assertion of its own would be one more way, and is proved in less time.
+pub(crate) fn expect_same<T: PartialEq + Drop>(rt: &impl Abort, told: T, wanted: T, what: &str) {
+    assert!(rt; told == wanted, "{what}");
 }
 
-/// Asserts whether the context has no operation, block or region.
-pub(crate) fn expect_empty<D: Dialects>(rt: &impl Abort, ctx: &Context<D>, empty: bool) {
-    assert!(rt; ctx.is_ir_empty() == empty);
-}
+/// A call that is refused for numbers.
+pub(crate) const COUNTER_SPENT: Option<CheckedErr> = Some(CheckedErr::Core(
+    CoreError::CounterSpent,
+));
 
-/// How many numbers and slots are left.
-pub(crate) fn room<D: Dialects>(ctx: &Context<D>) -> Room {
-    ctx.room()
-}
+/// A call that is refused for slots.
+pub(crate) const SLOTS_SPENT: Option<CheckedErr> = Some(CheckedErr::Core(CoreError::SlotsSpent));
 
 /// Calls the laws that say what holds of every context.
 pub(crate) fn call_laws<D: Dialects>(ctx: &Context<D>) {

@@ -1,56 +1,24 @@
 //! What values and their uses are asked, each with the condition of its call tested.
 
+use crate::contexts::expect_same;
 use ir_base::Dialects;
 use ir_checked::{CheckedErr, Context, Use, UseQueries, Value, ValueQueries};
-use ir_view::IndexErr;
 use std::process::Abort;
 
-/// Asserts whether the value is live.
-pub(crate) fn expect_live_value<D: Dialects>(
-    rt: &impl Abort,
+/// What a live value tells of itself: where it stands among the results or arguments, by both calls, whether it has a use, and the place of its type. It is asked for its location too.
+pub(crate) fn value_facts<D: Dialects>(
     ctx: &Context<D>,
     value: Value<D>,
-    live: bool,
-) {
-    assert!(rt; value.is_live(ctx) == live);
-}
-
-/// Asserts where the value stands among the results or arguments, or why it stands nowhere.
-pub(crate) fn expect_place<D: Dialects>(
-    rt: &impl Abort,
-    ctx: &Context<D>,
-    value: Value<D>,
-    place: Result<usize, IndexErr>,
-) {
-    assert!(rt; value.try_find_index(ctx) == place);
-}
-
-// Where a live value stands among the results or arguments.
-fn place<D: Dialects>(ctx: &Context<D>, value: Value<D>) -> Result<usize, CheckedErr> {
+) -> Result<(usize, usize, bool, usize), CheckedErr> {
+    let Ok(place) = value.try_find_index(ctx) else {
+        return Err(CheckedErr::Condition);
+    };
     if !value.is_live(ctx) {
         return Err(CheckedErr::Condition);
     }
-    Ok(value.find_index(ctx))
-}
-
-/// Asserts where a live value stands among the results or arguments, by both calls.
-pub(crate) fn expect_number<D: Dialects>(
-    rt: &impl Abort,
-    ctx: &Context<D>,
-    value: Value<D>,
-    number: usize,
-) -> Result<(), CheckedErr> {
-    expect_place(rt, ctx, value, Ok(number));
-    assert!(rt; place(ctx, value)? == number);
-    Ok(())
-}
-
-/// Whether the value has a use.
-pub(crate) fn is_used<D: Dialects>(ctx: &Context<D>, value: Value<D>) -> Result<bool, CheckedErr> {
-    if !value.is_live(ctx) {
-        return Err(CheckedErr::Condition);
-    }
-    Ok(value.is_used(ctx))
+    let _loc = value.loc(ctx);
+    let ty = value.get_type(ctx).index();
+    Ok((place, value.find_index(ctx), value.is_used(ctx), ty))
 }
 
 /// The uses of the value.
@@ -65,76 +33,25 @@ pub(crate) fn uses<D: Dialects>(
     Ok(uses)
 }
 
-/// The place of the value's type.
-pub(crate) fn value_type<D: Dialects>(
-    ctx: &Context<D>,
-    value: Value<D>,
-) -> Result<usize, CheckedErr> {
-    if !value.is_live(ctx) {
-        return Err(CheckedErr::Condition);
-    }
-    Ok(value.get_type(ctx).index())
-}
-
-/// The location of what defines the value.
-pub(crate) fn value_loc<D: Dialects>(
-    ctx: &Context<D>,
-    value: Value<D>,
-) -> Result<&D::Loc, CheckedErr> {
-    if !value.is_live(ctx) {
-        return Err(CheckedErr::Condition);
-    }
-    Ok(value.loc(ctx))
-}
-
-/// Asserts where the use stands among the operands of its user, or why it stands nowhere.
-pub(crate) fn expect_operand<D: Dialects>(
+/// Asserts that there are two of these, that the two differ, and that both are among them.
+pub(crate) fn expect_both<T: Copy + PartialEq + Drop>(
     rt: &impl Abort,
-    ctx: &Context<D>,
-    used: Use<Value<D>>,
-    place: Result<usize, IndexErr>,
+    all: &[T],
+    first: T,
+    second: T,
 ) {
-    assert!(rt; used.try_find_index(ctx) == place);
+    let holds = [first != second, all.contains(&first), all.contains(&second)];
+    expect_same(rt, (all.len(), holds), (2, [true; 3]), "both uses");
 }
 
-// Where a live use stands among the operands of its user.
-fn operand_place<D: Dialects>(ctx: &Context<D>, used: Use<Value<D>>) -> Result<usize, CheckedErr> {
-    if used.try_find_index(ctx).is_err() {
-        return Err(CheckedErr::Condition);
-    }
-    Ok(used.find_index(ctx))
-}
-
-/// Asserts where a live use stands among the operands of its user, by both calls.
-pub(crate) fn expect_operand_number<D: Dialects>(
-    rt: &impl Abort,
+/// What a live use tells of itself: where it stands among the operands of its user, by both calls, the value that it names, and the place of this value's type.
+pub(crate) fn operand_facts<D: Dialects>(
     ctx: &Context<D>,
     used: Use<Value<D>>,
-    number: usize,
-) -> Result<(), CheckedErr> {
-    expect_operand(rt, ctx, used, Ok(number));
-    assert!(rt; operand_place(ctx, used)? == number);
-    Ok(())
-}
-
-/// The value that a live use names.
-pub(crate) fn used_value<D: Dialects>(
-    ctx: &Context<D>,
-    used: Use<Value<D>>,
-) -> Result<Value<D>, CheckedErr> {
-    if used.try_find_index(ctx).is_err() {
+) -> Result<(usize, usize, Value<D>, usize), CheckedErr> {
+    let Ok(place) = used.try_find_index(ctx) else {
         return Err(CheckedErr::Condition);
-    }
-    Ok(used.get_def(ctx))
-}
-
-/// The place of the type of the value that a live use names.
-pub(crate) fn used_type<D: Dialects>(
-    ctx: &Context<D>,
-    used: Use<Value<D>>,
-) -> Result<usize, CheckedErr> {
-    if used.try_find_index(ctx).is_err() {
-        return Err(CheckedErr::Condition);
-    }
-    Ok(used.get_type(ctx).index())
+    };
+    let ty = used.get_type(ctx).index();
+    Ok((place, used.find_index(ctx), used.get_def(ctx), ty))
 }

@@ -9,6 +9,7 @@ use ir_checked::{BasicBlock, BlockPtr, CheckedErr, Context, Operation, Operation
 use ir_small_forest::Forest;
 use ir_toy::{Toy, ToyInt, ToyText};
 use ir_view::{BlockPtrMut, OperationPtrMut};
+use std::alloc::Global;
 
 /// A call on the attributes of an entity.
 #[derive(Clone, Copy, Debug, Drop)]
@@ -39,13 +40,7 @@ impl AttributeCall {
     pub fn listed(self) -> AttributeCall
         ensures { result ≡ self }
     {
-        match self {
-            AttributeCall::SetFirst => AttributeCall::ALL[0],
-            AttributeCall::SetMore => AttributeCall::ALL[1],
-            AttributeCall::SetOnBlock => AttributeCall::ALL[2],
-            AttributeCall::Clone => AttributeCall::ALL[3],
-            AttributeCall::CloneSkipOutlined => AttributeCall::ALL[4],
-        }
+        AttributeCall::ALL[self as usize]
     }
 }
 
@@ -71,32 +66,36 @@ impl ForestCall for AttributeCall {
 }
 
 // Puts a text at `more`.
-fn put(attributes: &mut AttributeDict<Toy>, value: String) -> Result<(), CheckedErr> {
-    attributes.set(Identifier::new("more"), ToyText(value))?;
+fn put(alloc: Global, attributes: &mut AttributeDict<Toy>) -> Result<(), CheckedErr> {
+    attributes.set(Identifier::new("more"), ToyText(String::new(alloc)))?;
     Ok(())
 }
 
+// Puts a text into the attributes of a live operation.
 fn set_on_op(ctx: &mut Context<Toy>, op: Ptr<Operation<Toy>>) -> Result<(), CheckedErr> {
-    let value = String::new(ctx.alloc());
+    let alloc = ctx.alloc();
     match OperationPtrMut::try_deref_mut(ctx, op) {
-        Ok(written) => put(&mut written.attributes, value),
+        Ok(written) => put(alloc, &mut written.attributes),
         Err(_) => Err(CheckedErr::Condition),
     }
 }
 
+// Whether a text that is put into the attributes of the operation stands there.
 fn sets_on_op(ctx: &mut Context<Toy>, op: Ptr<Operation<Toy>>) -> Result<bool, CheckedErr> {
     set_on_op(ctx, op)?;
-    op_has(ctx, op)
+    Ok(has_more(attributes(ctx, op)?))
 }
 
+// Puts a text into the attributes of a live block.
 fn set_on_block(ctx: &mut Context<Toy>, block: Ptr<BasicBlock<Toy>>) -> Result<(), CheckedErr> {
-    let value = String::new(ctx.alloc());
+    let alloc = ctx.alloc();
     match BlockPtrMut::try_deref_mut(ctx, block) {
-        Ok(written) => put(&mut written.attributes, value),
+        Ok(written) => put(alloc, &mut written.attributes),
         Err(_) => Err(CheckedErr::Condition),
     }
 }
 
+// Whether a text that is put into the attributes of the block stands there.
 fn sets_on_block(ctx: &mut Context<Toy>, block: Ptr<BasicBlock<Toy>>) -> Result<bool, CheckedErr> {
     set_on_block(ctx, block)?;
     block_has(ctx, block)
@@ -121,10 +120,7 @@ fn attributes(
     }
 }
 
-fn op_has(ctx: &Context<Toy>, op: Ptr<Operation<Toy>>) -> Result<bool, CheckedErr> {
-    Ok(has_more(attributes(ctx, op)?))
-}
-
+// Whether the text stands in the attributes of a live block.
 fn block_has(ctx: &Context<Toy>, block: Ptr<BasicBlock<Toy>>) -> Result<bool, CheckedErr> {
     match block.try_deref(ctx) {
         Ok(record) => Ok(has_more(record.attributes())),
@@ -137,10 +133,14 @@ fn copies(attributes: &AttributeDict<Toy>) -> Result<bool, CheckedErr> {
     Ok(attributes.clone()? == *attributes)
 }
 
+// Whether there are a number at `count` and a text at `text`, and no more.
+fn has_two(attributes: &AttributeDict<Toy>) -> bool {
+    let number = attributes.get::<ToyInt>(&Identifier::new("count"));
+    let text = attributes.get::<ToyText>(&Identifier::new("text"));
+    attributes.len() == 2 && number.is_some() && text.is_some()
+}
+
 // Whether the copy lacks the text at `hidden` alone.
 fn skips_one(attributes: &AttributeDict<Toy>) -> Result<bool, CheckedErr> {
-    let copy = attributes.clone_skip_outlined()?;
-    let number = copy.get::<ToyInt>(&Identifier::new("count"));
-    let text = copy.get::<ToyText>(&Identifier::new("text"));
-    Ok(copy.len() == 2 && number.is_some() && text.is_some())
+    Ok(has_two(&attributes.clone_skip_outlined()?))
 }

@@ -36,12 +36,7 @@ impl DefinitionCall {
     pub fn listed(self) -> DefinitionCall
         ensures { result ≡ self }
     {
-        match self {
-            DefinitionCall::PushResult => DefinitionCall::ALL[0],
-            DefinitionCall::InsertResult => DefinitionCall::ALL[1],
-            DefinitionCall::PushArgument => DefinitionCall::ALL[2],
-            DefinitionCall::InsertArgument => DefinitionCall::ALL[3],
-        }
+        DefinitionCall::ALL[self as usize]
     }
 }
 
@@ -65,32 +60,39 @@ impl ForestCall for DefinitionCall {
     }
 }
 
+// `push_result`, behind two others.
 fn result_pushed(ctx: &mut Context<Toy>, forest: &Forest) -> Result<bool, CheckedErr> {
     let maker = forest.made.maker;
     let index = push_result(ctx, maker, forest.ty)?;
-    Ok(index == 2 && is_at(ctx, result(ctx, maker, 2)?, 2))
+    Ok(index == 2 && is_at(ctx, result(ctx, maker, 2), 2))
 }
 
+// `insert_result`, before v.
 fn result_inserted(ctx: &mut Context<Toy>, forest: &Forest) -> Result<bool, CheckedErr> {
     let maker = forest.made.maker;
     insert_result(ctx, maker, 0, forest.ty)?;
-    Ok(is_at(ctx, result(ctx, maker, 0)?, 0) && is_at(ctx, forest.made.v, 1))
+    Ok(is_at(ctx, result(ctx, maker, 0), 0) && is_at(ctx, Ok(forest.made.v), 1))
 }
 
+// `push_argument`, behind two others.
 fn argument_pushed(ctx: &mut Context<Toy>, forest: &Forest) -> Result<bool, CheckedErr> {
     let entry = forest.blocks.entry;
     let index = push_argument(ctx, entry, forest.ty)?;
-    Ok(index == 2 && is_at(ctx, argument(ctx, entry, 2)?, 2))
+    Ok(index == 2 && is_at(ctx, argument(ctx, entry, 2), 2))
 }
 
+// `insert_argument`, before the first one.
 fn argument_inserted(ctx: &mut Context<Toy>, forest: &Forest) -> Result<bool, CheckedErr> {
     let entry = forest.blocks.entry;
-    let before = argument(ctx, entry, 0)?;
+    let before = argument(ctx, entry, 0);
     insert_argument(ctx, entry, 0, forest.ty)?;
     Ok(is_at(ctx, before, 1))
 }
 
-// Whether the value stands there among the results or arguments.
-fn is_at(ctx: &Context<Toy>, value: Value<Toy>, place: usize) -> bool {
-    value.try_find_index(ctx) == Ok(place)
+// Whether there is the value, and stands there among the results or arguments.
+fn is_at(ctx: &Context<Toy>, value: Result<Value<Toy>, CheckedErr>, place: usize) -> bool {
+    match value {
+        Ok(value) => value.try_find_index(ctx) == Ok(place),
+        Err(_) => false,
+    }
 }

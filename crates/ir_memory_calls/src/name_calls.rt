@@ -1,10 +1,11 @@
 //! Names of a value, of the handle of a block, and of its record.
 
 ghost use Rattle.std.specs.Prelude.{◌≡◌};
+ghost use Rattle.ir_view.specs.State.{forest_of};
 
 use crate::forest_call::ForestCall;
-use ir_base::{Identifier, Ptr};
-use ir_checked::{BasicBlock, BlockPtr, CheckedErr, Context, Value, ValueQueries};
+use ir_base::{CoreError, Identifier};
+use ir_checked::{BlockPtr, CheckedErr, Context, ValueQueries};
 use ir_names::Named;
 use ir_small_forest::Forest;
 use ir_toy::Toy;
@@ -87,23 +88,65 @@ impl ForestCall for NameCall {
     }
 }
 
+// Whether v has the name that is asked for.
 fn names_value(ctx: &Context<Toy>, forest: &Forest, asked: Asked) -> Result<bool, CheckedErr> {
-    let name = name_of_value(ctx, forest.made.v, asked)?;
-    Ok(is_text(&name, "first", "v2", "first_v2", asked))
+    let value = forest.made.v;
+    if !value.is_live(ctx) {
+        return Err(CheckedErr::Condition);
+    }
+    has_name(&value, ctx, asked, ["first", "v2", "first_v2"])
 }
 
+// The names of `entry`: what it was given, its id, and its unique name.
+const ENTRY: [&str; 3] = ["entry", "block1v1", "entry_block1v1"];
+
+// Whether `entry` has the name that is asked for, by its handle.
 fn names_block(ctx: &Context<Toy>, forest: &Forest, asked: Asked) -> Result<bool, CheckedErr> {
-    let name = name_of_block(ctx, forest.blocks.entry, asked)?;
-    Ok(is_text(&name, "entry", "block1v1", "entry_block1v1", asked))
+    let block = forest.blocks.entry;
+    if !block.is_live(ctx) {
+        return Err(CheckedErr::Condition);
+    }
+    has_name(&block, ctx, asked, ENTRY)
 }
 
+// Whether `entry` has the name that is asked for, by its record.
 fn names_record(ctx: &Context<Toy>, forest: &Forest, asked: Asked) -> Result<bool, CheckedErr> {
-    let name = name_of_record(ctx, forest.blocks.entry, asked)?;
-    Ok(is_text(&name, "entry", "block1v1", "entry_block1v1", asked))
+    match forest.blocks.entry.try_deref(ctx) {
+        Ok(record) => has_name(record, ctx, asked, ENTRY),
+        Err(_) => Err(CheckedErr::Condition),
+    }
 }
 
-// Whether it is the text of what was asked for.
-fn is_text(name: &Option<Identifier>, given: &str, id: &str, unique: &str, asked: Asked) -> bool {
+// Whether what is there has the name that is asked for, of its given name, its id and its unique name.
+fn has_name<N: Named<Toy>>(
+    named: &N,
+    ctx: &Context<Toy>,
+    asked: Asked,
+    texts: [&str; 3],
+) -> Result<bool, CheckedErr>
+    requires { N.IsThere (forest_of ctx.now) named.now }
+{
+    Ok(is_text(&name_of(named, ctx, asked)?, asked, texts))
+}
+
+// The name that is asked for, of what is there.
+fn name_of<N: Named<Toy>>(
+    named: &N,
+    ctx: &Context<Toy>,
+    asked: Asked,
+) -> Result<Option<Identifier>, CoreError>
+    requires { N.IsThere (forest_of ctx.now) named.now }
+{
+    match asked {
+        Asked::Given => named.given_name(ctx),
+        Asked::Id => Ok(Some(named.id(ctx)?)),
+        Asked::Unique => Ok(Some(named.unique_name(ctx)?)),
+    }
+}
+
+// Whether it is the text of what was asked for: the given name, the id or the unique name.
+fn is_text(name: &Option<Identifier>, asked: Asked, texts: [&str; 3]) -> bool {
+    let [given, id, unique] = texts;
     let expected = match asked {
         Asked::Given => given,
         Asked::Id => id,
@@ -113,49 +156,4 @@ fn is_text(name: &Option<Identifier>, given: &str, id: &str, unique: &str, asked
         Some(name) => name.as_str() == expected,
         None => false,
     }
-}
-
-fn name_of_value(
-    ctx: &Context<Toy>,
-    value: Value<Toy>,
-    asked: Asked,
-) -> Result<Option<Identifier>, CheckedErr> {
-    if !value.is_live(ctx) {
-        return Err(CheckedErr::Condition);
-    }
-    Ok(match asked {
-        Asked::Given => value.given_name(ctx)?,
-        Asked::Id => Some(value.id(ctx)?),
-        Asked::Unique => Some(value.unique_name(ctx)?),
-    })
-}
-
-fn name_of_block(
-    ctx: &Context<Toy>,
-    block: Ptr<BasicBlock<Toy>>,
-    asked: Asked,
-) -> Result<Option<Identifier>, CheckedErr> {
-    if !block.is_live(ctx) {
-        return Err(CheckedErr::Condition);
-    }
-    Ok(match asked {
-        Asked::Given => block.given_name(ctx)?,
-        Asked::Id => Some(block.id(ctx)?),
-        Asked::Unique => Some(block.unique_name(ctx)?),
-    })
-}
-
-fn name_of_record(
-    ctx: &Context<Toy>,
-    block: Ptr<BasicBlock<Toy>>,
-    asked: Asked,
-) -> Result<Option<Identifier>, CheckedErr> {
-    let Ok(record) = block.try_deref(ctx) else {
-        return Err(CheckedErr::Condition);
-    };
-    Ok(match asked {
-        Asked::Given => record.given_name(ctx)?,
-        Asked::Id => Some(record.id(ctx)?),
-        Asked::Unique => Some(record.unique_name(ctx)?),
-    })
 }

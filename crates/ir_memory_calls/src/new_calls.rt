@@ -37,12 +37,7 @@ impl NewCall {
     pub fn listed(self) -> NewCall
         ensures { result ≡ self }
     {
-        match self {
-            NewCall::Operation => NewCall::ALL[0],
-            NewCall::Block => NewCall::ALL[1],
-            NewCall::Region => NewCall::ALL[2],
-            NewCall::MoveRegion => NewCall::ALL[3],
-        }
+        NewCall::ALL[self as usize]
     }
 }
 
@@ -66,14 +61,16 @@ impl ForestCall for NewCall {
     }
 }
 
+// `add_region`, to an operation without one.
 fn region_is_added(ctx: &mut Context<Toy>, forest: &Forest) -> Result<bool, CheckedErr> {
     let made = add_region(ctx, forest.spare)?;
-    Ok(region(ctx, forest.spare, 0)? == made)
+    Ok(region(ctx, forest.spare, 0) == Ok(made))
 }
 
+// `Region::move_to_op`, to an operation without a region.
 fn region_moves(ctx: &mut Context<Toy>, forest: &Forest) -> Result<bool, CheckedErr> {
     move_region(ctx, forest.inner, forest.spare)?;
-    Ok(region(ctx, forest.spare, 0)? == forest.inner)
+    Ok(region(ctx, forest.spare, 0) == Ok(forest.inner))
 }
 
 // Whether the live operation has so many results, operands, successors and regions.
@@ -81,13 +78,16 @@ fn has_parts(ctx: &Context<Toy>, op: Ptr<Operation<Toy>>, counts: [usize; 4]) ->
     let Ok(record) = op.try_deref(ctx) else {
         return false;
     };
-    let [results, operands, successors, regions] = counts;
-    record.get_num_results() == results
-        && record.get_num_operands() == operands
-        && record.get_num_successors() == successors
-        && record.num_regions() == regions
+    let found = [
+        record.get_num_results(),
+        record.get_num_operands(),
+        record.get_num_successors(),
+        record.num_regions(),
+    ];
+    found == counts
 }
 
+// `Operation::new`, with more than one of each part.
 fn operation(ctx: &mut Context<Toy>, forest: &Forest) -> Result<bool, CheckedErr> {
     let types = [forest.ty, forest.ty, forest.ty];
     let operands = [forest.made.v, forest.made.w, forest.made.v];
@@ -104,6 +104,7 @@ fn has_arguments(ctx: &Context<Toy>, block: Ptr<BasicBlock<Toy>>, count: usize) 
     record.get_num_arguments() == count
 }
 
+// `BasicBlock::new`, with a label and two arguments.
 fn block(ctx: &mut Context<Toy>, forest: &Forest) -> Result<bool, CheckedErr> {
     let label = Identifier::new("label");
     let made = new_block(ctx, Some(label), &[forest.ty, forest.ty])?;

@@ -45,14 +45,7 @@ impl OperandCall {
     pub fn listed(self) -> OperandCall
         ensures { result ≡ self }
     {
-        match self {
-            OperandCall::Push => OperandCall::ALL[0],
-            OperandCall::Insert => OperandCall::ALL[1],
-            OperandCall::Replace => OperandCall::ALL[2],
-            OperandCall::ReplaceAllUses => OperandCall::ALL[3],
-            OperandCall::ReplaceSomeUses => OperandCall::ALL[4],
-            OperandCall::ReplaceUse => OperandCall::ALL[5],
-        }
+        OperandCall::ALL[self as usize]
     }
 }
 
@@ -83,68 +76,60 @@ impl ForestCall for OperandCall {
 // `push_operand` with v.
 fn push(ctx: &mut Context<Toy>, forest: &Forest) -> Result<bool, CheckedErr> {
     let index = push_operand(ctx, forest.users.user, forest.made.v)?;
-    Ok(index == 2 && names(ctx, forest, 2, forest.made.v)? && have_uses(ctx, forest, 3, 2)?)
+    Ok(index == 2 && shows(ctx, forest, 2, forest.made.v, [3, 2]))
 }
 
 // `insert_operand` with w.
 fn insert(ctx: &mut Context<Toy>, forest: &Forest) -> Result<bool, CheckedErr> {
     insert_operand(ctx, forest.users.user, 0, forest.made.w)?;
-    Ok(names(ctx, forest, 0, forest.made.w)? && have_uses(ctx, forest, 2, 3)?)
+    Ok(shows(ctx, forest, 0, forest.made.w, [2, 3]))
 }
 
 // `replace_operand` with w.
 fn replace(ctx: &mut Context<Toy>, forest: &Forest) -> Result<bool, CheckedErr> {
     replace_operand(ctx, forest.users.user, 1, forest.made.w)?;
-    one_moved(ctx, forest, 1)
+    Ok(shows(ctx, forest, 1, forest.made.w, [1, 3]))
 }
 
 // `replace_all_uses_with`, from v to w.
 fn replace_all(ctx: &mut Context<Toy>, forest: &Forest) -> Result<bool, CheckedErr> {
     replace_all_uses(ctx, forest.made.v, forest.made.w)?;
-    have_uses(ctx, forest, 0, 4)
+    Ok(shows(ctx, forest, 0, forest.made.w, [0, 4]))
 }
 
 // `replace_some_uses_with`, from v to w, which chooses the first use.
 fn replace_some(ctx: &mut Context<Toy>, forest: &Forest) -> Result<bool, CheckedErr> {
     let first = operand_use(ctx, forest.users.user, 0)?;
     replace_one(ctx, forest.made.v, first, forest.made.w)?;
-    one_moved(ctx, forest, 0)
+    Ok(shows(ctx, forest, 0, forest.made.w, [1, 3]))
 }
 
 // `replace_use_with` w, of the second use of v.
 fn replace_second(ctx: &mut Context<Toy>, forest: &Forest) -> Result<bool, CheckedErr> {
     let second = operand_use(ctx, forest.users.user, 1)?;
     replace_use(ctx, second, forest.made.w)?;
-    one_moved(ctx, forest, 1)
+    Ok(shows(ctx, forest, 1, forest.made.w, [1, 3]))
 }
 
-// Whether the operand at the index names the value.
-fn names(
+// Whether the operand at the index names the value, and v and w have so many uses.
+fn shows(
     ctx: &Context<Toy>,
     forest: &Forest,
     index: usize,
     value: Value<Toy>,
-) -> Result<bool, CheckedErr> {
-    Ok(operand(ctx, forest.users.user, index)? == value)
+    uses: [usize; 2],
+) -> bool {
+    let found = (
+        operand(ctx, forest.users.user, index),
+        num_uses(ctx, forest.made.v),
+        num_uses(ctx, forest.made.w),
+    );
+    let [of_v, of_w] = uses;
+    found == (Ok(value), Ok(of_v), Ok(of_w))
 }
 
-// Whether the operand at the index has come to name w, and no other.
-fn one_moved(ctx: &Context<Toy>, forest: &Forest, index: usize) -> Result<bool, CheckedErr> {
-    Ok(names(ctx, forest, index, forest.made.w)? && have_uses(ctx, forest, 1, 3)?)
-}
-
-// Whether the two results have so many uses.
-fn have_uses(
-    ctx: &Context<Toy>,
-    forest: &Forest,
-    of_v: usize,
-    of_w: usize,
-) -> Result<bool, CheckedErr> {
-    Ok(num_uses(ctx, forest.made.v)? == of_v && num_uses(ctx, forest.made.w)? == of_w)
-}
-
-/// The operand at the index, as a use.
-pub fn operand_use(
+// The operand at the index, as a use.
+fn operand_use(
     ctx: &Context<Toy>,
     op: Ptr<Operation<Toy>>,
     index: usize,

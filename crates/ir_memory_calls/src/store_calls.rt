@@ -41,14 +41,7 @@ impl StoreCall {
     pub fn listed(self) -> StoreCall
         ensures { result ≡ self }
     {
-        match self {
-            StoreCall::InstantiateKey => StoreCall::ALL[0],
-            StoreCall::Save => StoreCall::ALL[1],
-            StoreCall::SaveValue => StoreCall::ALL[2],
-            StoreCall::Uniqued => StoreCall::ALL[3],
-            StoreCall::InsertAux => StoreCall::ALL[4],
-            StoreCall::SetAuxName => StoreCall::ALL[5],
-        }
+        StoreCall::ALL[self as usize]
     }
 }
 
@@ -98,8 +91,10 @@ fn unique_number(ctx: &mut Context<Toy>) -> Result<bool, CheckedErr> {
 fn insert_aux(ctx: &mut Context<Toy>, forest: &Forest) -> Result<bool, CheckedErr> {
     let data = String::new(ctx.alloc());
     let index = ctx.insert_aux(data)?;
-    let found = ctx.get_aux(index).is_some_and(|data| data.is_empty());
-    Ok(found && index != forest.beside.aux)
+    Ok(match ctx.get_aux(index) {
+        Some(data) => data.is_empty() && index != forest.beside.aux,
+        None => false,
+    })
 }
 
 fn set_aux_name(ctx: &mut Context<Toy>, forest: &Forest) -> Result<bool, CheckedErr> {

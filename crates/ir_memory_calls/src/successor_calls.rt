@@ -44,14 +44,7 @@ impl SuccessorCall {
     pub fn listed(self) -> SuccessorCall
         ensures { result ≡ self }
     {
-        match self {
-            SuccessorCall::Push => SuccessorCall::ALL[0],
-            SuccessorCall::Insert => SuccessorCall::ALL[1],
-            SuccessorCall::Replace => SuccessorCall::ALL[2],
-            SuccessorCall::RetargetAll => SuccessorCall::ALL[3],
-            SuccessorCall::RetargetSome => SuccessorCall::ALL[4],
-            SuccessorCall::RetargetPred => SuccessorCall::ALL[5],
-        }
+        SuccessorCall::ALL[self as usize]
     }
 }
 
@@ -83,60 +76,56 @@ impl ForestCall for SuccessorCall {
 fn push(ctx: &mut Context<Toy>, forest: &Forest) -> Result<bool, CheckedErr> {
     let exit = forest.blocks.exit;
     let index = push_successor(ctx, forest.users.branch, exit)?;
-    Ok(index == 2 && names(ctx, forest, 2, exit)? && have_uses(ctx, forest, 3, 2))
+    Ok(index == 2 && shows(ctx, forest, 2, exit, [3, 2]))
 }
 
 // `insert_successor` with `last`.
 fn insert(ctx: &mut Context<Toy>, forest: &Forest) -> Result<bool, CheckedErr> {
     insert_successor(ctx, forest.users.branch, 0, forest.blocks.last)?;
-    Ok(names(ctx, forest, 0, forest.blocks.last)? && have_uses(ctx, forest, 2, 3))
+    Ok(shows(ctx, forest, 0, forest.blocks.last, [2, 3]))
 }
 
 // `replace_successor` with `last`.
 fn replace(ctx: &mut Context<Toy>, forest: &Forest) -> Result<bool, CheckedErr> {
     replace_successor(ctx, forest.users.branch, 1, forest.blocks.last)?;
-    second_moved(ctx, forest)
+    Ok(shows(ctx, forest, 1, forest.blocks.last, [1, 3]))
 }
 
 // `retarget_all_preds_to`, from `exit` to `last`.
 fn retarget_both(ctx: &mut Context<Toy>, forest: &Forest) -> Result<bool, CheckedErr> {
     retarget_all(ctx, forest.blocks.exit, forest.blocks.last)?;
-    Ok(have_uses(ctx, forest, 0, 4))
+    Ok(shows(ctx, forest, 0, forest.blocks.last, [0, 4]))
 }
 
 // `retarget_some_preds_to`, from `exit` to `last`, which chooses `entry`.
 fn retarget_some(ctx: &mut Context<Toy>, forest: &Forest) -> Result<bool, CheckedErr> {
     let blocks = forest.blocks;
     retarget_from(ctx, blocks.exit, blocks.entry, blocks.last)?;
-    Ok(have_uses(ctx, forest, 0, 4))
+    Ok(shows(ctx, forest, 0, blocks.last, [0, 4]))
 }
 
 // `retarget_pred_to` `last`, of the second use of `exit`.
 fn retarget_second(ctx: &mut Context<Toy>, forest: &Forest) -> Result<bool, CheckedErr> {
     let second = successor_use(ctx, forest.users.branch, 1)?;
     retarget_pred(ctx, second, forest.blocks.last)?;
-    second_moved(ctx, forest)
+    Ok(shows(ctx, forest, 1, forest.blocks.last, [1, 3]))
 }
 
-// Whether the successor at the index names the block.
-fn names(
+// Whether the successor at the index names the block, and `exit` and `last` are named so often.
+fn shows(
     ctx: &Context<Toy>,
     forest: &Forest,
     index: usize,
     block: Ptr<BasicBlock<Toy>>,
-) -> Result<bool, CheckedErr> {
-    Ok(successor(ctx, forest.users.branch, index)? == block)
-}
-
-// Whether the second successor has come to name `last`, and no other.
-fn second_moved(ctx: &Context<Toy>, forest: &Forest) -> Result<bool, CheckedErr> {
-    Ok(names(ctx, forest, 1, forest.blocks.last)? && have_uses(ctx, forest, 1, 3))
-}
-
-// Whether `exit` and `last` are named so often.
-fn have_uses(ctx: &Context<Toy>, forest: &Forest, of_exit: usize, of_last: usize) -> bool {
-    pred_count(ctx, forest.blocks.exit) == Some(of_exit)
-        && pred_count(ctx, forest.blocks.last) == Some(of_last)
+    uses: [usize; 2],
+) -> bool {
+    let found = (
+        successor(ctx, forest.users.branch, index),
+        pred_count(ctx, forest.blocks.exit),
+        pred_count(ctx, forest.blocks.last),
+    );
+    let [of_exit, of_last] = uses;
+    found == (Ok(block), Some(of_exit), Some(of_last))
 }
 
 // How often a live block is named.

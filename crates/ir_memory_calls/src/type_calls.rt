@@ -41,12 +41,7 @@ impl TypeCall {
     pub fn listed(self) -> TypeCall
         ensures { result ≡ self }
     {
-        match self {
-            TypeCall::Instantiate => TypeCall::ALL[0],
-            TypeCall::CloneSignature => TypeCall::ALL[1],
-            TypeCall::VerifyTyped => TypeCall::ALL[2],
-            TypeCall::VerifyInterface => TypeCall::ALL[3],
-        }
+        TypeCall::ALL[self as usize]
     }
 }
 
@@ -160,15 +155,16 @@ fn write_types(ctx: &Context<Small>, out: &mut String) -> Result<(), CoreError> 
     Ok(())
 }
 
-// How many entities there are, and each of them.
-fn write_entities(
+// How many entities there are, each of them, and the types.
+fn write_all(
     ctx: &Context<Small>,
     out: &mut String,
     forest: &MarkedForest,
 ) -> Result<(), CoreError> {
     write_counts(ctx, out)?;
     write_ops(ctx, out, forest)?;
-    write_list(ctx, out, forest)
+    write_list(ctx, out, forest)?;
+    write_types(ctx, out)
 }
 
 /// All that the context tells of the forest.
@@ -177,7 +173,6 @@ fn write_entities(
 /// `OutOfMemory`.
 pub fn dump_marked(ctx: &Context<Small>, forest: &MarkedForest) -> Result<String, CoreError> {
     let mut out = String::with_capacity(ctx.alloc(), 4096)?;
-    write_entities(ctx, &mut out, forest)?;
-    write_types(ctx, &mut out)?;
+    write_all(ctx, &mut out, forest)?;
     Ok(out)
 }

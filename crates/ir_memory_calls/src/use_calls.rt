@@ -3,9 +3,8 @@
 ghost use Rattle.std.specs.Prelude.{◌≡◌};
 
 use crate::forest_call::ForestCall;
-use ir_base::Ptr;
-use ir_checked::{BasicBlock, BlockPtr, CheckedErr, Context, Use, Value, ValueQueries};
-use ir_small_forest::Forest;
+use ir_checked::{BlockPtr, CheckedErr, Context, ValueQueries};
+use ir_small_forest::{Blocks, Forest};
 use ir_toy::Toy;
 use ir_view::{BlockPlace, BlockPredecessors, BlockSuccessors, BlockUses};
 
@@ -35,12 +34,7 @@ impl UseCall {
     pub fn listed(self) -> UseCall
         ensures { result ≡ self }
     {
-        match self {
-            UseCall::OfValue => UseCall::ALL[0],
-            UseCall::OfBlock => UseCall::ALL[1],
-            UseCall::Preds => UseCall::ALL[2],
-            UseCall::Succs => UseCall::ALL[3],
-        }
+        UseCall::ALL[self as usize]
     }
 }
 
@@ -66,70 +60,46 @@ impl ForestCall for UseCall {
 
 // Whether v is used by both operands of its user.
 fn value_is_used(ctx: &Context<Toy>, forest: &Forest) -> Result<bool, CheckedErr> {
-    let uses = value_uses(ctx, forest.made.v)?;
-    Ok(uses.len() == 2 && uses.iter().all(|used| used.user_op() == forest.users.user))
-}
-
-// Whether `exit` is used by both successors of the branch.
-fn block_is_used(ctx: &Context<Toy>, forest: &Forest) -> Result<bool, CheckedErr> {
-    let uses = block_uses(ctx, forest.blocks.exit)?;
-    Ok(
-        uses.len() == 2
-            && uses
-                .iter()
-                .all(|used| used.user_op() == forest.users.branch),
-    )
-}
-
-// Whether `entry` leads to `exit` twice.
-fn has_preds(ctx: &Context<Toy>, forest: &Forest) -> Result<bool, CheckedErr> {
-    let blocks = preds(ctx, forest.blocks.exit)?;
-    Ok(blocks.len() == 2 && blocks.iter().all(|block| *block == forest.blocks.entry))
-}
-
-// Whether `entry` leads to `exit` alone, twice.
-fn has_succs(ctx: &Context<Toy>, forest: &Forest) -> Result<bool, CheckedErr> {
-    let blocks = succs(ctx, forest.blocks.entry)?;
-    Ok(blocks.len() == 2 && blocks.iter().all(|block| *block == forest.blocks.exit))
-}
-
-fn value_uses(ctx: &Context<Toy>, value: Value<Toy>) -> Result<Vec<Use<Value<Toy>>>, CheckedErr> {
+    let (value, user) = (forest.made.v, forest.users.user);
     if !value.is_live(ctx) {
         return Err(CheckedErr::Condition);
     }
     let uses = value.uses(ctx)?;
-    Ok(uses)
+    Ok(match uses.as_slice() {
+        [first, second] => [first.user_op(), second.user_op()] == [user, user],
+        _ => false,
+    })
 }
 
-fn block_uses(
-    ctx: &Context<Toy>,
-    block: Ptr<BasicBlock<Toy>>,
-) -> Result<Vec<Use<Ptr<BasicBlock<Toy>>>>, CheckedErr> {
+// Whether `exit` is used by both successors of the branch.
+fn block_is_used(ctx: &Context<Toy>, forest: &Forest) -> Result<bool, CheckedErr> {
+    let (block, branch) = (forest.blocks.exit, forest.users.branch);
     if !block.is_live(ctx) {
         return Err(CheckedErr::Condition);
     }
     let uses = block.uses(ctx)?;
-    Ok(uses)
+    Ok(match uses.as_slice() {
+        [first, second] => [first.user_op(), second.user_op()] == [branch, branch],
+        _ => false,
+    })
 }
 
-fn preds(
-    ctx: &Context<Toy>,
-    block: Ptr<BasicBlock<Toy>>,
-) -> Result<Vec<Ptr<BasicBlock<Toy>>>, CheckedErr> {
-    if !block.is_live(ctx) || !block.preds_are_linked(ctx) {
+// Whether `entry` leads to `exit` twice.
+fn has_preds(ctx: &Context<Toy>, forest: &Forest) -> Result<bool, CheckedErr> {
+    let Blocks { entry, exit, .. } = forest.blocks;
+    if !exit.is_live(ctx) || !exit.preds_are_linked(ctx) {
         return Err(CheckedErr::Condition);
     }
-    let blocks = block.preds(ctx)?;
-    Ok(blocks)
+    let blocks = exit.preds(ctx)?;
+    Ok(blocks.as_slice() == [entry, entry].as_slice())
 }
 
-fn succs(
-    ctx: &Context<Toy>,
-    block: Ptr<BasicBlock<Toy>>,
-) -> Result<Vec<Ptr<BasicBlock<Toy>>>, CheckedErr> {
-    if !block.is_live(ctx) {
+// Whether `entry` leads to `exit` alone, twice.
+fn has_succs(ctx: &Context<Toy>, forest: &Forest) -> Result<bool, CheckedErr> {
+    let Blocks { entry, exit, .. } = forest.blocks;
+    if !entry.is_live(ctx) {
         return Err(CheckedErr::Condition);
     }
-    let blocks = block.succs(ctx)?;
-    Ok(blocks)
+    let blocks = entry.succs(ctx)?;
+    Ok(blocks.as_slice() == [exit, exit].as_slice())
 }

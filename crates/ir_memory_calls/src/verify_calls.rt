@@ -14,6 +14,7 @@ use ir_small_verifiers::{
 use ir_toy::{Toy, ToyAttr, ToyInt};
 use ir_toy_verifiers::ToyVerifiers;
 use ir_verify::{BasicBlockVerifyErr, VerifyErr};
+use std::alloc::Global;
 
 /// A call that verifies what has a block without a terminator, and tells the name of the block.
 #[derive(Clone, Copy, Debug, Drop)]
@@ -44,12 +45,17 @@ impl VerifyCall {
     pub fn listed(self) -> VerifyCall
         ensures { result ≡ self }
     {
+        VerifyCall::ALL[self as usize]
+    }
+
+    // Makes the call. What it finds, where its root is there.
+    fn find(self, ctx: &Context<Toy>, forest: &Forest) -> Option<Result<(), VerifyErr>> {
         match self {
-            VerifyCall::Operation => VerifyCall::ALL[0],
-            VerifyCall::Wrapped => VerifyCall::ALL[1],
-            VerifyCall::OpHandle => VerifyCall::ALL[2],
-            VerifyCall::BlockHandle => VerifyCall::ALL[3],
-            VerifyCall::RegionHandle => VerifyCall::ALL[4],
+            VerifyCall::Operation => op_found_by_call(ctx, forest.func, &ToyVerifiers),
+            VerifyCall::Wrapped => op_found_with_kind(ctx, forest.func, &ToyVerifiers),
+            VerifyCall::OpHandle => op_found(ctx, forest.func, &ToyVerifiers),
+            VerifyCall::BlockHandle => block_found(ctx, forest.open, &ToyVerifiers),
+            VerifyCall::RegionHandle => region_found(ctx, forest.inner, &ToyVerifiers),
         }
     }
 }
@@ -66,14 +72,7 @@ impl ForestCall for VerifyCall {
     }
 
     fn make(self, ctx: &mut Context<Toy>, forest: &Forest) -> Result<bool, CheckedErr> {
-        let found = match self {
-            VerifyCall::Operation => op_found_by_call(ctx, forest.func, &ToyVerifiers),
-            VerifyCall::Wrapped => op_found_with_kind(ctx, forest.func, &ToyVerifiers),
-            VerifyCall::OpHandle => op_found(ctx, forest.func, &ToyVerifiers),
-            VerifyCall::BlockHandle => block_found(ctx, forest.open, &ToyVerifiers),
-            VerifyCall::RegionHandle => region_found(ctx, forest.inner, &ToyVerifiers),
-        };
-        is_told(found)
+        is_told(self.find(ctx, forest))
     }
 }
 
@@ -130,16 +129,21 @@ impl CheckCall {
     pub fn listed(self) -> CheckCall
         ensures { result ≡ self }
     {
+        CheckCall::ALL[self as usize]
+    }
+
+    // Makes the call. What it finds, where its root is there.
+    fn find(self, ctx: &Context<Toy>, forest: &Forest) -> Option<Result<(), VerifyErr>> {
         match self {
-            CheckCall::Operation => CheckCall::ALL[0],
-            CheckCall::Wrapped => CheckCall::ALL[1],
-            CheckCall::Attribute => CheckCall::ALL[2],
-            CheckCall::Type => CheckCall::ALL[3],
-            CheckCall::OpHandle => CheckCall::ALL[4],
-            CheckCall::BlockHandle => CheckCall::ALL[5],
-            CheckCall::RegionHandle => CheckCall::ALL[6],
-            CheckCall::Value => CheckCall::ALL[7],
-            CheckCall::TypeHandle => CheckCall::ALL[8],
+            CheckCall::Operation => op_found_by_call(ctx, forest.module, &Asking),
+            CheckCall::Wrapped => op_found_with_kind(ctx, forest.module, &Asking),
+            CheckCall::Attribute => number_found(ctx.alloc(), forest.ty),
+            CheckCall::Type => type_found_by_call(ctx, forest.ty, &Asking),
+            CheckCall::OpHandle => op_found(ctx, forest.module, &Asking),
+            CheckCall::BlockHandle => block_found(ctx, forest.blocks.exit, &Asking),
+            CheckCall::RegionHandle => region_found(ctx, forest.body, &Asking),
+            CheckCall::Value => value_found(ctx, forest.made.v, &Asking),
+            CheckCall::TypeHandle => type_found(ctx, forest.ty, &Asking),
         }
     }
 }
@@ -160,28 +164,14 @@ impl ForestCall for CheckCall {
     }
 
     fn make(self, ctx: &mut Context<Toy>, forest: &Forest) -> Result<bool, CheckedErr> {
-        let found = match self {
-            CheckCall::Operation => op_found_by_call(ctx, forest.module, &Asking),
-            CheckCall::Wrapped => op_found_with_kind(ctx, forest.module, &Asking),
-            CheckCall::Attribute => Some(found_of_attribute::<Toy, Asking>(
-                ctx.alloc(),
-                &number(forest.ty),
-                &Asking,
-            )),
-            CheckCall::Type => type_found_by_call(ctx, forest.ty, &Asking),
-            CheckCall::OpHandle => op_found(ctx, forest.module, &Asking),
-            CheckCall::BlockHandle => block_found(ctx, forest.blocks.exit, &Asking),
-            CheckCall::RegionHandle => region_found(ctx, forest.body, &Asking),
-            CheckCall::Value => value_found(ctx, forest.made.v, &Asking),
-            CheckCall::TypeHandle => type_found(ctx, forest.ty, &Asking),
-        };
-        is_fine(found)
+        is_fine(self.find(ctx, forest))
     }
 }
 
-// A number with this type.
-fn number(ty: TypeHandle) -> ToyAttr {
-    ToyAttr::Int(ToyInt { value: 7, ty })
+// What is found at a number with this type.
+fn number_found(alloc: Global, ty: TypeHandle) -> Option<Result<(), VerifyErr>> {
+    let number = ToyAttr::Int(ToyInt { value: 7, ty });
+    Some(found_of_attribute::<Toy, Asking>(alloc, &number, &Asking))
 }
 
 /// Whether nothing was found.

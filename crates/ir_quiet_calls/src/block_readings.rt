@@ -58,19 +58,7 @@ impl BlockReading {
     pub fn listed(self) -> BlockReading
         ensures { result ≡ self }
     {
-        match self {
-            BlockReading::Handle => BlockReading::ALL[0],
-            BlockReading::Lent => BlockReading::ALL[1],
-            BlockReading::Arguments => BlockReading::ALL[2],
-            BlockReading::Rest => BlockReading::ALL[3],
-            BlockReading::Neighbours => BlockReading::ALL[4],
-            BlockReading::Parents => BlockReading::ALL[5],
-            BlockReading::Operations => BlockReading::ALL[6],
-            BlockReading::Preds => BlockReading::ALL[7],
-            BlockReading::PredBlocks => BlockReading::ALL[8],
-            BlockReading::Succs => BlockReading::ALL[9],
-            BlockReading::SuccBlocks => BlockReading::ALL[10],
-        }
+        BlockReading::ALL[self as usize]
     }
 }
 
@@ -208,11 +196,11 @@ fn operations_again(ctx: &Context<Toy>, forest: &Forest) -> bool {
     let Ok(mut again) = ops.clone() else {
         return false;
     };
-    again.next() == Some(forest.made.maker)
-        && again.next_back() == Some(forest.users.branch)
-        && again.next().is_some()
-        && again.next().is_some()
-        && again.next().is_none()
+    let ends = [again.next(), again.next_back()];
+    let rest = [again.next(), again.next(), again.next()];
+    let made = [Some(forest.made.maker), Some(forest.users.branch)];
+    let between = [Some(forest.users.user), Some(forest.users.other), None];
+    (ends, rest) == (made, between)
 }
 
 // The ends of the list of operations, and the walks over it.

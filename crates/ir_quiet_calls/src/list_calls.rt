@@ -40,13 +40,7 @@ impl OpListCall {
     pub fn listed(self) -> OpListCall
         ensures { result ≡ self }
     {
-        match self {
-            OpListCall::AtFront => OpListCall::ALL[0],
-            OpListCall::AtBack => OpListCall::ALL[1],
-            OpListCall::Before => OpListCall::ALL[2],
-            OpListCall::After => OpListCall::ALL[3],
-            OpListCall::Append => OpListCall::ALL[4],
-        }
+        OpListCall::ALL[self as usize]
     }
 }
 
@@ -66,44 +60,40 @@ impl QuietCall for OpListCall {
 
     fn make(self, ctx: &mut Context<Toy>, forest: &Forest) -> Result<bool, CheckedErr> {
         unlink_op(ctx, forest.users.user)?;
-        match self {
-            OpListCall::AtFront => op_goes_to_front(ctx, forest),
-            OpListCall::AtBack => op_goes_to_back(ctx, forest),
-            OpListCall::Before => op_goes_before(ctx, forest),
-            OpListCall::After => op_goes_after(ctx, forest),
-            OpListCall::Append => ops_go_to_back(ctx, forest),
-        }
+        self.edit(ctx, forest)?;
+        self.is_made(ctx, forest)
     }
 }
 
-fn op_goes_to_front(ctx: &mut Context<Toy>, forest: &Forest) -> Result<bool, CheckedErr> {
-    let op = forest.users.user;
-    op_at_front(ctx, op, forest.blocks.exit)?;
-    Ok(block_head(ctx, forest.blocks.exit)? == Some(op))
-}
+impl OpListCall {
+    // Makes the edit, once the user is unlinked.
+    fn edit(self, ctx: &mut Context<Toy>, forest: &Forest) -> Result<(), CheckedErr> {
+        let user = forest.users.user;
+        let jump = forest.users.jump;
+        let exit = forest.blocks.exit;
+        match self {
+            OpListCall::AtFront => op_at_front(ctx, user, exit),
+            OpListCall::AtBack => op_at_back(ctx, user, exit),
+            OpListCall::Before => op_before(ctx, user, jump),
+            OpListCall::After => op_after(ctx, user, jump),
+            OpListCall::Append => append_ops(ctx, exit, forest.blocks.entry),
+        }
+    }
 
-fn op_goes_to_back(ctx: &mut Context<Toy>, forest: &Forest) -> Result<bool, CheckedErr> {
-    let op = forest.users.user;
-    op_at_back(ctx, op, forest.blocks.exit)?;
-    Ok(block_tail(ctx, forest.blocks.exit)? == Some(op))
-}
-
-fn op_goes_before(ctx: &mut Context<Toy>, forest: &Forest) -> Result<bool, CheckedErr> {
-    let op = forest.users.user;
-    op_before(ctx, op, forest.users.jump)?;
-    Ok(next_op(ctx, op)? == Some(forest.users.jump))
-}
-
-fn op_goes_after(ctx: &mut Context<Toy>, forest: &Forest) -> Result<bool, CheckedErr> {
-    let op = forest.users.user;
-    op_after(ctx, op, forest.users.jump)?;
-    Ok(next_op(ctx, forest.users.jump)? == Some(op))
-}
-
-// All operations of `entry` go to the back of `exit`.
-fn ops_go_to_back(ctx: &mut Context<Toy>, forest: &Forest) -> Result<bool, CheckedErr> {
-    append_ops(ctx, forest.blocks.exit, forest.blocks.entry)?;
-    Ok(block_tail(ctx, forest.blocks.exit)? == Some(forest.users.branch))
+    // Whether the operation that the edit moved, or the last of those, stands where it should.
+    fn is_made(self, ctx: &Context<Toy>, forest: &Forest) -> Result<bool, CheckedErr> {
+        let user = forest.users.user;
+        let jump = forest.users.jump;
+        let exit = forest.blocks.exit;
+        let (found, expected) = match self {
+            OpListCall::AtFront => (block_head(ctx, exit), user),
+            OpListCall::AtBack => (block_tail(ctx, exit), user),
+            OpListCall::Before => (next_op(ctx, user), jump),
+            OpListCall::After => (next_op(ctx, jump), user),
+            OpListCall::Append => (block_tail(ctx, exit), forest.users.branch),
+        };
+        Ok(found? == Some(expected))
+    }
 }
 
 /// An edit of the list of a region.
@@ -135,13 +125,7 @@ impl BlockListCall {
     pub fn listed(self) -> BlockListCall
         ensures { result ≡ self }
     {
-        match self {
-            BlockListCall::AtFront => BlockListCall::ALL[0],
-            BlockListCall::AtBack => BlockListCall::ALL[1],
-            BlockListCall::Before => BlockListCall::ALL[2],
-            BlockListCall::After => BlockListCall::ALL[3],
-            BlockListCall::Append => BlockListCall::ALL[4],
-        }
+        BlockListCall::ALL[self as usize]
     }
 }
 
@@ -161,42 +145,34 @@ impl QuietCall for BlockListCall {
 
     fn make(self, ctx: &mut Context<Toy>, forest: &Forest) -> Result<bool, CheckedErr> {
         unlink_block(ctx, forest.blocks.last)?;
-        match self {
-            BlockListCall::AtFront => block_goes_to_front(ctx, forest),
-            BlockListCall::AtBack => block_goes_to_back(ctx, forest),
-            BlockListCall::Before => block_goes_before(ctx, forest),
-            BlockListCall::After => block_goes_after(ctx, forest),
-            BlockListCall::Append => blocks_go_to_back(ctx, forest),
-        }
+        self.edit(ctx, forest)?;
+        self.is_made(ctx, forest)
     }
 }
 
-fn block_goes_to_front(ctx: &mut Context<Toy>, forest: &Forest) -> Result<bool, CheckedErr> {
-    let block = forest.blocks.last;
-    block_at_front(ctx, block, forest.inner)?;
-    Ok(region_head(ctx, forest.inner)? == Some(block))
-}
+impl BlockListCall {
+    // Makes the edit, once the last block is unlinked. Blocks go to the region of the function.
+    fn edit(self, ctx: &mut Context<Toy>, forest: &Forest) -> Result<(), CheckedErr> {
+        let last = forest.blocks.last;
+        match self {
+            BlockListCall::AtFront => block_at_front(ctx, last, forest.inner),
+            BlockListCall::AtBack => block_at_back(ctx, last, forest.inner),
+            BlockListCall::Before => block_before(ctx, last, forest.open),
+            BlockListCall::After => block_after(ctx, last, forest.open),
+            BlockListCall::Append => append_blocks(ctx, forest.inner, forest.body),
+        }
+    }
 
-fn block_goes_to_back(ctx: &mut Context<Toy>, forest: &Forest) -> Result<bool, CheckedErr> {
-    let block = forest.blocks.last;
-    block_at_back(ctx, block, forest.inner)?;
-    Ok(region_tail(ctx, forest.inner)? == Some(block))
-}
-
-fn block_goes_before(ctx: &mut Context<Toy>, forest: &Forest) -> Result<bool, CheckedErr> {
-    let block = forest.blocks.last;
-    block_before(ctx, block, forest.open)?;
-    Ok(next_block(ctx, block)? == Some(forest.open))
-}
-
-fn block_goes_after(ctx: &mut Context<Toy>, forest: &Forest) -> Result<bool, CheckedErr> {
-    let block = forest.blocks.last;
-    block_after(ctx, block, forest.open)?;
-    Ok(next_block(ctx, forest.open)? == Some(block))
-}
-
-// The other blocks of the module's region go to the back of the function's.
-fn blocks_go_to_back(ctx: &mut Context<Toy>, forest: &Forest) -> Result<bool, CheckedErr> {
-    append_blocks(ctx, forest.inner, forest.body)?;
-    Ok(region_tail(ctx, forest.inner)? == Some(forest.blocks.exit))
+    // Whether the block that the edit moved, or the last of those, stands where it should.
+    fn is_made(self, ctx: &Context<Toy>, forest: &Forest) -> Result<bool, CheckedErr> {
+        let last = forest.blocks.last;
+        let (found, expected) = match self {
+            BlockListCall::AtFront => (region_head(ctx, forest.inner), last),
+            BlockListCall::AtBack => (region_tail(ctx, forest.inner), last),
+            BlockListCall::Before => (next_block(ctx, last), forest.open),
+            BlockListCall::After => (next_block(ctx, forest.open), last),
+            BlockListCall::Append => (region_tail(ctx, forest.inner), forest.blocks.exit),
+        };
+        Ok(found? == Some(expected))
+    }
 }

@@ -65,21 +65,7 @@ impl OpReading {
     pub fn listed(self) -> OpReading
         ensures { result ≡ self }
     {
-        match self {
-            OpReading::Handle => OpReading::ALL[0],
-            OpReading::Lent => OpReading::ALL[1],
-            OpReading::Counts => OpReading::ALL[2],
-            OpReading::Parts => OpReading::ALL[3],
-            OpReading::UsesAndTypes => OpReading::ALL[4],
-            OpReading::Iterators => OpReading::ALL[5],
-            OpReading::OtherIterators => OpReading::ALL[6],
-            OpReading::Walk => OpReading::ALL[7],
-            OpReading::Rest => OpReading::ALL[8],
-            OpReading::Neighbours => OpReading::ALL[9],
-            OpReading::Parents => OpReading::ALL[10],
-            OpReading::ResultUses => OpReading::ALL[11],
-            OpReading::Kind => OpReading::ALL[12],
-        }
+        OpReading::ALL[self as usize]
     }
 }
 
@@ -257,11 +243,13 @@ fn iterators(ctx: &Context<Toy>, op: Ptr<Operation<Toy>>, counts: [usize; 4]) ->
     let Ok(record) = op.try_deref(ctx) else {
         return false;
     };
-    let [results, operands, successors, regions] = counts;
-    record.results().count() == results
-        && record.operands().count() == operands
-        && record.successors().count() == successors
-        && record.regions().count() == regions
+    let found = [
+        record.results().count(),
+        record.operands().count(),
+        record.successors().count(),
+        record.regions().count(),
+    ];
+    found == counts
 }
 
 // The iterators over uses and types of the operations that have some.
@@ -279,8 +267,16 @@ fn other_iterators(ctx: &Context<Toy>, op: Ptr<Operation<Toy>>, counts: [usize; 
     let [results, operands, successors] = counts;
     record.result_types().count() == results
         && record.operands_as_uses().count() == operands
-        && record.operand_types(ctx).count() == operands
         && record.successors_as_uses().count() == successors
+        && has_operand_types(ctx, op, operands)
+}
+
+// The iterator over types of operands goes over so many: apart from the others, since its condition makes it dear to check beside them.
+fn has_operand_types(ctx: &Context<Toy>, op: Ptr<Operation<Toy>>, count: usize) -> bool {
+    match op.try_deref(ctx) {
+        Ok(record) => record.operand_types(ctx).count() == count,
+        Err(_) => false,
+    }
 }
 
 // The iterator over two results, walked from both ends and begun twice.

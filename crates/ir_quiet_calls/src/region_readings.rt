@@ -40,13 +40,7 @@ impl RegionReading {
     pub fn listed(self) -> RegionReading
         ensures { result ≡ self }
     {
-        match self {
-            RegionReading::Handle => RegionReading::ALL[0],
-            RegionReading::Parents => RegionReading::ALL[1],
-            RegionReading::Place => RegionReading::ALL[2],
-            RegionReading::Blocks => RegionReading::ALL[3],
-            RegionReading::Nesting => RegionReading::ALL[4],
-        }
+        RegionReading::ALL[self as usize]
     }
 }
 

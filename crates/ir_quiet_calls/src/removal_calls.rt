@@ -51,16 +51,7 @@ impl RemovalCall {
     pub fn listed(self) -> RemovalCall
         ensures { result ≡ self }
     {
-        match self {
-            RemovalCall::Operand => RemovalCall::ALL[0],
-            RemovalCall::LastOperand => RemovalCall::ALL[1],
-            RemovalCall::Successor => RemovalCall::ALL[2],
-            RemovalCall::LastSuccessor => RemovalCall::ALL[3],
-            RemovalCall::Argument => RemovalCall::ALL[4],
-            RemovalCall::LastArgument => RemovalCall::ALL[5],
-            RemovalCall::Result => RemovalCall::ALL[6],
-            RemovalCall::LastResult => RemovalCall::ALL[7],
-        }
+        RemovalCall::ALL[self as usize]
     }
 }
 
@@ -80,42 +71,45 @@ impl QuietCall for RemovalCall {
 
     fn make(self, ctx: &mut Context<Toy>, forest: &Forest) -> Result<bool, CheckedErr> {
         match self {
-            RemovalCall::Operand => operand_goes(ctx, forest),
-            RemovalCall::LastOperand => last_operand_goes(ctx, forest),
-            RemovalCall::Successor => successor_goes(ctx, forest),
-            RemovalCall::LastSuccessor => last_successor_goes(ctx, forest),
-            RemovalCall::Argument => argument_goes(ctx, forest),
-            RemovalCall::LastArgument => last_argument_goes(ctx, forest),
+            RemovalCall::Operand | RemovalCall::LastOperand => self.operand_goes(ctx, forest),
+            RemovalCall::Successor | RemovalCall::LastSuccessor => self.successor_goes(ctx, forest),
+            RemovalCall::Argument | RemovalCall::LastArgument => self.argument_goes(ctx, forest),
             RemovalCall::Result => result_goes(ctx, forest),
             RemovalCall::LastResult => last_result_goes(ctx, forest),
         }
     }
 }
 
-fn operand_goes(ctx: &mut Context<Toy>, forest: &Forest) -> Result<bool, CheckedErr> {
-    Ok(remove_operand(ctx, forest.users.user, 0)? == forest.made.v)
-}
+impl RemovalCall {
+    // The first operand goes, or the last one; the same value is both.
+    fn operand_goes(self, ctx: &mut Context<Toy>, forest: &Forest) -> Result<bool, CheckedErr> {
+        let op = forest.users.user;
+        let gone = match self {
+            RemovalCall::Operand => remove_operand(ctx, op, 0),
+            _ => pop_operand(ctx, op),
+        };
+        Ok(gone? == forest.made.v)
+    }
 
-fn last_operand_goes(ctx: &mut Context<Toy>, forest: &Forest) -> Result<bool, CheckedErr> {
-    Ok(pop_operand(ctx, forest.users.user)? == forest.made.v)
-}
+    // The first successor goes, or the last one; the same block is both.
+    fn successor_goes(self, ctx: &mut Context<Toy>, forest: &Forest) -> Result<bool, CheckedErr> {
+        let op = forest.users.branch;
+        let gone = match self {
+            RemovalCall::Successor => remove_successor(ctx, op, 0),
+            _ => pop_successor(ctx, op),
+        };
+        Ok(gone? == forest.blocks.exit)
+    }
 
-fn successor_goes(ctx: &mut Context<Toy>, forest: &Forest) -> Result<bool, CheckedErr> {
-    Ok(remove_successor(ctx, forest.users.branch, 0)? == forest.blocks.exit)
-}
-
-fn last_successor_goes(ctx: &mut Context<Toy>, forest: &Forest) -> Result<bool, CheckedErr> {
-    Ok(pop_successor(ctx, forest.users.branch)? == forest.blocks.exit)
-}
-
-fn argument_goes(ctx: &mut Context<Toy>, forest: &Forest) -> Result<bool, CheckedErr> {
-    remove_argument(ctx, forest.blocks.entry, 0)?;
-    Ok(true)
-}
-
-fn last_argument_goes(ctx: &mut Context<Toy>, forest: &Forest) -> Result<bool, CheckedErr> {
-    pop_argument(ctx, forest.blocks.entry)?;
-    Ok(true)
+    // The first argument goes, or the last one.
+    fn argument_goes(self, ctx: &mut Context<Toy>, forest: &Forest) -> Result<bool, CheckedErr> {
+        let block = forest.blocks.entry;
+        match self {
+            RemovalCall::Argument => remove_argument(ctx, block, 0)?,
+            _ => pop_argument(ctx, block)?,
+        }
+        Ok(true)
+    }
 }
 
 // The first result goes, once nothing uses it; the second one is used as before.
@@ -164,14 +158,7 @@ impl EraseCall {
     pub fn listed(self) -> EraseCall
         ensures { result ≡ self }
     {
-        match self {
-            EraseCall::Op => EraseCall::ALL[0],
-            EraseCall::Block => EraseCall::ALL[1],
-            EraseCall::Region => EraseCall::ALL[2],
-            EraseCall::BlockUses => EraseCall::ALL[3],
-            EraseCall::RegionUses => EraseCall::ALL[4],
-            EraseCall::Sweep => EraseCall::ALL[5],
-        }
+        EraseCall::ALL[self as usize]
     }
 }
 
@@ -188,48 +175,33 @@ impl QuietCall for EraseCall {
     }
 
     fn make(self, ctx: &mut Context<Toy>, forest: &Forest) -> Result<bool, CheckedErr> {
-        match self {
-            EraseCall::Op => op_is_erased(ctx, forest),
-            EraseCall::Block => block_is_erased(ctx, forest),
-            EraseCall::Region => region_is_erased(ctx, forest),
-            EraseCall::BlockUses => block_uses_go(ctx, forest),
-            EraseCall::RegionUses => region_uses_go(ctx, forest),
-            EraseCall::Sweep => one_is_swept(ctx, forest),
-        }
+        self.edit(ctx, forest)?;
+        self.is_made(ctx, forest)
     }
 }
 
-// The function goes, and with it the block inside.
-fn op_is_erased(ctx: &mut Context<Toy>, forest: &Forest) -> Result<bool, CheckedErr> {
-    erase_op(ctx, forest.func)?;
-    Ok(!forest.open.is_live(ctx))
-}
+impl EraseCall {
+    // Makes the edit; before a sweep what makes something dead.
+    fn edit(self, ctx: &mut Context<Toy>, forest: &Forest) -> Result<(), CheckedErr> {
+        match self {
+            EraseCall::Op => erase_op(ctx, forest.func),
+            EraseCall::Block => erase_block(ctx, forest.open),
+            EraseCall::Region => erase_region(ctx, forest.module, 0),
+            EraseCall::BlockUses | EraseCall::Sweep => drop_block_uses(ctx, forest.blocks.entry),
+            EraseCall::RegionUses => drop_region_uses(ctx, forest.body),
+        }
+    }
 
-fn block_is_erased(ctx: &mut Context<Toy>, forest: &Forest) -> Result<bool, CheckedErr> {
-    erase_block(ctx, forest.open)?;
-    Ok(!forest.open.is_live(ctx))
-}
-
-// The region of the module goes, and with it the blocks inside.
-fn region_is_erased(ctx: &mut Context<Toy>, forest: &Forest) -> Result<bool, CheckedErr> {
-    erase_region(ctx, forest.module, 0)?;
-    Ok(!forest.blocks.entry.is_live(ctx))
-}
-
-fn block_uses_go(ctx: &mut Context<Toy>, forest: &Forest) -> Result<bool, CheckedErr> {
-    drop_block_uses(ctx, forest.blocks.entry)?;
-    Ok(num_uses(ctx, forest.made.v)? == 0)
-}
-
-fn region_uses_go(ctx: &mut Context<Toy>, forest: &Forest) -> Result<bool, CheckedErr> {
-    drop_region_uses(ctx, forest.body)?;
-    Ok(num_uses(ctx, forest.made.w)? == 0)
-}
-
-// Where nothing in the block is used, its one pure operation goes.
-fn one_is_swept(ctx: &mut Context<Toy>, forest: &Forest) -> Result<bool, CheckedErr> {
-    drop_block_uses(ctx, forest.blocks.entry)?;
-    Ok(swept(ctx, forest.blocks.entry) == Some(1))
+    // Whether what should go is gone: a block that is erased or stands inside, or all uses of a value. Where nothing in the block is used, the sweep takes its one pure operation.
+    fn is_made(self, ctx: &mut Context<Toy>, forest: &Forest) -> Result<bool, CheckedErr> {
+        Ok(match self {
+            EraseCall::Op | EraseCall::Block => !forest.open.is_live(ctx),
+            EraseCall::Region => !forest.blocks.entry.is_live(ctx),
+            EraseCall::BlockUses => num_uses(ctx, forest.made.v)? == 0,
+            EraseCall::RegionUses => num_uses(ctx, forest.made.w)? == 0,
+            EraseCall::Sweep => swept(ctx, forest.blocks.entry) == Some(1),
+        })
+    }
 }
 
 // How many operations went in a sweep of the live block.

@@ -50,16 +50,7 @@ impl SettingCall {
     pub fn listed(self) -> SettingCall
         ensures { result ≡ self }
     {
-        match self {
-            SettingCall::Type => SettingCall::ALL[0],
-            SettingCall::Name => SettingCall::ALL[1],
-            SettingCall::Label => SettingCall::ALL[2],
-            SettingCall::Location => SettingCall::ALL[3],
-            SettingCall::BlockLocation => SettingCall::ALL[4],
-            SettingCall::Body => SettingCall::ALL[5],
-            SettingCall::Attribute => SettingCall::ALL[6],
-            SettingCall::RemoveAux => SettingCall::ALL[7],
-        }
+        SettingCall::ALL[self as usize]
     }
 }
 

@@ -43,13 +43,7 @@ impl AttributeReading {
     pub fn listed(self) -> AttributeReading
         ensures { result ≡ self }
     {
-        match self {
-            AttributeReading::ByKey => AttributeReading::ALL[0],
-            AttributeReading::All => AttributeReading::ALL[1],
-            AttributeReading::Lent => AttributeReading::ALL[2],
-            AttributeReading::Compared => AttributeReading::ALL[3],
-            AttributeReading::Kind => AttributeReading::ALL[4],
-        }
+        AttributeReading::ALL[self as usize]
     }
 }
 

@@ -48,16 +48,7 @@ impl BesideReading {
     pub fn listed(self) -> BesideReading
         ensures { result ≡ self }
     {
-        match self {
-            BesideReading::Type => BesideReading::ALL[0],
-            BesideReading::TypeByPlace => BesideReading::ALL[1],
-            BesideReading::Saved => BesideReading::ALL[2],
-            BesideReading::Uniqued => BesideReading::ALL[3],
-            BesideReading::Aux => BesideReading::ALL[4],
-            BesideReading::AuxMut => BesideReading::ALL[5],
-            BesideReading::Room => BesideReading::ALL[6],
-            BesideReading::NewContexts => BesideReading::ALL[7],
-        }
+        BesideReading::ALL[self as usize]
     }
 }
 

@@ -48,15 +48,7 @@ impl ValueReading {
     pub fn listed(self) -> ValueReading
         ensures { result ≡ self }
     {
-        match self {
-            ValueReading::Definer => ValueReading::ALL[0],
-            ValueReading::Place => ValueReading::ALL[1],
-            ValueReading::Uses => ValueReading::ALL[2],
-            ValueReading::Parents => ValueReading::ALL[3],
-            ValueReading::OfOperand => ValueReading::ALL[4],
-            ValueReading::OfSuccessor => ValueReading::ALL[5],
-            ValueReading::Typed => ValueReading::ALL[6],
-        }
+        ValueReading::ALL[self as usize]
     }
 }
 

@@ -42,13 +42,7 @@ impl VerifyReading {
     pub fn listed(self) -> VerifyReading
         ensures { result ≡ self }
     {
-        match self {
-            VerifyReading::Operation => VerifyReading::ALL[0],
-            VerifyReading::BlockAndRegion => VerifyReading::ALL[1],
-            VerifyReading::Value => VerifyReading::ALL[2],
-            VerifyReading::Type => VerifyReading::ALL[3],
-            VerifyReading::Attribute => VerifyReading::ALL[4],
-        }
+        VerifyReading::ALL[self as usize]
     }
 }
 

@@ -40,13 +40,7 @@ impl WrapperReading {
     pub fn listed(self) -> WrapperReading
         ensures { result ≡ self }
     {
-        match self {
-            WrapperReading::Typed => WrapperReading::ALL[0],
-            WrapperReading::Location => WrapperReading::ALL[1],
-            WrapperReading::WithKind => WrapperReading::ALL[2],
-            WrapperReading::Compared => WrapperReading::ALL[3],
-            WrapperReading::Interfaces => WrapperReading::ALL[4],
-        }
+        WrapperReading::ALL[self as usize]
     }
 }
 

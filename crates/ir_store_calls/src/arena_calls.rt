@@ -38,13 +38,7 @@ impl StoringCall {
     pub fn listed(self) -> StoringCall
         ensures { result ≡ self }
     {
-        match self {
-            StoringCall::Arena => StoringCall::ALL[0],
-            StoringCall::Unique => StoringCall::ALL[1],
-            StoringCall::Keys => StoringCall::ALL[2],
-            StoringCall::Verifiers => StoringCall::ALL[3],
-            StoringCall::CloneKey => StoringCall::ALL[4],
-        }
+        StoringCall::ALL[self as usize]
     }
 }
 
@@ -61,9 +55,9 @@ impl StoreCall for StoringCall {
 
     fn make(self, alloc: Global) -> Result<bool, CoreError> {
         match self {
-            StoringCall::Arena => insert_nine(alloc),
-            StoringCall::Unique => unique_nine(alloc),
-            StoringCall::Keys => keys_nine(alloc),
+            StoringCall::Arena => insert_nine(&mut Arena::new(alloc, 100, 100)),
+            StoringCall::Unique => unique_nine(&mut UniqueStore::new(alloc)),
+            StoringCall::Keys => keys_nine(&mut TypeStore::new(alloc)),
             StoringCall::Verifiers => collect(alloc),
             StoringCall::CloneKey => copies_key(alloc),
         }
@@ -86,11 +80,11 @@ fn inserts(arena: &mut Arena<u64>, number: u64) -> Result<bool, CoreError> {
     Ok(arena.get(ptr) == Some(&number) && arena.len() > count)
 }
 
-fn insert_nine(alloc: Global) -> Result<bool, CoreError> {
-    let mut arena = Arena::new(alloc, 100, 100);
+// Whether nine numbers are stored in the arena, one after the other.
+fn insert_nine(arena: &mut Arena<u64>) -> Result<bool, CoreError> {
     let mut done = true;
     for number in 0..9u64 {
-        done = inserts(&mut arena, number)? && done;
+        done &= inserts(arena, number)?;
     }
     Ok(done && arena.len() == 9)
 }
@@ -105,11 +99,11 @@ fn is_unique(store: &mut UniqueStore<u64>, number: u64, place: usize) -> Result<
     Ok(answer? == place && store.get_index(place) == Some(&number))
 }
 
-fn unique_nine(alloc: Global) -> Result<bool, CoreError> {
-    let mut store = UniqueStore::new(alloc);
+// Whether nine numbers get the first places of the store, one after the other.
+fn unique_nine(store: &mut UniqueStore<u64>) -> Result<bool, CoreError> {
     let mut done = true;
     for place in 0..9usize {
-        done = is_unique(&mut store, place as u64, place)? && done;
+        done &= is_unique(store, place as u64, place)?;
     }
     Ok(done && store.len() == 9)
 }
@@ -128,11 +122,11 @@ fn is_key(
     Ok(answer? == place && store.key(place) == Some(&key))
 }
 
-fn keys_nine(alloc: Global) -> Result<bool, CoreError> {
-    let mut store = TypeStore::new(alloc);
+// Whether nine keys get the first places of the store, one after the other.
+fn keys_nine(store: &mut TypeStore<u64, Option<usize>>) -> Result<bool, CoreError> {
     let mut done = true;
     for place in 0..9usize {
-        done = is_key(&mut store, place as u64, place)? && done;
+        done &= is_key(store, place as u64, place)?;
     }
     Ok(done && store.len() == 9)
 }
@@ -150,12 +144,18 @@ fn has(lists: &[(u32, Vec<u32>)], place: usize, owner: u32, verifiers: &[u32]) -
     }
 }
 
-// Three entries of two owners, the second one twice.
-fn collect(alloc: Global) -> Result<bool, CoreError> {
-    let mut entries = Vec::with_capacity(alloc, 3)?;
+// Puts three entries of two owners, the second one twice.
+fn put_entries(alloc: Global, entries: &mut Vec<(u32, Vec<u32>)>) -> Result<(), CoreError> {
     entries.push(entry(alloc, 9, &[5])?)?;
     entries.push(entry(alloc, 2, &[5, 5])?)?;
     entries.push(entry(alloc, 9, &[4, 5])?)?;
+    Ok(())
+}
+
+// Whether the verifiers of the three entries are collected.
+fn collect(alloc: Global) -> Result<bool, CoreError> {
+    let mut entries = Vec::with_capacity(alloc, 3)?;
+    put_entries(alloc, &mut entries)?;
     let lists = collect_deduped_interface_verifiers(alloc, entries.as_slice())?;
     let found = lists.as_slice();
     Ok(found.len() == 2 && has(found, 0, 9, &[5, 4]) && has(found, 1, 2, &[5]))

@@ -35,12 +35,7 @@ impl DictionaryCall {
     pub fn listed(self) -> DictionaryCall
         ensures { result ≡ self }
     {
-        match self {
-            DictionaryCall::First => DictionaryCall::ALL[0],
-            DictionaryCall::More => DictionaryCall::ALL[1],
-            DictionaryCall::Clone => DictionaryCall::ALL[2],
-            DictionaryCall::CloneSkipOutlined => DictionaryCall::ALL[3],
-        }
+        DictionaryCall::ALL[self as usize]
     }
 }
 
@@ -55,24 +50,27 @@ impl StoreCall for DictionaryCall {
 
     fn make(self, alloc: Global) -> Result<bool, CoreError> {
         match self {
-            DictionaryCall::First => {
-                let mut dict = AttributeDict::new(alloc);
-                sets(alloc, &mut dict, "a", 1)
-            }
-            DictionaryCall::More => set_nine(alloc),
-            DictionaryCall::Clone => {
-                let dict = three(alloc)?;
-                Ok(dict.clone()? == dict)
-            }
-            DictionaryCall::CloneSkipOutlined => {
-                let copy = three(alloc)?.clone_skip_outlined()?;
-                let hidden = copy.get::<ToyOutlined>(&Identifier::new("hidden"));
-                Ok(copy.len() == 2 && hidden.is_none())
-            }
+            DictionaryCall::First => sets(alloc, &mut AttributeDict::new(alloc), "a", 1),
+            DictionaryCall::More => set_nine(alloc, &mut AttributeDict::new(alloc)),
+            DictionaryCall::Clone => copies(&three(alloc)?),
+            DictionaryCall::CloneSkipOutlined => skips_one(&three(alloc)?),
         }
     }
 }
 
+// Whether the copy is equal.
+fn copies(dict: &AttributeDict<Toy>) -> Result<bool, CoreError> {
+    Ok(dict.clone()? == *dict)
+}
+
+// Whether the copy lacks the text that is to be outlined, and that alone.
+fn skips_one(dict: &AttributeDict<Toy>) -> Result<bool, CoreError> {
+    let copy = dict.clone_skip_outlined()?;
+    let hidden = copy.get::<ToyOutlined>(&Identifier::new("hidden"));
+    Ok((copy.len(), hidden.is_none()) == (2, true))
+}
+
+// A number with this value.
 fn number(value: i64) -> ToyInt {
     ToyInt {
         value,
@@ -99,24 +97,30 @@ fn sets(
     Ok(found.is_some_and(|number| number.value == value))
 }
 
-fn set_nine(alloc: Global) -> Result<bool, CoreError> {
-    let mut dict = AttributeDict::new(alloc);
+// Whether nine pairs are set, one after the other.
+fn set_nine(alloc: Global, dict: &mut AttributeDict<Toy>) -> Result<bool, CoreError> {
     let mut done = true;
     for key in ["a", "b", "c", "d", "e", "f", "g", "h", "i"] {
-        done = sets(alloc, &mut dict, key, 7)? && done;
+        done &= sets(alloc, dict, key, 7)?;
     }
     Ok(done && dict.len() == 9)
 }
 
+// A text.
 fn text(alloc: Global) -> Result<String, CoreError> {
     Ok(String::from_str(alloc, "x")?)
 }
 
-// A number, a text, and a text that is to be outlined.
-fn three(alloc: Global) -> Result<AttributeDict<Toy>, CoreError> {
-    let mut dict = AttributeDict::new(alloc);
+// Sets a number, a text, and a text that is to be outlined.
+fn set_three(alloc: Global, dict: &mut AttributeDict<Toy>) -> Result<(), CoreError> {
     dict.set(owned(alloc, "number")?, number(3))?;
     dict.set(owned(alloc, "text")?, ToyText(text(alloc)?))?;
-    dict.set(owned(alloc, "hidden")?, ToyOutlined(text(alloc)?))?;
+    dict.set(owned(alloc, "hidden")?, ToyOutlined(text(alloc)?))
+}
+
+// A dictionary with a number, a text, and a text that is to be outlined.
+fn three(alloc: Global) -> Result<AttributeDict<Toy>, CoreError> {
+    let mut dict = AttributeDict::new(alloc);
+    set_three(alloc, &mut dict)?;
     Ok(dict)
 }

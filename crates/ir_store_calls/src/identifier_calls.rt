@@ -32,12 +32,7 @@ impl IdentifierCall {
     pub fn listed(self) -> IdentifierCall
         ensures { result ≡ self }
     {
-        match self {
-            IdentifierCall::FromText => IdentifierCall::ALL[0],
-            IdentifierCall::Join => IdentifierCall::ALL[1],
-            IdentifierCall::IntoText => IdentifierCall::ALL[2],
-            IdentifierCall::Clone => IdentifierCall::ALL[3],
-        }
+        IdentifierCall::ALL[self as usize]
     }
 }
 

@@ -32,11 +32,17 @@ impl LegaliserCall {
     pub fn listed(self) -> LegaliserCall
         ensures { result ≡ self }
     {
+        LegaliserCall::ALL[self as usize]
+    }
+
+    // Makes the call, once the legaliser knows a source.
+    fn ask(self, legaliser: &mut Legaliser) -> Result<bool, CoreError> {
+        legaliser.legalise("a.b")?;
         match self {
-            LegaliserCall::Free => LegaliserCall::ALL[0],
-            LegaliserCall::Taken => LegaliserCall::ALL[1],
-            LegaliserCall::Known => LegaliserCall::ALL[2],
-            LegaliserCall::Source => LegaliserCall::ALL[3],
+            LegaliserCall::Free => gives(legaliser, "c.d", "c_d"),
+            LegaliserCall::Taken => gives(legaliser, "a_b", "a_b_0"),
+            LegaliserCall::Known => gives(legaliser, "a.b", "a_b"),
+            LegaliserCall::Source => leads_back(legaliser, &Identifier::new("a_b"), "a.b"),
         }
     }
 }
@@ -51,16 +57,7 @@ impl StoreCall for LegaliserCall {
 
     fn make(self, alloc: Global) -> Result<bool, CoreError> {
         let mut legaliser = Legaliser::new(alloc);
-        legaliser.legalise("a.b")?;
-        match self {
-            LegaliserCall::Free => gives(&mut legaliser, "c.d", "c_d"),
-            LegaliserCall::Taken => gives(&mut legaliser, "a_b", "a_b_0"),
-            LegaliserCall::Known => gives(&mut legaliser, "a.b", "a_b"),
-            LegaliserCall::Source => {
-                let source = legaliser.source_name(&Identifier::new("a_b"))?;
-                Ok(source.is_some_and(|text| text.as_str() == "a.b"))
-            }
-        }
+        self.ask(&mut legaliser)
     }
 }
 
@@ -79,6 +76,7 @@ fn gives(legaliser: &mut Legaliser, source: &str, name: &str) -> Result<bool, Co
     Ok(given.as_str() == name && leads_back(legaliser, &given, source)?)
 }
 
+// Whether the source of the name is this one.
 fn leads_back(legaliser: &Legaliser, name: &Identifier, source: &str) -> Result<bool, CoreError> {
     let found = legaliser.source_name(name)?;
     Ok(found.is_some_and(|text| text.as_str() == source))

@@ -32,12 +32,7 @@ impl ListCall {
     pub fn listed(self) -> ListCall
         ensures { result ≡ self }
     {
-        match self {
-            ListCall::Reserve => ListCall::ALL[0],
-            ListCall::Push => ListCall::ALL[1],
-            ListCall::Insert => ListCall::ALL[2],
-            ListCall::Extend => ListCall::ALL[3],
-        }
+        ListCall::ALL[self as usize]
     }
 
     // Makes the call on a list in memory of its own.

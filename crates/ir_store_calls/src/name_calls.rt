@@ -55,19 +55,7 @@ impl NameCall {
     pub fn listed(self) -> NameCall
         ensures { result ≡ self }
     {
-        match self {
-            NameCall::NewDialectName => NameCall::ALL[0],
-            NameCall::NewOpName => NameCall::ALL[1],
-            NameCall::NewTypeName => NameCall::ALL[2],
-            NameCall::NewAttrName => NameCall::ALL[3],
-            NameCall::CloneDialectName => NameCall::ALL[4],
-            NameCall::CloneOpName => NameCall::ALL[5],
-            NameCall::CloneTypeName => NameCall::ALL[6],
-            NameCall::CloneAttrName => NameCall::ALL[7],
-            NameCall::CloneOpId => NameCall::ALL[8],
-            NameCall::CloneTypeId => NameCall::ALL[9],
-            NameCall::CloneAttrId => NameCall::ALL[10],
-        }
+        NameCall::ALL[self as usize]
     }
 }
 
