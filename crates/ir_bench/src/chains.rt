@@ -1,12 +1,13 @@
 //! Chains of operations, each of which uses the results of the two before.
 
 use crate::building::{build, keep, pair_block};
-use crate::outcome::{Nanos, Run, block_sum, nanos_now, nanos_of, run_to, uses_sum};
+use crate::outcome::{block_sum, run_to, uses_sum};
 use ir_base::{Dialects, Ptr, TypeHandle};
 use ir_checked::{
     BasicBlock, CheckedErr, Context, Operation, Value, block_head, erase_op, new_op, next_op,
     op_after, operand, replace_all_uses, result,
 };
+use ir_timing::{Nanos, Run, nanos_now, nanos_of};
 use std::time::CpuClock;
 
 // Makes so many operations and puts their handles behind the others.

@@ -1,11 +1,12 @@
 //! Results and arguments that are put in front of others.
 
-use crate::outcome::{Run, mix, nanos_now, nanos_of, run_to};
+use crate::outcome::run_to;
 use ir_base::{Dialects, Ptr, TypeHandle};
 use ir_checked::{
     BasicBlock, BlockPtr, CheckedErr, Context, Operation, OperationPtr, TypeQueries, Value,
     ValueQueries, argument, insert_argument, insert_result, new_block, new_op, result,
 };
+use ir_timing::{Run, mix, nanos_now, nanos_of};
 use ir_toy_verifiers::{Toy, ToyType};
 use std::time::CpuClock;
 

@@ -1,7 +1,7 @@
 //! Operations that are moved between blocks, and blocks between regions.
 
 use crate::building::{add_block, add_marked};
-use crate::outcome::{Run, block_sum, mix, nanos_now, nanos_of, run_to};
+use crate::outcome::{block_sum, run_to};
 use crate::random::Random;
 use ir_base::{Dialects, Ptr, TypeHandle};
 use ir_checked::{
@@ -9,6 +9,7 @@ use ir_checked::{
     argument, block_at_back, block_head, new_block, new_op, op_at_back, op_before, region,
     region_head, unlink_block, unlink_op,
 };
+use ir_timing::{Run, mix, nanos_now, nanos_of};
 use std::time::CpuClock;
 
 // Takes so many operations from the front of a block and puts each at the back of another.

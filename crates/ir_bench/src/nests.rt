@@ -1,13 +1,14 @@
 //! Nests of operations: what is built, asked, verified, and erased with all inside.
 
 use crate::building::{add_block, add_op, build};
-use crate::outcome::{Nanos, Run, nanos_now, nanos_of, nanos_where, run_to};
+use crate::outcome::{nanos_where, run_to};
 use anyhow::bail;
 use ir_base::{Dialects, Ptr, TypeHandle};
 use ir_checked::{
     BasicBlock, CheckedErr, Context, Entity, Operation, block_at_back, can_erase, drop_op_uses,
     erase_op, is_inside, new_block, new_op, op_at_back, region,
 };
+use ir_timing::{Nanos, Run, nanos_now, nanos_of};
 use std::time::CpuClock;
 
 /// Makes an operation with one region and a block in it, and answers both.
@@ -17,7 +18,8 @@ pub(crate) fn with_block<D: Dialects>(
 ) -> Result<(Ptr<Operation<D>>, Ptr<BasicBlock<D>>), CheckedErr> {
     let op = new_op(ctx, kind, &[], &[], &[], 1)?;
     let inside = region(ctx, op, 0)?;
-    Ok((op, add_block(ctx, inside, &[])?))
+    let block = add_block(ctx, inside, &[])?;
+    Ok((op, block))
 }
 
 /// Makes a function at the back of a block, and answers the function's block, which has two arguments.
@@ -31,17 +33,28 @@ pub(crate) fn add_function<D: Dialects>(
     add_block(ctx, body, &[ty, ty])
 }
 
-// Makes a module of so many functions, each with a block of five operations.
+// Makes so many functions at the back of a block, each with a block of five operations.
+fn add_functions<D: Dialects>(
+    ctx: &mut Context<D>,
+    ty: TypeHandle,
+    outer: Ptr<BasicBlock<D>>,
+    functions: usize,
+) -> Result<(), CheckedErr> {
+    for _i in 0..functions {
+        let block = add_function(ctx, ty, outer)?;
+        build(ctx, ty, block, 5)?;
+    }
+    Ok(())
+}
+
+// Makes a module of so many functions.
 fn module<D: Dialects>(
     ctx: &mut Context<D>,
     ty: TypeHandle,
     functions: usize,
 ) -> Result<Ptr<Operation<D>>, CheckedErr> {
     let (root, outer) = with_block(ctx, 5)?;
-    for _i in 0..functions {
-        let block = add_function(ctx, ty, outer)?;
-        build(ctx, ty, block, 5)?;
-    }
+    add_functions(ctx, ty, outer, functions)?;
     Ok(root)
 }
 

@@ -1,14 +1,13 @@
 //! Operands that are put in, taken out and replaced.
 
 use crate::building::{add_op, pair_block, used_value, wide};
-use crate::outcome::{
-    Nanos, Run, mix, naming_sum, nanos_now, nanos_of, nanos_since, operand_count, run_to, uses_of,
-};
+use crate::outcome::{naming_sum, operand_count, run_to, uses_of};
 use crate::random::random_places;
 use ir_base::{Dialects, Ptr, TypeHandle};
 use ir_checked::{
     CheckedErr, Context, Operation, Value, argument, push_operand, remove_operand, replace_operand,
 };
+use ir_timing::{Nanos, Run, mix, nanos_now, nanos_of, nanos_since};
 use std::time::CpuClock;
 
 // Puts an operand that names the value behind the others and takes it out again, so often.

@@ -1,4 +1,4 @@
-//! What a run comes to: how long its timed part took, and sums of what it left, which are the same for each library.
+//! Sums of what a run left, which are the same for each library.
 
 use anyhow::bail;
 use ir_base::{Dialects, Ptr};
@@ -6,54 +6,11 @@ use ir_checked::{
     BasicBlock, BlockPlace, BlockPtr, CheckedErr, Context, Operation, OperationPtr, Value,
     num_uses, operand, result,
 };
-use std::error::Error;
+use ir_timing::{Nanos, Outcome, Run, mix, nanos_since};
 use std::io;
 use std::time::CpuClock;
 
-/// What comes out of a run, each time the same.
-#[derive(Clone, Copy, Debug, Drop, PartialEq, Eq)]
-pub struct Outcome {
-    /// How many units were timed together.
-    pub units: u64,
-    /// What was made, in a number.
-    pub checksum: u64,
-}
-
-/// How long the timed part of a run took, where it succeeded.
-pub type Nanos = anyhow::Result<u64>;
-
-/// A run's nanoseconds in its timed part, and what came out of it.
-pub type Run = anyhow::Result<(u64, Outcome)>;
-
-/// A checksum with one number more.
-pub(crate) fn mix(sum: u64, number: u64) -> u64 {
-    sum.wrapping_mul(31).wrapping_add(number)
-}
-
-/// The nanoseconds of the thread so far.
-pub(crate) fn nanos_now<C: CpuClock>(rt: &C) -> io::Result<u64> {
-    let time = rt.thread_cpu_time()?;
-    Ok(u64::try_from(time.as_nanos()).unwrap_or(u64::MAX))
-}
-
-/// The nanoseconds of the thread since a start.
-pub(crate) fn nanos_since<C: CpuClock>(rt: &C, start: io::Result<u64>) -> io::Result<u64> {
-    let end = nanos_now(rt)?;
-    Ok(end.saturating_sub(start?))
-}
-
-/// The nanoseconds of the thread since a start, where what was timed since succeeded. Arguments are worked out in their order, so in `nanos_of(rt, nanos_now(rt), timed_..(..))` the clock is read just before the timed part and just after it.
-pub(crate) fn nanos_of<C: CpuClock, E: Error>(
-    rt: &C,
-    start: io::Result<u64>,
-    done: Result<(), E>,
-) -> Nanos {
-    let nanos = nanos_since(rt, start)?;
-    done?;
-    Ok(nanos)
-}
-
-/// The same where the timed part answers whether all is as it has to be.
+/// The nanoseconds of the thread since a start, where what was timed since succeeded and answers that all is as it has to be.
 pub(crate) fn nanos_where<C: CpuClock>(
     rt: &C,
     start: io::Result<u64>,

@@ -7,9 +7,10 @@ ghost use Rattle.ir_records.specs.Meaning.{value_of};
 ghost use Rattle.ir_view.specs.State.{forest_of, types_of};
 
 use crate::chains::two_values;
-use crate::outcome::{Nanos, Run, nanos_now, nanos_of, run_to, uses_sum};
+use crate::outcome::{run_to, uses_sum};
 use anyhow::bail;
 use ir_base::{CoreError, Dialects, Ptr, TypeHandle};
+use ir_timing::{Nanos, Run, nanos_now, nanos_of};
 use ir_view::{Context, NewOperation, Operation, OperationPtr, TypeQueries, Value, ValueQueries};
 use std::time::CpuClock;
 

@@ -1,13 +1,14 @@
 //! Blocks that are swept: dead chains, whichever way they run, and a block with nothing dead.
 
 use crate::building::add_op;
-use crate::outcome::{Run, mix, nanos_now, nanos_since, run_to};
+use crate::outcome::run_to;
 use ir_base::{Dialects, Ptr, TypeHandle};
 use ir_checked::{
     BasicBlock, BlockPlace, BlockPtr, CheckedErr, Context, Operation, Value, new_block, new_op,
     op_at_front, result,
 };
 use ir_dead::sweep;
+use ir_timing::{Run, mix, nanos_now, nanos_since};
 use std::time::CpuClock;
 
 // Sweeps a block, and answers how many of its operations went.

@@ -1,8 +1,9 @@
 //! Types that are asked for by their keys.
 
-use crate::outcome::{Run, mix, nanos_now, nanos_of, run_to};
+use crate::outcome::run_to;
 use ir_base::{CoreError, TypeHandle};
 use ir_checked::{CheckedErr, Context, TypeQueries};
+use ir_timing::{Run, mix, nanos_now, nanos_of};
 use ir_toy_verifiers::{Toy, ToyType};
 use std::collections::HashSet;
 use std::time::CpuClock;

@@ -1,11 +1,12 @@
 //! Uses of values: all of one value's come to name another, and many values with one use each.
 
 use crate::building::{add_op, copies, used_value, wide};
-use crate::outcome::{Run, block_sum, mix, nanos_now, nanos_of, operand_sum, run_to, uses_of};
+use crate::outcome::{block_sum, operand_sum, run_to, uses_of};
 use ir_base::{Dialects, Ptr, TypeHandle};
 use ir_checked::{
     BasicBlock, CheckedErr, Context, Operation, Value, argument, new_block, replace_all_uses,
 };
+use ir_timing::{Run, mix, nanos_now, nanos_of};
 use std::time::CpuClock;
 
 // Lets all that names a value name another one.

@@ -2,9 +2,10 @@
 
 use crate::building::{add_op, build};
 use crate::nests::{add_function, module_outcome, nest_from_above, nest_outcome, with_block};
-use crate::outcome::{Run, nanos_now, nanos_where};
+use crate::outcome::nanos_where;
 use ir_base::{Dialects, Ptr, TypeHandle};
 use ir_checked::{BasicBlock, CheckedErr, Context, Operation, OperationPtr};
+use ir_timing::{Run, nanos_now};
 use ir_toy_verifiers::{Toy, ToyVerifiers, verify_operation};
 use std::time::CpuClock;
 

@@ -8,7 +8,6 @@ use crate::operands::{
     push_and_remove, pushes_and_removals, replaced_back, replaced_front, replaced_random,
     replacements,
 };
-use crate::outcome::Run;
 use crate::settled::unlinked;
 use crate::sweeps::{sweep_back, sweep_front, sweep_none};
 use crate::types::interning;
@@ -17,6 +16,7 @@ use crate::verifying::{verifying, verifying_deep};
 use anyhow::bail;
 use ir_base::TypeHandle;
 use ir_checked::{Context, end};
+use ir_timing::Run;
 use ir_toy_verifiers::{Toy, ToyType};
 use std::alloc::Global;
 use std::time::CpuClock;

@@ -1,8 +1,8 @@
 //! What a session must do, for tests to expect.
 
-use crate::error::LabError;
 use crate::texts::first_difference;
 use ir_base::Limits;
+use ir_edit_texts::LabError;
 use std::alloc::Global;
 use thiserror::Error;
 

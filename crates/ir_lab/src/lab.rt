@@ -1,9 +1,5 @@
 //! A session, and what is read of it.
 
-use crate::answers::{answer_text, letter_of};
-use crate::edit_words::grows;
-use crate::edits::{parse_edit, parse_edits};
-use crate::error::LabError;
 use crate::questions::question;
 use crate::reading::read;
 use ir_base::{Answer, CoreError, Limits};
@@ -11,6 +7,7 @@ use ir_dumps::{
     Place, Tables, block_place, blocks_of, blocks_of_back, dump, op_place, ops_of, ops_of_back,
     parent_of_region,
 };
+use ir_edit_texts::{LabError, answer_text, grows, letter_of, parse_edit, parse_edits};
 use ir_run::{Edit, Session};
 use ir_toy::Toy;
 use std::alloc::{AllocError, Global};

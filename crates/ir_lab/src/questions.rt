@@ -1,9 +1,8 @@
 //! What is asked of a session beside its dump.
 
-use crate::error::LabError;
-use crate::fields::{number, take_field};
 use ir_base::{Identifier, Ptr};
 use ir_dumps::Tables;
+use ir_edit_texts::{LabError, number, take_field};
 use ir_names::Named;
 use ir_toy::Toy;
 use ir_view::{BasicBlock, BlockPtr, Context, DanglingPtrDerefError, OperationPtr, ValueQueries};

@@ -1,11 +1,8 @@
 //! Texts that a session must follow.
 
-use crate::answers::{answer_text, letter_of};
-use crate::edit_words::word_of;
-use crate::edits::parse_edit;
-use crate::error::LabError;
 use crate::lab::Lab;
 use ir_base::{Answer, Limits, Refused};
+use ir_edit_texts::{LabError, answer_text, letter_of, parse_edit, word_of};
 use ir_run::Edit;
 use ir_toy::Toy;
 use std::alloc::{AllocError, Global};

@@ -3,7 +3,7 @@
 use crate::lists::{Place, insert, put, take_out};
 use crate::plain::{Direction, Node, Plain, PlainBlock, PlainDefinition, PlainOp, PlainRegion};
 use ir_base::{Answer, Identifier, Refused};
-use ir_run::Edit;
+use ir_edits::Edit;
 use ir_toy::{Toy, ToyType};
 use std::alloc::AllocError;
 

@@ -2,7 +2,7 @@
 
 use crate::plain::Plain;
 use ir_base::Identifier;
-use ir_run::Edit;
+use ir_edits::Edit;
 use ir_toy::{Toy, ToyType};
 use rand_core::utils::NextWord;
 use rand_pcg::Pcg32;

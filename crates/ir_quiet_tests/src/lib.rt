@@ -12,8 +12,6 @@ mod quiet_tests;
 #[cfg(test)]
 mod session_readings;
 #[cfg(test)]
-mod store_readings;
-#[cfg(test)]
 mod surface;
 #[cfg(test)]
 mod trials;

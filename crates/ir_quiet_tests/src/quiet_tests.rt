@@ -1,7 +1,6 @@
 //! Each call that the surface names is tried, and each call that is tried is named. The names end so that `tools/refuse-memory` knows them.
 
 use crate::session_readings::SessionReading;
-use crate::store_readings::{StoreReading, Stores};
 use crate::surface::{
     ATTRIBUTES, BLOCKS, CONTEXT, IDENTIFIERS, LISTS, OPERATIONS, RUN, STORES, VALUES, VERIFICATION,
     WRAPPERS, is_named,
@@ -15,6 +14,7 @@ use ir_quiet_calls::{
 use ir_quiet_readings::{
     AttributeReading, BesideReading, ValueReading, VerifyReading, WrapperReading,
 };
+use ir_quiet_stores::{StoreReading, Stores};
 use std::process::Abort;
 use std::test::Fail;
 

@@ -1,7 +1,6 @@
 //! How the calls with a name are tried.
 
 use crate::session_readings::{SessionReading, try_session_reading};
-use crate::store_readings::{StoreReading, Stores, try_store_reading};
 use crate::surface::has;
 use crate::type_readings::{TypeReading, try_type_reading};
 use ir_checked::{CheckedErr, Context, end};
@@ -12,6 +11,7 @@ use ir_quiet_calls::{
 use ir_quiet_readings::{
     AttributeReading, BesideReading, ValueReading, VerifyReading, WrapperReading,
 };
+use ir_quiet_stores::{StoreReading, Stores};
 use ir_small_forest::{Forest, make_forest};
 use ir_toy::Toy;
 use std::alloc::Global;
@@ -29,6 +29,14 @@ fn try_call<R: Abort + Print, C: QuietCall>(
     assert!(rt; println!(rt; "done").is_ok());
     assert!(rt; answer?, "{call:?}");
     Ok(())
+}
+
+// Makes the calls between two lines of output, so that whoever watches sees what they ask for.
+fn try_store_reading<R: Abort + Print>(rt: &R, stores: &mut Stores, reading: StoreReading) {
+    assert!(rt; println!(rt; "ready").is_ok());
+    let answer = reading.make(stores);
+    assert!(rt; println!(rt; "done").is_ok());
+    assert!(rt; answer, "{reading:?}");
 }
 
 // Makes the forest and then the call.

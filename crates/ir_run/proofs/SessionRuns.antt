@@ -12,8 +12,8 @@ use Rattle.ir_model.specs.Soundness.{Sound}
 use Rattle.ir_model.proofs.RefusedForGood.{erased_are_gone, gone_for_good}
 use Rattle.ir_model.proofs.StepSound.{runs_sound}
 use Rattle.ir_model.proofs.Uniquing.{still_at}
-use Rattle.ir_run.specs.declared.edit.Edit.{Edit}
-use Rattle.ir_run.specs.declared.edit.Edit.TheVariants.{AddRegion, AppendBlocks, AppendOps, BlockAfter, BlockBack, BlockBefore, BlockFront, DropBlockUses, DropOpUses, DropRegionUses, EraseBlock, EraseOp, EraseRegion, InsertArgument, InsertOperand, InsertResult, InsertSuccessor, MoveRegion, NewBlock, NewOp, NewType, OpAfter, OpBack, OpBefore, OpFront, PushArgument, PushOperand, PushResult, PushSuccessor, RemoveArgument, RemoveOperand, RemoveResult, RemoveSuccessor, ReplaceAllUses, ReplaceOperand, ReplaceSuccessor, RetargetAll, UnlinkBlock, UnlinkOp}
+use Rattle.ir_edits.specs.declared.edit.Edit.{Edit}
+use Rattle.ir_edits.specs.declared.edit.Edit.TheVariants.{AddRegion, AppendBlocks, AppendOps, BlockAfter, BlockBack, BlockBefore, BlockFront, DropBlockUses, DropOpUses, DropRegionUses, EraseBlock, EraseOp, EraseRegion, InsertArgument, InsertOperand, InsertResult, InsertSuccessor, MoveRegion, NewBlock, NewOp, NewType, OpAfter, OpBack, OpBefore, OpFront, PushArgument, PushOperand, PushResult, PushSuccessor, RemoveArgument, RemoveOperand, RemoveResult, RemoveSuccessor, ReplaceAllUses, ReplaceOperand, ReplaceSuccessor, RetargetAll, UnlinkBlock, UnlinkOp}
 use Rattle.ir_records.specs.Meaning.{closed}
 use Rattle.ir_run.specs.SessionEdits.{edit_of}
 use Rattle.ir_run.specs.Headline.{GoneAtCuts, KeepsKeys}

@@ -1,8 +1,8 @@
 -- What the edits of a program mean.
 use Rattle.ir_model.specs.Edits.{Edit as PlainEdit, NewType as PlainNewType, NewOp as PlainNewOp, NewBlock as PlainNewBlock, AddRegion as PlainAddRegion, OpFront as PlainOpFront, OpBack as PlainOpBack, OpBefore as PlainOpBefore, OpAfter as PlainOpAfter, UnlinkOp as PlainUnlinkOp, BlockFront as PlainBlockFront, BlockBack as PlainBlockBack, BlockBefore as PlainBlockBefore, BlockAfter as PlainBlockAfter, UnlinkBlock as PlainUnlinkBlock, AppendOps as PlainAppendOps, AppendBlocks as PlainAppendBlocks, MoveRegion as PlainMoveRegion, PushResult as PlainPushResult, InsertResult as PlainInsertResult, RemoveResult as PlainRemoveResult, PushArgument as PlainPushArgument, InsertArgument as PlainInsertArgument, RemoveArgument as PlainRemoveArgument, PushOperand as PlainPushOperand, InsertOperand as PlainInsertOperand, RemoveOperand as PlainRemoveOperand, ReplaceOperand as PlainReplaceOperand, PushSuccessor as PlainPushSuccessor, InsertSuccessor as PlainInsertSuccessor, RemoveSuccessor as PlainRemoveSuccessor, ReplaceSuccessor as PlainReplaceSuccessor, ReplaceAllUses as PlainReplaceAllUses, RetargetAll as PlainRetargetAll, DropOpUses as PlainDropOpUses, DropBlockUses as PlainDropBlockUses, DropRegionUses as PlainDropRegionUses, EraseOp as PlainEraseOp, EraseBlock as PlainEraseBlock, EraseRegion as PlainEraseRegion}
 use Rattle.ir_records.specs.Meaning.{closed}
-use Rattle.ir_run.specs.declared.edit.Edit.{Edit}
-use Rattle.ir_run.specs.declared.edit.Edit.TheVariants.{NewType, NewOp, NewBlock, AddRegion, OpFront, OpBack, OpBefore, OpAfter, UnlinkOp, BlockFront, BlockBack, BlockBefore, BlockAfter, UnlinkBlock, AppendOps, AppendBlocks, MoveRegion, PushResult, InsertResult, RemoveResult, PushArgument, InsertArgument, RemoveArgument, PushOperand, InsertOperand, RemoveOperand, ReplaceOperand, PushSuccessor, InsertSuccessor, RemoveSuccessor, ReplaceSuccessor, ReplaceAllUses, RetargetAll, DropOpUses, DropBlockUses, DropRegionUses, EraseOp, EraseBlock, EraseRegion}
+use Rattle.ir_edits.specs.declared.edit.Edit.{Edit}
+use Rattle.ir_edits.specs.declared.edit.Edit.TheVariants.{NewType, NewOp, NewBlock, AddRegion, OpFront, OpBack, OpBefore, OpAfter, UnlinkOp, BlockFront, BlockBack, BlockBefore, BlockAfter, UnlinkBlock, AppendOps, AppendBlocks, MoveRegion, PushResult, InsertResult, RemoveResult, PushArgument, InsertArgument, RemoveArgument, PushOperand, InsertOperand, RemoveOperand, ReplaceOperand, PushSuccessor, InsertSuccessor, RemoveSuccessor, ReplaceSuccessor, ReplaceAllUses, RetargetAll, DropOpUses, DropBlockUses, DropRegionUses, EraseOp, EraseBlock, EraseRegion}
 
 module _ {D A K B S X L : Type 0} where
   -- the edit, its lists of numbers as plain lists

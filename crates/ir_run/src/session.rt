@@ -19,8 +19,8 @@ ghost use Rattle.ir_run.specs.SessionEdits.{edit_of};
 ghost use Rattle.ir_run.specs.Headline.{GoneAtCuts, KeepsKeys};
 ghost use Rattle.ir_run.specs.SessionState.{plain};
 
-use crate::edit::Edit;
 use ir_base::{Answer, CoreError, Dialects, Limits, Ptr, TypeHandle};
+use ir_edits::Edit;
 use ir_steps::steps::{self, OpParts};
 use ir_steps::{
     BasicBlock, Context, Operation, Region, Tables, Value, definition_steps, erase_steps,

@@ -8,8 +8,6 @@ mod lists;
 #[cfg(test)]
 mod model_tests;
 #[cfg(test)]
-mod random_lists;
-#[cfg(test)]
 mod seeds;
 #[cfg(test)]
 mod session_tests;

@@ -1,9 +1,9 @@
 //! The law on two runs, tried from outside: the same random edits in two sessions, which have other limits and in which other slots were used, give the same answers and the same dump.
 
-use crate::random_lists::random_list;
 use crate::seeds::further;
 use ir_base::{Answer, Limits, Refused};
 use ir_lab::{Lab, LabError};
+use ir_random_forests::random_list;
 use std::alloc::Global;
 use std::process::Abort;
 use std::test::Fail;

@@ -3,8 +3,9 @@
 //! A context keeps saved data of one closed type of its dialect. Here a value's own type says of which kind it is, so a key leads to a value of that type.
 #![tactic(auto)]
 
-mod saved_value;
+mod saved_laws;
 pub mod uniqued;
 
-pub use saved_value::{SavedValue, equal_keys_for_equal_values, kinds_are_never_equal};
+pub use ir_saved_value::SavedValue;
+pub use saved_laws::{equal_keys_for_equal_values, kinds_are_never_equal};
 pub use uniqued::{Uniqued, UniquedKey, get, save};

@@ -6,8 +6,8 @@ ghost use Rattle.ir_side.specs.Side.{kinds};
 ghost use Rattle.ir_core.specs.Calls.{SameButSide};
 ghost use Rattle.ir_core.specs.State.{bare};
 
-use crate::saved_value::SavedValue;
 use ir_core::{Context, CoreError, Dialects};
+use ir_saved_value::SavedValue;
 use std::marker::PhantomData;
 
 /// The key of a saved value of type `T`: its place among all that is saved. It stands for pliron's `UniquedKey`.

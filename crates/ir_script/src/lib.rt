@@ -1,8 +1,6 @@
-//! Scripts over the dialect Toy: their reading, their answers, and the program's work over any reader and writer.
+//! Scripts over the dialect Toy: the program's work over any reader and writer.
 #![tactic(auto)]
 
-mod script_parse;
-mod script_print;
 mod script_run;
 mod script_uses;
 mod script_verify;

@@ -3,12 +3,13 @@
 //! The whole script is read before anything is done.
 ghost use Rattle.std.specs.Prelude.{◌<◌, ◌≤◌};
 
-use crate::script_parse::{Part, ScriptError, parse_script};
-use crate::script_print::{finish, read_script, write_answers, write_text};
 use crate::script_uses::uses_text;
 use crate::script_verify::write_found;
 use ir_base::Limits;
 use ir_run::Session;
+use ir_script_text::{
+    Part, ScriptError, finish, parse_script, read_script, write_answers, write_text,
+};
 use ir_toy_verifiers::Toy;
 use std::alloc::Global;
 use std::io::{Read, Write};

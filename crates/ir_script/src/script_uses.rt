@@ -2,9 +2,9 @@
 //!
 //! It walks the operands and successors of the live operations once, and no list of uses.
 
-use crate::script_parse::ScriptError;
 use ir_base::Ptr;
 use ir_run::{BasicBlock, BlockPtr, Operation, OperationPtr, Session, Value, ValueQueries};
+use ir_script_text::ScriptError;
 use ir_toy_verifiers::Toy;
 use std::alloc::Global;
 use std::collections::HashMap;

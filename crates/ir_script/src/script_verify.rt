@@ -1,8 +1,8 @@
 //! The answer to a line that verifies an operation.
 
-use crate::script_print::refusal_line;
 use ir_base::Refused;
 use ir_run::{OperationPtr, Session};
+use ir_script_text::refusal_line;
 use ir_toy_verifiers::{
     BasicBlockVerifyErr, DefUseVerifyErr, Toy, ToyVerifiers, VerifierErr, VerifyErr,
     verify_operation,

@@ -4,7 +4,7 @@ ghost use Rattle.std.specs.Prelude.{Some, None};
 ghost use Rattle.std.proofs.Common.{refl};
 
 use crate::toy::{Toy, ToySaved};
-use ir_saved::SavedValue;
+use ir_saved_value::SavedValue;
 
 impl SavedValue<Toy> for String {
     ghost use Rattle.ir_toy.specs.declared.toy.ToySaved.TheVariants.{Text, U64, I64};

@@ -8,8 +8,8 @@ mod roots;
 mod steps;
 mod surveys;
 
+pub use ir_random_forests::{Plain, PlainBlock, PlainOp, PlainRegion};
 pub use ir_small_verifiers::LabErr;
-pub use reading::{Plain, PlainBlock, PlainOp, PlainRegion};
 pub use roots::Root;
 pub use steps::{Step, found_after};
 pub use surveys::{Finding, Survey, survey_after};

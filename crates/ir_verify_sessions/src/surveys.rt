@@ -1,8 +1,9 @@
 //! All that verification finds in a forest: at each operation, block and region.
 
-use crate::reading::{Plain, read_session};
+use crate::reading::read_session;
 use crate::roots::{Root, found_at};
 use ir_base::{Answer, CoreError, Dialects, Limits, Refused};
+use ir_random_forests::Plain;
 use ir_run::{Edit, Session};
 use ir_small_verifiers::LabErr;
 use ir_verify::{Verifiers, VerifyErr};

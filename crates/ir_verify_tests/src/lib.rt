@@ -8,14 +8,8 @@ mod expected;
 #[cfg(test)]
 mod judge_tests;
 #[cfg(test)]
-mod plain_faults;
-#[cfg(test)]
-mod random_edits;
-#[cfg(test)]
 mod random_tests;
 #[cfg(test)]
 mod row_tests;
-#[cfg(test)]
-mod search;
 #[cfg(test)]
 mod toy_tests;

@@ -1,11 +1,11 @@
 //! Random forests: at each root nothing is found exactly where a plain search finds no fault, and what is found is a fault that the search finds.
 
-use crate::plain_faults::{PlainFault, has_fault, has_fault_with, plain_faults};
-use crate::random_edits::RandomEdits;
-use crate::search::{Node, has_block};
+use ir_random_forests::{
+    Node, Plain, PlainFault, RandomForests, has_block, has_fault, has_fault_with, plain_faults,
+};
 use ir_toy_verifiers::ToyVerifiers;
 use ir_verify::{BasicBlockVerifyErr, DefUseVerifyErr, VerifyErr};
-use ir_verify_sessions::{LabErr, Plain, Root, Survey, survey_after};
+use ir_verify_sessions::{LabErr, Root, Survey, survey_after};
 use std::alloc::Global;
 use std::process::Abort;
 use std::test::Fail;
@@ -137,7 +137,7 @@ fn try_survey(
 fn try_forest(
     rt: &impl Abort,
     alloc: Global,
-    random: &mut RandomEdits,
+    random: &mut RandomForests,
     met: &mut Met,
 ) -> Result<(), LabErr> {
     let survey = survey_after(alloc, random.forest()?, &ToyVerifiers)?;
@@ -147,7 +147,7 @@ fn try_forest(
 #[test]
 fn random_forests_agree(rt: HostRuntime) -> Result<(), Fail> {
     let mut met = Met::default();
-    let mut random = RandomEdits::new(rt.alloc(), 1);
+    let mut random = RandomForests::new(rt.alloc(), 1);
     for _ in 0..FORESTS {
         try_forest(&rt, rt.alloc(), &mut random, &mut met)?;
     }

@@ -1,10 +1,10 @@
 //! What is where in a plain forest: where something stands, and who names it, is searched for.
 
-use ir_verify_sessions::{Plain, PlainBlock, PlainOp, PlainRegion};
+use crate::plain_forest::{Plain, PlainBlock, PlainOp, PlainRegion};
 
 /// An operation, a block or a region, by its number.
 #[derive(Clone, Copy, Debug, Drop, PartialEq, Eq)]
-pub(crate) enum Node {
+pub enum Node {
     /// An operation.
     Op(usize),
     /// A block.
@@ -24,12 +24,12 @@ fn needs_no_terminator(kind: u32) -> bool {
 }
 
 /// The live operation with this number.
-pub(crate) fn live_op(plain: &Plain, number: usize) -> Option<&PlainOp> {
+pub fn live_op(plain: &Plain, number: usize) -> Option<&PlainOp> {
     plain.ops.get(number)?.as_ref()
 }
 
 /// The live block with this number.
-pub(crate) fn live_block(plain: &Plain, number: usize) -> Option<&PlainBlock> {
+pub fn live_block(plain: &Plain, number: usize) -> Option<&PlainBlock> {
     plain.blocks.get(number)?.as_ref()
 }
 
@@ -51,7 +51,7 @@ fn block_of(plain: &Plain, op: usize) -> Option<usize> {
 }
 
 /// The region that the block stands in.
-pub(crate) fn region_of(plain: &Plain, block: usize) -> Option<usize> {
+pub fn region_of(plain: &Plain, block: usize) -> Option<usize> {
     for number in 0..plain.regions.len() {
         if let Some(region) = live_region(plain, number)
             && region.blocks.contains(&block)
@@ -84,7 +84,7 @@ fn parent(plain: &Plain, node: Node) -> Option<Node> {
 }
 
 /// Whether the first is the second, or stands inside it.
-pub(crate) fn is_inside(plain: &Plain, inner: Node, outer: Node) -> bool {
+pub fn is_inside(plain: &Plain, inner: Node, outer: Node) -> bool {
     let mut node = inner;
     for _level in 0..usize::MAX {
         if node == outer {
@@ -99,7 +99,7 @@ pub(crate) fn is_inside(plain: &Plain, inner: Node, outer: Node) -> bool {
 }
 
 /// Whether a block stands in it, or is it.
-pub(crate) fn has_block(plain: &Plain, root: Node) -> bool {
+pub fn has_block(plain: &Plain, root: Node) -> bool {
     for number in 0..plain.blocks.len() {
         if live_block(plain, number).is_some() && is_inside(plain, Node::Block(number), root) {
             return true;
@@ -119,7 +119,7 @@ fn terminator(plain: &Plain, block: usize) -> Option<&PlainOp> {
 }
 
 /// Whether the block stands in an operation that asks for terminators, and has none.
-pub(crate) fn lacks_terminator(plain: &Plain, block: usize) -> bool {
+pub fn lacks_terminator(plain: &Plain, block: usize) -> bool {
     let Some(region) = region_of(plain, block) else {
         return false;
     };
@@ -133,7 +133,7 @@ pub(crate) fn lacks_terminator(plain: &Plain, block: usize) -> bool {
 }
 
 /// Whether the block is the first of its region.
-pub(crate) fn is_entry(plain: &Plain, block: usize) -> bool {
+pub fn is_entry(plain: &Plain, block: usize) -> bool {
     let Some(number) = region_of(plain, block) else {
         return false;
     };
@@ -155,7 +155,7 @@ fn leads_to(plain: &Plain, op: usize, block: usize) -> bool {
 }
 
 /// Whether an operation names the block.
-pub(crate) fn is_named(plain: &Plain, block: usize) -> bool {
+pub fn is_named(plain: &Plain, block: usize) -> bool {
     for number in 0..plain.ops.len() {
         if let Some(op) = live_op(plain, number)
             && op.successors.contains(&block)
@@ -167,7 +167,7 @@ pub(crate) fn is_named(plain: &Plain, block: usize) -> bool {
 }
 
 /// Whether an operation names the block that is unlinked, or whose block's terminator doesn't name it.
-pub(crate) fn is_named_aside(plain: &Plain, block: usize) -> bool {
+pub fn is_named_aside(plain: &Plain, block: usize) -> bool {
     for number in 0..plain.ops.len() {
         if let Some(op) = live_op(plain, number)
             && op.successors.contains(&block)
@@ -180,7 +180,7 @@ pub(crate) fn is_named_aside(plain: &Plain, block: usize) -> bool {
 }
 
 /// The block in which the operation ends it too early: there is another one behind it.
-pub(crate) fn ended_early(plain: &Plain, op: usize) -> Option<&PlainBlock> {
+pub fn ended_early(plain: &Plain, op: usize) -> Option<&PlainBlock> {
     let block = live_block(plain, block_of(plain, op)?)?;
     if ends_block(live_op(plain, op)?.kind) && block.ops.last().copied() != Some(op) {
         Some(block)

@@ -2,7 +2,7 @@
 
 ghost use Rattle.std.specs.Prelude.{◌<◌};
 
-use ir_run::Edit;
+use ir_edits::Edit;
 use ir_toy::Toy;
 
 /// The words of all edits, those that may grow first.
@@ -119,11 +119,11 @@ fn place_of_still(edit: &Edit<Toy>) -> usize
 }
 
 /// The word of an edit.
-pub(crate) fn word_of(edit: &Edit<Toy>) -> &'static str {
+pub fn word_of(edit: &Edit<Toy>) -> &'static str {
     EDIT_WORDS[place_of(edit)]
 }
 
 /// Whether the word is that of an edit that may grow.
-pub(crate) fn grows(edit: &Edit<Toy>) -> bool {
+pub fn grows(edit: &Edit<Toy>) -> bool {
     place_of(edit) < GROWING
 }

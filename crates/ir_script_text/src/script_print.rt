@@ -1,6 +1,6 @@
 //! What the program reads and writes around a session: the bytes of a script, the lines of the answers, and the status.
 ghost use Rattle.std.specs.Prelude.{◌≡◌, ◌≤◌, ◌↔◌, IsOk};
-ghost use Rattle.ir_script.specs.Lines.{refusal_line as line_of};
+ghost use Rattle.ir_script_text.specs.Lines.{refusal_line as line_of};
 
 use crate::script_parse::{Letter, ScriptError};
 use ir_base::{Answer, Refused};
@@ -8,8 +8,11 @@ use std::alloc::{AllocError, Global};
 use std::io;
 use std::io::{ErrorKind, Read, Write};
 
-// All bytes of the input.
-pub(crate) fn read_script<R: Read>(alloc: Global, input: &mut R) -> Result<Vec<u8>, ScriptError> {
+/// All bytes of the input.
+///
+/// # Errors
+/// `OutOfMemory` where a growth was refused, and `Unreadable` where the input can't be read.
+pub fn read_script<R: Read>(alloc: Global, input: &mut R) -> Result<Vec<u8>, ScriptError> {
     let mut bytes = Vec::new(alloc);
     match input.read_to_end(&mut bytes) {
         Ok(_) => Ok(bytes),
@@ -20,8 +23,11 @@ pub(crate) fn read_script<R: Read>(alloc: Global, input: &mut R) -> Result<Vec<u
     }
 }
 
-// Writes the whole text.
-pub(crate) fn write_text<W: Write>(output: &mut W, text: &str) -> Result<(), ScriptError> {
+/// Writes the whole text.
+///
+/// # Errors
+/// `Unwritable` where the output can't be written, and `OutOfMemory` where it grows in memory and that was refused.
+pub fn write_text<W: Write>(output: &mut W, text: &str) -> Result<(), ScriptError> {
     output.write_all(text.as_bytes()).map_err(unwritable)?;
     output.flush().map_err(unwritable)
 }
@@ -34,8 +40,11 @@ fn unwritable(error: io::Error) -> ScriptError {
     }
 }
 
-// Writes the answers, one a line. The letters say what each edit makes.
-pub(crate) fn write_answers(
+/// Writes the answers, one a line. The letters say what each edit makes.
+///
+/// # Errors
+/// `AllocError` where a growth was refused.
+pub fn write_answers(
     text: &mut String,
     letters: &[Letter],
     answers: &[Answer],
@@ -58,8 +67,8 @@ fn write_answer(text: &mut String, letter: Letter, answer: Answer) -> Result<(),
     }
 }
 
-// The line of a refusal.
-pub(crate) fn refusal_line(refused: Refused) -> &'static str
+/// The line of a refusal.
+pub fn refusal_line(refused: Refused) -> &'static str
     ensures { result.now ≡ line_of refused }
 {
     match refused {
@@ -70,8 +79,8 @@ pub(crate) fn refusal_line(refused: Refused) -> &'static str
     }
 }
 
-// The status that the program ends with: 0 exactly where its script was done. It says why one wasn't, but for output that can't be written.
-pub(crate) fn finish<F: Write>(outcome: Result<(), ScriptError>, fault: &mut F) -> u8
+/// The status that the program ends with: 0 exactly where its script was done. It says why one wasn't, but for output that can't be written.
+pub fn finish<F: Write>(outcome: Result<(), ScriptError>, fault: &mut F) -> u8
     ensures bounded { result ≤ 3 }
     ensures done { (result ≡ 0) ↔ IsOk outcome }
 {

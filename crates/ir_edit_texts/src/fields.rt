@@ -7,7 +7,7 @@ use std::alloc::Global;
 pub(crate) const NO_LETTER: char = '#';
 
 /// The first field, and the text behind it.
-pub(crate) fn take_field(text: &str) -> Option<(&str, &str)> {
+pub fn take_field(text: &str) -> Option<(&str, &str)> {
     let text = text.trim_start_matches(' ');
     if text.is_empty() {
         return None;
@@ -16,7 +16,7 @@ pub(crate) fn take_field(text: &str) -> Option<(&str, &str)> {
 }
 
 /// The number of a field that has the letter.
-pub(crate) fn number(letter: char, field: &str) -> Option<usize> {
+pub fn number(letter: char, field: &str) -> Option<usize> {
     let digits = if letter == NO_LETTER {
         field
     } else {

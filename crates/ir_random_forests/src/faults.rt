@@ -1,10 +1,10 @@
 //! What verification may find in a plain forest by Toy's checks, as texts.
 
+use crate::plain_forest::{Plain, PlainBlock, PlainOp};
 use crate::search::{
     Node, ended_early, is_entry, is_inside, is_named, is_named_aside, lacks_terminator, live_block,
     live_op, region_of,
 };
-use ir_verify_sessions::{Plain, PlainBlock, PlainOp};
 use std::alloc::{AllocError, Global};
 
 // The place of the type whose width is 0.
@@ -12,11 +12,11 @@ const EMPTY_TYPE: usize = 1;
 
 /// A fault.
 #[derive(Debug, Drop)]
-pub(crate) struct PlainFault {
+pub struct PlainFault {
     /// Where it stands.
-    pub(crate) at: Node,
+    pub at: Node,
     /// Its text.
-    pub(crate) text: String,
+    pub text: String,
 }
 
 // Adds the fault of the block with this text behind its name.
@@ -138,7 +138,7 @@ fn faults_of_ops(
 }
 
 /// All faults that stand in the forest.
-pub(crate) fn plain_faults(alloc: Global, plain: &Plain) -> Result<Vec<PlainFault>, AllocError> {
+pub fn plain_faults(alloc: Global, plain: &Plain) -> Result<Vec<PlainFault>, AllocError> {
     let mut faults = Vec::new(alloc);
     faults_of_blocks(alloc, plain, &mut faults)?;
     faults_of_ops(alloc, plain, &mut faults)?;
@@ -146,7 +146,7 @@ pub(crate) fn plain_faults(alloc: Global, plain: &Plain) -> Result<Vec<PlainFaul
 }
 
 /// Whether a fault stands at the root: at it, or inside it.
-pub(crate) fn has_fault(plain: &Plain, faults: &[PlainFault], root: Node) -> bool {
+pub fn has_fault(plain: &Plain, faults: &[PlainFault], root: Node) -> bool {
     for fault in faults {
         if is_inside(plain, fault.at, root) {
             return true;
@@ -156,7 +156,7 @@ pub(crate) fn has_fault(plain: &Plain, faults: &[PlainFault], root: Node) -> boo
 }
 
 /// Whether a fault with this text stands at the root.
-pub(crate) fn has_fault_with(plain: &Plain, faults: &[PlainFault], root: Node, text: &str) -> bool {
+pub fn has_fault_with(plain: &Plain, faults: &[PlainFault], root: Node, text: &str) -> bool {
     for fault in faults {
         if fault.text.as_str() == text && is_inside(plain, fault.at, root) {
             return true;

@@ -1,6 +1,6 @@
 //! Lists of random edits, which mostly name what is there, without looking at any session.
 
-use ir_run::Edit;
+use ir_edits::Edit;
 use ir_toy::{Toy, ToyType};
 use rand_core::utils::NextWord;
 use rand_pcg::Pcg32;
@@ -198,11 +198,7 @@ impl RandomEdits {
 }
 
 /// So many edits, with this seed. They name o3 to o10, b3 to b7, r6 to r11 and v6 to v14.
-pub(crate) fn random_list(
-    alloc: Global,
-    seed: u64,
-    count: usize,
-) -> Result<Vec<Edit<Toy>>, AllocError> {
+pub fn random_list(alloc: Global, seed: u64, count: usize) -> Result<Vec<Edit<Toy>>, AllocError> {
     let words = Pcg32::new(seed, 54);
     let mut random = RandomEdits { alloc, words };
     let mut edits = Vec::new(alloc);

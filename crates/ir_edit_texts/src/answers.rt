@@ -1,12 +1,12 @@
 //! Answers as texts.
 
 use ir_base::{Answer, Refused};
-use ir_run::Edit;
+use ir_edits::Edit;
 use ir_toy::Toy;
 use std::alloc::{AllocError, Global};
 
 /// The letter of the table that an edit puts something into, or of operations where it puts nothing into any.
-pub(crate) fn letter_of(edit: &Edit<Toy>) -> char {
+pub fn letter_of(edit: &Edit<Toy>) -> char {
     match edit {
         Edit::NewType(_) => 't',
         Edit::NewBlock { .. } => 'b',
@@ -18,11 +18,7 @@ pub(crate) fn letter_of(edit: &Edit<Toy>) -> char {
 }
 
 /// The text of the answer to an edit that puts something into the table with this letter.
-pub(crate) fn answer_text(
-    alloc: Global,
-    letter: char,
-    answer: Answer,
-) -> Result<String, AllocError> {
+pub fn answer_text(alloc: Global, letter: char, answer: Answer) -> Result<String, AllocError> {
     let mut text = String::new(alloc);
     match answer {
         Answer::Made(number) => write!(text, "made {letter}{number}")?,

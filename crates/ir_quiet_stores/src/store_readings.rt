@@ -11,7 +11,6 @@ use ir_toy::Toy;
 use std::alloc::Global;
 use std::convert::AsStr;
 use std::hash::{DefaultHasher, Hash, Hasher};
-use std::process::Abort;
 
 /// The text `abc`, as often as it is handed over.
 #[derive(Drop)]
@@ -25,7 +24,7 @@ struct Texts {
 
 /// What the calls are made on.
 #[derive(Drop)]
-pub(crate) struct Stores {
+pub struct Stores {
     alloc: Global,
     texts: Texts,
     // The text `abc` as an identifier.
@@ -99,7 +98,7 @@ impl Stores {
     ///
     /// # Errors
     /// Where a request for memory was refused.
-    pub(crate) fn new(alloc: Global) -> Result<Stores, CoreError> {
+    pub fn new(alloc: Global) -> Result<Stores, CoreError> {
         let mut arena = Arena::new(alloc, 9, 9);
         let first = arena.insert_with(move |_: Ptr<u64>| 7)?;
         let store = store_of_seven(alloc)?;
@@ -118,7 +117,7 @@ impl Stores {
 
 impl Stores {
     /// Writes an identifier, a name, an id and an index. Whether that was done.
-    pub(crate) fn write<R: Print>(&self, rt: &R) -> bool {
+    pub fn write<R: Print>(&self, rt: &R) -> bool {
         let index = self.first.index();
         println!(rt; "{} {} {} {index}", self.identifier, self.id.name, self.id).is_ok()
     }
@@ -126,7 +125,7 @@ impl Stores {
 
 /// What is asked or changed.
 #[derive(Clone, Copy, Debug, Drop)]
-pub(crate) enum StoreReading {
+pub enum StoreReading {
     /// Whether a text is an identifier, and identifiers of texts that never go.
     Identifiers,
     /// Identifiers of texts that are handed over.
@@ -151,7 +150,7 @@ pub(crate) enum StoreReading {
 
 impl StoreReading {
     /// All of them.
-    pub(crate) const ALL: [StoreReading; 10] = [
+    pub const ALL: [StoreReading; 10] = [
         StoreReading::Identifiers,
         StoreReading::OfTexts,
         StoreReading::Compared,
@@ -165,7 +164,7 @@ impl StoreReading {
     ];
 
     /// The one as `ALL` has it.
-    pub(crate) fn listed(self) -> StoreReading
+    pub fn listed(self) -> StoreReading
         ensures { result ≡ self }
     {
         match self {
@@ -183,7 +182,7 @@ impl StoreReading {
     }
 
     /// The names that the list of such calls gives to what it makes.
-    pub(crate) fn names(self) -> &'static [&'static str] {
+    pub fn names(self) -> &'static [&'static str] {
         match self {
             StoreReading::Identifiers => &[
                 "Identifier::is_valid",
@@ -223,8 +222,8 @@ impl StoreReading {
         }
     }
 
-    // Makes the calls. Whether they did what they say, or answered what is so.
-    fn make(self, fixture: &mut Stores) -> bool {
+    /// Makes the calls. Whether they did what they say, or answered what is so.
+    pub fn make(self, fixture: &mut Stores) -> bool {
         match self {
             StoreReading::Identifiers => identifiers(),
             StoreReading::OfTexts => of_texts(fixture),
@@ -238,18 +237,6 @@ impl StoreReading {
             StoreReading::New => new(fixture.alloc),
         }
     }
-}
-
-/// Makes the calls between two lines of output, so that whoever watches sees what they ask for.
-pub(crate) fn try_store_reading<R: Abort + Print>(
-    rt: &R,
-    stores: &mut Stores,
-    reading: StoreReading,
-) {
-    assert!(rt; println!(rt; "ready").is_ok());
-    let answer = reading.make(stores);
-    assert!(rt; println!(rt; "done").is_ok());
-    assert!(rt; answer, "{reading:?}");
 }
 
 fn identifiers() -> bool {

@@ -2,7 +2,7 @@ use Rattle.std.proofs.Common.{sym, ◌∙◌}
 use Rattle.ir_model.proofs.Saving.{saved_are_exact}
 use Rattle.ir_side.specs.Side.{kinds}
 use Rattle.ir_saved.proofs.SavedLemmas.{lawful}
-use Rattle.ir_saved.proofs.saved_value.equal_keys_for_equal_values.Goals as goal
+use Rattle.ir_saved.proofs.saved_laws.equal_keys_for_equal_values.Goals as goal
 
 -- places are equal exactly where what is saved is, and that is equal exactly where the values are
 pub returns : goal.returns

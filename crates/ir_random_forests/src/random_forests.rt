@@ -1,6 +1,6 @@
 //! Random lists of edits that make small forests: operations in blocks in regions of operations, some of which name blocks, and a few edits afterwards. An edit whose condition doesn't hold is refused and does nothing.
 
-use ir_run::Edit;
+use ir_edits::Edit;
 use ir_toy::{Toy, ToyType};
 use rand_core::utils::NextWord;
 use rand_pcg::Pcg32;
@@ -13,9 +13,9 @@ const OPERATIONS: usize = 6;
 
 const BRANCHES: usize = 4;
 
-/// A source of random edits.
+/// A source of random forests.
 #[derive(Drop)]
-pub(crate) struct RandomEdits {
+pub struct RandomForests {
     alloc: Global,
     words: Pcg32,
 }
@@ -27,10 +27,10 @@ fn add_types(edits: &mut Vec<Edit<Toy>>) -> Result<(), AllocError> {
     Ok(())
 }
 
-impl RandomEdits {
+impl RandomForests {
     /// The source with this seed.
-    pub(crate) fn new(alloc: Global, seed: u64) -> RandomEdits {
-        RandomEdits {
+    pub fn new(alloc: Global, seed: u64) -> RandomForests {
+        RandomForests {
             alloc,
             words: Pcg32::new(seed, 54),
         }
@@ -172,7 +172,7 @@ impl RandomEdits {
     }
 
     /// The edits that make one forest.
-    pub(crate) fn forest(&mut self) -> Result<Vec<Edit<Toy>>, AllocError> {
+    pub fn forest(&mut self) -> Result<Vec<Edit<Toy>>, AllocError> {
         let mut edits = self.entities()?;
         self.add_places(&mut edits)?;
         self.add_branches(&mut edits)?;

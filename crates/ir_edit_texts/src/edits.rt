@@ -3,7 +3,7 @@
 use crate::error::LabError;
 use crate::fields::{NO_LETTER, list, number, one, take_field, three, two};
 use ir_base::Identifier;
-use ir_run::Edit;
+use ir_edits::Edit;
 use ir_toy::{Toy, ToyType};
 use std::alloc::Global;
 
@@ -11,7 +11,7 @@ use std::alloc::Global;
 ///
 /// # Errors
 /// `Malformed` where it has no form of an edit, and `OutOfMemory`.
-pub(crate) fn parse_edit(alloc: Global, line: &str) -> Result<Edit<Toy>, LabError> {
+pub fn parse_edit(alloc: Global, line: &str) -> Result<Edit<Toy>, LabError> {
     let Some((word, rest)) = take_field(line) else {
         return Err(LabError::Malformed);
     };
@@ -34,7 +34,7 @@ pub(crate) fn parse_edit(alloc: Global, line: &str) -> Result<Edit<Toy>, LabErro
 ///
 /// # Errors
 /// `Malformed` where a line has no form of an edit, and `OutOfMemory`.
-pub(crate) fn parse_edits(alloc: Global, text: &str) -> Result<Vec<Edit<Toy>>, LabError> {
+pub fn parse_edits(alloc: Global, text: &str) -> Result<Vec<Edit<Toy>>, LabError> {
     let mut edits = Vec::new(alloc);
     for line in text.split('\n') {
         if !line.is_empty() {

@@ -5,8 +5,8 @@
 ghost use Rattle.std.specs.Prelude.{◌≤◌, IfOk};
 
 use ir_base::CoreError;
-use ir_run::Edit;
-use ir_toy_verifiers::{Toy, ToyType};
+use ir_edits::Edit;
+use ir_toy::{Toy, ToyType};
 use std::alloc::{AllocError, AllocFailed, Global};
 use std::fmt;
 use std::mem::replace;
@@ -17,7 +17,7 @@ const GREATEST_KIND: u32 = 7;
 
 /// Why a script isn't done.
 #[derive(Clone, Copy, Debug, Drop, PartialEq, Eq, Error)]
-pub(crate) enum ScriptError {
+pub enum ScriptError {
     /// There was no memory to read it.
     #[error("out of memory")]
     OutOfMemory,
@@ -56,7 +56,7 @@ impl<T: Drop> From<AllocFailed<T>> for ScriptError {
 
 /// What an edit makes, or, where it makes nothing, what it changes, as the letter of its name.
 #[derive(Clone, Copy, Debug, Drop, PartialEq, Eq)]
-pub(crate) enum Letter {
+pub enum Letter {
     /// A type.
     Type,
     /// An operation.
@@ -83,7 +83,7 @@ impl fmt::Display for Letter {
 
 /// A part of a script: edits, for each of them what it makes or changes, and a verification after them.
 #[derive(Drop)]
-pub(crate) struct Part {
+pub struct Part {
     /// The edits, in the order of their lines.
     pub edits: Vec<Edit<Toy>>,
     /// The letter for each edit.
@@ -116,7 +116,7 @@ impl From<AllocFailed<usize>> for LineError {
 ///
 /// # Errors
 /// `Malformed` with the first malformed line, and `OutOfMemory` where a growth was refused before one was found.
-pub(crate) fn parse_script(alloc: Global, text: &str) -> Result<Vec<Part>, ScriptError> {
+pub fn parse_script(alloc: Global, text: &str) -> Result<Vec<Part>, ScriptError> {
     let mut parts = Vec::new(alloc);
     let mut part = new_part(alloc);
     for (number, line) in (1..u64::MAX).zip(text.split_inclusive('\n')) {
