@@ -8,6 +8,11 @@ use ir_checked::{
 use ir_dead::sweep;
 use std::process::Abort;
 
+/// Asserts that what was told is what was wanted; `what` says of what. A function that calls this has one way to its end, where an assertion of its own would be one more way, and is proved in less time.
+pub(crate) fn expect_same<T: PartialEq + Drop>(rt: &impl Abort, told: T, wanted: T, what: &str) {
+    assert!(rt; told == wanted, "{what}");
+}
+
 /// The type of the key, and a new block.
 pub(crate) fn type_and_block<D: Dialects>(
     ctx: &mut Context<D>,
@@ -97,14 +102,13 @@ fn expect_ops<D: Dialects>(
     ctx: &Context<D>,
     block: Ptr<BasicBlock<D>>,
     expected: &[Ptr<Operation<D>>],
-) -> Result<(), CheckedErr> {
-    let mut next = block_head(ctx, block)?;
+) {
+    let mut next = block_head(ctx, block);
     for op in expected {
-        assert!(rt; next == Some(*op));
-        next = next_op(ctx, *op)?;
+        expect_same(rt, next, Ok(Some(*op)), "an operation that is left");
+        next = next_op(ctx, *op);
     }
-    assert!(rt; next.is_none());
-    Ok(())
+    expect_same(rt, next, Ok(None), "what stands behind the last");
 }
 
 /// Sweeps the block, and asserts how many operations went, and which are left, in this order.
@@ -114,7 +118,7 @@ pub(crate) fn expect_sweep<D: Dialects>(
     block: Ptr<BasicBlock<D>>,
     count: usize,
     left: &[Ptr<Operation<D>>],
-) -> Result<(), CheckedErr> {
-    assert!(rt; swept(ctx, block)? == count);
-    expect_ops(rt, ctx, block, left)
+) {
+    expect_same(rt, swept(ctx, block), Ok(count), "how many went");
+    expect_ops(rt, ctx, block, left);
 }

@@ -1,7 +1,8 @@
 //! The sweep of a block: what goes, what stays, and how many the answer says.
 
 use crate::calls::{
-    add_in_front, block_inside, expect_sweep, push_twice, put, put_result, type_and_block,
+    add_in_front, block_inside, expect_same, expect_sweep, push_twice, put, put_result,
+    type_and_block,
 };
 use ir_base::{Dialects, Ptr, TypeHandle};
 use ir_checked::{
@@ -9,8 +10,8 @@ use ir_checked::{
     push_operand, result,
 };
 use ir_toy::{Toy, ToyType};
+use std::panic::Expect;
 use std::process::Abort;
-use std::test::Fail;
 
 // The type of all results.
 const TYPE: ToyType = ToyType::Int { width: 32 };
@@ -47,164 +48,141 @@ fn sweep_twice<D: Dialects>(
     block: Ptr<BasicBlock<D>>,
     [c0, c1]: [Ptr<Operation<D>>; 2],
     [a, u]: [Ptr<Operation<D>>; 2],
-) -> Result<(), CheckedErr> {
-    expect_sweep(rt, ctx, block, 2, &[c1, u])?;
-    assert!(rt; !c0.is_live(ctx) && !a.is_live(ctx) && c1.is_live(ctx) && u.is_live(ctx));
-    expect_sweep(rt, ctx, block, 0, &[c1, u])
+) {
+    expect_sweep(rt, ctx, block, 2, &[c1, u]);
+    expect_same(
+        rt,
+        [
+            c0.is_live(ctx),
+            a.is_live(ctx),
+            c1.is_live(ctx),
+            u.is_live(ctx),
+        ],
+        [false, false, true, true],
+        "what is left",
+    );
+    expect_sweep(rt, ctx, block, 0, &[c1, u]);
 }
 
 // Of two constants one is used by an operation that isn't pure, and the other one by an addition that nothing uses. What is left stays when it is swept again.
-fn kept_constant<D: Dialects>(
-    rt: &impl Abort,
-    ctx: &mut Context<D>,
-    key: D::TypeKey,
-) -> Result<(), CheckedErr> {
-    let (ty, block) = type_and_block(ctx, key)?;
-    let constants = two_constants(ctx, block, ty)?;
-    let users = use_constants(ctx, block, ty, constants)?;
-    sweep_twice(rt, ctx, block, constants, users)
+fn kept_constant<D: Dialects>(rt: &impl Abort, ctx: &mut Context<D>, key: D::TypeKey) {
+    let (ty, block) = type_and_block(ctx, key).expect(rt, "the block");
+    let constants = two_constants(ctx, block, ty).expect(rt, "the constants");
+    let users = use_constants(ctx, block, ty, constants).expect(rt, "their users");
+    sweep_twice(rt, ctx, block, constants, users);
 }
 
 #[test]
-fn sweep_of_a_kept_constant(rt: HostRuntime) -> Result<(), Fail> {
+fn sweep_of_a_kept_constant(rt: HostRuntime) {
     let mut ctx: Context<Toy> = Context::new(rt.alloc());
-    let outcome = kept_constant(&rt, &mut ctx, TYPE);
-    end(ctx, outcome)?;
-    Ok(())
+    kept_constant(&rt, &mut ctx, TYPE);
+    end(ctx, ());
 }
 
 // Two additions use each other's results, each twice.
-fn ring<D: Dialects>(
-    rt: &impl Abort,
-    ctx: &mut Context<D>,
-    key: D::TypeKey,
-) -> Result<(), CheckedErr> {
-    let (ty, block) = type_and_block(ctx, key)?;
-    let (x, v) = put_result(ctx, block, ty, 1)?;
-    let y = put(ctx, block, ty, 1, &[v, v])?;
-    let w = result(ctx, y, 0)?;
-    push_twice(ctx, x, w)?;
-    expect_sweep(rt, ctx, block, 0, &[x, y])
+fn ring<D: Dialects>(rt: &impl Abort, ctx: &mut Context<D>, key: D::TypeKey) {
+    let (ty, block) = type_and_block(ctx, key).expect(rt, "the block");
+    let (x, v) = put_result(ctx, block, ty, 1).expect(rt, "a result");
+    let y = put(ctx, block, ty, 1, &[v, v]).expect(rt, "an operation");
+    let w = result(ctx, y, 0).expect(rt, "its result");
+    push_twice(ctx, x, w).expect(rt, "its operands");
+    expect_sweep(rt, ctx, block, 0, &[x, y]);
 }
 
 #[test]
-fn sweep_of_a_ring(rt: HostRuntime) -> Result<(), Fail> {
+fn sweep_of_a_ring(rt: HostRuntime) {
     let mut ctx: Context<Toy> = Context::new(rt.alloc());
-    let outcome = ring(&rt, &mut ctx, TYPE);
-    end(ctx, outcome)?;
-    Ok(())
+    ring(&rt, &mut ctx, TYPE);
+    end(ctx, ());
 }
 
 // An addition stands before the constant that it uses.
-fn constant_behind<D: Dialects>(
-    rt: &impl Abort,
-    ctx: &mut Context<D>,
-    key: D::TypeKey,
-) -> Result<(), CheckedErr> {
-    let (ty, block) = type_and_block(ctx, key)?;
-    let (y, v) = put_result(ctx, block, ty, 0)?;
-    let x = add_in_front(ctx, block, ty, v)?;
-    expect_sweep(rt, ctx, block, 2, &[])?;
-    assert!(rt; !x.is_live(ctx) && !y.is_live(ctx));
-    Ok(())
+fn constant_behind<D: Dialects>(rt: &impl Abort, ctx: &mut Context<D>, key: D::TypeKey) {
+    let (ty, block) = type_and_block(ctx, key).expect(rt, "the block");
+    let (y, v) = put_result(ctx, block, ty, 0).expect(rt, "a result");
+    let x = add_in_front(ctx, block, ty, v).expect(rt, "the addition");
+    expect_sweep(rt, ctx, block, 2, &[]);
+    expect_same(
+        rt,
+        [x.is_live(ctx), y.is_live(ctx)],
+        [false, false],
+        "what is left",
+    );
 }
 
 #[test]
-fn sweep_of_a_constant_behind(rt: HostRuntime) -> Result<(), Fail> {
+fn sweep_of_a_constant_behind(rt: HostRuntime) {
     let mut ctx: Context<Toy> = Context::new(rt.alloc());
-    let outcome = constant_behind(&rt, &mut ctx, TYPE);
-    end(ctx, outcome)?;
-    Ok(())
+    constant_behind(&rt, &mut ctx, TYPE);
+    end(ctx, ());
 }
 
 // An addition of two constants that stand behind it, with an operation that isn't pure in front of all: when the addition is gone, a walk that goes on to the front passes over one of the constants.
-fn two_constants_behind<D: Dialects>(
-    rt: &impl Abort,
-    ctx: &mut Context<D>,
-    key: D::TypeKey,
-) -> Result<(), CheckedErr> {
-    let (ty, block) = type_and_block(ctx, key)?;
-    let u = put(ctx, block, ty, 4, &[])?;
-    let x = put(ctx, block, ty, 1, &[])?;
-    let (_, v) = put_result(ctx, block, ty, 0)?;
-    let (_, w) = put_result(ctx, block, ty, 0)?;
-    push_operand(ctx, x, v)?;
-    push_operand(ctx, x, w)?;
-    expect_sweep(rt, ctx, block, 3, &[u])
+fn two_constants_behind<D: Dialects>(rt: &impl Abort, ctx: &mut Context<D>, key: D::TypeKey) {
+    let (ty, block) = type_and_block(ctx, key).expect(rt, "the block");
+    let u = put(ctx, block, ty, 4, &[]).expect(rt, "an operation");
+    let x = put(ctx, block, ty, 1, &[]).expect(rt, "an operation");
+    let (_, v) = put_result(ctx, block, ty, 0).expect(rt, "a result");
+    let (_, w) = put_result(ctx, block, ty, 0).expect(rt, "a result");
+    push_operand(ctx, x, v).expect(rt, "an operand");
+    push_operand(ctx, x, w).expect(rt, "an operand");
+    expect_sweep(rt, ctx, block, 3, &[u]);
 }
 
 #[test]
-fn sweep_of_two_constants_behind(rt: HostRuntime) -> Result<(), Fail> {
+fn sweep_of_two_constants_behind(rt: HostRuntime) {
     let mut ctx: Context<Toy> = Context::new(rt.alloc());
-    let outcome = two_constants_behind(&rt, &mut ctx, TYPE);
-    end(ctx, outcome)?;
-    Ok(())
+    two_constants_behind(&rt, &mut ctx, TYPE);
+    end(ctx, ());
 }
 
 // A constant of another block is used by nothing but an addition that goes.
-fn constant_of_another_block<D: Dialects>(
-    rt: &impl Abort,
-    ctx: &mut Context<D>,
-    key: D::TypeKey,
-) -> Result<(), CheckedErr> {
-    let (ty, block) = type_and_block(ctx, key)?;
-    let other = new_block(ctx, None, &[])?;
-    let (c, v) = put_result(ctx, other, ty, 0)?;
-    put(ctx, block, ty, 1, &[v, v])?;
-    expect_sweep(rt, ctx, block, 1, &[])?;
-    assert!(rt; c.is_live(ctx));
-    Ok(())
+fn constant_of_another_block<D: Dialects>(rt: &impl Abort, ctx: &mut Context<D>, key: D::TypeKey) {
+    let (ty, block) = type_and_block(ctx, key).expect(rt, "the block");
+    let other = new_block(ctx, None, &[]).expect(rt, "another block");
+    let (c, v) = put_result(ctx, other, ty, 0).expect(rt, "a result");
+    put(ctx, block, ty, 1, &[v, v]).expect(rt, "an operation");
+    expect_sweep(rt, ctx, block, 1, &[]);
+    expect_same(rt, c.is_live(ctx), true, "what is left");
 }
 
 #[test]
-fn sweep_beside_another_block(rt: HostRuntime) -> Result<(), Fail> {
+fn sweep_beside_another_block(rt: HostRuntime) {
     let mut ctx: Context<Toy> = Context::new(rt.alloc());
-    let outcome = constant_of_another_block(&rt, &mut ctx, TYPE);
-    end(ctx, outcome)?;
-    Ok(())
+    constant_of_another_block(&rt, &mut ctx, TYPE);
+    end(ctx, ());
 }
 
 // An addition uses its own result alone.
-fn own_use<D: Dialects>(
-    rt: &impl Abort,
-    ctx: &mut Context<D>,
-    key: D::TypeKey,
-) -> Result<(), CheckedErr> {
-    let (ty, block) = type_and_block(ctx, key)?;
-    let (x, v) = put_result(ctx, block, ty, 1)?;
-    push_twice(ctx, x, v)?;
-    expect_sweep(rt, ctx, block, 1, &[])?;
-    assert!(rt; !x.is_live(ctx));
-    Ok(())
+fn own_use<D: Dialects>(rt: &impl Abort, ctx: &mut Context<D>, key: D::TypeKey) {
+    let (ty, block) = type_and_block(ctx, key).expect(rt, "the block");
+    let (x, v) = put_result(ctx, block, ty, 1).expect(rt, "a result");
+    push_twice(ctx, x, v).expect(rt, "its operands");
+    expect_sweep(rt, ctx, block, 1, &[]);
+    expect_same(rt, x.is_live(ctx), false, "what is left");
 }
 
 #[test]
-fn sweep_of_an_own_use(rt: HostRuntime) -> Result<(), Fail> {
+fn sweep_of_an_own_use(rt: HostRuntime) {
     let mut ctx: Context<Toy> = Context::new(rt.alloc());
-    let outcome = own_use(&rt, &mut ctx, TYPE);
-    end(ctx, outcome)?;
-    Ok(())
+    own_use(&rt, &mut ctx, TYPE);
+    end(ctx, ());
 }
 
 // An operation of another block uses a constant.
-fn outside_use<D: Dialects>(
-    rt: &impl Abort,
-    ctx: &mut Context<D>,
-    key: D::TypeKey,
-) -> Result<(), CheckedErr> {
-    let (ty, block) = type_and_block(ctx, key)?;
-    let other = new_block(ctx, None, &[])?;
-    let (c, v) = put_result(ctx, block, ty, 0)?;
-    put(ctx, other, ty, 4, &[v])?;
-    expect_sweep(rt, ctx, block, 0, &[c])
+fn outside_use<D: Dialects>(rt: &impl Abort, ctx: &mut Context<D>, key: D::TypeKey) {
+    let (ty, block) = type_and_block(ctx, key).expect(rt, "the block");
+    let other = new_block(ctx, None, &[]).expect(rt, "another block");
+    let (c, v) = put_result(ctx, block, ty, 0).expect(rt, "a result");
+    put(ctx, other, ty, 4, &[v]).expect(rt, "an operation");
+    expect_sweep(rt, ctx, block, 0, &[c]);
 }
 
 #[test]
-fn sweep_of_an_outside_use(rt: HostRuntime) -> Result<(), Fail> {
+fn sweep_of_an_outside_use(rt: HostRuntime) {
     let mut ctx: Context<Toy> = Context::new(rt.alloc());
-    let outcome = outside_use(&rt, &mut ctx, TYPE);
-    end(ctx, outcome)?;
-    Ok(())
+    outside_use(&rt, &mut ctx, TYPE);
+    end(ctx, ());
 }
 
 // Sweeps the block. The constant goes, and the operation with all that is inside.
@@ -214,42 +192,45 @@ fn sweep_inside<D: Dialects>(
     block: Ptr<BasicBlock<D>>,
     inner: Ptr<BasicBlock<D>>,
     [c, p, user]: [Ptr<Operation<D>>; 3],
-) -> Result<(), CheckedErr> {
-    expect_sweep(rt, ctx, block, 2, &[])?;
-    assert!(rt; !c.is_live(ctx) && !p.is_live(ctx) && !inner.is_live(ctx) && !user.is_live(ctx));
-    Ok(())
+) {
+    expect_sweep(rt, ctx, block, 2, &[]);
+    expect_same(
+        rt,
+        [
+            c.is_live(ctx),
+            p.is_live(ctx),
+            inner.is_live(ctx),
+            user.is_live(ctx),
+        ],
+        [false, false, false, false],
+        "what is left",
+    );
 }
 
 // An operation that isn't pure uses a constant, and stands inside a pure operation of the block.
-fn inner_use<D: Dialects>(
-    rt: &impl Abort,
-    ctx: &mut Context<D>,
-    key: D::TypeKey,
-) -> Result<(), CheckedErr> {
-    let (ty, block) = type_and_block(ctx, key)?;
-    let (c, v) = put_result(ctx, block, ty, 0)?;
-    let (p, inner) = block_inside(ctx, block, 0)?;
-    let user = put(ctx, inner, ty, 4, &[v])?;
-    sweep_inside(rt, ctx, block, inner, [c, p, user])
+fn inner_use<D: Dialects>(rt: &impl Abort, ctx: &mut Context<D>, key: D::TypeKey) {
+    let (ty, block) = type_and_block(ctx, key).expect(rt, "the block");
+    let (c, v) = put_result(ctx, block, ty, 0).expect(rt, "a result");
+    let (p, inner) = block_inside(ctx, block, 0).expect(rt, "the block inside");
+    let user = put(ctx, inner, ty, 4, &[v]).expect(rt, "an operation");
+    sweep_inside(rt, ctx, block, inner, [c, p, user]);
 }
 
 #[test]
-fn sweep_of_an_inner_use(rt: HostRuntime) -> Result<(), Fail> {
+fn sweep_of_an_inner_use(rt: HostRuntime) {
     let mut ctx: Context<Toy> = Context::new(rt.alloc());
-    let outcome = inner_use(&rt, &mut ctx, TYPE);
-    end(ctx, outcome)?;
-    Ok(())
+    inner_use(&rt, &mut ctx, TYPE);
+    end(ctx, ());
 }
 
-fn empty_block<D: Dialects>(rt: &impl Abort, ctx: &mut Context<D>) -> Result<(), CheckedErr> {
-    let block = new_block(ctx, None, &[])?;
-    expect_sweep(rt, ctx, block, 0, &[])
+fn empty_block<D: Dialects>(rt: &impl Abort, ctx: &mut Context<D>) {
+    let block = new_block(ctx, None, &[]).expect(rt, "the block");
+    expect_sweep(rt, ctx, block, 0, &[]);
 }
 
 #[test]
-fn sweep_of_an_empty_block(rt: HostRuntime) -> Result<(), Fail> {
+fn sweep_of_an_empty_block(rt: HostRuntime) {
     let mut ctx: Context<Toy> = Context::new(rt.alloc());
-    let outcome = empty_block(&rt, &mut ctx);
-    end(ctx, outcome)?;
-    Ok(())
+    empty_block(&rt, &mut ctx);
+    end(ctx, ());
 }

@@ -7,6 +7,11 @@ use ir_checked::{
 };
 use std::process::Abort;
 
+/// Asserts that what was told is what was wanted; `what` says of what. A function that calls this has one way to its end, where an assertion of its own would be one more way, and is proved in less time.
+pub(crate) fn expect_same<T: PartialEq + Drop>(rt: &impl Abort, told: T, wanted: T, what: &str) {
+    assert!(rt; told == wanted, "{what}");
+}
+
 /// The result of a new operation.
 pub(crate) fn new_value<D: Dialects>(
     ctx: &mut Context<D>,
@@ -54,12 +59,12 @@ pub(crate) fn expect_operands<D: Dialects>(
     ctx: &Context<D>,
     op: Ptr<Operation<D>>,
     expected: &[Value<D>],
-) -> Result<(), CheckedErr> {
-    assert!(rt; num_operands(ctx, op)? == expected.len());
+) {
+    let count = num_operands(ctx, op);
+    expect_same(rt, count, Ok(expected.len()), "how many operands there are");
     for (index, value) in expected.iter().enumerate() {
-        assert!(rt; operand(ctx, op, index)? == *value);
+        expect_same(rt, operand(ctx, op, index), Ok(*value), "an operand");
     }
-    Ok(())
 }
 
 /// Asserts that the value is live and has so many uses.
@@ -69,7 +74,7 @@ pub(crate) fn expect_use_count<D: Dialects>(
     value: Value<D>,
     count: usize,
 ) {
-    assert!(rt; num_uses(ctx, value) == Ok(count));
+    expect_same(rt, num_uses(ctx, value), Ok(count), "how many uses it has");
 }
 
 /// Asserts at which index the use is found, and what it names.
@@ -81,10 +86,16 @@ pub(crate) fn expect_use<D: Dialects>(
     value: Value<D>,
 ) {
     assert!(rt; used.try_find_index(ctx) == Ok(index));
-    assert!(rt; used.get_def(ctx) == value);
+    expect_same(rt, used.get_def(ctx), value, "what the use names");
+}
+
+/// Asserts that the call was made.
+pub(crate) fn expect_done(rt: &impl Abort, answer: Result<(), CheckedErr>) {
+    expect_same(rt, answer, Ok(()), "a call that can be made");
 }
 
 /// Asserts that the call was refused because its condition doesn't hold.
 pub(crate) fn expect_condition(rt: &impl Abort, answer: Result<(), CheckedErr>) {
-    assert!(rt; answer == Err(CheckedErr::Condition));
+    let refused = Err(CheckedErr::Condition);
+    expect_same(rt, answer, refused, "a call whose condition doesn't hold");
 }

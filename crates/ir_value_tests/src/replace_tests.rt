@@ -1,6 +1,9 @@
 //! Uses of a value that come to name another one: all, one, or those that a predicate chooses.
 
-use crate::calls::{expect_operands, expect_use, expect_use_count, new_user, new_value, use_at};
+use crate::calls::{
+    expect_done, expect_operands, expect_same, expect_use, expect_use_count, new_user, new_value,
+    use_at,
+};
 use ir_base::{CoreError, Dialects, Limits, Ptr};
 use ir_checked::{
     CheckedErr, Context, Operation, OperationPtr, Use, UseQueries, Value, ValueQueries, end,
@@ -8,6 +11,7 @@ use ir_checked::{
 };
 use ir_toy::{Toy, ToyType};
 use ir_view::{OperationParts, ValueEdits};
+use std::panic::Expect;
 use std::process::Abort;
 use std::test::Fail;
 
@@ -42,34 +46,28 @@ fn expect_replaced<D: Dialects>(
     op: Ptr<Operation<D>>,
     v: Value<D>,
     w: Value<D>,
-) -> Result<(), CheckedErr> {
-    expect_operands(rt, ctx, op, &[w, w, w])?;
+) {
+    expect_operands(rt, ctx, op, &[w, w, w]);
     expect_use_count(rt, ctx, v, 0);
     expect_use_count(rt, ctx, w, 3);
-    Ok(())
 }
 
 // The operands v, v, w, and no other uses. All uses of v come to name w, and the two old ones find their index.
-fn replace_two<D: Dialects>(
-    rt: &impl Abort,
-    ctx: &mut Context<D>,
-    key: D::TypeKey,
-) -> Result<(), CheckedErr> {
-    let [v, w] = new_values(ctx, key)?;
-    let op = new_user(ctx, v, w)?;
-    let [first, second] = first_uses(ctx, op)?;
-    replace_all_uses(ctx, v, w)?;
+fn replace_two<D: Dialects>(rt: &impl Abort, ctx: &mut Context<D>, key: D::TypeKey) {
+    let [v, w] = new_values(ctx, key).expect(rt, "the values");
+    let op = new_user(ctx, v, w).expect(rt, "the user");
+    let [first, second] = first_uses(ctx, op).expect(rt, "its uses");
+    expect_done(rt, replace_all_uses(ctx, v, w));
     expect_use(rt, ctx, first, 0, w);
     expect_use(rt, ctx, second, 1, w);
-    expect_replaced(rt, ctx, op, v, w)
+    expect_replaced(rt, ctx, op, v, w);
 }
 
 #[test]
-fn replace_all(rt: HostRuntime) -> Result<(), Fail> {
+fn replace_all(rt: HostRuntime) {
     let mut ctx: Context<Toy> = Context::new(rt.alloc());
-    let outcome = replace_two(&rt, &mut ctx, KEY);
-    end(ctx, outcome)?;
-    Ok(())
+    replace_two(&rt, &mut ctx, KEY);
+    end(ctx, ());
 }
 
 // Whether the value is live and has three uses.
@@ -95,23 +93,18 @@ fn replace_by_count<D: Dialects>(
 }
 
 // The operands v, v, v. The predicate is asked on the context before, so that all three uses move.
-fn replace_three<D: Dialects>(
-    rt: &impl Abort,
-    ctx: &mut Context<D>,
-    key: D::TypeKey,
-) -> Result<(), CheckedErr> {
-    let [v, w] = new_values(ctx, key)?;
-    let op = new_user(ctx, v, v)?;
-    replace_by_count(ctx, v, w)?;
-    expect_operands(rt, ctx, op, &[w, w, w])
+fn replace_three<D: Dialects>(rt: &impl Abort, ctx: &mut Context<D>, key: D::TypeKey) {
+    let [v, w] = new_values(ctx, key).expect(rt, "the values");
+    let op = new_user(ctx, v, v).expect(rt, "the user");
+    expect_done(rt, replace_by_count(ctx, v, w));
+    expect_operands(rt, ctx, op, &[w, w, w]);
 }
 
 #[test]
-fn predicate_on_old_state(rt: HostRuntime) -> Result<(), Fail> {
+fn predicate_on_old_state(rt: HostRuntime) {
     let mut ctx: Context<Toy> = Context::new(rt.alloc());
-    let outcome = replace_three(&rt, &mut ctx, KEY);
-    end(ctx, outcome)?;
-    Ok(())
+    replace_three(&rt, &mut ctx, KEY);
+    end(ctx, ());
 }
 
 // Takes the first operand, which is v, away. Another one finds no number.
@@ -120,11 +113,10 @@ fn remove_and_push<D: Dialects>(
     ctx: &mut Context<D>,
     op: Ptr<Operation<D>>,
     v: Value<D>,
-) -> Result<(), CheckedErr> {
-    assert!(rt; remove_operand(ctx, op, 0)? == v);
-    let spent = push_operand(ctx, op, v);
-    assert!(rt; spent == Err(CheckedErr::Core(CoreError::CounterSpent)));
-    Ok(())
+) {
+    expect_same(rt, remove_operand(ctx, op, 0), Ok(v), "the first operand");
+    let spent = Err(CheckedErr::Core(CoreError::CounterSpent));
+    expect_same(rt, push_operand(ctx, op, v), spent, "another operand");
 }
 
 // All uses of v come to name w, and that at index 1 comes to name v again.
@@ -140,28 +132,23 @@ fn replace_and_return<D: Dialects>(
 }
 
 // The operands v, v, v, and no use number is left. One goes, and another one finds no number, but uses that move need none, neither two at once nor one.
-fn replace_when_spent<D: Dialects>(
-    rt: &impl Abort,
-    ctx: &mut Context<D>,
-    key: D::TypeKey,
-) -> Result<(), CheckedErr> {
-    let [v, w] = new_values(ctx, key)?;
-    let op = new_user(ctx, v, v)?;
-    remove_and_push(rt, ctx, op, v)?;
-    replace_and_return(ctx, op, v, w)?;
-    expect_operands(rt, ctx, op, &[w, v])
+fn replace_when_spent<D: Dialects>(rt: &impl Abort, ctx: &mut Context<D>, key: D::TypeKey) {
+    let [v, w] = new_values(ctx, key).expect(rt, "the values");
+    let op = new_user(ctx, v, v).expect(rt, "the user");
+    remove_and_push(rt, ctx, op, v);
+    expect_done(rt, replace_and_return(ctx, op, v, w));
+    expect_operands(rt, ctx, op, &[w, v]);
 }
 
 #[test]
-fn three_spent_uses(rt: HostRuntime) -> Result<(), Fail> {
+fn three_spent_uses(rt: HostRuntime) {
     let limits = Limits {
         uses: 3,
         ..Limits::default()
     };
     let mut ctx: Context<Toy> = Context::with_limits(rt.alloc(), limits);
-    let outcome = replace_when_spent(&rt, &mut ctx, KEY);
-    end(ctx, outcome)?;
-    Ok(())
+    replace_when_spent(&rt, &mut ctx, KEY);
+    end(ctx, ());
 }
 
 // The uses by the operation.
@@ -209,8 +196,8 @@ fn expect_kept<D: Dialects>(
     uses: &[Use<Value<D>>],
 ) {
     for (index, used) in old.iter().enumerate() {
-        assert!(rt; uses.contains(used));
-        assert!(rt; used.try_find_index(ctx) == Ok(index));
+        expect_same(rt, uses.contains(used), true, "whether a use is kept");
+        expect_same(rt, used.try_find_index(ctx), Ok(index), "its index");
     }
 }
 
@@ -222,8 +209,7 @@ fn expect_forty<D: Dialects>(
     value: Value<D>,
 ) -> Result<(), CheckedErr> {
     let uses = uses_of(ctx, value)?;
-    assert!(rt; uses.len() == 40);
-    assert!(rt; old.len() == 40);
+    expect_same(rt, (uses.len(), old.len()), (40, 40), "how many there are");
     expect_kept(rt, ctx, old, &uses);
     Ok(())
 }
