@@ -4,6 +4,7 @@ ghost use Rattle.std.specs.Prelude.{◌≡◌, ◌≢◌, ◌+◌, ◌<◌, ◌�
 ghost use Rattle.ir_arena.specs.Arena.{get, fill, room, unused, is_passed, IsNew};
 ghost use Rattle.ir_model.specs.declared.ids.ArenaIndex.{ArenaIndex as Index};
 
+use crate::same::expect_same;
 use ir_arena::arena_laws::{
     arenas_stay_whole, changes_are_read, gone_ids_stay_gone, lengths_follow, live_ids_have_slots,
     new_ids_are_new, other_ids_stay, passed_ids_stay, rooms_are_exact, rooms_follow,
@@ -180,9 +181,9 @@ fn make_and_free(
     after_removing: u32,
 ) -> Result<Ptr<Root>, CoreError> {
     let root = make(roots)?;
-    assert_eq!(rt; room_and_len(roots), (after_making, 1));
+    expect_same(rt, room_and_len(roots), (after_making, 1));
     assert!(rt; free(roots, root));
-    assert_eq!(rt; room_and_len(roots), (after_removing, 0));
+    expect_same(rt, room_and_len(roots), (after_removing, 0));
     Ok(root)
 }
 
@@ -204,7 +205,7 @@ fn make_and_free_thrice(
 fn room_follows_each_change(rt: HostRuntime) -> Result<(), Fail> {
     let mut roots = Arena::new(rt.alloc(), 2, 3);
     assert!(rt; roots.is_empty());
-    assert_eq!(rt; room_and_len(&roots), (2, 0));
+    expect_same(&rt, room_and_len(&roots), (2, 0));
     let passed = make_and_free_thrice(&rt, rt.alloc(), &mut roots)?;
     expect_gone(&rt, &mut roots, &passed);
     Ok(())
@@ -253,7 +254,7 @@ fn pass_place(
     place: ArenaIndex,
 ) -> Result<(), CoreError> {
     let root = make(roots)?;
-    assert_eq!(rt; root.index(), place);
+    expect_same(rt, root.index(), place);
     assert!(rt; free(roots, root));
     passed.push(root)?;
     Ok(())
@@ -287,7 +288,7 @@ fn make_three(roots: &mut Arena<Root>) -> Result<[Ptr<Root>; 3], CoreError> {
 // Asserts that the next three roots are in the third slot, in the first and in the fourth.
 fn expect_order_of_slots(rt: &impl Abort, roots: &mut Arena<Root>) -> Result<(), CoreError> {
     for (slot, version) in [(3, 3), (1, 3), (4, 1)] {
-        assert_eq!(rt; make_at(roots)?, ArenaIndex { slot, version });
+        expect_same(rt, make_at(roots)?, ArenaIndex { slot, version });
     }
     Ok(())
 }
@@ -318,7 +319,7 @@ fn expect_used_again(rt: &impl Abort, roots: &mut Arena<Root>) {
             slot: 1000 - k,
             version: 3,
         };
-        assert_eq!(rt; make_at(roots), Ok(place));
+        expect_same(rt, make_at(roots), Ok(place));
     }
 }
 
@@ -328,7 +329,7 @@ fn freed_slots_need_no_memory(rt: HostRuntime) -> Result<(), Fail> {
     let made = make_thousand(rt.alloc(), &mut roots)?;
     expect_freed(&rt, &mut roots, &made);
     expect_used_again(&rt, &mut roots);
-    assert_eq!(rt; room_and_len(&roots), (0, 1000));
+    expect_same(&rt, room_and_len(&roots), (0, 1000));
     Ok(())
 }
 
@@ -350,7 +351,7 @@ fn a_refused_record_is_not_made(rt: HostRuntime) -> Result<(), Fail> {
     let mut roots = Arena::new(rt.alloc(), 0, 9);
     let (made, answer) = make_counted(&mut roots);
     assert!(rt; answer == Err(CoreError::SlotsSpent));
-    assert_eq!(rt; made, 0);
+    expect_same(&rt, made, 0);
     Ok(())
 }
 
@@ -360,8 +361,8 @@ fn a_record_is_made_where_it_is_stored(rt: HostRuntime) -> Result<(), Fail> {
     let mut roots = Arena::new(rt.alloc(), 40, 9);
     for _ in 0..40u32 {
         let (made, answer) = make_counted(&mut roots);
-        assert_eq!(rt; made == 1, answer.is_ok());
-        assert_eq!(rt; made == 0, answer.is_err());
+        expect_same(&rt, made == 1, answer.is_ok());
+        expect_same(&rt, made == 0, answer.is_err());
         answer?;
     }
     Ok(())
@@ -388,7 +389,7 @@ fn places_print_with_their_versions(rt: HostRuntime) -> Result<(), Fail> {
         slot: 1,
         version: 1999,
     };
-    assert_eq!(rt; format!(in rt.alloc(); "{place}")?.as_str(), "1v1999");
+    expect_same(&rt, format!(in rt.alloc(); "{place}")?.as_str(), "1v1999");
     Ok(())
 }
 
@@ -400,10 +401,10 @@ fn expect_refused(
     place: ArenaIndex,
     before: (u32, usize),
 ) -> Result<(), CoreError> {
-    assert_eq!(rt; answer, Err(CoreError::OutOfMemory));
-    assert_eq!(rt; room_and_len(roots), before);
+    expect_same(rt, answer, Err(CoreError::OutOfMemory));
+    expect_same(rt, room_and_len(roots), before);
     assert!(rt; !roots.is_live(Ptr::from_index(place)));
-    assert_eq!(rt; make_at(roots)?, place);
+    expect_same(rt, make_at(roots)?, place);
     Ok(())
 }
 
@@ -501,8 +502,8 @@ fn expect_knots(rt: &impl Abort, filled: &Filled) {
     let place = filled.knot.index();
     let knots = &filled.pair.knots;
     assert!(rt; filled.knot != filled.other);
-    assert_eq!(rt; read_knot(knots, filled.knot), Some((1, place)));
-    assert_eq!(rt; read_knot(knots, filled.other), Some((0, place)));
+    expect_same(rt, read_knot(knots, filled.knot), Some((1, place)));
+    expect_same(rt, read_knot(knots, filled.other), Some((0, place)));
 }
 
 // Asserts that the root is live, and names this place and has this count.
@@ -513,7 +514,7 @@ fn expect_root(
     first: ArenaIndex,
     count: u32,
 ) {
-    assert_eq!(rt; read_root(roots, root), Some((Some(first), count)));
+    expect_same(rt, read_root(roots, root), Some((Some(first), count)));
 }
 
 #[test]
@@ -529,16 +530,16 @@ fn records_are_read(rt: HostRuntime) -> Result<(), Fail> {
 // Writes the same count into both roots, and counts on.
 fn count_both(rt: &impl Abort, pair: &mut Pair, root: Ptr<Root>, more: Ptr<Root>) {
     set_two(pair, root, more, 6);
-    assert_eq!(rt; count_on(&mut pair.roots, root), 6);
-    assert_eq!(rt; count_on(&mut pair.roots, more), 6);
-    assert_eq!(rt; count_on(&mut pair.roots, more), 7);
+    expect_same(rt, count_on(&mut pair.roots, root), 6);
+    expect_same(rt, count_on(&mut pair.roots, more), 6);
+    expect_same(rt, count_on(&mut pair.roots, more), 7);
 }
 
 // Removes the first of two roots.
 fn remove_first(rt: &impl Abort, roots: &mut Arena<Root>, root: Ptr<Root>) {
     assert!(rt; remove_twice(roots, root));
     assert!(rt; is_gone(roots, root));
-    assert_eq!(rt; roots.len(), 1);
+    expect_same(rt, roots.len(), 1);
 }
 
 #[test]
@@ -561,9 +562,9 @@ fn records_are_written(rt: HostRuntime) -> Result<(), Fail> {
 fn expect_copy(rt: &impl Abort, handle: Ptr<Root>, index: ArenaIndex) -> Result<(), Fail> {
     let same = handle.clone()?;
     assert!(rt; handle == same);
-    assert_eq!(rt; same.index(), index);
+    expect_same(rt, same.index(), index);
     let hasher = BuildHasherDefault::<FoldHasher>::default();
-    assert_eq!(rt; hasher.hash_one(&handle), hasher.hash_one(&same));
+    expect_same(rt, hasher.hash_one(&handle), hasher.hash_one(&same));
     Ok(())
 }
 
@@ -607,7 +608,7 @@ fn room_is_plain_data(rt: HostRuntime) -> Result<(), Fail> {
         aux: 6,
     };
     let same = room;
-    assert_eq!(rt; room, same);
+    expect_same(&rt, room, same);
     assert_eq!(rt;
         format!(in rt.alloc(); "{room:?}")?.as_str(),
         "Room { values: 1, uses: 2, ops: 3, blocks: 4, regions: 5, aux: 6 }"

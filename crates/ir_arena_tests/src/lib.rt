@@ -8,6 +8,8 @@ mod link_tests;
 #[cfg(test)]
 mod linked_list_tests;
 #[cfg(test)]
+mod same;
+#[cfg(test)]
 mod seq_tests;
 #[cfg(test)]
 mod short_seq_tests;

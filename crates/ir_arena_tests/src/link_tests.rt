@@ -3,6 +3,7 @@
 ghost use Rattle.std.specs.Prelude.{◌≡◌, Some};
 ghost use Rattle.ir_arena.specs.Arena.{IsLive};
 
+use crate::same::expect_same;
 use ir_arena::arena_laws::live_ids_have_slots;
 use ir_arena::{Arena, ArenaIndex, CoreError, Link, Ptr};
 use std::alloc::Global;
@@ -49,8 +50,8 @@ fn next_of(steps: &Arena<Step>, step: Ptr<Step>) -> Option<Option<ArenaIndex>> {
 #[test]
 fn links_lead_on(rt: HostRuntime) -> Result<(), Fail> {
     let (steps, first, last) = two_steps(rt.alloc())?;
-    assert_eq!(rt; next_of(&steps, first), Some(Some(last.index())));
-    assert_eq!(rt; next_of(&steps, last), Some(None));
+    expect_same(&rt, next_of(&steps, first), Some(Some(last.index())));
+    expect_same(&rt, next_of(&steps, last), Some(None));
     Ok(())
 }
 
@@ -62,8 +63,8 @@ fn links_are_copied(rt: HostRuntime) -> Result<(), Fail> {
     };
     let link = Link::some(place);
     let same = link;
-    assert_eq!(rt; same.get(), link.get());
-    assert_eq!(rt; link.get(), Some(place));
-    assert_eq!(rt; Link::none().get(), None);
+    expect_same(&rt, same.get(), link.get());
+    expect_same(&rt, link.get(), Some(place));
+    expect_same(&rt, Link::none().get(), None);
     Ok(())
 }

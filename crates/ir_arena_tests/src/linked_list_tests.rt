@@ -4,6 +4,7 @@ ghost use Rattle.std.specs.Prelude.{◌≡◌, IfOk, OnErr, None};
 ghost use Rattle.ir_arena.specs.Arena.{fill, IsNew};
 ghost use Rattle.ir_arena.specs.Lists.{Links, Ends, unlinked, no_ends};
 
+use crate::same::expect_same;
 use ir_arena::linked_list::{
     ContainsLinkedList, LinkedList, append_linked_list, insert_after, insert_at_back,
     insert_at_front, insert_before, is_linked, iter, unlink,
@@ -646,9 +647,9 @@ fn expect_rest(
     donee: Ptr<Part>,
     donor: Ptr<Part>,
 ) {
-    assert_eq!(rt; payload_of(&lists.nodes, third), Some(3));
-    assert_eq!(rt; name_of(&lists.containers, donee), Some(7));
-    assert_eq!(rt; name_of(&lists.containers, donor), Some(8));
+    expect_same(rt, payload_of(&lists.nodes, third), Some(3));
+    expect_same(rt, name_of(&lists.containers, donee), Some(7));
+    expect_same(rt, name_of(&lists.containers, donor), Some(8));
 }
 
 #[test]
@@ -731,9 +732,9 @@ fn expect_names(
     first: Ptr<Part>,
     second: Ptr<Part>,
 ) {
-    assert_eq!(rt; root_name_of(&parts.containers, root), Some(9));
-    assert_eq!(rt; name_of(&parts.nodes, first), Some(7));
-    assert_eq!(rt; name_of(&parts.nodes, second), Some(8));
+    expect_same(rt, root_name_of(&parts.containers, root), Some(9));
+    expect_same(rt, name_of(&parts.nodes, first), Some(7));
+    expect_same(rt, name_of(&parts.nodes, second), Some(8));
 }
 
 // A part has a list of its own, and stands in a root's.

@@ -1,5 +1,6 @@
 //! Short lists as the records use them: with room for two items in the record, with more than that, and with room for none.
 
+use crate::same::expect_same;
 use ir_arena::ShortSeq;
 use std::alloc::{AllocError, Global};
 use std::process::Abort;
@@ -93,7 +94,7 @@ fn fill_and_thin<const N: usize>(
 ) -> Result<(), AllocError> {
     fill(list)?;
     assert!(rt; has(list, &[5, 7, 11, 20, 31, 40]));
-    assert_eq!(rt; thin(list), [Some(11), Some(5), Some(31)]);
+    expect_same(rt, thin(list), [Some(11), Some(5), Some(31)]);
     assert!(rt; has(list, &[40, 7]));
     Ok(())
 }
@@ -120,7 +121,7 @@ fn push_three(rt: &impl Abort, list: &mut ShortSeq<u64, 2>) -> Result<(), AllocE
 fn clear_three(rt: &impl Abort, list: &mut ShortSeq<u64, 2>) {
     assert!(rt; has(list, &[1, 2, 3]));
     list.clear();
-    assert_eq!(rt; list.pop(), None);
+    expect_same(rt, list.pop(), None);
 }
 
 #[test]
@@ -204,7 +205,7 @@ fn hold(list: &mut Holders, shared: &Rc<u8>) -> Result<(), AllocError> {
 
 // Asserts how many hold the number.
 fn expect_count(rt: &impl Abort, shared: &Rc<u8>, count: usize) {
-    assert_eq!(rt; Rc::strong_count(shared), count);
+    expect_same(rt, Rc::strong_count(shared), count);
 }
 
 // A list of five more holders.

@@ -4,6 +4,7 @@ ghost use Rattle.ir_model.specs.Stores.{attribute_at};
 ghost use Rattle.ir_base.specs.Attributes.{with_changed};
 ghost use Rattle.std.proofs.Common.{rules, true≢false, sym};
 
+use crate::same::expect_same;
 use ir_base::attribute::{
     Attribute, AttributeDict, attr_impls, attr_impls_static, attr_should_outline, attr_type,
 };
@@ -476,7 +477,7 @@ fn equal_in_any_order(rt: HostRuntime) -> Result<(), Fail> {
 #[test]
 fn hashes_of_equal_dictionaries(rt: HostRuntime) -> Result<(), Fail> {
     let (one, other) = in_both_orders(rt.alloc())?;
-    assert_eq!(rt; hash_of(&one), hash_of(&other));
+    expect_same(&rt, hash_of(&one), hash_of(&other));
     equal_dictionaries_hash_equally::<Small>();
     Ok(())
 }
@@ -506,7 +507,7 @@ fn put_and_take(rt: &impl Abort, dict: &mut AttributeDict<Small>) -> Result<(), 
 fn expect_new(rt: &impl Abort, alloc: Global, dict: &AttributeDict<Small>) {
     let new = AttributeDict::new(alloc);
     assert!(rt; are_equal(dict, &new));
-    assert_eq!(rt; hash_of(dict), hash_of(&new));
+    expect_same(rt, hash_of(dict), hash_of(&new));
 }
 
 // Asserts that a dictionary is as a new one where its only pair was taken out.
@@ -533,7 +534,7 @@ fn copies_of_empty_dictionaries(rt: HostRuntime) -> Result<(), Fail> {
 // Takes the outlined attribute out, and leaves the other two.
 fn take_outlined(rt: &impl Abort, dict: &mut AttributeDict<Small>) {
     let hidden = SmallAttr::Hidden(Outlined { letter: 2 });
-    assert_eq!(rt; take(dict, 1), Some(hidden));
+    assert!(rt; take(dict, 1) == Some(hidden));
     assert!(rt; has_keys(dict, &["a", "c"]));
 }
 
@@ -568,8 +569,8 @@ fn write_number(dict: &mut AttributeDict<Small>, place: usize, value: u64) {
 
 // Asserts that there is no number at `a`, and this one at `c`.
 fn expect_number(rt: &impl Abort, dict: &AttributeDict<Small>, number: u64) {
-    assert_eq!(rt; number_at(dict, 0), None);
-    assert_eq!(rt; number_at(dict, 2), Some(number));
+    expect_same(rt, number_at(dict, 0), None);
+    expect_same(rt, number_at(dict, 2), Some(number));
 }
 
 #[test]
@@ -609,7 +610,7 @@ fn put_at_last(
 
 // Puts the last of the four numbers again, which needs no memory.
 fn put_again(rt: &impl Abort, dict: &mut AttributeDict<Small>) {
-    assert_eq!(rt; put_number(dict, 3, 3), Ok(()));
+    expect_same(rt, put_number(dict, 3, 3), Ok(()));
 }
 
 #[test]
@@ -634,8 +635,8 @@ fn expect_outlined(rt: &impl Abort, number: &SmallAttr, hidden: &SmallAttr) {
 fn questions_of_attributes(rt: HostRuntime) -> Result<(), Fail> {
     let number = number_of(5).into_attr();
     let hidden = Outlined { letter: 2 }.into_attr();
-    assert_eq!(rt; attr_type::<Small>(&number), Some(TypeHandle::at(3)));
-    assert_eq!(rt; attr_type::<Small>(&hidden), None);
+    expect_same(&rt, attr_type::<Small>(&number), Some(TypeHandle::at(3)));
+    expect_same(&rt, attr_type::<Small>(&hidden), None);
     expect_outlined(&rt, &number, &hidden);
     Ok(())
 }
@@ -645,8 +646,8 @@ const _: () = prove!(size_of::<AttributeDict<Small>>() == 16);
 
 #[test]
 fn handles_and_locations(rt: HostRuntime) -> Result<(), Fail> {
-    assert_eq!(rt; unknown_loc::<Small>(), 0);
-    assert_eq!(rt; TypeHandle::at(4).index(), 4);
+    expect_same(&rt, unknown_loc::<Small>(), 0);
+    expect_same(&rt, TypeHandle::at(4).index(), 4);
     Ok(())
 }
 

@@ -4,6 +4,8 @@
 #[cfg(test)]
 mod attribute_tests;
 #[cfg(test)]
+mod same;
+#[cfg(test)]
 mod stores_tests;
 #[cfg(test)]
 mod verifier_lists_tests;

@@ -1,4 +1,5 @@
 //! Stores: values and keys are kept once, and keep their places.
+use crate::same::expect_same;
 use ir_base::laws::{equal_places_for_equal_values, supers_stay_first};
 use ir_base::{CoreError, TypeStore, UniqueStore};
 use std::process::Abort;
@@ -39,7 +40,7 @@ fn expect_at(
     value: u64,
     place: usize,
 ) -> Result<(), CoreError> {
-    assert_eq!(rt; place_of(store, value)?, place);
+    expect_same(rt, place_of(store, value)?, place);
     Ok(())
 }
 
@@ -54,7 +55,7 @@ fn intern_two(rt: &impl Abort, store: &mut UniqueStore<u64>) -> Result<(), CoreE
 // Asserts that the store has the two values, and not a third.
 fn expect_two(rt: &impl Abort, store: &UniqueStore<u64>) {
     assert!(rt; has(store, &[32, 64]));
-    assert_eq!(rt; store.get(&8), None);
+    expect_same(rt, store.get(&8), None);
 }
 
 #[test]
@@ -118,8 +119,8 @@ fn store_number(
     place: usize,
 ) -> Result<(), CoreError> {
     let number = number_at(place);
-    assert_eq!(rt; store_at_last(rt, store, number, place)?, place);
-    assert_eq!(rt; place_of(store, number), Ok(place));
+    expect_same(rt, store_at_last(rt, store, number, place)?, place);
+    expect_same(rt, place_of(store, number), Ok(place));
     Ok(())
 }
 
@@ -183,7 +184,7 @@ fn expect_place(
     key: u64,
     place: usize,
 ) -> Result<(), CoreError> {
-    assert_eq!(rt; place_of_key(store, key)?, place);
+    expect_same(rt, place_of_key(store, key)?, place);
     Ok(())
 }
 
@@ -200,7 +201,7 @@ fn give_body(rt: &impl Abort, store: &mut Keys) -> Result<(), Fail> {
     set_body(store, 1, Some(1));
     expect_place(rt, store, 64, 1)?;
     assert!(rt; keeps(store, &[(32, None), (64, Some(1))]));
-    assert_eq!(rt; store.get(&8), None);
+    expect_same(rt, store.get(&8), None);
     Ok(())
 }
 
@@ -255,8 +256,8 @@ fn store_key_at_last(
 // Stores the number of the place as a key, and looks for it there.
 fn store_key(rt: &impl Abort, store: &mut Keys, place: usize) -> Result<(), CoreError> {
     let key = number_at(place);
-    assert_eq!(rt; store_key_at_last(rt, store, key, place)?, place);
-    assert_eq!(rt; place_of_key(store, key), Ok(place));
+    expect_same(rt, store_key_at_last(rt, store, key, place)?, place);
+    expect_same(rt, place_of_key(store, key), Ok(place));
     Ok(())
 }
 

@@ -1,6 +1,7 @@
 //! Verifiers of one owner are joined and kept once, and double dictionary keys are told by their places.
 ghost use Rattle.ir_model.specs.Identifier.{IsIdentifier};
 
+use crate::same::expect_same;
 use ir_base::{
     CoreError, DictKeyId, DuplicateKey, Identifier, collect_deduped_interface_verifiers,
     verify_dict_keys,
@@ -78,7 +79,7 @@ fn expect_double(rt: &impl Abort) {
         first: 0,
         second: 2,
     };
-    assert_eq!(rt; verify_dict_keys(&keys), Err(double));
+    expect_same(rt, verify_dict_keys(&keys), Err(double));
 }
 
 #[test]
@@ -105,7 +106,7 @@ fn no_entries(rt: HostRuntime) -> Result<(), Fail> {
 // Asserts that the key and one of another name aren't double.
 fn expect_no_double(rt: &impl Abort, one: DictKeyId) {
     let keys = [key("b", 2), one];
-    assert_eq!(rt; verify_dict_keys(&keys), Ok(()));
+    expect_same(rt, verify_dict_keys(&keys), Ok(()));
 }
 
 #[test]
@@ -125,6 +126,10 @@ fn double_keys_print_their_places(rt: HostRuntime) -> Result<(), Fail> {
         second: 2,
     };
     let text = format!(in rt.alloc(); "{double}")?;
-    assert_eq!(rt; text.as_str(), "Duplicate dictionary key at places 0 and 2");
+    expect_same(
+        &rt,
+        text.as_str(),
+        "Duplicate dictionary key at places 0 and 2",
+    );
     Ok(())
 }

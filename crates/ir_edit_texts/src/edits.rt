@@ -1,6 +1,6 @@
 //! Edits as lines.
 
-use crate::error::LabError;
+use crate::error::TextError;
 use crate::fields::{NO_LETTER, list, number, one, take_field, three, two};
 use ir_base::Identifier;
 use ir_edits::Edit;
@@ -11,9 +11,9 @@ use std::alloc::Global;
 ///
 /// # Errors
 /// `Malformed` where it has no form of an edit, and `OutOfMemory`.
-pub fn parse_edit(alloc: Global, line: &str) -> Result<Edit<Toy>, LabError> {
+pub fn parse_edit(alloc: Global, line: &str) -> Result<Edit<Toy>, TextError> {
     let Some((word, rest)) = take_field(line) else {
-        return Err(LabError::Malformed);
+        return Err(TextError::Malformed);
     };
     if word == "new-type" {
         return new_type(alloc, rest);
@@ -26,7 +26,7 @@ pub fn parse_edit(alloc: Global, line: &str) -> Result<Edit<Toy>, LabError> {
     }
     match change(word, rest) {
         Some(edit) => Ok(edit),
-        None => Err(LabError::Malformed),
+        None => Err(TextError::Malformed),
     }
 }
 
@@ -34,7 +34,7 @@ pub fn parse_edit(alloc: Global, line: &str) -> Result<Edit<Toy>, LabError> {
 ///
 /// # Errors
 /// `Malformed` where a line has no form of an edit, and `OutOfMemory`.
-pub fn parse_edits(alloc: Global, text: &str) -> Result<Vec<Edit<Toy>>, LabError> {
+pub fn parse_edits(alloc: Global, text: &str) -> Result<Vec<Edit<Toy>>, TextError> {
     let mut edits = Vec::new(alloc);
     for line in text.split('\n') {
         if !line.is_empty() {
@@ -79,30 +79,30 @@ fn part_edit(word: &str, rest: &str) -> Option<Edit<Toy>> {
 }
 
 // The first field, which must be there.
-fn field(text: &str) -> Result<(&str, &str), LabError> {
-    take_field(text).ok_or(LabError::Malformed)
+fn field(text: &str) -> Result<(&str, &str), TextError> {
+    take_field(text).ok_or(TextError::Malformed)
 }
 
 // The first two fields, which must be there, and the text behind them.
-fn two_fields(text: &str) -> Result<(&str, &str, &str), LabError> {
+fn two_fields(text: &str) -> Result<(&str, &str, &str), TextError> {
     let (first, rest) = field(text)?;
     let (second, rest) = field(rest)?;
     Ok((first, second, rest))
 }
 
 // The identifier of a text.
-fn identifier(alloc: Global, text: &str) -> Result<Identifier, LabError> {
+fn identifier(alloc: Global, text: &str) -> Result<Identifier, TextError> {
     if !Identifier::is_valid(text) {
-        return Err(LabError::Malformed);
+        return Err(TextError::Malformed);
     }
     match Identifier::from_text(alloc, text) {
         Ok(identifier) => Ok(identifier),
-        Err(_) => Err(LabError::OutOfMemory),
+        Err(_) => Err(TextError::OutOfMemory),
     }
 }
 
 // The fields of `new-type KEY`.
-fn new_type(alloc: Global, text: &str) -> Result<Edit<Toy>, LabError> {
+fn new_type(alloc: Global, text: &str) -> Result<Edit<Toy>, TextError> {
     let (key, _rest) = field(text)?;
     if let Ok(width) = key.parse() {
         return Ok(Edit::NewType(ToyType::Int { width }));
@@ -111,7 +111,7 @@ fn new_type(alloc: Global, text: &str) -> Result<Edit<Toy>, LabError> {
 }
 
 // The fields of `new-op KIND TYPES VALUES BLOCKS COUNT`.
-fn new_op(alloc: Global, text: &str) -> Result<Edit<Toy>, LabError> {
+fn new_op(alloc: Global, text: &str) -> Result<Edit<Toy>, TextError> {
     let (kind, types, rest) = two_fields(text)?;
     let (operands, successors, rest) = two_fields(rest)?;
     let numbers = kind_and_regions(kind, rest)?;
@@ -125,7 +125,7 @@ fn op_of_lists(
     types: &str,
     operands: &str,
     successors: &str,
-) -> Result<Edit<Toy>, LabError> {
+) -> Result<Edit<Toy>, TextError> {
     let (kind, regions) = numbers;
     Ok(Edit::NewOp {
         kind,
@@ -137,18 +137,18 @@ fn op_of_lists(
 }
 
 // The numbers of the fields `KIND` and `COUNT`.
-fn kind_and_regions(kind: &str, count: &str) -> Result<(u32, usize), LabError> {
+fn kind_and_regions(kind: &str, count: &str) -> Result<(u32, usize), TextError> {
     let Ok(kind) = kind.parse() else {
-        return Err(LabError::Malformed);
+        return Err(TextError::Malformed);
     };
     match one(NO_LETTER, count) {
         Some(regions) => Ok((kind, regions)),
-        None => Err(LabError::Malformed),
+        None => Err(TextError::Malformed),
     }
 }
 
 // The fields of `new-block LABEL TYPES`.
-fn new_block(alloc: Global, text: &str) -> Result<Edit<Toy>, LabError> {
+fn new_block(alloc: Global, text: &str) -> Result<Edit<Toy>, TextError> {
     let (label, types, _rest) = two_fields(text)?;
     let types = list(alloc, 't', types)?;
     let label = if label == "-" {

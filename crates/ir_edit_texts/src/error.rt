@@ -1,12 +1,12 @@
-//! Why a lab gives no answer.
+//! Why a text gives no edit, and a table of texts no answer.
 
 use ir_base::CoreError;
 use std::alloc::{AllocError, AllocFailed};
 use thiserror::Error;
 
-/// Why a lab gives no answer.
+/// Why a text gives no edit, and a table of texts no answer.
 #[derive(Clone, Copy, Debug, Drop, PartialEq, Eq, Error)]
-pub enum LabError {
+pub enum TextError {
     /// There was no memory.
     #[error("out of memory")]
     OutOfMemory,
@@ -15,20 +15,20 @@ pub enum LabError {
     Malformed,
 }
 
-impl From<AllocError> for LabError {
-    fn from(_error: AllocError) -> LabError {
-        LabError::OutOfMemory
+impl From<AllocError> for TextError {
+    fn from(_error: AllocError) -> TextError {
+        TextError::OutOfMemory
     }
 }
 
-impl From<CoreError> for LabError {
-    fn from(_error: CoreError) -> LabError {
-        LabError::OutOfMemory
+impl From<CoreError> for TextError {
+    fn from(_error: CoreError) -> TextError {
+        TextError::OutOfMemory
     }
 }
 
-impl<T: Drop> From<AllocFailed<T>> for LabError {
-    fn from(_error: AllocFailed<T>) -> LabError {
-        LabError::OutOfMemory
+impl<T: Drop> From<AllocFailed<T>> for TextError {
+    fn from(_error: AllocFailed<T>) -> TextError {
+        TextError::OutOfMemory
     }
 }

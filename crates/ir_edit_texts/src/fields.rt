@@ -1,6 +1,6 @@
 //! The fields of a line, with spaces between them.
 
-use crate::error::LabError;
+use crate::error::TextError;
 use std::alloc::Global;
 
 /// Stands for the letter of a field that is a number alone.
@@ -51,7 +51,7 @@ pub(crate) fn three(first: char, last: char, text: &str) -> Option<(usize, usize
 }
 
 /// The numbers of a list of names with this letter: `-`, or names with single commas between them.
-pub(crate) fn list(alloc: Global, letter: char, text: &str) -> Result<Vec<usize>, LabError> {
+pub(crate) fn list(alloc: Global, letter: char, text: &str) -> Result<Vec<usize>, TextError> {
     let mut numbers = Vec::new(alloc);
     if text == "-" {
         return Ok(numbers);
@@ -59,7 +59,7 @@ pub(crate) fn list(alloc: Global, letter: char, text: &str) -> Result<Vec<usize>
     for name in text.split(',') {
         match number(letter, name) {
             Some(number) => numbers.push(number)?,
-            None => return Err(LabError::Malformed),
+            None => return Err(TextError::Malformed),
         }
     }
     Ok(numbers)

@@ -27,5 +27,5 @@ mod fields;
 pub use answers::{answer_text, letter_of};
 pub use edit_words::{EDIT_WORDS, GROWING, grows, word_of};
 pub use edits::{parse_edit, parse_edits};
-pub use error::LabError;
+pub use error::TextError;
 pub use fields::{number, take_field};

@@ -2,7 +2,7 @@
 
 use crate::texts::first_difference;
 use ir_base::Limits;
-use ir_edit_texts::LabError;
+use ir_edit_texts::TextError;
 use std::alloc::Global;
 use thiserror::Error;
 
@@ -11,7 +11,7 @@ use thiserror::Error;
 pub enum Unmet {
     /// The lab gives no answer.
     #[error(transparent)]
-    Lab(#[from] LabError),
+    Lab(#[from] TextError),
     /// The session doesn't do what a text says: the line, and what is found there.
     #[error("{0}")]
     Differs(String),

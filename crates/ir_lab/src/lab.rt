@@ -7,7 +7,7 @@ use ir_dumps::{
     Place, Tables, block_place, blocks_of, blocks_of_back, dump, op_place, ops_of, ops_of_back,
     parent_of_region,
 };
-use ir_edit_texts::{LabError, answer_text, grows, letter_of, parse_edit, parse_edits};
+use ir_edit_texts::{TextError, answer_text, grows, letter_of, parse_edit, parse_edits};
 use ir_run::{Edit, Session};
 use ir_toy::Toy;
 use std::alloc::{AllocError, Global};
@@ -54,7 +54,7 @@ impl Lab {
     }
 
     /// The answer to the question of a line; none where it is none.
-    pub(crate) fn ask(&self, line: &str) -> Result<Option<String>, LabError> {
+    pub(crate) fn ask(&self, line: &str) -> Result<Option<String>, TextError> {
         question(self.session.ctx(), &self.tables, line)
     }
 
@@ -92,7 +92,7 @@ impl Lab {
     ///
     /// # Errors
     /// `Malformed` where the line is neither, and `OutOfMemory`.
-    pub fn edit(&mut self, line: &str) -> Result<String, LabError> {
+    pub fn edit(&mut self, line: &str) -> Result<String, TextError> {
         if let Some(answer) = self.ask(line)? {
             return Ok(answer);
         }
@@ -100,7 +100,7 @@ impl Lab {
     }
 
     // The answer to the edit of a line, as text, which is carried out.
-    fn edit_alone(&mut self, line: &str) -> Result<String, LabError> {
+    fn edit_alone(&mut self, line: &str) -> Result<String, TextError> {
         let edit = parse_edit(self.alloc(), line)?;
         let letter = letter_of(&edit);
         let answer = self.run_one(edit)?;
@@ -111,7 +111,7 @@ impl Lab {
     ///
     /// # Errors
     /// `Malformed` where a line is no edit, and `OutOfMemory`.
-    pub fn run_text(&mut self, text: &str) -> Result<Vec<Answer>, LabError> {
+    pub fn run_text(&mut self, text: &str) -> Result<Vec<Answer>, TextError> {
         let edits = parse_edits(self.alloc(), text)?;
         Ok(self.run(edits)?)
     }
@@ -120,7 +120,7 @@ impl Lab {
     ///
     /// # Errors
     /// `OutOfMemory`.
-    pub fn dump(&self) -> Result<String, LabError> {
+    pub fn dump(&self) -> Result<String, TextError> {
         Ok(dump(self.session.ctx(), &self.tables)?)
     }
 

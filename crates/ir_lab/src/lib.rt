@@ -25,6 +25,6 @@ mod texts;
 
 pub use expectations::{Unmet, expect, expect_within};
 pub use ir_dumps::Place;
-pub use ir_edit_texts::{EDIT_WORDS, GROWING, LabError};
+pub use ir_edit_texts::{EDIT_WORDS, GROWING, TextError};
 pub use lab::Lab;
 pub use texts::{difference_after, first_difference};

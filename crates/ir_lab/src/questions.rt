@@ -2,7 +2,7 @@
 
 use ir_base::{Identifier, Ptr};
 use ir_dumps::Tables;
-use ir_edit_texts::{LabError, number, take_field};
+use ir_edit_texts::{TextError, number, take_field};
 use ir_names::Named;
 use ir_toy::Toy;
 use ir_view::{BasicBlock, BlockPtr, Context, DanglingPtrDerefError, OperationPtr, ValueQueries};
@@ -13,7 +13,7 @@ pub(crate) fn question(
     ctx: &Context<Toy>,
     tables: &Tables,
     line: &str,
-) -> Result<Option<String>, LabError> {
+) -> Result<Option<String>, TextError> {
     let Some((word, rest)) = take_field(line) else {
         return Ok(None);
     };
@@ -45,7 +45,7 @@ fn write_of_entity(
     tables: &Tables,
     word: &str,
     name: &str,
-) -> Result<bool, LabError> {
+) -> Result<bool, TextError> {
     if word == "place" {
         write_place(text, tables, name)?;
     } else if word == "deref" {
@@ -74,13 +74,13 @@ fn named<T: Copy + Drop>(letter: char, table: &[T], name: &str) -> Option<T> {
 }
 
 // Writes slot and version of an operation or a block.
-fn write_place(text: &mut String, tables: &Tables, name: &str) -> Result<(), LabError> {
+fn write_place(text: &mut String, tables: &Tables, name: &str) -> Result<(), TextError> {
     if let Some(op) = named('o', &tables.ops, name) {
         return Ok(write!(text, "{}", op.index())?);
     }
     match named('b', &tables.blocks, name) {
         Some(block) => Ok(write!(text, "{}", block.index())?),
-        None => Err(LabError::Malformed),
+        None => Err(TextError::Malformed),
     }
 }
 
@@ -90,18 +90,18 @@ fn write_deref(
     ctx: &Context<Toy>,
     tables: &Tables,
     name: &str,
-) -> Result<(), LabError> {
+) -> Result<(), TextError> {
     if let Some(op) = named('o', &tables.ops, name) {
         return write_fault(text, op.try_deref(ctx).err());
     }
     match named('b', &tables.blocks, name) {
         Some(block) => write_fault(text, block.try_deref(ctx).err()),
-        None => Err(LabError::Malformed),
+        None => Err(TextError::Malformed),
     }
 }
 
 // Writes a fault, or that there is none.
-fn write_fault(text: &mut String, fault: Option<DanglingPtrDerefError>) -> Result<(), LabError> {
+fn write_fault(text: &mut String, fault: Option<DanglingPtrDerefError>) -> Result<(), TextError> {
     match fault {
         Some(fault) => Ok(write!(text, "{fault}")?),
         None => Ok(text.push_str("live")?),
@@ -114,9 +114,9 @@ fn write_index(
     ctx: &Context<Toy>,
     tables: &Tables,
     name: &str,
-) -> Result<(), LabError> {
+) -> Result<(), TextError> {
     let Some(value) = named('v', &tables.values, name) else {
-        return Err(LabError::Malformed);
+        return Err(TextError::Malformed);
     };
     match value.try_find_index(ctx) {
         Ok(index) => Ok(write!(text, "{index}")?),
@@ -125,9 +125,9 @@ fn write_index(
 }
 
 // The id of a live block.
-fn block_id(ctx: &Context<Toy>, block: Ptr<BasicBlock<Toy>>) -> Result<Identifier, LabError> {
+fn block_id(ctx: &Context<Toy>, block: Ptr<BasicBlock<Toy>>) -> Result<Identifier, TextError> {
     if !block.is_live(ctx) {
-        return Err(LabError::Malformed);
+        return Err(TextError::Malformed);
     }
     Ok(block.id(ctx)?)
 }
@@ -138,9 +138,9 @@ fn write_id(
     ctx: &Context<Toy>,
     tables: &Tables,
     name: &str,
-) -> Result<(), LabError> {
+) -> Result<(), TextError> {
     let Some(block) = named('b', &tables.blocks, name) else {
-        return Err(LabError::Malformed);
+        return Err(TextError::Malformed);
     };
     Ok(write!(text, "{}", block_id(ctx, block)?)?)
 }

@@ -2,7 +2,7 @@
 
 use crate::lab::Lab;
 use ir_base::{Answer, Limits, Refused};
-use ir_edit_texts::{LabError, answer_text, letter_of, parse_edit, word_of};
+use ir_edit_texts::{TextError, answer_text, letter_of, parse_edit, word_of};
 use ir_run::Edit;
 use ir_toy::Toy;
 use std::alloc::{AllocError, Global};
@@ -22,7 +22,7 @@ pub fn first_difference(
     limits: Limits,
     beginning: &str,
     text: &str,
-) -> Result<Option<String>, LabError> {
+) -> Result<Option<String>, TextError> {
     for part in text.split("\n\n") {
         let difference = part_difference(alloc, limits, beginning, part)?;
         if difference.is_some() {
@@ -38,7 +38,7 @@ fn part_difference(
     limits: Limits,
     beginning: &str,
     part: &str,
-) -> Result<Option<String>, LabError> {
+) -> Result<Option<String>, TextError> {
     let Some(mut lab) = Lab::new(alloc, limits) else {
         return Ok(Some(String::from_str(alloc, "no such limits")?));
     };
@@ -56,7 +56,7 @@ pub fn difference_after(
     limits: Limits,
     beginning: &str,
     text: &str,
-) -> Result<Option<String>, LabError> {
+) -> Result<Option<String>, TextError> {
     let Some(mut lab) = Lab::new(alloc, limits) else {
         return Ok(Some(String::from_str(alloc, "no such limits")?));
     };
@@ -66,10 +66,10 @@ pub fn difference_after(
 }
 
 // The same in this session.
-fn follow_after(lab: &mut Lab, beginning: &str, text: &str) -> Result<Option<String>, LabError> {
+fn follow_after(lab: &mut Lab, beginning: &str, text: &str) -> Result<Option<String>, TextError> {
     for answer in lab.run_text(beginning)?.iter() {
         match answer {
-            Answer::Refused(Refused::Memory) => return Err(LabError::OutOfMemory),
+            Answer::Refused(Refused::Memory) => return Err(TextError::OutOfMemory),
             Answer::Refused(_) => return lab.tell(beginning, "was refused"),
             Answer::Made(_) | Answer::Done => {}
         }
@@ -78,7 +78,7 @@ fn follow_after(lab: &mut Lab, beginning: &str, text: &str) -> Result<Option<Str
 }
 
 // The same for two texts in one session.
-fn follow_both(lab: &mut Lab, beginning: &str, text: &str) -> Result<Option<String>, LabError> {
+fn follow_both(lab: &mut Lab, beginning: &str, text: &str) -> Result<Option<String>, TextError> {
     let difference = lab.follow(beginning)?;
     if difference.is_some() {
         return Ok(difference);
@@ -91,7 +91,7 @@ impl Lab {
     ///
     /// # Errors
     /// `Malformed` where lines of a dump stand before the first edit, and `OutOfMemory`.
-    pub fn follow(&mut self, text: &str) -> Result<Option<String>, LabError> {
+    pub fn follow(&mut self, text: &str) -> Result<Option<String>, TextError> {
         let mut head = String::new(self.alloc());
         let mut below = String::new(self.alloc());
         for line in text.split('\n') {
@@ -109,7 +109,7 @@ impl Lab {
         head: &mut String,
         below: &mut String,
         line: &str,
-    ) -> Result<Option<String>, LabError> {
+    ) -> Result<Option<String>, TextError> {
         if line.starts_with(' ') {
             write!(below, "{line}\n")?;
             return Ok(None);
@@ -122,9 +122,9 @@ impl Lab {
     }
 
     // The same for one line, and what stands below it.
-    fn try_line(&mut self, head: &str, below: &str) -> Result<Option<String>, LabError> {
+    fn try_line(&mut self, head: &str, below: &str) -> Result<Option<String>, TextError> {
         if head.is_empty() && !below.is_empty() {
-            return Err(LabError::Malformed);
+            return Err(TextError::Malformed);
         }
         if head.is_empty() {
             return Ok(None);
@@ -145,7 +145,7 @@ impl Lab {
         line: &str,
         wanted: &str,
         below: &str,
-    ) -> Result<Option<String>, LabError> {
+    ) -> Result<Option<String>, TextError> {
         let before = self.dump()?;
         let difference = self.try_answer(head, line, wanted, &before)?;
         if difference.is_some() || (below.is_empty() && !wanted.starts_with("refused")) {
@@ -161,7 +161,7 @@ impl Lab {
         head: &str,
         wanted: &str,
         before: &str,
-    ) -> Result<Option<String>, LabError> {
+    ) -> Result<Option<String>, TextError> {
         let after = self.dump()?;
         let changed = changes(self.alloc(), before, &after)?;
         self.compare(head, wanted, &changed)
@@ -174,12 +174,12 @@ impl Lab {
         line: &str,
         wanted: &str,
         before: &str,
-    ) -> Result<Option<String>, LabError> {
+    ) -> Result<Option<String>, TextError> {
         match self.ask(line) {
             Ok(Some(answer)) if answer.as_str() == wanted => Ok(None),
             Ok(Some(answer)) => self.tell(head, &answer),
             Ok(None) => self.try_word(head, line, wanted, before),
-            Err(LabError::Malformed) => self.tell(head, NO_LINE),
+            Err(TextError::Malformed) => self.tell(head, NO_LINE),
             Err(error) => Err(error),
         }
     }
@@ -191,13 +191,13 @@ impl Lab {
         line: &str,
         wanted: &str,
         before: &str,
-    ) -> Result<Option<String>, LabError> {
+    ) -> Result<Option<String>, TextError> {
         match parse_edit(self.alloc(), line) {
             Ok(edit) if line.starts_with(word_of(&edit)) => {
                 self.try_alone(head, edit, wanted, before)
             }
             Ok(_) => self.tell(head, "is another edit"),
-            Err(LabError::Malformed) => self.tell(head, NO_LINE),
+            Err(TextError::Malformed) => self.tell(head, NO_LINE),
             Err(error) => Err(error),
         }
     }
@@ -209,7 +209,7 @@ impl Lab {
         edit: Edit<Toy>,
         wanted: &str,
         before: &str,
-    ) -> Result<Option<String>, LabError> {
+    ) -> Result<Option<String>, TextError> {
         let letter = letter_of(&edit);
         let may_want_memory = self.may_want_memory(&edit);
         match self.carry_out_alone(edit)? {
@@ -222,7 +222,7 @@ impl Lab {
     }
 
     // The answer to an edit that is carried out as the only one of a run; none where there was no memory for the run.
-    fn carry_out_alone(&mut self, edit: Edit<Toy>) -> Result<Option<Answer>, LabError> {
+    fn carry_out_alone(&mut self, edit: Edit<Toy>) -> Result<Option<Answer>, TextError> {
         let mut edits = Vec::new(self.alloc());
         edits.push(edit)?;
         let answer = self.carry_out_first(edits).ok();
@@ -237,7 +237,7 @@ impl Lab {
         letter: char,
         answer: Answer,
         wanted: &str,
-    ) -> Result<Option<String>, LabError> {
+    ) -> Result<Option<String>, TextError> {
         let text = answer_text(self.alloc(), letter, answer)?;
         if text.as_str() == wanted {
             return Ok(None);
@@ -246,23 +246,23 @@ impl Lab {
     }
 
     // An edit or its run was refused for want of memory, which ends a text, and must have changed nothing.
-    fn expect_unchanged(&self, head: &str, before: &str) -> Result<Option<String>, LabError> {
+    fn expect_unchanged(&self, head: &str, before: &str) -> Result<Option<String>, TextError> {
         let after = self.dump()?;
         if after.as_str() == before {
-            return Err(LabError::OutOfMemory);
+            return Err(TextError::OutOfMemory);
         }
         self.tell(head, "was refused, and changed something")
     }
 
     // A difference at this line.
-    fn tell(&self, head: &str, found: &str) -> Result<Option<String>, LabError> {
+    fn tell(&self, head: &str, found: &str) -> Result<Option<String>, TextError> {
         let mut text = String::new(self.alloc());
         write!(text, "{head}\n{found}\n")?;
         Ok(Some(text))
     }
 
     // A difference at this line, if what was wanted below it isn't what is found.
-    fn compare(&self, head: &str, wanted: &str, found: &str) -> Result<Option<String>, LabError> {
+    fn compare(&self, head: &str, wanted: &str, found: &str) -> Result<Option<String>, TextError> {
         if wanted == found {
             return Ok(None);
         }

@@ -2,13 +2,13 @@
 
 use crate::edits::{BEGINNING, EDITS};
 use ir_base::Limits;
-use ir_lab::{EDIT_WORDS, LabError, difference_after};
+use ir_lab::{EDIT_WORDS, TextError, difference_after};
 use std::alloc::Global;
 use std::process::Abort;
 use std::test::Fail;
 
 // Makes the edit, and asserts what it is answered and changes.
-fn try_edit(rt: &impl Abort, alloc: Global, edit: &str) -> Result<(), LabError> {
+fn try_edit(rt: &impl Abort, alloc: Global, edit: &str) -> Result<(), TextError> {
     if let Some(difference) = difference_after(alloc, Limits::default(), BEGINNING, edit)? {
         assert!(rt; false, "{difference}");
     }
@@ -24,7 +24,7 @@ fn has_word(edit: &str, word: &str) -> bool {
 }
 
 // Tries the edits with this word. A word without an edit fails.
-fn try_word(rt: &impl Abort, alloc: Global, word: &str) -> Result<(), LabError> {
+fn try_word(rt: &impl Abort, alloc: Global, word: &str) -> Result<(), TextError> {
     let mut tried = false;
     for edit in EDITS.iter() {
         if has_word(edit, word) {
@@ -37,7 +37,7 @@ fn try_word(rt: &impl Abort, alloc: Global, word: &str) -> Result<(), LabError> 
 }
 
 // Tries the edits whose words have these places.
-fn try_words(rt: &impl Abort, alloc: Global, from: usize, to: usize) -> Result<(), LabError> {
+fn try_words(rt: &impl Abort, alloc: Global, from: usize, to: usize) -> Result<(), TextError> {
     for (place, word) in EDIT_WORDS.iter().enumerate() {
         if place >= from && place < to {
             try_word(rt, alloc, word)?;

@@ -264,11 +264,13 @@ fn other_iterators(ctx: &Context<Toy>, op: Ptr<Operation<Toy>>, counts: [usize; 
     let Ok(record) = op.try_deref(ctx) else {
         return false;
     };
-    let [results, operands, successors] = counts;
-    record.result_types().count() == results
-        && record.operands_as_uses().count() == operands
-        && record.successors_as_uses().count() == successors
-        && has_operand_types(ctx, op, operands)
+    let found = [
+        record.result_types().count(),
+        record.operands_as_uses().count(),
+        record.successors_as_uses().count(),
+    ];
+    let [_, operands, _] = counts;
+    found == counts && has_operand_types(ctx, op, operands)
 }
 
 // The iterator over types of operands goes over so many: apart from the others, since its condition makes it dear to check beside them.

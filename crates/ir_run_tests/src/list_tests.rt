@@ -2,7 +2,7 @@
 
 use crate::lists::{COUNT, expect_lists};
 use ir_base::{Answer, Limits, Refused};
-use ir_lab::{Lab, LabError};
+use ir_lab::{Lab, TextError};
 use ir_plain::Plain;
 use ir_run::Edit;
 use ir_toy::Toy;
@@ -114,18 +114,18 @@ fn edit(
     lab: &mut Lab,
     plain: &mut Plain,
     next: Edit<Toy>,
-) -> Result<bool, LabError> {
+) -> Result<bool, TextError> {
     let wanted = plain.step(&next)?;
     let answer = lab.run_one(next)?;
     if answer == Answer::Refused(Refused::Memory) {
-        return Err(LabError::OutOfMemory);
+        return Err(TextError::OutOfMemory);
     }
     assert!(rt; answer == wanted);
     Ok(!matches!(answer, Answer::Refused(_)))
 }
 
 // Asserts that all that the session shows is what the model has.
-fn expect_all(rt: &impl Abort, lab: &Lab, plain: &Plain) -> Result<(), LabError> {
+fn expect_all(rt: &impl Abort, lab: &Lab, plain: &Plain) -> Result<(), TextError> {
     let (shown, wanted) = (lab.dump()?, plain.dump()?);
     assert!(rt; shown == wanted);
     Ok(())
@@ -137,7 +137,7 @@ fn edit_at_random(
     lab: &mut Lab,
     plain: &mut Plain,
     words: &mut Pcg32,
-) -> Result<bool, LabError> {
+) -> Result<bool, TextError> {
     let named = names(words);
     let choice = below(words, 16);
     let next = if choice < 8 {
@@ -151,7 +151,7 @@ fn edit_at_random(
 }
 
 // Makes the operations, regions and blocks in the session and in the model.
-fn begin(rt: &impl Abort, lab: &mut Lab, plain: &mut Plain) -> Result<(), LabError> {
+fn begin(rt: &impl Abort, lab: &mut Lab, plain: &mut Plain) -> Result<(), TextError> {
     for next in beginning(lab.alloc())? {
         assert!(rt; edit(rt, lab, plain, next)?);
     }
@@ -164,7 +164,7 @@ fn count_accepted(
     lab: &mut Lab,
     plain: &mut Plain,
     seed: u64,
-) -> Result<usize, LabError> {
+) -> Result<usize, TextError> {
     let mut words = Pcg32::new(seed, 54);
     let mut accepted = 0usize;
     for number in 0..EDITS {
@@ -184,7 +184,7 @@ fn edit_often(
     lab: &mut Lab,
     plain: &mut Plain,
     seed: u64,
-) -> Result<(), LabError> {
+) -> Result<(), TextError> {
     begin(rt, lab, plain)?;
     let accepted = count_accepted(rt, lab, plain, seed)?;
     assert!(rt; EDITS / 5 < accepted, "{accepted} accepted");
@@ -196,7 +196,7 @@ fn edit_often(
 }
 
 // The same in a new session and model.
-fn run_edits(rt: &impl Abort, alloc: Global, seed: u64) -> Result<(), LabError> {
+fn run_edits(rt: &impl Abort, alloc: Global, seed: u64) -> Result<(), TextError> {
     let Some(mut lab) = Lab::new(alloc, Limits::default()) else {
         return Ok(assert!(rt; false));
     };

@@ -2,7 +2,7 @@
 
 use crate::seeds::further;
 use ir_base::{Answer, Limits, Refused};
-use ir_lab::{Lab, LabError};
+use ir_lab::{Lab, TextError};
 use ir_plain::{CHOICES, Plain, RandomEdits};
 use ir_run::Edit;
 use ir_toy::Toy;
@@ -65,7 +65,7 @@ fn expect_all(
     plain: &Plain,
     seed: u64,
     edit: usize,
-) -> Result<(), LabError> {
+) -> Result<(), TextError> {
     let (shown, expected) = (lab.dump()?, plain.dump()?);
     assert_eq!(rt; shown, expected, "seed {seed}, edit {edit}");
     Ok(())
@@ -79,11 +79,11 @@ fn run_edit(
     next: Edit<Toy>,
     seed: u64,
     edit: usize,
-) -> Result<Answer, LabError> {
+) -> Result<Answer, TextError> {
     let wanted = plain.step(&next)?;
     let answer = lab.run_one(next)?;
     if answer == Answer::Refused(Refused::Memory) {
-        return Err(LabError::OutOfMemory);
+        return Err(TextError::OutOfMemory);
     }
     assert_eq!(rt; answer, wanted, "seed {seed}, edit {edit}");
     expect_all(rt, lab, plain, seed, edit)?;
@@ -97,7 +97,7 @@ fn run_edits(
     plain: &mut Plain,
     seed: u64,
     tally: &mut Tally,
-) -> Result<(), LabError> {
+) -> Result<(), TextError> {
     let mut random = RandomEdits::new(seed);
     for edit in 0..EDITS {
         let choice = random.next_choice(plain);
@@ -115,7 +115,7 @@ fn run_seed(
     limits: Limits,
     seed: u64,
     tally: &mut Tally,
-) -> Result<(), LabError> {
+) -> Result<(), TextError> {
     let Some(mut lab) = Lab::new(alloc, limits) else {
         return Ok(assert!(rt; false));
     };
@@ -132,7 +132,7 @@ fn run_seeds(
     limits: Limits,
     first: u64,
     count: u64,
-) -> Result<Tally, LabError> {
+) -> Result<Tally, TextError> {
     let mut tally = Tally::new(alloc)?;
     for seed in 0..count {
         run_seed(rt, alloc, limits, first.wrapping_add(seed), &mut tally)?;
@@ -204,7 +204,7 @@ fn expect_each_choice(rt: &impl Abort, tally: &Tally) {
 }
 
 // Forty sessions with ample room. Each choice is accepted and refused in some.
-fn run_forty(rt: &impl Abort, alloc: Global, first: u64) -> Result<(), LabError> {
+fn run_forty(rt: &impl Abort, alloc: Global, first: u64) -> Result<(), TextError> {
     let tally = run_seeds(rt, alloc, Limits::default(), first, 40)?;
     expect_sums(rt, &tally, 1_300, 1_300);
     expect_each_choice(rt, &tally);

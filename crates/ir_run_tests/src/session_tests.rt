@@ -1,7 +1,7 @@
 //! Sessions under small limits, and what their tables give.
 
 use ir_base::{Answer, Limits, Refused};
-use ir_lab::{Lab, LabError, expect_within};
+use ir_lab::{Lab, TextError, expect_within};
 use ir_run::choices_unseen;
 use ir_toy::Toy;
 use std::alloc::Global;
@@ -9,15 +9,15 @@ use std::process::Abort;
 use std::test::Fail;
 
 // The answers to the edits of a text, done by one run in a new session with these limits. Want of memory ends the test.
-fn answers(alloc: Global, limits: Limits, text: &str) -> Result<Vec<Answer>, LabError> {
+fn answers(alloc: Global, limits: Limits, text: &str) -> Result<Vec<Answer>, TextError> {
     let Some(mut lab) = Lab::new(alloc, limits) else {
-        return Err(LabError::Malformed);
+        return Err(TextError::Malformed);
     };
     let outcome = lab.run_text(text);
     lab.finish();
     let answers = outcome?;
     if answers.contains(&Answer::Refused(Refused::Memory)) {
-        return Err(LabError::OutOfMemory);
+        return Err(TextError::OutOfMemory);
     }
     Ok(answers)
 }
@@ -29,7 +29,7 @@ fn expect(
     limits: Limits,
     text: &str,
     wanted: [Answer; 3],
-) -> Result<(), LabError> {
+) -> Result<(), TextError> {
     let answers = answers(alloc, limits, text)?;
     assert!(rt; answers.as_slice() == wanted.as_slice());
     Ok(())

@@ -2,7 +2,7 @@
 
 use crate::seeds::further;
 use ir_base::{Answer, Limits, Refused};
-use ir_lab::{Lab, LabError};
+use ir_lab::{Lab, TextError};
 use ir_random_forests::random_list;
 use std::alloc::Global;
 use std::process::Abort;
@@ -61,11 +61,11 @@ op-back o7 b3
 op-back o8 b3";
 
 // Begins a session, in which entities are erased in this order. No edit is refused.
-fn start(rt: &impl Abort, lab: &mut Lab, erasures: &str) -> Result<(), LabError> {
+fn start(rt: &impl Abort, lab: &mut Lab, erasures: &str) -> Result<(), TextError> {
     for text in [BEGINNING, erasures, ENTITIES] {
         let answers = lab.run_text(text)?;
         if answers.contains(&Answer::Refused(Refused::Memory)) {
-            return Err(LabError::OutOfMemory);
+            return Err(TextError::OutOfMemory);
         }
         assert!(rt; accepted(&answers) == answers.len());
     }
@@ -73,7 +73,7 @@ fn start(rt: &impl Abort, lab: &mut Lab, erasures: &str) -> Result<(), LabError>
 }
 
 // Begins both sessions, in which entities are erased in other orders, so that others take their slots.
-fn start_both(rt: &impl Abort, first: &mut Lab, second: &mut Lab) -> Result<(), LabError> {
+fn start_both(rt: &impl Abort, first: &mut Lab, second: &mut Lab) -> Result<(), TextError> {
     start(rt, first, FROM_THE_FIRST)?;
     start(rt, second, FROM_THE_LAST)?;
     let places = (first.edit("place o3")?, second.edit("place o3")?);
@@ -82,11 +82,11 @@ fn start_both(rt: &impl Abort, first: &mut Lab, second: &mut Lab) -> Result<(), 
 }
 
 // The answers to the edits of this seed. Want of memory ends the test.
-fn answers_to(lab: &mut Lab, seed: u64) -> Result<Vec<Answer>, LabError> {
+fn answers_to(lab: &mut Lab, seed: u64) -> Result<Vec<Answer>, TextError> {
     let edits = random_list(lab.alloc(), seed, EDITS)?;
     let answers = lab.run(edits)?;
     if answers.contains(&Answer::Refused(Refused::Memory)) {
-        return Err(LabError::OutOfMemory);
+        return Err(TextError::OutOfMemory);
     }
     Ok(answers)
 }
@@ -108,7 +108,7 @@ fn run_list(
     first: &mut Lab,
     second: &mut Lab,
     seed: u64,
-) -> Result<usize, LabError> {
+) -> Result<usize, TextError> {
     let answers = answers_to(first, seed)?;
     let again = answers_to(second, seed)?;
     assert_eq!(rt; answers.as_slice(), again.as_slice(), "seed {seed}");
@@ -124,7 +124,7 @@ fn run_lists(
     first: &mut Lab,
     second: &mut Lab,
     seed: u64,
-) -> Result<usize, LabError> {
+) -> Result<usize, TextError> {
     start_both(rt, first, second)?;
     let mut done = 0usize;
     for list in 0..LISTS {
@@ -135,7 +135,7 @@ fn run_lists(
 }
 
 // The same in two new sessions.
-fn run_twice(rt: &impl Abort, alloc: Global, seed: u64) -> Result<usize, LabError> {
+fn run_twice(rt: &impl Abort, alloc: Global, seed: u64) -> Result<usize, TextError> {
     let few = Limits {
         values: 500,
         uses: 500,
@@ -156,7 +156,7 @@ fn run_twice(rt: &impl Abort, alloc: Global, seed: u64) -> Result<usize, LabErro
 }
 
 // A thousand lists from this seed on, of whose edits more than a third are accepted, and more than a tenth refused.
-fn run_thousand(rt: &impl Abort, alloc: Global, from: u64) -> Result<(), LabError> {
+fn run_thousand(rt: &impl Abort, alloc: Global, from: u64) -> Result<(), TextError> {
     let mut done = 0usize;
     for number in 0..250 {
         let seed = from.wrapping_add(number * LISTS);

@@ -1,7 +1,7 @@
 //! That a session which doesn't do what a text says is told so.
 
 use ir_base::Limits;
-use ir_lab::{LabError, Unmet, expect, expect_within, first_difference};
+use ir_lab::{TextError, Unmet, expect, expect_within, first_difference};
 use std::alloc::Global;
 use std::process::Abort;
 use std::test::Fail;
@@ -12,7 +12,7 @@ fn expect_difference(
     alloc: Global,
     text: &str,
     wanted: &str,
-) -> Result<(), LabError> {
+) -> Result<(), TextError> {
     match first_difference(alloc, Limits::default(), "new-block - - => made b0", text)? {
         Some(difference) => assert!(rt; difference.as_str() == wanted),
         None => assert!(rt; false, "{text}"),
@@ -72,10 +72,10 @@ fn malformed_lines_are_told(rt: HostRuntime) -> Result<(), Fail> {
 }
 
 // Asserts that the text is refused.
-fn expect_malformed(rt: &impl Abort, alloc: Global, text: &str) -> Result<(), LabError> {
+fn expect_malformed(rt: &impl Abort, alloc: Global, text: &str) -> Result<(), TextError> {
     match first_difference(alloc, Limits::default(), "", text) {
-        Err(LabError::Malformed) => Ok(()),
-        Err(LabError::OutOfMemory) => Err(LabError::OutOfMemory),
+        Err(TextError::Malformed) => Ok(()),
+        Err(TextError::OutOfMemory) => Err(TextError::OutOfMemory),
         Ok(_) => Ok(assert!(rt; false, "{text}")),
     }
 }
@@ -102,7 +102,11 @@ fn lines_before_the_first_edit_are_refused(rt: HostRuntime) -> Result<(), Fail> 
 }
 
 // Asserts that an expectation isn't met, and what is found.
-fn expect_unmet(rt: &impl Abort, outcome: Result<(), Unmet>, wanted: &str) -> Result<(), LabError> {
+fn expect_unmet(
+    rt: &impl Abort,
+    outcome: Result<(), Unmet>,
+    wanted: &str,
+) -> Result<(), TextError> {
     match outcome {
         Err(Unmet::Differs(difference)) => assert!(rt; difference.ends_with(wanted)),
         Err(Unmet::Lab(fault)) => return Err(fault),

@@ -1,7 +1,7 @@
 //! Slots that are used again or spent, numbers that are spent, and what is left of what is gone.
 
 use ir_base::Limits;
-use ir_lab::{Lab, LabError, expect_within};
+use ir_lab::{Lab, TextError, expect_within};
 use std::process::Abort;
 use std::test::Fail;
 
@@ -116,10 +116,10 @@ fn room_for_operations(rt: HostRuntime) -> Result<(), Fail> {
 }
 
 // The answer to a line. Want of memory ends the test.
-fn answer(lab: &mut Lab, line: &str) -> Result<String, LabError> {
+fn answer(lab: &mut Lab, line: &str) -> Result<String, TextError> {
     let answer = lab.edit(line)?;
     if answer.as_str() == "refused memory" {
-        return Err(LabError::OutOfMemory);
+        return Err(TextError::OutOfMemory);
     }
     Ok(answer)
 }
@@ -130,7 +130,7 @@ fn make_and_erase(
     lab: &mut Lab,
     number: usize,
     version: usize,
-) -> Result<(), LabError> {
+) -> Result<(), TextError> {
     let alloc = lab.alloc();
     let made = answer(lab, "new-block - -")?;
     assert!(rt; made == format!(in alloc; "made b{number}")?);
@@ -142,7 +142,7 @@ fn make_and_erase(
 }
 
 // Makes and erases a block 1,000 times. All of them are gone then.
-fn use_again(rt: &impl Abort, lab: &mut Lab) -> Result<(), LabError> {
+fn use_again(rt: &impl Abort, lab: &mut Lab) -> Result<(), TextError> {
     let alloc = lab.alloc();
     for (number, version) in (0..1000).zip((1..2000).step_by(2)) {
         make_and_erase(rt, lab, number, version)?;

@@ -12,17 +12,17 @@ use ir_checked::{
     Region, RegionPlace, RegionPtr, block_head, block_tail, end, op_at_back, region_head,
     region_tail, unlink_block, unlink_op,
 };
-use ir_lab::{LabError, first_difference};
+use ir_lab::{TextError, first_difference};
 use ir_toy::Toy;
 use std::alloc::Global;
 use std::process::Abort;
 use std::test::Fail;
 
 // Asserts that a session does what the text says.
-fn expect_session(rt: &impl Abort, alloc: Global, text: &str) -> Result<(), LabError> {
+fn expect_session(rt: &impl Abort, alloc: Global, text: &str) -> Result<(), TextError> {
     match first_difference(alloc, Limits::default(), "", text)? {
         Some(difference) if difference.ends_with("\nrefused memory\n") => {
-            return Err(LabError::OutOfMemory);
+            return Err(TextError::OutOfMemory);
         }
         Some(difference) => assert!(rt; false, "{difference}"),
         None => {}

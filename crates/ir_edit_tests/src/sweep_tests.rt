@@ -1,6 +1,6 @@
 //! The sweep of a block: what goes, what stays, and how many the answer says.
 
-use crate::calls::{
+use crate::sweep_calls::{
     add_in_front, block_inside, expect_same, expect_sweep, push_twice, put, put_result,
     type_and_block,
 };

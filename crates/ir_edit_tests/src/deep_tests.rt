@@ -1,6 +1,6 @@
 //! A nest 100,000 deep is made from above and from below, asked, and erased.
 
-use crate::calls::expect_same;
+use crate::sweep_calls::expect_same;
 use ir_base::{Dialects, Ptr};
 use ir_checked::{
     CheckedErr, Context, Entity, Operation, block_at_back, block_head, can_erase, drop_op_uses,
