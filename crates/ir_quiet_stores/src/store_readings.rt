@@ -22,23 +22,33 @@ struct Texts {
     dialect_text: String,
 }
 
-/// What the calls are made on.
+/// What names something.
 #[derive(Drop)]
-pub struct Stores {
-    alloc: Global,
-    texts: Texts,
+struct Named {
     // The text `abc` as an identifier.
     identifier: Identifier,
     // The id `toy.add`.
     id: OpId,
     // The keys a, b and a.
     keys: [DictKeyId; 3],
-    // An arena with the number 7.
+}
+
+/// Where the number 7 stands.
+#[derive(Drop)]
+struct Sevens {
     arena: Arena<u64>,
-    // Where it is.
+    // Its handle there.
     first: Ptr<u64>,
-    // A store with the number 7.
     store: UniqueStore<u64>,
+}
+
+/// What the calls are made on.
+#[derive(Drop)]
+pub struct Stores {
+    alloc: Global,
+    texts: Texts,
+    names: Named,
+    sevens: Sevens,
 }
 
 fn text(alloc: Global) -> Result<String, CoreError> {
@@ -93,24 +103,38 @@ fn store_of_seven(alloc: Global) -> Result<UniqueStore<u64>, CoreError> {
     Ok(store)
 }
 
+// The identifier, the id and the keys.
+fn make_named(alloc: Global) -> Result<Named, CoreError> {
+    Ok(Named {
+        identifier: owned(alloc, "abc")?,
+        id: add_id(alloc)?,
+        keys: keys_with_double(alloc)?,
+    })
+}
+
+// An arena and a store with the number 7.
+fn make_sevens(alloc: Global) -> Result<Sevens, CoreError> {
+    let mut arena = Arena::new(alloc, 9, 9);
+    let first = arena.insert_with(move |_: Ptr<u64>| 7)?;
+    let store = store_of_seven(alloc)?;
+    Ok(Sevens {
+        arena,
+        first,
+        store,
+    })
+}
+
 impl Stores {
     /// What the calls are made on.
     ///
     /// # Errors
     /// Where a request for memory was refused.
     pub fn new(alloc: Global) -> Result<Stores, CoreError> {
-        let mut arena = Arena::new(alloc, 9, 9);
-        let first = arena.insert_with(move |_: Ptr<u64>| 7)?;
-        let store = store_of_seven(alloc)?;
         Ok(Stores {
             alloc,
             texts: make_texts(alloc)?,
-            identifier: owned(alloc, "abc")?,
-            id: add_id(alloc)?,
-            keys: keys_with_double(alloc)?,
-            arena,
-            first,
-            store,
+            names: make_named(alloc)?,
+            sevens: make_sevens(alloc)?,
         })
     }
 }
@@ -118,8 +142,12 @@ impl Stores {
 impl Stores {
     /// Writes an identifier, a name, an id and an index. Whether that was done.
     pub fn write<R: Print>(&self, rt: &R) -> bool {
-        let index = self.first.index();
-        println!(rt; "{} {} {} {index}", self.identifier, self.id.name, self.id).is_ok()
+        let index = self.sevens.first.index();
+        println!(rt;
+            "{} {} {} {index}",
+            self.names.identifier, self.names.id.name, self.names.id
+        )
+        .is_ok()
     }
 }
 
@@ -167,18 +195,7 @@ impl StoreReading {
     pub fn listed(self) -> StoreReading
         ensures { result ≡ self }
     {
-        match self {
-            StoreReading::Identifiers => StoreReading::ALL[0],
-            StoreReading::OfTexts => StoreReading::ALL[1],
-            StoreReading::Compared => StoreReading::ALL[2],
-            StoreReading::Names => StoreReading::ALL[3],
-            StoreReading::NamesCompared => StoreReading::ALL[4],
-            StoreReading::Arena => StoreReading::ALL[5],
-            StoreReading::ArenaTaken => StoreReading::ALL[6],
-            StoreReading::Store => StoreReading::ALL[7],
-            StoreReading::Keys => StoreReading::ALL[8],
-            StoreReading::New => StoreReading::ALL[9],
-        }
+        StoreReading::ALL[self as usize]
     }
 
     /// The names that the list of such calls gives to what it makes.
@@ -227,13 +244,13 @@ impl StoreReading {
         match self {
             StoreReading::Identifiers => identifiers(),
             StoreReading::OfTexts => of_texts(fixture),
-            StoreReading::Compared => compared(&fixture.identifier),
-            StoreReading::Names => names(&fixture.identifier),
-            StoreReading::NamesCompared => names_compared(&fixture.id),
+            StoreReading::Compared => compared(&fixture.names.identifier),
+            StoreReading::Names => names(&fixture.names.identifier),
+            StoreReading::NamesCompared => names_compared(&fixture.names.id),
             StoreReading::Arena => arena(fixture),
             StoreReading::ArenaTaken => arena_taken(fixture),
-            StoreReading::Store => store(&fixture.store),
-            StoreReading::Keys => keys(&fixture.keys),
+            StoreReading::Store => store(&fixture.sevens.store),
+            StoreReading::Keys => keys(&fixture.names.keys),
             StoreReading::New => new(fixture.alloc),
         }
     }
@@ -299,17 +316,17 @@ fn names_compared(id: &OpId) -> bool {
 }
 
 fn arena(stores: &Stores) -> bool {
-    let arena = &stores.arena;
-    arena.is_live(stores.first)
-        && arena.get(stores.first) == Some(&7)
+    let arena = &stores.sevens.arena;
+    arena.is_live(stores.sevens.first)
+        && arena.get(stores.sevens.first) == Some(&7)
         && arena.len() == 1
         && !arena.is_empty()
         && arena.room() == 8
 }
 
 fn arena_taken(stores: &mut Stores) -> bool {
-    let first = stores.first;
-    stores.arena.get_mut(first).is_some() && stores.arena.remove(first) == Some(7)
+    let first = stores.sevens.first;
+    stores.sevens.arena.get_mut(first).is_some() && stores.sevens.arena.remove(first) == Some(7)
 }
 
 fn store(store: &UniqueStore<u64>) -> bool {

@@ -1,4 +1,4 @@
-//! Tests of sessions over the dialect Toy: random lists of edits beside a plain model, and runs under small limits.
+//! Tests of sessions over the dialect Toy: random lists of edits beside a plain model, and runs under small limits; and of scripts: what the program prints for them, and its status.
 #![tactic(auto)]
 
 #[cfg(test)]
@@ -7,6 +7,16 @@ mod list_tests;
 mod lists;
 #[cfg(test)]
 mod model_tests;
+#[cfg(test)]
+mod script_change_tests;
+#[cfg(test)]
+mod script_memory_tests;
+#[cfg(test)]
+mod script_outcome;
+#[cfg(test)]
+mod script_tests;
+#[cfg(test)]
+mod script_verify_tests;
 #[cfg(test)]
 mod seeds;
 #[cfg(test)]

@@ -7,7 +7,8 @@ use crate::finding::{
 use crate::judge::Judge;
 use ir_checked::end;
 use ir_small_dialect::{
-    LabErr, ListedType, MarkedForest, SizedInterface, Small, argument_of, make_marked, result_of,
+    LabErr, ListedType, MarkedForest, MarkedTypes, SizedInterface, Small, argument_of, make_marked,
+    result_of,
 };
 use ir_verify::{Context, VerifyErr};
 use std::alloc::Global;
@@ -58,7 +59,6 @@ fn judged_found(
     root: JudgedRoot,
     judge: &Judge,
 ) -> Option<Result<(), VerifyErr>> {
-    let types = &forest.types;
     match root {
         JudgedRoot::Module => op_found(ctx, forest.module, judge),
         JudgedRoot::ModuleByCall => op_found_by_call(ctx, forest.module, judge),
@@ -67,9 +67,33 @@ fn judged_found(
         JudgedRoot::Block => block_found(ctx, forest.block, judge),
         JudgedRoot::Inner => op_found(ctx, forest.inner, judge),
         JudgedRoot::Alone => op_found(ctx, forest.alone, judge),
+        _ => judged_value(ctx, forest, root, judge),
+    }
+}
+
+// What is found at the root, where it is a value or a type.
+fn judged_value(
+    ctx: &Context<Small>,
+    forest: &MarkedForest,
+    root: JudgedRoot,
+    judge: &Judge,
+) -> Option<Result<(), VerifyErr>> {
+    match root {
         JudgedRoot::ListedResult => value_found(ctx, result_of(ctx, forest.inner, 0)?, judge),
         JudgedRoot::SizedResult => value_found(ctx, result_of(ctx, forest.inner, 1)?, judge),
         JudgedRoot::Argument => value_found(ctx, argument_of(ctx, forest.block)?, judge),
+        _ => judged_type(ctx, &forest.types, root, judge),
+    }
+}
+
+// What is found at the root, where it is a type, and else none.
+fn judged_type(
+    ctx: &Context<Small>,
+    types: &MarkedTypes,
+    root: JudgedRoot,
+    judge: &Judge,
+) -> Option<Result<(), VerifyErr>> {
+    match root {
         JudgedRoot::Listed => type_found(ctx, types.listed, judge),
         JudgedRoot::Sized => type_found(ctx, types.sized, judge),
         JudgedRoot::Bare => type_found(ctx, types.bare, judge),
@@ -81,6 +105,7 @@ fn judged_found(
         JudgedRoot::SizedInterface => {
             interface_found::<Small, SizedInterface, Judge>(ctx, types.sized, judge)
         }
+        _ => None,
     }
 }
 

@@ -37,13 +37,26 @@ pub(crate) fn found_at<D: Dialects, V: Verifiers<D>>(
 ) -> Option<Result<(), VerifyErr>> {
     let ctx = session.ctx();
     match root {
-        Root::Op(number) => op_found(ctx, session.op(number)?, verifiers),
-        Root::OpByCall(number) => op_found_by_call(ctx, session.op(number)?, verifiers),
-        Root::OpWithKind(number) => op_found_with_kind(ctx, session.op(number)?, verifiers),
         Root::Block(number) => block_found(ctx, session.block(number)?, verifiers),
         Root::Region(number) => region_found(ctx, session.region(number)?, verifiers),
         Root::Value(number) => value_found(ctx, session.value(number)?, verifiers),
         Root::Type(number) => type_found(ctx, session.ty(number)?, verifiers),
         Root::TypeByCall(number) => type_found_by_call(ctx, session.ty(number)?, verifiers),
+        _ => found_at_op(session, root, verifiers),
+    }
+}
+
+// The same where the root is an operation, and else none.
+fn found_at_op<D: Dialects, V: Verifiers<D>>(
+    session: &Session<D>,
+    root: Root,
+    verifiers: &V,
+) -> Option<Result<(), VerifyErr>> {
+    let ctx = session.ctx();
+    match root {
+        Root::Op(number) => op_found(ctx, session.op(number)?, verifiers),
+        Root::OpByCall(number) => op_found_by_call(ctx, session.op(number)?, verifiers),
+        Root::OpWithKind(number) => op_found_with_kind(ctx, session.op(number)?, verifiers),
+        _ => None,
     }
 }

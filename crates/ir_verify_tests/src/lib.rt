@@ -1,6 +1,8 @@
-//! Tests of verification: over the dialect Toy with its checks, over random forests of it beside a plain search for faults, and over a small dialect whose checks each answer a code of their own.
+//! Tests of what goes over all that is inside an operation. Verification: over the dialect Toy with its checks, over random forests of it beside a plain search for faults, and over a small dialect whose checks each answer a code of their own. The sweep of a block. Deep nests, which are made, asked and erased without recursion.
 #![tactic(auto)]
 
+#[cfg(test)]
+mod deep_nest_tests;
 #[cfg(test)]
 mod deep_tests;
 #[cfg(test)]
@@ -11,5 +13,9 @@ mod judge_tests;
 mod random_tests;
 #[cfg(test)]
 mod row_tests;
+#[cfg(test)]
+mod sweep_calls;
+#[cfg(test)]
+mod sweep_tests;
 #[cfg(test)]
 mod toy_tests;

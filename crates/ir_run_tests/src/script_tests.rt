@@ -1,6 +1,6 @@
 //! Scripts over memory, with what the program prints for them and its status.
 
-use crate::outcome::{expect, expect_malformed, is_refused_memory};
+use crate::script_outcome::{expect, expect_malformed, is_refused_memory};
 use ir_script::{
     Answer, Edit, Limits, Refused, Session, Toy, ToyType, run_script, run_script_with_limits,
 };

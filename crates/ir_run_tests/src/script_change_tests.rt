@@ -1,6 +1,6 @@
 //! Scripts that change what was made: operands, successors, the uses of a value, and what is erased.
 
-use crate::outcome::expect;
+use crate::script_outcome::expect;
 use std::test::Fail;
 
 #[test]

@@ -51,11 +51,7 @@ impl SessionReading {
     pub(crate) fn listed(self) -> SessionReading
         ensures { result ≡ self }
     {
-        match self {
-            SessionReading::Tables => SessionReading::ALL[0],
-            SessionReading::Context => SessionReading::ALL[1],
-            SessionReading::New => SessionReading::ALL[2],
-        }
+        SessionReading::ALL[self as usize]
     }
 
     /// The names that the list of such calls gives to what it makes.

@@ -1,6 +1,6 @@
 //! Scripts that verify operations.
 
-use crate::outcome::{expect, expect_malformed};
+use crate::script_outcome::{expect, expect_malformed};
 use std::test::Fail;
 
 #[test]

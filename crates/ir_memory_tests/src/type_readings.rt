@@ -42,14 +42,7 @@ impl TypeReading {
     pub(crate) fn listed(self) -> TypeReading
         ensures { result ≡ self }
     {
-        match self {
-            TypeReading::Key => TypeReading::ALL[0],
-            TypeReading::Typed => TypeReading::ALL[1],
-            TypeReading::Interface => TypeReading::ALL[2],
-            TypeReading::Tables => TypeReading::ALL[3],
-            TypeReading::Boxed => TypeReading::ALL[4],
-            TypeReading::Verified => TypeReading::ALL[5],
-        }
+        TypeReading::ALL[self as usize]
     }
 
     /// The names that the list of such calls gives to what it makes.

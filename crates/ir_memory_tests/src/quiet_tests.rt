@@ -1,11 +1,11 @@
 //! Each call that the surface names is tried, and each call that is tried is named. The names end so that `tools/refuse-memory` knows them.
 
-use crate::session_readings::SessionReading;
-use crate::surface::{
+use crate::quiet_surface::{
     ATTRIBUTES, BLOCKS, CONTEXT, IDENTIFIERS, LISTS, OPERATIONS, RUN, STORES, VALUES, VERIFICATION,
     WRAPPERS, is_named,
 };
-use crate::trials::try_named;
+use crate::quiet_trials::try_named;
+use crate::session_readings::SessionReading;
 use crate::type_readings::TypeReading;
 use ir_quiet_calls::{
     BlockListCall, BlockReading, EraseCall, OpListCall, OpReading, QuietCall, RegionReading,

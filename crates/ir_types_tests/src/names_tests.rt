@@ -1,4 +1,7 @@
-// Given names, ids and unique names, of values and of blocks, by their handles and by their records.
+//! Given names, ids and unique names, of values and of blocks, by their handles and by their records.
+
+ghost use Rattle.ir_view.specs.State.{forest_of};
+
 use ir_base::{CoreError, Dialects, Identifier, Ptr};
 use ir_checked::end;
 use ir_names::Named;
@@ -19,6 +22,28 @@ fn expect_given(rt: &impl Abort, given: Option<Identifier>, expected: Option<&st
     }
 }
 
+// Asserts that it is this text.
+fn expect_text(rt: &impl Abort, name: Identifier, expected: &str) {
+    assert!(rt; name.as_str() == expected);
+}
+
+// Asserts that what has a name was given this one, or none, and has this id and this unique name.
+fn expect_named<D: Dialects, T: Named<D>>(
+    rt: &impl Abort,
+    ctx: &Context<D>,
+    item: &T,
+    given: Option<&str>,
+    id: &str,
+    unique: &str,
+) -> Result<(), CoreError>
+    requires { T.IsThere (forest_of ctx.now) item.now }
+{
+    expect_given(rt, item.given_name(ctx)?, given);
+    expect_text(rt, item.id(ctx)?, id);
+    expect_text(rt, item.unique_name(ctx)?, unique);
+    Ok(())
+}
+
 /// Asserts that the live value has this name, this id and this unique name.
 pub(crate) fn expect_value<D: Dialects>(
     rt: &impl Abort,
@@ -29,10 +54,7 @@ pub(crate) fn expect_value<D: Dialects>(
     unique: &str,
 ) -> Result<(), CoreError> {
     assert!(rt; value.is_live(ctx));
-    expect_given(rt, value.given_name(ctx)?, given);
-    assert!(rt; value.id(ctx)?.as_str() == id);
-    assert!(rt; value.unique_name(ctx)?.as_str() == unique);
-    Ok(())
+    expect_named(rt, ctx, &value, given, id, unique)
 }
 
 // Asserts that the live block has this label, this id and this unique name, by its handle.
@@ -45,10 +67,7 @@ fn expect_handle<D: Dialects>(
     unique: &str,
 ) -> Result<(), CoreError> {
     assert!(rt; block.is_live(ctx));
-    expect_given(rt, block.given_name(ctx)?, label);
-    assert!(rt; block.id(ctx)?.as_str() == id);
-    assert!(rt; block.unique_name(ctx)?.as_str() == unique);
-    Ok(())
+    expect_named(rt, ctx, &block, label, id, unique)
 }
 
 // Asserts that the live block has this label, this id and this unique name, by its record.
@@ -61,11 +80,7 @@ fn expect_record<D: Dialects>(
     unique: &str,
 ) -> Result<(), CoreError> {
     assert!(rt; block.is_live(ctx));
-    let record = block.deref(ctx);
-    expect_given(rt, record.given_name(ctx)?, label);
-    assert!(rt; record.id(ctx)?.as_str() == id);
-    assert!(rt; record.unique_name(ctx)?.as_str() == unique);
-    Ok(())
+    expect_named(rt, ctx, block.deref(ctx), label, id, unique)
 }
 
 /// Asserts that the live block has this label, this id and this unique name, by its handle and by its record.

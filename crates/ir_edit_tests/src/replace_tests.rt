@@ -1,6 +1,6 @@
 //! Uses of a value that come to name another one: all, one, or those that a predicate chooses.
 
-use crate::calls::{
+use crate::value_calls::{
     expect_done, expect_operands, expect_same, expect_use, expect_use_count, new_user, new_value,
     use_at,
 };
