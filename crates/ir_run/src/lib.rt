@@ -3,6 +3,7 @@
 
 mod laws;
 mod session;
+mod stepping;
 
 pub use ir_base::{Answer, Refused};
 pub use ir_edits::Edit;

@@ -19,13 +19,10 @@ ghost use Rattle.ir_run.specs.SessionEdits.{edit_of};
 ghost use Rattle.ir_run.specs.Headline.{GoneAtCuts, KeepsKeys};
 ghost use Rattle.ir_run.specs.SessionState.{plain};
 
+use crate::stepping::step;
 use ir_base::{Answer, CoreError, Dialects, Limits, Ptr, TypeHandle};
 use ir_edits::Edit;
-use ir_steps::steps::{self, OpParts};
-use ir_steps::{
-    BasicBlock, Context, Operation, Region, Tables, Value, definition_steps, erase_steps,
-    list_steps, redirect_steps, use_steps,
-};
+use ir_steps::{BasicBlock, Context, Operation, Region, Tables, Value};
 use std::alloc::Global;
 use std::marker::Model;
 
@@ -151,129 +148,6 @@ impl<D: Dialects> Session<D> {
     fn step(&mut self, edit: Edit<D>) -> Answer
         ensures { Step (behaviour D.TypeKey.eq D.first_body D.unknown D.op_impls_of) (plain self.old) (edit_of edit) result (plain self.new) }
     {
-        match edit {
-            Edit::NewType(key) => steps::new_type(&mut self.ctx, &mut self.tables, key),
-            Edit::NewOp {
-                kind,
-                types,
-                operands,
-                successors,
-                regions,
-            } => {
-                let parts = OpParts {
-                    kind,
-                    types: &types,
-                    operands: &operands,
-                    successors: &successors,
-                    regions,
-                };
-                steps::new_op(&mut self.ctx, &mut self.tables, &parts)
-            }
-            Edit::NewBlock { label, types } => {
-                steps::new_block(&mut self.ctx, &mut self.tables, label, &types)
-            }
-            Edit::AddRegion { op } => steps::add_region(&mut self.ctx, &mut self.tables, op),
-            Edit::PushResult { op, ty } => {
-                definition_steps::push_result(&mut self.ctx, &mut self.tables, op, ty)
-            }
-            Edit::InsertResult { op, at, ty } => {
-                definition_steps::insert_result(&mut self.ctx, &mut self.tables, op, at, ty)
-            }
-            Edit::RemoveResult { op, at } => {
-                definition_steps::remove_result(&mut self.ctx, &self.tables, op, at)
-            }
-            Edit::PushArgument { block, ty } => {
-                definition_steps::push_argument(&mut self.ctx, &mut self.tables, block, ty)
-            }
-            Edit::InsertArgument { block, at, ty } => {
-                definition_steps::insert_argument(&mut self.ctx, &mut self.tables, block, at, ty)
-            }
-            Edit::RemoveArgument { block, at } => {
-                definition_steps::remove_argument(&mut self.ctx, &self.tables, block, at)
-            }
-            Edit::PushOperand { op, value } => {
-                use_steps::push_operand(&mut self.ctx, &self.tables, op, value)
-            }
-            Edit::InsertOperand { op, at, value } => {
-                use_steps::insert_operand(&mut self.ctx, &self.tables, op, at, value)
-            }
-            Edit::RemoveOperand { op, at } => {
-                use_steps::remove_operand(&mut self.ctx, &self.tables, op, at)
-            }
-            Edit::ReplaceOperand { op, at, value } => {
-                use_steps::replace_operand(&mut self.ctx, &self.tables, op, at, value)
-            }
-            Edit::PushSuccessor { op, block } => {
-                use_steps::push_successor(&mut self.ctx, &self.tables, op, block)
-            }
-            Edit::InsertSuccessor { op, at, block } => {
-                use_steps::insert_successor(&mut self.ctx, &self.tables, op, at, block)
-            }
-            Edit::RemoveSuccessor { op, at } => {
-                use_steps::remove_successor(&mut self.ctx, &self.tables, op, at)
-            }
-            Edit::ReplaceSuccessor { op, at, block } => {
-                use_steps::replace_successor(&mut self.ctx, &self.tables, op, at, block)
-            }
-            Edit::ReplaceAllUses { old, new } => {
-                redirect_steps::replace_all_uses(&mut self.ctx, &self.tables, old, new)
-            }
-            Edit::RetargetAll { old, new } => {
-                redirect_steps::retarget_all(&mut self.ctx, &self.tables, old, new)
-            }
-            Edit::OpFront { op, block } => {
-                list_steps::op_front(&mut self.ctx, &self.tables, op, block)
-            }
-            Edit::OpBack { op, block } => {
-                list_steps::op_back(&mut self.ctx, &self.tables, op, block)
-            }
-            Edit::OpBefore { op, mark } => {
-                list_steps::op_before(&mut self.ctx, &self.tables, op, mark)
-            }
-            Edit::OpAfter { op, mark } => {
-                list_steps::op_after(&mut self.ctx, &self.tables, op, mark)
-            }
-            Edit::UnlinkOp { op } => list_steps::unlink_op(&mut self.ctx, &self.tables, op),
-            Edit::BlockFront { block, region } => {
-                list_steps::block_front(&mut self.ctx, &self.tables, block, region)
-            }
-            Edit::BlockBack { block, region } => {
-                list_steps::block_back(&mut self.ctx, &self.tables, block, region)
-            }
-            Edit::BlockBefore { block, mark } => {
-                list_steps::block_before(&mut self.ctx, &self.tables, block, mark)
-            }
-            Edit::BlockAfter { block, mark } => {
-                list_steps::block_after(&mut self.ctx, &self.tables, block, mark)
-            }
-            Edit::UnlinkBlock { block } => {
-                list_steps::unlink_block(&mut self.ctx, &self.tables, block)
-            }
-            Edit::AppendOps { donee, donor } => {
-                list_steps::append_ops(&mut self.ctx, &self.tables, donee, donor)
-            }
-            Edit::AppendBlocks { donee, donor } => {
-                list_steps::append_blocks(&mut self.ctx, &self.tables, donee, donor)
-            }
-            Edit::MoveRegion { region, op } => {
-                list_steps::move_region(&mut self.ctx, &self.tables, region, op)
-            }
-            Edit::DropOpUses { op } => {
-                erase_steps::drop_op_uses(&mut self.ctx, &self.tables, op)
-            }
-            Edit::DropBlockUses { block } => {
-                erase_steps::drop_block_uses(&mut self.ctx, &self.tables, block)
-            }
-            Edit::DropRegionUses { region } => {
-                erase_steps::drop_region_uses(&mut self.ctx, &self.tables, region)
-            }
-            Edit::EraseOp { op } => { erase_steps::erase_op(&mut self.ctx, &self.tables, op) }
-            Edit::EraseBlock { block } => {
-                erase_steps::erase_block(&mut self.ctx, &self.tables, block)
-            }
-            Edit::EraseRegion { op, at } => {
-                erase_steps::erase_region(&mut self.ctx, &self.tables, op, at)
-            }
-        }
+        step(&mut self.ctx, &mut self.tables, edit)
     }
 }
