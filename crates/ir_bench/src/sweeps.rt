@@ -1,6 +1,6 @@
-//! Blocks that are swept: dead chains, whichever way they run, and a block with nothing dead.
+//! Blocks that are swept: dead chains, whichever way they run, fans, a comb that runs backward, and a block with nothing dead.
 
-use crate::building::add_op;
+use crate::building::{add_op, keep};
 use crate::outcome::run_to;
 use ir_base::{Dialects, Ptr, TypeHandle};
 use ir_checked::{
@@ -139,5 +139,96 @@ pub(crate) fn sweep_none<C: CpuClock, D: Dialects>(
     let (block, first) = first_of_chain(ctx, ty)?;
     let last = chain_to_back(ctx, ty, block, first, count.saturating_sub(1))?;
     add_op(ctx, block, 4, &[], &[last], 0)?;
+    swept(rt, ctx, block, count)
+}
+
+// Makes so many pure operations at the back of a block, each of which uses this value.
+fn users_to_back<D: Dialects>(
+    ctx: &mut Context<D>,
+    ty: TypeHandle,
+    block: Ptr<BasicBlock<D>>,
+    value: Value<D>,
+    count: usize,
+) -> Result<(), CheckedErr> {
+    let types = [ty];
+    let operands = [value];
+    for _i in 0..count {
+        add_op(ctx, block, 1, &types, &operands, 0)?;
+    }
+    Ok(())
+}
+
+// Makes so many pure operations at the back of a block that use nothing, and puts their results behind the others.
+fn results_to_back<D: Dialects>(
+    ctx: &mut Context<D>,
+    ty: TypeHandle,
+    block: Ptr<BasicBlock<D>>,
+    count: usize,
+    made: &mut Vec<Value<D>>,
+) -> Result<(), CheckedErr> {
+    let types = [ty];
+    for _i in 0..count {
+        let op = add_op(ctx, block, 1, &types, &[], 0)?;
+        keep(made, result(ctx, op, 0)?)?;
+    }
+    Ok(())
+}
+
+// Makes pairs at the front of a block, so many: an operation that uses nothing, and in front of it one that uses the operation in front of which the pair stands, and then this one.
+fn comb_to_front<D: Dialects>(
+    ctx: &mut Context<D>,
+    ty: TypeHandle,
+    block: Ptr<BasicBlock<D>>,
+    first: Value<D>,
+    count: usize,
+) -> Result<(), CheckedErr> {
+    let types = [ty];
+    let mut last = first;
+    for _i in 0..count {
+        let tooth = new_op(ctx, 1, &types, &[], &[], 0)?;
+        op_at_front(ctx, tooth, block)?;
+        let operands = [last, result(ctx, tooth, 0)?];
+        let op = new_op(ctx, 1, &types, &operands, &[], 0)?;
+        op_at_front(ctx, op, block)?;
+        last = result(ctx, op, 0)?;
+    }
+    Ok(())
+}
+
+/// An operation whose result N - 1 dead operations use is swept with these. Its building isn't timed.
+pub(crate) fn sweep_fan_out<C: CpuClock, D: Dialects>(
+    rt: &C,
+    ctx: &mut Context<D>,
+    ty: TypeHandle,
+    count: usize,
+) -> Run {
+    let (block, first) = first_of_chain(ctx, ty)?;
+    users_to_back(ctx, ty, block, first, count.saturating_sub(1))?;
+    swept(rt, ctx, block, count)
+}
+
+/// A dead operation that uses the results of N - 1 others is swept with these. Its building isn't timed.
+pub(crate) fn sweep_fan_in<C: CpuClock, D: Dialects>(
+    rt: &C,
+    ctx: &mut Context<D>,
+    ty: TypeHandle,
+    count: usize,
+) -> Run {
+    let block = new_block(ctx, None, &[])?;
+    let mut operands = Vec::with_capacity(ctx.alloc(), count)?;
+    results_to_back(ctx, ty, block, count.saturating_sub(1), &mut operands)?;
+    add_op(ctx, block, 1, &[ty], operands.as_slice(), 0)?;
+    swept(rt, ctx, block, count)
+}
+
+/// A dead comb of N operations, or one less where N is even, is swept: each but the teeth is in front of the two that it uses, the next one and a tooth, which uses nothing. Its building isn't timed.
+pub(crate) fn sweep_comb<C: CpuClock, D: Dialects>(
+    rt: &C,
+    ctx: &mut Context<D>,
+    ty: TypeHandle,
+    count: usize,
+) -> Run {
+    let (block, first) = first_of_chain(ctx, ty)?;
+    comb_to_front(ctx, ty, block, first, count.saturating_sub(1) / 2)?;
     swept(rt, ctx, block, count)
 }

@@ -9,7 +9,7 @@ use crate::operands::{
     replacements,
 };
 use crate::settled::unlinked;
-use crate::sweeps::{sweep_back, sweep_front, sweep_none};
+use crate::sweeps::{sweep_back, sweep_comb, sweep_fan_in, sweep_fan_out, sweep_front, sweep_none};
 use crate::types::interning;
 use crate::uses::{argument_users, replacing, replacing_in_one};
 use crate::verifying::{verifying, verifying_deep};
@@ -74,6 +74,12 @@ pub enum Workload {
     SweepBack,
     /// A block of N pure operations is swept, none of which is dead.
     SweepNone,
+    /// A dead operation whose result N - 1 dead ones use is swept with these.
+    SweepFanOut,
+    /// A dead operation that uses the results of N - 1 others is swept with these.
+    SweepFanIn,
+    /// A dead comb of N operations is swept, each of which is in front of the two that it uses, or uses nothing.
+    SweepComb,
     /// N operands of one operation are replaced one by one, the first first.
     ReplacedFront,
     /// The same, the last first.
@@ -88,7 +94,7 @@ pub enum Workload {
 
 impl Workload {
     /// All of them, in the order in which they are printed, with their names on the command line.
-    pub(crate) fn all() -> [(Workload, &'static str); 30] {
+    pub(crate) fn all() -> [(Workload, &'static str); 33] {
         [
             (Workload::Unlinked, "unlinked"),
             (Workload::UnlinkedChecked, "unlinked_checked"),
@@ -115,6 +121,9 @@ impl Workload {
             (Workload::SweepFront, "sweep_front"),
             (Workload::SweepBack, "sweep_back"),
             (Workload::SweepNone, "sweep_none"),
+            (Workload::SweepFanOut, "sweep_fan_out"),
+            (Workload::SweepFanIn, "sweep_fan_in"),
+            (Workload::SweepComb, "sweep_comb"),
             (Workload::ReplacedFront, "replaced_front"),
             (Workload::ReplacedBack, "replaced_back"),
             (Workload::ReplacedRandom, "replaced_random"),
@@ -167,7 +176,7 @@ impl Workload {
         }
     }
 
-    // The same for a workload of lists and sweeps, or one of those below.
+    // The same for a workload of lists, or one of those below.
     fn run_lists<C: CpuClock>(
         self,
         rt: &C,
@@ -179,9 +188,25 @@ impl Workload {
             Workload::FrontToBack => front_to_back(rt, ctx, ty, count),
             Workload::RandomMoves => random_moves(rt, ctx, ty, count),
             Workload::Blocks => blocks(rt, ctx, ty, count),
+            _ => self.run_sweeps(rt, ctx, ty, count),
+        }
+    }
+
+    // The same for a workload of sweeps, or one of those below.
+    fn run_sweeps<C: CpuClock>(
+        self,
+        rt: &C,
+        ctx: &mut Context<Toy>,
+        ty: TypeHandle,
+        count: usize,
+    ) -> Run {
+        match self {
             Workload::SweepFront => sweep_front(rt, ctx, ty, count),
             Workload::SweepBack => sweep_back(rt, ctx, ty, count),
             Workload::SweepNone => sweep_none(rt, ctx, ty, count),
+            Workload::SweepFanOut => sweep_fan_out(rt, ctx, ty, count),
+            Workload::SweepFanIn => sweep_fan_in(rt, ctx, ty, count),
+            Workload::SweepComb => sweep_comb(rt, ctx, ty, count),
             _ => self.run_nests(rt, ctx, ty, count),
         }
     }

@@ -1,11 +1,11 @@
 -- What is left while the dead operations of a block go: some of them are gone with all inside them, and all else is as it was.
 use mathlib.Core.Path.{◌≡◌, refl, sym, ap, ◌∙◌, subst}
-use Rattle.std.proofs.Common.{ℕ, zero, suc, ◌+◌, ◌⊎◌, inl, inr, Bool, true, false, not, cond, ◌||◌, Option, Some, None, List, [], ◌∷◌, ◌++◌, map, is_some, arith}
+use Rattle.std.proofs.Common.{ℕ, suc, ◌+◌, ◌⊎◌, inl, inr, Bool, true, false, not, cond, ◌||◌, Option, Some, None, List, [], ◌∷◌, ◌++◌, map, is_some, arith}
 use Rattle.std.proofs.lemmas.List.Sums.{sum_by-cons}
 use Rattle.std.specs.Prelude.{IsTrue, count_by}
 use Rattle.std.specs.List.{filter, list_any}
 use Rattle.std.specs.Option.{option_map, option_map_or}
-use Rattle.ir_model.specs.Ids.{Ids, Absent, Distinct}
+use Rattle.ir_model.specs.Ids.{Ids, Distinct}
 use Rattle.ir_model.specs.Forest.{Dialect, Behaviour, Entity, an_op, a_block, a_region, OpRecord, BlockRecord, Forest, Operand, Successor, Named, a_value, the_block, same_entity, owner}
 use Rattle.ir_model.specs.Nesting.{In, Within, itself, below, list_of, children, Inside, IsClosed, IsLive, Nested, names_of, regions_of, ops_of, blocks_of}
 use Rattle.ir_model.specs.Changes.{on_ops, on_regions, but, Removes}

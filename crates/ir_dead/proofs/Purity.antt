@@ -1,6 +1,6 @@
 -- Whether an operation can go, as the code tests it.
-use mathlib.Core.Path.{◌≡◌, sym, ap, ◌∙◌, subst}
-use Rattle.std.proofs.Common.{ℕ, Bool, true, false, Option, Some}
+use mathlib.Core.Path.{◌≡◌, sym, ap, ◌∙◌}
+use Rattle.std.proofs.Common.{ℕ, Bool, true, false, Some}
 use Rattle.std.specs.Prelude.{◌↔◌, IsTrue}
 use Rattle.std.specs.Option.{option_map_or}
 use Rattle.ir_model.specs.declared.ids.ArenaIndex.{ArenaIndex}

@@ -1,4 +1,4 @@
--- Places in the list of a block, counted from its front.
+-- Places in the list of a block, counted from its front, and what is left of a way to its end or to its front.
 use mathlib.Core.Path.{◌≡◌, refl, sym, ap, ◌∙◌, subst}
 use Rattle.std.proofs.Common.{ℕ, zero, suc, ◌+◌, ◌-◌, ◌≤◌, ◌<◌, ◌≢◌, ◌⊎◌, inl, inr, Bool, true, false, cond, ◌&&◌, Option, Some, None, List, [], ◌∷◌, ◌++◌, length, map, slice_get, arith}
 use Rattle.std.specs.Option.{option_map}
@@ -8,12 +8,11 @@ use Rattle.ir_model.specs.ContextIds.{context_ids, same_id}
 use Rattle.ir_model.specs.Ids.{Distinct}
 use Rattle.ir_model.specs.Forest.{Dialect, Forest, Entity, an_op, a_block}
 use Rattle.ir_model.specs.Nesting.{In, IsLive, Nested, children, ops_of}
-use Rattle.ir_model.specs.Parent.{Adjacent, ComesAfter, IsPrevious, IsParent, last_of}
+use Rattle.ir_model.specs.Parent.{Adjacent, ComesAfter, IsNext, IsPrevious, first_of, last_of}
 use Rattle.ir_model.proofs.IdCases.{id_same, id_cases, id_differs}
-use Rattle.ir_model.proofs.TwoRuns.{id_tells}
 use Rattle.ir_model.proofs.Keeps.{Distinct-unmap}
 use Rattle.ir_model.proofs.Nests.{In-map, In-map_back, In-right, not_in-Absent}
-use Rattle.ir_dead.specs.Going.{place_of, rank}
+use Rattle.ir_dead.specs.Going.{IsBeside, place_of, rank, way_of}
 
 abbrev E : Type 0
 E = Entity context_ids
@@ -53,6 +52,23 @@ place_one o p (x ∷ xs) h k e = by (id_cases o x) (id_cases p x) h k (place_one
     by (inr a) (inr b) (inl i) j more = absurd (a i)
     by (inr a) (inr b) (inr i) (inl j) more = absurd (b j)
     by (inr a) (inr b) (inr i) (inr j) more = let r = place_later o x xs a in let s = place_later p x xs b in more i j (omega (arith, e, r, s))
+
+-- of two numbers one is less, or they are one
+pub tell : (x y : ℕ) → (x ≡ y) ⊎ ((x < y) ⊎ (y < x))
+tell zero zero = inl refl
+tell zero (suc y) = inr (inl (omega arith))
+tell (suc x) zero = inr (inr (omega arith))
+tell (suc x) (suc y) = elim (tell x y) [ inl e ↦ inl (ap suc e) | inr s ↦ elim s [ inl lt ↦ inr (inl (omega (arith, lt))) | inr gt ↦ inr (inr (omega (arith, gt))) ] ]
+
+-- a way from one of the list passes one at least
+pub way_first : (to_end : Bool) (o : ArenaIndex) (xs : List ArenaIndex) → In o xs → 1 ≤ way_of to_end o xs
+way_first false o xs h = place_first o xs
+way_first true o xs h = let p = place_within o xs h in omega (arith, p)
+
+-- two with as many left are one
+pub way_one : (to_end : Bool) (o p : ArenaIndex) (xs : List ArenaIndex) → In o xs → In p xs → way_of to_end o xs ≡ way_of to_end p xs → o ≡ p
+way_one false o p xs h k e = place_one o p xs h k e
+way_one true o p xs h k e = let a = place_within o xs h in let b = place_within p xs k in place_one o p xs h k (omega (arith, a, b, e))
 
 -- what stands at an index has the place after it
 place_at : (xs : List ArenaIndex) → Distinct xs → (k : ℕ) (t : ArenaIndex) → slice_get xs k ≡ Some t → (place_of t xs ≡ suc k) × In t xs
@@ -97,6 +113,17 @@ comes_after x [] p h = elim h [ ]
 comes_after x (y ∷ xs) p (inl e) = (x, ([], map an_op xs, ap (cons_both x xs) (sym e)))
 comes_after x (y ∷ xs) p (inr h) = let more = comes_after y xs p h in (more.0, (an_op x ∷ more.1.0, more.1.1, ap (λ (zs : List E). an_op x ∷ zs) more.1.2))
 
+-- what isn't the last of a list comes before another
+comes_before : (xs : List ArenaIndex) (p : ArenaIndex) → In p xs → place_of p xs < length xs → (q : ArenaIndex) × Adjacent {A = E} (an_op p) (an_op q) (map an_op xs)
+comes_before [] p h lt = elim h [ ]
+comes_before (x ∷ []) p h lt = let q = place_first p (x ∷ []) in absurd (omega (arith, lt, q))
+comes_before (x ∷ y ∷ xs) p h lt = by (id_cases p x) h (comes_before (y ∷ xs) p)
+  where
+    by : (p ≡ x) ⊎ (p ≡ x → ⊥) → In p (x ∷ y ∷ xs) → (In p (y ∷ xs) → place_of p (y ∷ xs) < length (y ∷ xs) → (q : ArenaIndex) × Adjacent {A = E} (an_op p) (an_op q) (map an_op (y ∷ xs))) → (q : ArenaIndex) × Adjacent {A = E} (an_op p) (an_op q) (map an_op (x ∷ y ∷ xs))
+    by (inl e) k more = (y, ([], map an_op xs, ap (λ (z : ArenaIndex). an_op z ∷ an_op y ∷ map an_op xs) (sym e)))
+    by (inr ne) (inl e) more = absurd (ne e)
+    by (inr ne) (inr k) more = let s = place_later p x (y ∷ xs) ne in let t = more k (omega (arith, s, lt)) in (t.0, (an_op x ∷ t.1.0, t.1.1, ap (λ (zs : List E). an_op x ∷ zs) t.1.2))
+
 module _ {W : Dialect} (f : Forest context_ids W) (b : ArenaIndex) (n : Nested f) where
   pub once : Distinct (ops_of f b)
   once = Distinct-unmap an_op (ops_of f b) (n.once (a_block b))
@@ -110,7 +137,7 @@ module _ {W : Dialect} (f : Forest context_ids W) (b : ArenaIndex) (n : Nested f
   parent_listed p h = let at = In-map_back an_op (an_op p) (ops_of f b) h in let e : p ≡ at.0 = cc in subst (λ q. In q (ops_of f b)) (sym e) at.1
 
   -- whether the last of a list or none, all stand at its place or before it
-  pub rank_last : (o : ArenaIndex) → In o (ops_of f b) → place_of o (ops_of f b) ≤ rank (last_of (ops_of f b)) (ops_of f b)
+  pub rank_last : (o : ArenaIndex) → In o (ops_of f b) → way_of false o (ops_of f b) ≤ rank false (last_of (ops_of f b)) (ops_of f b)
   rank_last o h = by (last_of (ops_of f b)) refl
     where
       some : 1 ≤ length (ops_of f b)
@@ -121,7 +148,7 @@ module _ {W : Dialect} (f : Forest context_ids W) (b : ArenaIndex) (n : Nested f
       there (x ∷ xs) zero lt e = absurd cc
       there (x ∷ xs) (suc k) lt e = there xs k (omega (arith, lt)) e
 
-      by : (m : Option ArenaIndex) → last_of (ops_of f b) ≡ m → place_of o (ops_of f b) ≤ rank m (ops_of f b)
+      by : (m : Option ArenaIndex) → last_of (ops_of f b) ≡ m → way_of false o (ops_of f b) ≤ rank false m (ops_of f b)
       by None e = absurd (there (ops_of f b) (length (ops_of f b) - 1) (omega (arith, some)) e)
       by (Some t) e =
           let at = place_at (ops_of f b) once (length (ops_of f b) - 1) t e in
@@ -130,6 +157,24 @@ module _ {W : Dialect} (f : Forest context_ids W) (b : ArenaIndex) (n : Nested f
 
   pub last_listed : (t : ArenaIndex) → last_of (ops_of f b) ≡ Some t → In t (ops_of f b)
   last_listed t e = (place_at (ops_of f b) once (length (ops_of f b) - 1) t e).1
+
+  -- and all stand at the place of the first or behind it
+  pub rank_first : (o : ArenaIndex) → In o (ops_of f b) → way_of true o (ops_of f b) ≤ rank true (first_of (ops_of f b)) (ops_of f b)
+  rank_first o h = by (first_of (ops_of f b)) refl
+    where
+      there : (xs : List ArenaIndex) → In o xs → slice_get xs 0 ≡ None → ⊥
+      there [] k e = elim k [ ]
+      there (x ∷ xs) k e = absurd cc
+
+      by : (m : Option ArenaIndex) → first_of (ops_of f b) ≡ m → way_of true o (ops_of f b) ≤ rank true m (ops_of f b)
+      by None e = absurd (there (ops_of f b) h e)
+      by (Some t) e =
+          let at = place_at (ops_of f b) once 0 t e in
+          let p = place_first o (ops_of f b) in
+          omega (arith, at.0, p)
+
+  pub first_listed : (t : ArenaIndex) → first_of (ops_of f b) ≡ Some t → In t (ops_of f b)
+  first_listed t e = (place_at (ops_of f b) once 0 t e).1
 
   module _ (p : ArenaIndex) (h : In p (ops_of f b)) where
     in_block : In {A = E} (an_op p) (children f (a_block b))
@@ -146,7 +191,7 @@ module _ {W : Dialect} (f : Forest context_ids W) (b : ArenaIndex) (n : Nested f
     previous_place q c = let a = after_here (an_op q) (an_op q) c in in_order (ops_of f b) a.0 a.1 q p once a.2
 
     -- the place before
-    pub rank_previous : (m : Option ArenaIndex) → IsPrevious f (an_op p) (option_map an_op m) → suc (rank m (ops_of f b)) ≡ place_of p (ops_of f b)
+    pub rank_previous : (m : Option ArenaIndex) → IsPrevious f (an_op p) (option_map an_op m) → suc (rank false m (ops_of f b)) ≡ way_of false p (ops_of f b)
     rank_previous (Some q) c = previous_place q c
     rank_previous None c = by (ops_of f b) refl h
       where
@@ -157,23 +202,52 @@ module _ {W : Dialect} (f : Forest context_ids W) (b : ArenaIndex) (n : Nested f
             let at = comes_after x xs p k in
             absurd (c (an_op at.0) (a_block b, (at.1.0, at.1.1, ap (map an_op) e ∙ at.1.2)))
 
+    before_here : (y : E) → ComesAfter f (an_op p) y → Adjacent (an_op p) y (children f (a_block b))
+    before_here y c = (c.1.0, c.1.1, ap (children f) (n.one_list (an_op p) (a_block b) c.0 in_block (subst (λ ys. In (an_op p) ys) (sym c.1.2) (In-right (an_op p) c.1.0 (an_op p ∷ y ∷ c.1.1) (inl refl)))) ∙ c.1.2)
+
+    -- what comes after one of the list is of the list
+    pub next_listed : (q : ArenaIndex) → ComesAfter f (an_op p) (an_op q) → In q (ops_of f b)
+    next_listed q c = let a = before_here (an_op q) c in parent_listed q (subst (λ ys. In {A = E} (an_op q) ys) (sym a.2) (In-right (an_op q) a.0 (an_op p ∷ an_op q ∷ a.1) (inr (inl refl))))
+
+    pub next_place : (q : ArenaIndex) → ComesAfter f (an_op p) (an_op q) → suc (place_of p (ops_of f b)) ≡ place_of q (ops_of f b)
+    next_place q c = let a = before_here (an_op q) c in in_order (ops_of f b) a.0 a.1 p q once a.2
+
+    -- the place after
+    pub rank_next : (m : Option ArenaIndex) → IsNext f (an_op p) (option_map an_op m) → suc (rank true m (ops_of f b)) ≡ way_of true p (ops_of f b)
+    rank_next (Some q) c = let e = next_place q c in let t = place_within q (ops_of f b) (next_listed q c) in omega (arith, e, t)
+    rank_next None c = elim (tell (place_of p (ops_of f b)) (length (ops_of f b))) [
+      | inl e ↦ omega (arith, e)
+      | inr s ↦ elim s [
+        | inl lt ↦ absurd (let at = comes_before (ops_of f b) p h lt in c (an_op at.0) (a_block b, at.1))
+        | inr gt ↦ absurd (let t = place_within p (ops_of f b) h in omega (arith, gt, t))
+      ]
+    ]
+
   -- what comes before an operation is another one
   pub previous_other : (p : ArenaIndex) → In p (ops_of f b) → (q : ArenaIndex) → ComesAfter f (an_op q) (an_op p) → q ≢ p
   previous_other p h q c e = let s = previous_place p h q c in let t : place_of q (ops_of f b) ≡ place_of p (ops_of f b) = ap (λ x. place_of x (ops_of f b)) e in absurd (omega (arith, s, t))
 
-  -- the answer of a call for what comes before: it stands in the list too, and is another one
+  -- what comes after an operation is another one
+  pub next_other : (p : ArenaIndex) → In p (ops_of f b) → (q : ArenaIndex) → ComesAfter f (an_op p) (an_op q) → q ≢ p
+  next_other p h q c e = let s = next_place p h q c in let t : place_of q (ops_of f b) ≡ place_of p (ops_of f b) = ap (λ x. place_of x (ops_of f b)) e in absurd (omega (arith, s, t))
+
+  -- the answer of a call for what stands beside an operation on a way: it stands in the list too, is another one, and has one less left
   module _ (p : ArenaIndex) (h : In p (ops_of f b)) {P : Type 0} (index : P → ArenaIndex) where
-    pub before_listed : (m : Option P) → IsPrevious f (an_op p) (option_map (λ x. an_op (index x)) m) → IfSome m (λ x. In (index x) (ops_of f b))
-    before_listed None c = tt
-    before_listed (Some x) c = previous_listed p h (index x) c
+    pub beside_listed : (to_end : Bool) (m : Option P) → IsBeside f to_end p (option_map (λ x. an_op (index x)) m) → IfSome m (λ x. In (index x) (ops_of f b))
+    beside_listed to_end None c = tt
+    beside_listed false (Some x) c = previous_listed p h (index x) c
+    beside_listed true (Some x) c = next_listed p h (index x) c
 
-    pub before_other : (m : Option P) → IsPrevious f (an_op p) (option_map (λ x. an_op (index x)) m) → IfSome m (λ x. index x ≢ p)
-    before_other None c = tt
-    before_other (Some x) c = previous_other p h (index x) c
+    pub beside_other : (to_end : Bool) (m : Option P) → IsBeside f to_end p (option_map (λ x. an_op (index x)) m) → IfSome m (λ x. index x ≢ p)
+    beside_other to_end None c = tt
+    beside_other false (Some x) c = previous_other p h (index x) c
+    beside_other true (Some x) c = next_other p h (index x) c
 
-    pub as_index : (m : Option P) → IsPrevious f (an_op p) (option_map (λ x. an_op (index x)) m) → IsPrevious f (an_op p) (option_map an_op (option_map index m))
-    as_index None c = c
-    as_index (Some x) c = c
+    pub rank_beside : (to_end : Bool) (m : Option P) → IsBeside f to_end p (option_map (λ x. an_op (index x)) m) → suc (rank to_end (option_map index m) (ops_of f b)) ≡ way_of to_end p (ops_of f b)
+    rank_beside false None c = rank_previous p h None c
+    rank_beside false (Some x) c = rank_previous p h (Some (index x)) c
+    rank_beside true None c = rank_next p h None c
+    rank_beside true (Some x) c = rank_next p h (Some (index x)) c
 
 -- the operation stands in the block that is its parent
 pub parent_in : {W : Dialect} (f : Forest context_ids W) (o parent b : ArenaIndex) → parent ≡ b → In {A = E} (an_op o) (children f (a_block parent)) → In o (ops_of f b)
@@ -190,11 +264,11 @@ both_true false e = e
 pub not_both : false ≡ true → ⊥
 not_both e = cc
 
--- the place that a call answers for what comes before is smaller
+-- from what a call answers for what stands beside an operation, fewer are left
 pub rank_smaller : {W : Dialect} (f : Forest context_ids W) (b : ArenaIndex) (n : Nested f) (p : ArenaIndex) (h : In p (ops_of f b)) {P : Type 0} (index : P → ArenaIndex)
-    (here : Option P) (x : P) → here ≡ Some x → (m : Option P) → IsPrevious f (an_op p) (option_map (λ y. an_op (index y)) m) → index x ≡ p
-    → rank (option_map index m) (ops_of f b) < rank (option_map index here) (ops_of f b)
-rank_smaller f b n p h index here x is m previous same =
-    let e = rank_previous f b n p h (option_map index m) (as_index f b n p h index m previous) in
-    let t : rank (option_map index here) (ops_of f b) ≡ place_of p (ops_of f b) = ap (λ k. rank (option_map index k) (ops_of f b)) is ∙ ap (λ i. place_of i (ops_of f b)) same in
+    (to_end : Bool) (here : Option P) (x : P) → here ≡ Some x → (m : Option P) → IsBeside f to_end p (option_map (λ y. an_op (index y)) m) → index x ≡ p
+    → rank to_end (option_map index m) (ops_of f b) < rank to_end (option_map index here) (ops_of f b)
+rank_smaller f b n p h index to_end here x is m beside same =
+    let e = rank_beside f b n p h index to_end m beside in
+    let t : rank to_end (option_map index here) (ops_of f b) ≡ way_of to_end p (ops_of f b) = ap (λ k. rank to_end (option_map index k) (ops_of f b)) is ∙ ap (λ i. way_of to_end i (ops_of f b)) same in
     omega (arith, e, t)

@@ -1,6 +1,6 @@
 -- Operations of a block that go one after the other: what is left, how many there were, and what that makes of a sweep.
 use mathlib.Core.Path.{◌≡◌, refl, sym, ap, ◌∙◌, subst}
-use Rattle.std.proofs.Common.{ℕ, zero, suc, ◌+◌, ◌≤◌, ◌≢◌, inl, inr, Bool, true, false, not, cond, Option, Some, None, List, [], ◌∷◌, length, map, is_some, IsSome, arith}
+use Rattle.std.proofs.Common.{ℕ, suc, ◌+◌, ◌≤◌, ◌≢◌, inl, inr, Bool, true, false, not, cond, Option, Some, None, List, [], ◌∷◌, length, arith}
 use Rattle.std.specs.List.{filter}
 use Rattle.std.specs.Option.{option_map}
 use Rattle.std.specs.Prelude.{IfSome}
@@ -8,8 +8,8 @@ use Rattle.ir_model.specs.Sessions.{Session}
 use Rattle.ir_walk.specs.Calls.{SameButForest}
 use Rattle.ir_model.specs.declared.ids.ArenaIndex.{ArenaIndex}
 use Rattle.ir_model.specs.ContextIds.{context_ids, same_id}
-use Rattle.ir_model.specs.Forest.{Dialect, Behaviour, Forest, BlockRecord, Entity, an_op, a_block}
-use Rattle.ir_model.specs.Nesting.{In, list_of, Inside, IsLive, WellFormed, ops_of}
+use Rattle.ir_model.specs.Forest.{Dialect, Behaviour, Forest, BlockRecord, an_op, a_block}
+use Rattle.ir_model.specs.Nesting.{In, list_of, IsLive, WellFormed, ops_of}
 use Rattle.ir_model.specs.Changes.{on_ops, but, Removes}
 use Rattle.ir_model.specs.Subtree.{IsSubtreeSize}
 use Rattle.ir_model.specs.Dead.{Sweeps}

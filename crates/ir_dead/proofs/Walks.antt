@@ -1,71 +1,75 @@
--- The walk from a place of a block to its front, and how long the list of a block can be.
+-- The walk from a place of a block to its end or to its front, and how long the list of a block can be.
 use mathlib.Core.Path.{◌≡◌, refl, sym, ap, ◌∙◌, subst}
-use Rattle.std.proofs.Common.{ℕ, zero, suc, ◌+◌, ◌-◌, ◌≤◌, ◌<◌, ◌⊎◌, inl, inr, Bool, true, false, cond, Option, Some, None, List, [], ◌∷◌, length, count_by, is_some, IsSome, arith}
+use Rattle.std.proofs.Common.{ℕ, zero, suc, ◌+◌, ◌-◌, ◌≤◌, ◌<◌, ◌⊎◌, inl, inr, Bool, true, false, cond, Option, Some, None, List, [], ◌∷◌, length, count_by, IsSome, arith}
 use Rattle.std.proofs.lemmas.List.Sums.{sum_by-cons}
 use Rattle.std.specs.Option.{option_map}
 use Rattle.std.specs.Prelude.{IfSome}
 use Rattle.ir_model.specs.declared.ids.ArenaIndex.{ArenaIndex}
 use Rattle.ir_model.specs.ContextIds.{context_ids}
 use Rattle.ir_model.specs.Ids.{Distinct}
-use Rattle.ir_model.specs.Forest.{Dialect, Behaviour, Forest, Entity, an_op, a_block}
+use Rattle.ir_model.specs.Forest.{Dialect, Behaviour, Forest}
 use Rattle.ir_model.specs.Nesting.{In, Nested, ops_of}
-use Rattle.ir_model.specs.Parent.{IsPrevious, last_of}
+use Rattle.ir_model.specs.Parent.{first_of, last_of}
 use Rattle.ir_model.specs.SweepLaws.{NoneIsClosed}
 use Rattle.ir_model.specs.Slots.{Slot, is_taken, slot_in}
 use Rattle.ir_model.specs.Arenas.{Arena, IsLive, arena_len}
 use Rattle.ir_model.proofs.Slots.{taken_at}
 use Rattle.ir_model.proofs.Arenas.{same_id}
 use Rattle.ir_model.proofs.Removal.{length-within}
-use Rattle.ir_dead.specs.Going.{CanGo, NoneGoesUpTo, place_of, rank}
-use Rattle.ir_dead.proofs.Ranks.{last_listed, place_first, place_one, rank_last, rank_previous}
+use Rattle.ir_dead.specs.Going.{CanGo, NoneGoesUpTo, rank, way_of}
+use Rattle.ir_dead.proofs.Ranks.{first_listed, last_listed, rank_first, rank_last, tell, way_first, way_one}
 
 module _ {W : Dialect} (B : Behaviour W) (f : Forest context_ids W) (b : ArenaIndex) where
-  -- the walk is no further back than the start, and none that it passed can go
-  pub record Walking (start now : Option ArenaIndex) : Type 0 where
-    pub within : rank now (ops_of f b) ≤ rank start (ops_of f b)
-    pub none : (o : ArenaIndex) → In o (ops_of f b) → place_of o (ops_of f b) ≤ rank start (ops_of f b) → rank now (ops_of f b) < place_of o (ops_of f b) → CanGo B f o → ⊥
+  -- the walk is as far as the start or farther, and none that it passed can go
+  pub record Walking (to_end : Bool) (start now : Option ArenaIndex) : Type 0 where
+    pub within : rank to_end now (ops_of f b) ≤ rank to_end start (ops_of f b)
+    pub none : (o : ArenaIndex) → In o (ops_of f b) → way_of to_end o (ops_of f b) ≤ rank to_end start (ops_of f b) → rank to_end now (ops_of f b) < way_of to_end o (ops_of f b) → CanGo B f o → ⊥
 
-  pub walk_starts : (start : Option ArenaIndex) → Walking start start
-  walk_starts start = record { within = omega arith; none = λ o h most more can. absurd (omega (arith, most, more)) }
+  module _ (to_end : Bool) (start : Option ArenaIndex) where
+    pub walk_starts : Walking to_end start start
+    walk_starts = record { within = omega arith; none = λ o h most more can. absurd (omega (arith, most, more)) }
 
-  -- at the front all were passed
-  pub walk_ends : (start : Option ArenaIndex) → Walking start None → NoneGoesUpTo B f b (rank start (ops_of f b))
-  walk_ends start w o h most can = w.none o h most (let p = place_first o (ops_of f b) in omega (arith, p)) can
+    -- where the way ends all were passed
+    pub walk_ends : Walking to_end start None → NoneGoesUpTo B f to_end b (rank to_end start (ops_of f b))
+    walk_ends w o h most can = w.none o h most (let p = way_first to_end o (ops_of f b) h in omega (arith, p)) can
 
-  module _ (n : Nested f) where
-    pub walk_goes_on : (start : Option ArenaIndex) (p : ArenaIndex) (now : Option ArenaIndex) → In p (ops_of f b) → (CanGo B f p → ⊥) → IsPrevious f (an_op p) (option_map an_op now) → Walking start (Some p) → Walking start now
-    walk_goes_on start p now h not previous w = record {
-      within = let e = rank_previous f b n p h now previous in let le = w.within in omega (arith, e, le);
-      none = λ o k most more can. by o k most more can (tell (place_of o (ops_of f b)) (place_of p (ops_of f b)));
+    pub walk_goes_on : (p : ArenaIndex) (now : Option ArenaIndex) → In p (ops_of f b) → (CanGo B f p → ⊥) → suc (rank to_end now (ops_of f b)) ≡ way_of to_end p (ops_of f b) → Walking to_end start (Some p) → Walking to_end start now
+    walk_goes_on p now h not e w = record {
+      within = let le = w.within in omega (arith, e, le);
+      none = λ o k most more can. by o k most more can (tell (way_of to_end o (ops_of f b)) (way_of to_end p (ops_of f b)));
     }
       where
-        tell : (x y : ℕ) → (x ≡ y) ⊎ ((x < y) ⊎ (y < x))
-        tell zero zero = inl refl
-        tell zero (suc y) = inr (inl (omega arith))
-        tell (suc x) zero = inr (inr (omega arith))
-        tell (suc x) (suc y) = elim (tell x y) [ inl e ↦ inl (ap suc e) | inr s ↦ elim s [ inl lt ↦ inr (inl (omega (arith, lt))) | inr gt ↦ inr (inr (omega (arith, gt))) ] ]
-
-        by : (o : ArenaIndex) → In o (ops_of f b) → place_of o (ops_of f b) ≤ rank start (ops_of f b) → rank now (ops_of f b) < place_of o (ops_of f b) → CanGo B f o
-            → (place_of o (ops_of f b) ≡ place_of p (ops_of f b)) ⊎ ((place_of o (ops_of f b) < place_of p (ops_of f b)) ⊎ (place_of p (ops_of f b) < place_of o (ops_of f b))) → ⊥
-        by o k most more can (inl e) = not (subst (CanGo B f) (place_one o p (ops_of f b) k h e) can)
-        by o k most more can (inr (inl lt)) = let e = rank_previous f b n p h now previous in absurd (omega (arith, e, lt, more))
+        by : (o : ArenaIndex) → In o (ops_of f b) → way_of to_end o (ops_of f b) ≤ rank to_end start (ops_of f b) → rank to_end now (ops_of f b) < way_of to_end o (ops_of f b) → CanGo B f o
+            → (way_of to_end o (ops_of f b) ≡ way_of to_end p (ops_of f b)) ⊎ ((way_of to_end o (ops_of f b) < way_of to_end p (ops_of f b)) ⊎ (way_of to_end p (ops_of f b) < way_of to_end o (ops_of f b))) → ⊥
+        by o k most more can (inl same) = not (subst (CanGo B f) (way_one to_end o p (ops_of f b) k h same) can)
+        by o k most more can (inr (inl lt)) = absurd (omega (arith, e, lt, more))
         by o k most more can (inr (inr gt)) = w.none o k most gt can
 
-    -- none from the end of the block on is none of it
-    pub none_closed : NoneGoesUpTo B f b (rank (last_of (ops_of f b)) (ops_of f b)) → NoneIsClosed B f b
-    none_closed none o h is_pure closed = none o h (rank_last f b n o h) (record { is_pure = is_pure; closed = closed })
+  -- the answer of a call for the first or the last of the block: it stands in the list, and none from it on is none of the block
+  module _ (n : Nested f) {P : Type 0} (index : P → ArenaIndex) (m : Option P) where
+    listed : (t : Option ArenaIndex) → option_map index m ≡ t → ((o : ArenaIndex) → t ≡ Some o → In o (ops_of f b)) → IfSome m (λ x. In (index x) (ops_of f b))
+    listed t e all = by m refl
+      where
+        by : (k : Option P) → m ≡ k → IfSome k (λ x. In (index x) (ops_of f b))
+        by None s = tt
+        by (Some x) s = all (index x) (sym e ∙ ap (option_map index) s)
 
-    -- the answer of a call for the last of the block: it stands in the list, and none from it on is none of the block
-    module _ {P : Type 0} (index : P → ArenaIndex) (m : Option P) (last : option_map index m ≡ last_of (ops_of f b)) where
-      pub tail_listed : IfSome m (λ x. In (index x) (ops_of f b))
-      tail_listed = by m last
-        where
-          by : (t : Option P) → option_map index t ≡ last_of (ops_of f b) → IfSome t (λ x. In (index x) (ops_of f b))
-          by None e = tt
-          by (Some x) e = last_listed f b n (index x) (sym e)
+    pub head_listed : option_map index m ≡ first_of (ops_of f b) → IfSome m (λ x. In (index x) (ops_of f b))
+    head_listed e = listed (first_of (ops_of f b)) e (first_listed f b n)
 
-      pub none_from_tail : NoneGoesUpTo B f b (rank (option_map index m) (ops_of f b)) → NoneIsClosed B f b
-      none_from_tail none = none_closed (subst (λ t. NoneGoesUpTo B f b (rank t (ops_of f b))) last none)
+    pub tail_listed : option_map index m ≡ last_of (ops_of f b) → IfSome m (λ x. In (index x) (ops_of f b))
+    tail_listed e = listed (last_of (ops_of f b)) e (last_listed f b n)
+
+    closed_from : (to_end : Bool) (t : Option ArenaIndex) → option_map index m ≡ t → ((o : ArenaIndex) → In o (ops_of f b) → way_of to_end o (ops_of f b) ≤ rank to_end t (ops_of f b))
+        → NoneGoesUpTo B f to_end b (rank to_end (option_map index m) (ops_of f b)) → NoneIsClosed B f b
+    closed_from to_end t e all none o h is_pure closed =
+        none o h (subst (λ k. way_of to_end o (ops_of f b) ≤ rank to_end k (ops_of f b)) (sym e) (all o h)) (record { is_pure = is_pure; closed = closed })
+
+    pub none_from_head : option_map index m ≡ first_of (ops_of f b) → NoneGoesUpTo B f true b (rank true (option_map index m) (ops_of f b)) → NoneIsClosed B f b
+    none_from_head e = closed_from true (first_of (ops_of f b)) e (rank_first f b n)
+
+    pub none_from_tail : option_map index m ≡ last_of (ops_of f b) → NoneGoesUpTo B f false b (rank false (option_map index m) (ops_of f b)) → NoneIsClosed B f b
+    none_from_tail e = closed_from false (last_of (ops_of f b)) e (rank_last f b n)
 
 -- ## How long a list of live ids is
 

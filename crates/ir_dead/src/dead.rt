@@ -1,6 +1,6 @@
 //! The sweep of a block: dead operations go, with all that stands inside them, however they use each other.
 //!
-//! An operation goes only while nothing outside it names what is defined inside. A walk goes from the end of the block to its front, so that what names is met before what it names, where definitions stand before their uses. Where an operation goes, the walk follows its last operand whose definer is pure and stands in the block: if that can go then, it goes next, and so on along a chain; then the walk comes back to its place. It begins again at the end of the block until it finds none. It takes no memory and doesn't recurse.
+//! An operation goes only while nothing outside it names what is defined inside. A walk goes from the end of the block to its front, so that what names is met before what it names where definitions stand before their uses, and then from the front to the end, where they stand behind; it turns at each end until it finds none on a whole way. Where an operation goes, the walk follows its last operand whose definer is pure and stands in the block: if that can go then, it goes next, and so on along a chain; then the walk comes back to its place. It takes no memory and doesn't recurse.
 
 ghost use Rattle.std.specs.Prelude.{◌≢◌, ◌↔◌, ◌<◌, ◌^◌, length, IsTrue, IfSome, IsNone};
 ghost use Rattle.std.specs.Option.{option_map};
@@ -11,7 +11,7 @@ ghost use Rattle.ir_model.specs.SweepLaws.{NoneIsClosed};
 ghost use Rattle.ir_records.specs.Meaning.{value_of};
 ghost use Rattle.ir_walk.specs.State.{bare, behaviour, forest_of};
 ghost use Rattle.ir_walk.specs.Calls.{SameButForest};
-ghost use Rattle.ir_dead.specs.Going.{CanGo, NoneGoesUpTo, rank};
+ghost use Rattle.ir_dead.specs.Going.{CanGo, IsBeside, NoneGoesUpTo, rank};
 
 use ir_base::interfaces::PURE_OPERATION;
 use ir_base::{Dialects, Ptr};
@@ -98,16 +98,51 @@ fn last_definer<D: Dialects>(
     None
 }
 
-// The first operation that can go, on the way from a place in the block to the front.
+// The first operation of a live block on the way to its end, or the last one on the way to its front.
+fn start_of<D: Dialects>(
+    ctx: &Context<D>,
+    block: Ptr<BasicBlock<D>>,
+    to_end: bool,
+) -> Option<Ptr<Operation<D>>>
+    requires { IsLive (forest_of ctx.now) (a_block block.index) }
+    ensures listed { IfSome result (λ p. In p.index (ops_of (forest_of ctx.now) block.index)) }
+    ensures all { NoneGoesUpTo (behaviour D.TypeKey.eq D.first_body D.unknown D.op_impls_of) (forest_of ctx.now) to_end block.index (rank to_end (option_map (λ p. p.index) result) (ops_of (forest_of ctx.now) block.index)) → NoneIsClosed (behaviour D.TypeKey.eq D.first_body D.unknown D.op_impls_of) (forest_of ctx.now) block.index }
+{
+    ctx.is_well_formed();
+    if to_end {
+        block.get_head(ctx)
+    } else {
+        block.get_tail(ctx)
+    }
+}
+
+// The operation beside a live one on the way to the end of its block, or to its front.
+fn beside<D: Dialects>(
+    ctx: &Context<D>,
+    op: Ptr<Operation<D>>,
+    to_end: bool,
+) -> Option<Ptr<Operation<D>>>
+    requires { IsLive (forest_of ctx.now) (an_op op.index) }
+    ensures { IsBeside (forest_of ctx.now) to_end op.index (option_map (λ p. an_op p.index) result) }
+{
+    if to_end {
+        op.get_next(ctx)
+    } else {
+        op.get_prev(ctx)
+    }
+}
+
+// The first operation that can go, on the way from a place in the block to its end, or to its front.
 fn next_to_go<D: Dialects>(
     ctx: &Context<D>,
     block: Ptr<BasicBlock<D>>,
     place: Option<Ptr<Operation<D>>>,
+    to_end: bool,
 ) -> Option<Ptr<Operation<D>>>
     requires { IfSome place (λ p. In p.index (ops_of (forest_of ctx.now) block.index)) }
     ensures listed { IfSome result (λ p. In p.index (ops_of (forest_of ctx.now) block.index)) }
     ensures can_go { IfSome result (λ p. CanGo (behaviour D.TypeKey.eq D.first_body D.unknown D.op_impls_of) (forest_of ctx.now) p.index) }
-    ensures none { IsNone result → NoneGoesUpTo (behaviour D.TypeKey.eq D.first_body D.unknown D.op_impls_of) (forest_of ctx.now) block.index (rank (option_map (λ p. p.index) place) (ops_of (forest_of ctx.now) block.index)) }
+    ensures none { IsNone result → NoneGoesUpTo (behaviour D.TypeKey.eq D.first_body D.unknown D.op_impls_of) (forest_of ctx.now) to_end block.index (rank to_end (option_map (λ p. p.index) place) (ops_of (forest_of ctx.now) block.index)) }
 {
     ctx.is_well_formed();
     let mut place = place;
@@ -115,16 +150,17 @@ fn next_to_go<D: Dialects>(
         if can_go(ctx, op) {
             return Some(op);
         }
-        place = op.get_prev(ctx);
+        place = beside(ctx, op, to_end);
     }
     None
 }
 
-// The first operation that can go, on the way from a place in the block to the front, and else on the way from the end of the block.
+// The first operation that can go, on the way from a place in the block, and else, where the way turns, on the whole way back.
 fn to_go_from<D: Dialects>(
     ctx: &Context<D>,
     block: Ptr<BasicBlock<D>>,
     place: Option<Ptr<Operation<D>>>,
+    to_end: &mut bool,
 ) -> Option<Ptr<Operation<D>>>
     requires live { IsLive (forest_of ctx.now) (a_block block.index) }
     requires listed { IfSome place (λ p. In p.index (ops_of (forest_of ctx.now) block.index)) }
@@ -132,20 +168,22 @@ fn to_go_from<D: Dialects>(
     ensures can_go { IfSome result (λ p. CanGo (behaviour D.TypeKey.eq D.first_body D.unknown D.op_impls_of) (forest_of ctx.now) p.index) }
     ensures none { IsNone result → NoneIsClosed (behaviour D.TypeKey.eq D.first_body D.unknown D.op_impls_of) (forest_of ctx.now) block.index }
 {
-    ctx.is_well_formed();
-    let found = next_to_go(ctx, block, place);
+    let found = next_to_go(ctx, block, place, *to_end);
     if found.is_some() {
         return found;
     }
-    next_to_go(ctx, block, block.get_tail(ctx))
+    *to_end = !*to_end;
+    let start = start_of(ctx, block, *to_end);
+    next_to_go(ctx, block, start, *to_end)
 }
 
-// A place in the block, or the one before it where the operation stands there: a place that stays when the operation goes.
+// A place in the block, or the one beside it on the way where the operation stands there: a place that stays when the operation goes.
 fn place_beside<D: Dialects>(
     ctx: &Context<D>,
     block: Ptr<BasicBlock<D>>,
     place: Option<Ptr<Operation<D>>>,
     op: Ptr<Operation<D>>,
+    to_end: bool,
 ) -> Option<Ptr<Operation<D>>>
     requires op { In op.index (ops_of (forest_of ctx.now) block.index) }
     requires place { IfSome place (λ p. In p.index (ops_of (forest_of ctx.now) block.index)) }
@@ -154,7 +192,7 @@ fn place_beside<D: Dialects>(
 {
     ctx.is_well_formed();
     if place? == op {
-        op.get_prev(ctx)
+        beside(ctx, op, to_end)
     } else {
         place
     }
@@ -188,16 +226,17 @@ pub fn sweep<D: Dialects>(block: Ptr<BasicBlock<D>>, ctx: &mut Context<D>) -> us
     ctx.is_well_formed();
     lists_are_short(ctx, block);
     let mut swept = 0;
-    let mut place = to_go_from(ctx, block, None);
+    let mut to_end = true;
+    let mut place = to_go_from(ctx, block, None, &mut to_end);
     let mut next = place;
     while let Some(op) = next {
-        place = place_beside(ctx, block, place, op);
+        place = place_beside(ctx, block, place, op, to_end);
         let definer = last_definer(ctx, block, op);
         op.erase(ctx);
         swept += 1;
         next = freed(ctx, block, definer);
         if next.is_none() {
-            place = to_go_from(ctx, block, place);
+            place = to_go_from(ctx, block, place, &mut to_end);
             next = place;
         }
     }

@@ -1,6 +1,7 @@
 //! Results and arguments put in and taken out one at a time, and given another type.
 
-use crate::value_calls::{expect_condition, expect_done, expect_same, expect_use_count, new_user};
+use crate::calls::expect_condition;
+use crate::value_calls::{expect_done, expect_same, expect_use_count, new_user};
 use ir_base::{Dialects, Ptr, TypeHandle};
 use ir_checked::{
     BasicBlock, CheckedErr, Context, Operation, Value, ValueQueries, argument, end,

@@ -1,8 +1,8 @@
 //! Uses of a value that come to name another one: all, one, or those that a predicate chooses.
 
 use crate::value_calls::{
-    expect_done, expect_operands, expect_same, expect_use, expect_use_count, new_user, new_value,
-    use_at,
+    expect_done, expect_operands, expect_same, expect_use_count, expect_use_of, new_user,
+    new_value, use_at,
 };
 use ir_base::{CoreError, Dialects, Limits, Ptr};
 use ir_checked::{
@@ -58,8 +58,8 @@ fn replace_two<D: Dialects>(rt: &impl Abort, ctx: &mut Context<D>, key: D::TypeK
     let op = new_user(ctx, v, w).expect(rt, "the user");
     let [first, second] = first_uses(ctx, op).expect(rt, "its uses");
     expect_done(rt, replace_all_uses(ctx, v, w));
-    expect_use(rt, ctx, first, 0, w);
-    expect_use(rt, ctx, second, 1, w);
+    expect_use_of(rt, ctx, first, 0, w);
+    expect_use_of(rt, ctx, second, 1, w);
     expect_replaced(rt, ctx, op, v, w);
 }
 

@@ -78,7 +78,7 @@ pub(crate) fn expect_use_count<D: Dialects>(
 }
 
 /// Asserts at which index the use is found, and what it names.
-pub(crate) fn expect_use<D: Dialects>(
+pub(crate) fn expect_use_of<D: Dialects>(
     rt: &impl Abort,
     ctx: &Context<D>,
     used: Use<Value<D>>,
@@ -92,10 +92,4 @@ pub(crate) fn expect_use<D: Dialects>(
 /// Asserts that the call was made.
 pub(crate) fn expect_done(rt: &impl Abort, answer: Result<(), CheckedErr>) {
     expect_same(rt, answer, Ok(()), "a call that can be made");
-}
-
-/// Asserts that the call was refused because its condition doesn't hold.
-pub(crate) fn expect_condition(rt: &impl Abort, answer: Result<(), CheckedErr>) {
-    let refused = Err(CheckedErr::Condition);
-    expect_same(rt, answer, refused, "a call whose condition doesn't hold");
 }

@@ -1,5 +1,7 @@
 //! The calls that ask for no memory, by their names in the public surface, part by part. Here alone it is said which these are.
 
+use crate::surface::has;
+
 /// Of identifiers, names, ids and legalisers.
 pub(crate) const IDENTIFIERS: [&str; 19] = [
     "Identifier::is_valid",
@@ -323,9 +325,4 @@ pub(crate) fn is_named(call: &str) -> bool {
         || has(&WRAPPERS, call)
         || has(&VERIFICATION, call)
         || has(&RUN, call)
-}
-
-/// Whether the part has the name.
-pub(crate) fn has(part: &[&str], name: &str) -> bool {
-    part.iter().any(|other| *other == name)
 }

@@ -1,7 +1,7 @@
 //! How the calls with a name are tried.
 
-use crate::quiet_surface::has;
 use crate::session_readings::{SessionReading, try_session_reading};
+use crate::surface::has;
 use crate::type_readings::{TypeReading, try_type_reading};
 use ir_checked::{CheckedErr, Context, end};
 use ir_quiet_calls::{

@@ -147,7 +147,7 @@ pub(crate) fn is_named(call: &str) -> bool {
         || has(&BELOW, call)
 }
 
-// Whether the part has the name.
-fn has(part: &[&str], name: &str) -> bool {
+/// Whether the part has the name.
+pub(crate) fn has(part: &[&str], name: &str) -> bool {
     part.iter().any(|other| *other == name)
 }

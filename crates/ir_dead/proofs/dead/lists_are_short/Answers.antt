@@ -1,6 +1,5 @@
-use Rattle.std.proofs.Common.{◌≡◌, ◌<◌, ◌^◌, length, is_some, IsSome, sym, ap, ◌∙◌, arith}
-use Rattle.ir_model.specs.Forest.{a_block, an_op}
-use Rattle.ir_model.specs.Nesting.{In, ops_of}
+use Rattle.std.proofs.Common.{◌≡◌, ap, ◌∙◌, arith}
+use Rattle.ir_model.specs.Nesting.{ops_of}
 use Rattle.ir_model.specs.Arenas.{get, arena_len}
 use Rattle.ir_records.specs.declared.records.Records.{Records}
 use Rattle.ir_records.specs.Meaning.{op_record}

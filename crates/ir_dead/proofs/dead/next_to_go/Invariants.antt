@@ -6,12 +6,12 @@ use Rattle.ir_dead.specs.Going.{rank}
 use Rattle.ir_dead.proofs.Walks.{Walking}
 use Rattle.ir_dead.proofs.dead.next_to_go.Given as goal
 
--- the place is one of the block's, and none from the start down to it can go
+-- the place is one of the block's, and none on the way from the start to it can go
 abbrev pub invariant-loop-place : goal.invariant-loop-place
 invariant-loop-place g l = record {
   listed : IfSome l.place (λ p. In p.index (ops_of (forest_of l.ctx) l.fn.block.index));
-  passed : Walking (behaviour g.D.TypeKey.PartialEq.eq g.D.Dialects.first_body g.D.Dialects.unknown g.D.Dialects.op_impls_of) (forest_of l.ctx) l.fn.block.index (option_map (λ p. p.index) l.initial.place) (option_map (λ p. p.index) l.place);
+  passed : Walking (behaviour g.D.TypeKey.PartialEq.eq g.D.Dialects.first_body g.D.Dialects.unknown g.D.Dialects.op_impls_of) (forest_of l.ctx) l.fn.block.index l.fn.to_end (option_map (λ p. p.index) l.initial.place) (option_map (λ p. p.index) l.place);
 }
 
 abbrev pub decreases-loop-place : goal.decreases-loop-place
-decreases-loop-place g l = rank (option_map (λ p. p.index) l.place) (ops_of (forest_of l.ctx) l.fn.block.index)
+decreases-loop-place g l = rank l.fn.to_end (option_map (λ p. p.index) l.place) (ops_of (forest_of l.ctx) l.fn.block.index)

@@ -1,6 +1,4 @@
-use Rattle.std.proofs.Common.{sym, ap, ◌∙◌, subst}
-use Rattle.ir_model.specs.Forest.{a_block, an_op}
-use Rattle.ir_model.specs.Nesting.{In, children}
+use Rattle.std.proofs.Common.{sym, ◌∙◌}
 use Rattle.ir_model.proofs.TwoRuns.{id_tells}
 use Rattle.ir_walk.specs.State.{forest_of}
 use Rattle.ir_dead.proofs.Ranks.{both_true, parent_in}

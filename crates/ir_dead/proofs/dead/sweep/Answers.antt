@@ -1,6 +1,5 @@
-use Rattle.std.proofs.Common.{◌≡◌, refl, sym, ap, ◌∙◌, subst, ◌+◌, ◌≤◌, ◌<◌, ◌^◌, suc, length, not, Option, Some, None, IfSome, IsNone, is_some, arith}
+use Rattle.std.proofs.Common.{refl, sym, ap, ◌∙◌, subst, ◌+◌, ◌<◌, ◌^◌, length, not, IfSome, is_some, arith}
 use Rattle.ir_model.specs.Nesting.{In, ops_of}
-use Rattle.ir_model.specs.SweepLaws.{NoneIsClosed}
 use Rattle.ir_walk.specs.State.{bare, behaviour, forest_of}
 use Rattle.ir_dead.specs.Going.{CanGo, none_goes}
 use Rattle.ir_dead.proofs.Ranks.{not_both}
