@@ -4,8 +4,8 @@ use crate::building::{add_op, keep};
 use crate::outcome::run_to;
 use ir_base::{Dialects, Ptr, TypeHandle};
 use ir_checked::{
-    BasicBlock, BlockPlace, BlockPtr, CheckedErr, Context, Operation, Value, new_block, new_op,
-    op_at_front, result,
+    BasicBlock, BlockPlace, BlockPtr, CheckedErr, Context, Value, new_block, new_op, op_at_front,
+    result,
 };
 use ir_dead::sweep;
 use ir_timing::{Run, mix, nanos_now, nanos_since};
@@ -77,16 +77,16 @@ fn chain_to_back<D: Dialects>(
     Ok(last)
 }
 
-// Makes a pure operation that uses a value, and puts it at the front of a block.
-fn add_in_front<D: Dialects>(
+// Makes a pure operation that uses these values, puts it at the front of a block and answers its result.
+fn put_in_front<D: Dialects>(
     ctx: &mut Context<D>,
     ty: TypeHandle,
     block: Ptr<BasicBlock<D>>,
-    value: Value<D>,
-) -> Result<Ptr<Operation<D>>, CheckedErr> {
-    let op = new_op(ctx, 1, &[ty], &[value], &[], 0)?;
+    operands: &[Value<D>],
+) -> Result<Value<D>, CheckedErr> {
+    let op = new_op(ctx, 1, &[ty], operands, &[], 0)?;
     op_at_front(ctx, op, block)?;
-    Ok(op)
+    result(ctx, op, 0)
 }
 
 // Makes so many at the front of a block, each of which uses the result of the one behind it.
@@ -99,8 +99,8 @@ fn chain_to_front<D: Dialects>(
 ) -> Result<(), CheckedErr> {
     let mut last = first;
     for _i in 0..count {
-        let op = add_in_front(ctx, ty, block, last)?;
-        last = result(ctx, op, 0)?;
+        let operands = [last];
+        last = put_in_front(ctx, ty, block, &operands)?;
     }
     Ok(())
 }
@@ -182,15 +182,11 @@ fn comb_to_front<D: Dialects>(
     first: Value<D>,
     count: usize,
 ) -> Result<(), CheckedErr> {
-    let types = [ty];
     let mut last = first;
     for _i in 0..count {
-        let tooth = new_op(ctx, 1, &types, &[], &[], 0)?;
-        op_at_front(ctx, tooth, block)?;
-        let operands = [last, result(ctx, tooth, 0)?];
-        let op = new_op(ctx, 1, &types, &operands, &[], 0)?;
-        op_at_front(ctx, op, block)?;
-        last = result(ctx, op, 0)?;
+        let tooth = put_in_front(ctx, ty, block, &[])?;
+        let operands = [last, tooth];
+        last = put_in_front(ctx, ty, block, &operands)?;
     }
     Ok(())
 }
