@@ -1,12 +1,12 @@
 -- What the dialect Calc calls its kinds, and what its operations say.
 use Rattle.std.specs.Prelude.{ℕ, List, Option, ◌==◌, codes, if◌then◌else◌, option_and_then}
 use Rattle.std.specs.Option.{option_map}
-use Rattle.ir_model.specs.declared.ids.ArenaIndex.{ArenaIndex}
-use Rattle.ir_model.specs.Calls.{attributes_of}
-use Rattle.ir_model.specs.ContextIds.{context_ids}
-use Rattle.ir_model.specs.Forest.{Forest, of_op}
-use Rattle.ir_model.specs.Stores.{attribute_at}
-use Rattle.ir_records.specs.Meaning.{closed}
+use Rattle.ir_base.specs.Model.declared.ids.ArenaIndex.{ArenaIndex}
+use Rattle.ir_base.specs.Model.Calls.{attributes_of}
+use Rattle.ir_base.specs.Model.ContextIds.{context_ids}
+use Rattle.ir_base.specs.Model.Forest.{Forest, of_op}
+use Rattle.ir_base.specs.Model.Stores.{attribute_at}
+use Rattle.ir_core.specs.Records.Meaning.{closed}
 use Rattle.example.specs.declared.calc.CalcAttr.{CalcAttr}
 use Rattle.example.specs.declared.calc.CalcAttr.TheVariants.{Literal}
 

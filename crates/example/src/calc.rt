@@ -6,12 +6,11 @@ ghost use Rattle.std.specs.Prelude.{◌≡◌, ◌==◌, ◌&&◌, ◌||◌, Non
 ghost use Rattle.std.proofs.Common.{rules};
 ghost use Rattle.example.specs.Calc.{op_name, type_name};
 
-use ir_base::attribute::Attribute;
-use ir_base::interfaces::PURE_OPERATION;
-use ir_base::{
-    AttrId, AttrName, CoreError, DialectName, Dialects, Identifier, OpId, OpName, TypeHandle,
-    TypeId, TypeName,
-};
+use ir_base::attribute::{AttrId, AttrName, Attribute};
+use ir_base::context::{CoreError, Dialects};
+use ir_base::identifier::Identifier;
+use ir_base::op::{DialectName, OpId, OpName, PURE_OPERATION};
+use ir_base::types::{TypeHandle, TypeId, TypeName};
 use std::alloc::Global;
 
 /// The dialect.

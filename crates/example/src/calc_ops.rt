@@ -3,19 +3,23 @@
 //! A wrapper is a handle and nothing more: it doesn't say that its operation is live, nor what that has. So each call here asks for a live operation, and what may be absent is an `Option`.
 
 ghost use Rattle.std.specs.Prelude.{◌≡◌, ◌<◌, IfOk, IfSome, length};
-ghost use Rattle.ir_model.specs.Forest.{a_value, an_op};
-ghost use Rattle.ir_model.specs.Nesting.{IsLive, IsLiveNamed, operands_of};
-ghost use Rattle.ir_records.specs.Meaning.{value_of};
+ghost use Rattle.ir_base.specs.Model.Forest.{a_value, an_op};
+ghost use Rattle.ir_base.specs.Model.Nesting.{IsLive, IsLiveNamed, operands_of};
+ghost use Rattle.ir_core.specs.Records.Meaning.{value_of};
 ghost use Rattle.example.specs.Calc.{number_of};
-ghost use Rattle.ir_view.specs.Calls.{StayLive};
-ghost use Rattle.ir_view.specs.State.{forest_of, types_of};
+ghost use Rattle.ir_core.specs.Context.Calls.{StayLive};
+ghost use Rattle.ir_core.specs.Context.State.{forest_of, types_of};
 
 use crate::calc::{Calc, CalcType, Literal};
-use ir_base::{CoreError, Identifier, Ptr, TypeHandle};
-use ir_view::{
-    Context, NewOperation, Op, Operation, OperationKind, OperationPtr, OperationPtrMut, Value,
-    ValueEdits,
-};
+use ir_base::context::{CoreError, Ptr};
+use ir_base::identifier::Identifier;
+use ir_base::types::TypeHandle;
+use ir_core::context::Context;
+use ir_core::operation::{Operation, OperationPtrMut};
+use ir_core::prelude::*;
+use ir_core::value::Value;
+use ir_view::op::Op;
+use ir_view::prelude::*;
 
 /// The operation `calc.constant`: its attribute `value` says which number its one result is.
 #[derive(Drop)]

@@ -7,15 +7,18 @@ mod calc;
 mod calc_ops;
 
 ghost use Rattle.std.specs.Prelude.{IfOk};
-ghost use Rattle.ir_model.specs.Forest.{a_value};
-ghost use Rattle.ir_model.specs.Nesting.{IsLiveNamed};
-ghost use Rattle.ir_records.specs.Meaning.{value_of};
-ghost use Rattle.ir_view.specs.State.{forest_of};
+ghost use Rattle.ir_base.specs.Model.Forest.{a_value};
+ghost use Rattle.ir_base.specs.Model.Nesting.{IsLiveNamed};
+ghost use Rattle.ir_core.specs.Records.Meaning.{value_of};
+ghost use Rattle.ir_core.specs.Context.State.{forest_of};
 
 pub use calc::{Calc, CalcAttr, CalcType, Literal};
 pub use calc_ops::{Constant, Less};
-use ir_base::{CoreError, Dialects};
-use ir_view::{Context, NewOperation, Operation, OperationPtr, Value};
+use ir_base::context::{CoreError, Dialects};
+use ir_core::context::Context;
+use ir_core::operation::Operation;
+use ir_core::prelude::*;
+use ir_core::value::Value;
 
 /// Makes an operation with one result of the type with this key, and behind it a chain of so many operations, each of which uses the result of the one before. Answers the last result, which is live.
 ///

@@ -9,8 +9,8 @@ use Rattle.ir_model.specs.Edits.{Unused}
 use Rattle.ir_model.specs.Forest.{BlockRecord, Definer, Definition, Dialect, Forest, OpRecord, Value, a_value, of_block, of_op}
 use Rattle.ir_model.specs.Nesting.{definitions_of, list_of, numbers_of}
 use Rattle.ir_model.specs.Uses.{IsUse, Use}
-use Rattle.ir_walk.specs.Definitions.{UnusedAt}
-use Rattle.ir_walk.specs.Named.{unused-value}
+use Rattle.ir_core_queries.specs.Definitions.{UnusedAt}
+use Rattle.ir_core_queries.specs.Named.{unused-value}
 
 module _ {W : Dialect} (f : Forest context_ids W) (i : ArenaIndex) where
   abbrev number_in : Definition context_ids W → ℕ

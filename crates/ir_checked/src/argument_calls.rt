@@ -1,8 +1,8 @@
 //! Arguments put in and taken out, one at a time.
 
 use crate::error::CheckedErr;
-use ir_base::{Dialects, Ptr, TypeHandle};
-use ir_values::{ArgumentEdits, BasicBlock, BlockPtr, Context, TypeQueries, ValueQueries};
+use ir_base_dialects::{Dialects, Ptr, TypeHandle};
+use ir_core_queries::{ArgumentEdits, BasicBlock, BlockPtr, Context, TypeQueries, ValueQueries};
 
 /// Puts an argument of the type behind the others, and answers its index.
 ///

@@ -1,9 +1,10 @@
 //! Blocks put into the lists of regions, and taken out.
 
 use crate::error::CheckedErr;
-use ir_base::{Dialects, Ptr};
-use ir_values::{BasicBlock, BlockList, BlockPtr, Context, Region, RegionPtr};
-use ir_walk::{BlockPlace, Entity, is_inside};
+use ir_base_dialects::{Dialects, Ptr};
+use ir_core_queries::{
+    BasicBlock, BlockList, BlockPlace, BlockPtr, Context, Entity, Region, RegionPtr, is_inside,
+};
 
 /// Puts the block at the front of the region.
 ///

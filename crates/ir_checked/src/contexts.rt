@@ -1,8 +1,8 @@
 //! Contexts, made and let go, and their types.
 
 use crate::error::CheckedErr;
-use ir_base::{Dialects, Limits, TypeHandle};
-use ir_values::Context;
+use ir_base_dialects::{Dialects, Limits, TypeHandle};
+use ir_core_queries::Context;
 use std::alloc::Global;
 
 /// A new context with these limits.

@@ -1,12 +1,11 @@
 //! Uses dropped, and operations, blocks and regions erased with all that stands inside them.
 
 use crate::error::CheckedErr;
-use ir_base::{Dialects, Ptr};
-use ir_values::{
-    BasicBlock, BlockPtr, Context, DropUses, Erase, EraseRegion, Operation, OperationPtr, Region,
-    RegionPtr,
+use ir_base_dialects::{Dialects, Ptr};
+use ir_core_queries::{
+    BasicBlock, BlockPtr, Context, DropUses, Entity, Erase, EraseRegion, Operation, OperationPtr,
+    Region, RegionPtr,
 };
-use ir_walk::Entity;
 
 /// Takes the operands and successors of all operations inside the operation out, also its own.
 ///
@@ -63,19 +62,19 @@ pub fn can_erase<D: Dialects>(ctx: &Context<D>, entity: Entity<D>) -> Result<boo
             if !op.is_live(ctx) {
                 return Err(CheckedErr::Condition);
             }
-            Ok(ir_walk::can_erase(ctx, Entity::Op(op)))
+            Ok(ir_core_queries::can_erase(ctx, Entity::Op(op)))
         }
         Entity::Block(block) => {
             if !block.is_live(ctx) {
                 return Err(CheckedErr::Condition);
             }
-            Ok(ir_walk::can_erase(ctx, Entity::Block(block)))
+            Ok(ir_core_queries::can_erase(ctx, Entity::Block(block)))
         }
         Entity::Region(region) => {
             if !region.is_live(ctx) {
                 return Err(CheckedErr::Condition);
             }
-            Ok(ir_walk::can_erase(ctx, Entity::Region(region)))
+            Ok(ir_core_queries::can_erase(ctx, Entity::Region(region)))
         }
     }
 }
@@ -88,7 +87,7 @@ pub fn erase_op<D: Dialects>(
     ctx: &mut Context<D>,
     op: Ptr<Operation<D>>,
 ) -> Result<(), CheckedErr> {
-    if !op.is_live(ctx) || !ir_walk::can_erase(ctx, Entity::Op(op)) {
+    if !op.is_live(ctx) || !ir_core_queries::can_erase(ctx, Entity::Op(op)) {
         return Err(CheckedErr::Condition);
     }
     op.erase(ctx);
@@ -103,7 +102,7 @@ pub fn erase_block<D: Dialects>(
     ctx: &mut Context<D>,
     block: Ptr<BasicBlock<D>>,
 ) -> Result<(), CheckedErr> {
-    if !block.is_live(ctx) || !ir_walk::can_erase(ctx, Entity::Block(block)) {
+    if !block.is_live(ctx) || !ir_core_queries::can_erase(ctx, Entity::Block(block)) {
         return Err(CheckedErr::Condition);
     }
     block.erase(ctx);
@@ -126,7 +125,7 @@ pub fn erase_region<D: Dialects>(
         return Err(CheckedErr::Condition);
     }
     let region = record.get_region(index);
-    if !ir_walk::can_erase(ctx, Entity::Region(region)) {
+    if !ir_core_queries::can_erase(ctx, Entity::Region(region)) {
         return Err(CheckedErr::Condition);
     }
     op.erase_region(ctx, index);

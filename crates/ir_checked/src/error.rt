@@ -1,6 +1,6 @@
 //! Why a call isn't made.
 
-use ir_base::CoreError;
+use ir_base_dialects::CoreError;
 use thiserror::Error;
 
 /// Why a call isn't made. Nothing has changed then that the call itself would not leave changed.

@@ -1,6 +1,6 @@
 //! The calls of a context for those who prove nothing: each function tests the condition of one call by the public tests, and then makes the call, or answers that the condition doesn't hold.
 //!
-//! These functions promise no more than safety: none has a condition, and none says what it does. The contracts stand at the calls themselves, under the same names or nearly so. Each test is made once. It gives out what the crate below tells of a context, so that a caller names this one and `ir_base`.
+//! These functions promise no more than safety: none has a condition, and none says what it does. The contracts stand at the calls themselves, under the same names or nearly so. Each test is made once. It gives out what the crate below tells of a context, so that a caller names this one and `ir_base_dialects`.
 #![tactic(auto)]
 
 mod argument_calls;
@@ -26,11 +26,10 @@ pub use erase_calls::{
     can_erase, drop_block_uses, drop_op_uses, drop_region_uses, erase_block, erase_op, erase_region,
 };
 pub use error::CheckedErr;
-pub use ir_values::{
-    BasicBlock, BlockPtr, Context, Operation, OperationPtr, Region, RegionPtr, TypeQueries, Use,
-    UseQueries, Value, ValueQueries,
+pub use ir_core_queries::{
+    BasicBlock, BlockPlace, BlockPtr, Context, Entity, Operation, OperationPlace, OperationPtr,
+    Region, RegionPlace, RegionPtr, TypeQueries, Use, UseQueries, Value, ValueQueries, is_inside,
 };
-pub use ir_walk::{BlockPlace, Entity, OperationPlace, RegionPlace, is_inside};
 pub use new_calls::{add_region, new_block, new_op};
 pub use operand_calls::{
     insert_operand, pop_operand, push_operand, remove_operand, replace_operand,

@@ -3,12 +3,12 @@
 ghost use Rattle.std.specs.Prelude.{◌<◌, All, IsTrue, length};
 ghost use Rattle.ir_model.specs.Forest.{a_block, a_value};
 ghost use Rattle.ir_model.specs.Nesting.{IsLive, IsLiveNamed};
-ghost use Rattle.ir_records.specs.Meaning.{value_of};
-ghost use Rattle.ir_walk.specs.State.{forest_of, types_of};
+ghost use Rattle.ir_core_records.specs.Meaning.{value_of};
+ghost use Rattle.ir_core_queries.specs.State.{forest_of, types_of};
 
 use crate::error::CheckedErr;
-use ir_base::{Dialects, Identifier, Ptr, TypeHandle};
-use ir_values::{
+use ir_base_dialects::{Dialects, Identifier, Ptr, TypeHandle};
+use ir_core_queries::{
     AddRegion, BasicBlock, BlockPtr, Context, NewBlock, NewOperation, Operation, OperationPtr,
     Region, TypeQueries, Value, ValueQueries,
 };

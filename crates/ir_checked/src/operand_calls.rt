@@ -1,8 +1,8 @@
 //! Operands put in, taken out and put in the place of others, one at a time.
 
 use crate::error::CheckedErr;
-use ir_base::{Dialects, Ptr};
-use ir_values::{Context, OperandEdits, Operation, OperationPtr, Value, ValueQueries};
+use ir_base_dialects::{Dialects, Ptr};
+use ir_core_queries::{Context, OperandEdits, Operation, OperationPtr, Value, ValueQueries};
 
 /// Puts an operand that names the value behind the others, and answers its index.
 ///

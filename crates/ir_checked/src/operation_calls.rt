@@ -1,9 +1,11 @@
 //! Operations put into the lists of blocks, and taken out.
 
 use crate::error::CheckedErr;
-use ir_base::{Dialects, Ptr};
-use ir_values::{BasicBlock, BlockPtr, Context, Operation, OperationList, OperationPtr};
-use ir_walk::{Entity, OperationPlace, is_inside};
+use ir_base_dialects::{Dialects, Ptr};
+use ir_core_queries::{
+    BasicBlock, BlockPtr, Context, Entity, Operation, OperationList, OperationPlace, OperationPtr,
+    is_inside,
+};
 
 /// Puts the operation at the front of the block.
 ///

@@ -1,8 +1,8 @@
 //! The parts of operations and blocks by their indices.
 
 use crate::error::CheckedErr;
-use ir_base::{Dialects, Ptr};
-use ir_values::{BasicBlock, BlockPtr, Context, Operation, OperationPtr, Region, Value};
+use ir_base_dialects::{Dialects, Ptr};
+use ir_core_queries::{BasicBlock, BlockPtr, Context, Operation, OperationPtr, Region, Value};
 
 /// The result at the index.
 ///

@@ -1,9 +1,11 @@
 //! Where operations and blocks stand: the ends of lists, what comes next, and the block above.
 
 use crate::error::CheckedErr;
-use ir_base::{Dialects, Ptr};
-use ir_values::{BasicBlock, BlockPtr, Context, Operation, OperationPtr, Region, RegionPtr};
-use ir_walk::{BlockPlace, OperationPlace, RegionPlace};
+use ir_base_dialects::{Dialects, Ptr};
+use ir_core_queries::{
+    BasicBlock, BlockPlace, BlockPtr, Context, Operation, OperationPlace, OperationPtr, Region,
+    RegionPlace, RegionPtr,
+};
 
 /// The first operation of the block, if it has one.
 ///

@@ -1,12 +1,11 @@
 //! Lists joined to others, and regions that go to other operations.
 
 use crate::error::CheckedErr;
-use ir_base::{Dialects, Ptr};
-use ir_values::{
-    BasicBlock, BlockContainer, BlockPtr, Context, Operation, OperationContainer, OperationPtr,
-    Region, RegionMoves, RegionPtr,
+use ir_base_dialects::{Dialects, Ptr};
+use ir_core_queries::{
+    BasicBlock, BlockContainer, BlockPtr, Context, Entity, Operation, OperationContainer,
+    OperationPtr, Region, RegionMoves, RegionPtr, is_inside,
 };
-use ir_walk::{Entity, is_inside};
 
 /// Moves all operations of the donor behind those of the donee.
 ///

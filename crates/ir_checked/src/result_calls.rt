@@ -1,8 +1,8 @@
 //! Results put in and taken out, one at a time.
 
 use crate::error::CheckedErr;
-use ir_base::{Dialects, Ptr, TypeHandle};
-use ir_values::{Context, Operation, OperationPtr, ResultEdits, TypeQueries, ValueQueries};
+use ir_base_dialects::{Dialects, Ptr, TypeHandle};
+use ir_core_queries::{Context, Operation, OperationPtr, ResultEdits, TypeQueries, ValueQueries};
 
 /// Puts a result of the type behind the others, and answers its index.
 ///

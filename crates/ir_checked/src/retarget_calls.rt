@@ -1,9 +1,8 @@
 //! Successors that come to name other blocks.
 
 use crate::error::CheckedErr;
-use ir_base::{Dialects, Ptr};
-use ir_values::{BasicBlock, BlockPtr, BlockUseQueries, Context, Retarget, Use};
-use ir_walk::BlockPlace;
+use ir_base_dialects::{Dialects, Ptr};
+use ir_core_queries::{BasicBlock, BlockPlace, BlockPtr, BlockUseQueries, Context, Retarget, Use};
 
 /// Lets each successor that names the one block name the other.
 ///

@@ -1,8 +1,8 @@
 //! Successors put in, taken out and put in the place of others, one at a time.
 
 use crate::error::CheckedErr;
-use ir_base::{Dialects, Ptr};
-use ir_values::{BasicBlock, BlockPtr, Context, Operation, OperationPtr, SuccessorEdits};
+use ir_base_dialects::{Dialects, Ptr};
+use ir_core_queries::{BasicBlock, BlockPtr, Context, Operation, OperationPtr, SuccessorEdits};
 
 /// Puts a successor that names the block behind the others, and answers its index.
 ///

@@ -1,8 +1,8 @@
 //! Values: how many uses they have, their types, and uses that come to name other values.
 
 use crate::error::CheckedErr;
-use ir_base::{Dialects, TypeHandle};
-use ir_values::{Context, TypeQueries, Use, UseQueries, Value, ValueEdits, ValueQueries};
+use ir_base_dialects::{Dialects, TypeHandle};
+use ir_core_queries::{Context, TypeQueries, Use, UseQueries, Value, ValueEdits, ValueQueries};
 
 /// How many uses the value has.
 ///

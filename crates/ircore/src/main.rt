@@ -1,7 +1,7 @@
 //! The program `ircore`: it reads a script from standard input and carries it out over the dialect Toy. It looks at no arguments.
 #![tactic(auto)]
 
-use ir_script::run_script;
+use ir_run::ircore::run_script;
 use std::process::ExitCode;
 
 fn main(rt: HostRuntime) -> ExitCode {

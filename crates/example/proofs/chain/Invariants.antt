@@ -1,8 +1,8 @@
 use Rattle.std.proofs.Common.{◌<◌, length}
-use Rattle.ir_model.specs.Forest.{a_value}
-use Rattle.ir_model.specs.Nesting.{IsLiveNamed}
-use Rattle.ir_records.specs.Meaning.{value_of}
-use Rattle.ir_view.specs.State.{forest_of, types_of}
+use Rattle.ir_base.specs.Model.Forest.{a_value}
+use Rattle.ir_base.specs.Model.Nesting.{IsLiveNamed}
+use Rattle.ir_core.specs.Records.Meaning.{value_of}
+use Rattle.ir_core.specs.Context.State.{forest_of, types_of}
 use Rattle.example.proofs.chain.Given as goal
 
 -- the type is known, and the last result is live

@@ -1,9 +1,9 @@
 use Rattle.std.proofs.Common.{◌∙◌, ap}
 use Rattle.ir_model.specs.Forest.{of_block}
 use Rattle.ir_model.specs.Nesting.{ops_of}
-use Rattle.ir_records.specs.Meaning.{block_record, definer_of, value_of}
-use Rattle.ir_walk.specs.Definitions.{last_place}
-use Rattle.ir_walk.specs.State.{forest_of}
+use Rattle.ir_core_records.specs.Meaning.{block_record, definer_of, value_of}
+use Rattle.ir_core_queries.specs.Definitions.{last_place}
+use Rattle.ir_core_queries.specs.State.{forest_of}
 use Rattle.ir_checked.proofs.Placing.{clash}
 use Rattle.ir_checked.proofs.Unused.{last_argument, unused_there}
 use Rattle.ir_checked.proofs.argument_calls.pop_argument.Goals as goal

@@ -1,8 +1,8 @@
 use Rattle.std.proofs.Common.{◌∙◌, ap}
 use Rattle.ir_model.specs.Forest.{of_block}
 use Rattle.ir_model.specs.Nesting.{ops_of}
-use Rattle.ir_records.specs.Meaning.{block_record, definer_of, value_of}
-use Rattle.ir_walk.specs.State.{forest_of}
+use Rattle.ir_core_records.specs.Meaning.{block_record, definer_of, value_of}
+use Rattle.ir_core_queries.specs.State.{forest_of}
 use Rattle.ir_checked.proofs.Placing.{clash}
 use Rattle.ir_checked.proofs.Unused.{argument_number, unused_there}
 use Rattle.ir_checked.proofs.argument_calls.remove_argument.Goals as goal

@@ -1,5 +1,5 @@
 use Rattle.ir_model.specs.Forest.{a_region}
-use Rattle.ir_walk.specs.State.{forest_of}
+use Rattle.ir_core_queries.specs.State.{forest_of}
 use Rattle.ir_checked.proofs.Placing.{clash, may_join}
 use Rattle.ir_checked.proofs.region_calls.append_blocks.Goals as goal
 

@@ -1,8 +1,8 @@
 use Rattle.std.proofs.Common.{◌∙◌, ap}
 use Rattle.ir_model.specs.Forest.{of_op}
-use Rattle.ir_records.specs.Meaning.{definer_of, op_record, value_of}
-use Rattle.ir_walk.specs.Definitions.{last_place}
-use Rattle.ir_walk.specs.State.{forest_of}
+use Rattle.ir_core_records.specs.Meaning.{definer_of, op_record, value_of}
+use Rattle.ir_core_queries.specs.Definitions.{last_place}
+use Rattle.ir_core_queries.specs.State.{forest_of}
 use Rattle.ir_checked.proofs.Placing.{clash}
 use Rattle.ir_checked.proofs.Unused.{last_result, unused_there}
 use Rattle.ir_checked.proofs.result_calls.pop_result.Goals as goal

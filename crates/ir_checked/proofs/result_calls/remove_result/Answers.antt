@@ -1,7 +1,7 @@
 use Rattle.std.proofs.Common.{◌∙◌, ap}
 use Rattle.ir_model.specs.Forest.{of_op}
-use Rattle.ir_records.specs.Meaning.{definer_of, op_record, value_of}
-use Rattle.ir_walk.specs.State.{forest_of}
+use Rattle.ir_core_records.specs.Meaning.{definer_of, op_record, value_of}
+use Rattle.ir_core_queries.specs.State.{forest_of}
 use Rattle.ir_checked.proofs.Placing.{clash}
 use Rattle.ir_checked.proofs.Unused.{result_number, unused_there}
 use Rattle.ir_checked.proofs.result_calls.remove_result.Goals as goal

@@ -1,4 +1,4 @@
-use Rattle.ir_model.specs.Forest.{an_op}
+use Rattle.ir_base.specs.Model.Forest.{an_op}
 use Rattle.example.proofs.calc_ops.Less.compare.Goals as goal
 
 -- a name leaves the operation live

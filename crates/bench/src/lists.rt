@@ -1,0 +1,211 @@
+//! Operations that are moved between blocks, and blocks between regions.
+
+use crate::building::{add_block, add_marked};
+use crate::outcome::{block_sum, run_to};
+use crate::random::Random;
+use bench_clock::{Run, mix, nanos_now, nanos_of};
+use ir_base::context::{Dialects, Ptr};
+use ir_base::types::TypeHandle;
+use ir_checked::{
+    BasicBlock, BlockPtr, CheckedErr, Context, Operation, Region, RegionPlace, RegionPtr, Value,
+    argument, block_at_back, block_head, new_block, new_op, op_at_back, op_before, region,
+    region_head, unlink_block, unlink_op,
+};
+use std::time::CpuClock;
+
+// Takes so many operations from the front of a block and puts each at the back of another.
+#[inline(never)]
+fn timed_front_to_back<D: Dialects>(
+    ctx: &mut Context<D>,
+    from: Ptr<BasicBlock<D>>,
+    to: Ptr<BasicBlock<D>>,
+    count: usize,
+) -> Result<(), CheckedErr> {
+    for _i in 0..count {
+        let Some(op) = block_head(ctx, from)? else {
+            return Err(CheckedErr::Condition);
+        };
+        unlink_op(ctx, op)?;
+        op_at_back(ctx, op, to)?;
+    }
+    Ok(())
+}
+
+// Makes two unlinked blocks, the first with an argument of a type, and answers them and it.
+fn two_blocks<D: Dialects>(
+    ctx: &mut Context<D>,
+    ty: TypeHandle,
+) -> Result<(Ptr<BasicBlock<D>>, Ptr<BasicBlock<D>>, Value<D>), CheckedErr> {
+    let first = new_block(ctx, None, &[ty])?;
+    let second = new_block(ctx, None, &[])?;
+    let value = argument(ctx, first, 0)?;
+    Ok((first, second, value))
+}
+
+/// N operations one by one from the front of one block to the back of another. Their making isn't timed.
+pub(crate) fn front_to_back<C: CpuClock, D: Dialects>(
+    rt: &C,
+    ctx: &mut Context<D>,
+    ty: TypeHandle,
+    count: usize,
+) -> Run {
+    let (from, to, value) = two_blocks(ctx, ty)?;
+    let _made = add_marked(ctx, from, from, value, count)?;
+    let nanos = nanos_of(rt, nanos_now(rt), timed_front_to_back(ctx, from, to, count));
+    run_to(nanos, count, block_sum(ctx, to))
+}
+
+// A random place of so many, and another one where there are two.
+fn two_places(random: &mut Random, count: usize) -> (usize, usize) {
+    let one = random.below(count);
+    let mut other = random.below(count);
+    if one == other {
+        let next = other.wrapping_add(1);
+        other = if next == count { 0 } else { next };
+    }
+    (one, other)
+}
+
+// The operation at a place.
+fn op_at<D: Dialects>(
+    ops: &[Ptr<Operation<D>>],
+    place: usize,
+) -> Result<Ptr<Operation<D>>, CheckedErr> {
+    match ops.get(place) {
+        Some(op) => Ok(*op),
+        None => Err(CheckedErr::Condition),
+    }
+}
+
+// Puts the operation at a place before the one at another place.
+fn put_before<D: Dialects>(
+    ctx: &mut Context<D>,
+    ops: &[Ptr<Operation<D>>],
+    place: usize,
+    marked: usize,
+) -> Result<(), CheckedErr> {
+    let op = op_at(ops, place)?;
+    let mark = op_at(ops, marked)?;
+    unlink_op(ctx, op)?;
+    op_before(ctx, op, mark)
+}
+
+// Puts a random operation before another random one, as often as there are operations.
+#[inline(never)]
+fn timed_random_moves<D: Dialects>(
+    ctx: &mut Context<D>,
+    ops: &[Ptr<Operation<D>>],
+    random: &mut Random,
+) -> Result<(), CheckedErr> {
+    let count = ops.len();
+    for _i in 0..count {
+        let (one, other) = two_places(random, count);
+        if one != other {
+            put_before(ctx, ops, one, other)?;
+        }
+    }
+    Ok(())
+}
+
+// The sums of two blocks, in one number.
+fn both_sums<D: Dialects>(
+    ctx: &Context<D>,
+    first: Ptr<BasicBlock<D>>,
+    second: Ptr<BasicBlock<D>>,
+) -> Result<u64, CheckedErr> {
+    let sum = block_sum(ctx, first)?;
+    Ok(mix(sum, block_sum(ctx, second)?))
+}
+
+/// Over two blocks of N operations together, a random operation before a random one, N times. Their making isn't timed.
+pub(crate) fn random_moves<C: CpuClock, D: Dialects>(
+    rt: &C,
+    ctx: &mut Context<D>,
+    ty: TypeHandle,
+    count: usize,
+) -> Run {
+    let (even, odd, value) = two_blocks(ctx, ty)?;
+    let made = add_marked(ctx, even, odd, value, count)?;
+    let mut random = Random::new();
+    let nanos = nanos_of(
+        rt,
+        nanos_now(rt),
+        timed_random_moves(ctx, made.as_slice(), &mut random),
+    );
+    run_to(nanos, count, both_sums(ctx, even, odd))
+}
+
+// Takes so many blocks from the front of a region and puts each at the back of another.
+#[inline(never)]
+fn timed_blocks<D: Dialects>(
+    ctx: &mut Context<D>,
+    from: Ptr<Region>,
+    to: Ptr<Region>,
+    count: usize,
+) -> Result<(), CheckedErr> {
+    for _i in 0..count {
+        let Some(block) = region_head(ctx, from)? else {
+            return Err(CheckedErr::Condition);
+        };
+        unlink_block(ctx, block)?;
+        block_at_back(ctx, block, to)?;
+    }
+    Ok(())
+}
+
+// How many arguments a block has where it is live, and else 0.
+fn argument_count<D: Dialects>(ctx: &Context<D>, block: Ptr<BasicBlock<D>>) -> usize {
+    match block.try_deref(ctx) {
+        Ok(block) => block.get_num_arguments(),
+        Err(_) => 0,
+    }
+}
+
+// How many arguments each block of a region has.
+fn arguments_sum<D: Dialects>(ctx: &Context<D>, region: Ptr<Region>) -> Result<u64, CheckedErr> {
+    if !region.is_live(ctx) {
+        return Err(CheckedErr::Condition);
+    }
+    let mut sum = 0;
+    for block in region.iter(ctx) {
+        sum = mix(sum, argument_count(ctx, block) as u64);
+    }
+    Ok(sum)
+}
+
+// Puts so many blocks into a region, in turn with no, one and two arguments.
+fn add_blocks<D: Dialects>(
+    ctx: &mut Context<D>,
+    region: Ptr<Region>,
+    ty: TypeHandle,
+    count: usize,
+) -> Result<(), CheckedErr> {
+    let types = [ty, ty];
+    for i in 0..count {
+        add_block(ctx, region, &types[..i % 3])?;
+    }
+    Ok(())
+}
+
+// Makes an operation with two regions, and answers these.
+fn two_regions<D: Dialects>(
+    ctx: &mut Context<D>,
+) -> Result<(Ptr<Region>, Ptr<Region>), CheckedErr> {
+    let module = new_op(ctx, 5, &[], &[], &[], 2)?;
+    let first = region(ctx, module, 0)?;
+    let second = region(ctx, module, 1)?;
+    Ok((first, second))
+}
+
+/// N blocks one by one from the front of one region to the back of another. Their making isn't timed.
+pub(crate) fn blocks<C: CpuClock, D: Dialects>(
+    rt: &C,
+    ctx: &mut Context<D>,
+    ty: TypeHandle,
+    count: usize,
+) -> Run {
+    let (from, to) = two_regions(ctx)?;
+    add_blocks(ctx, from, ty, count)?;
+    let nanos = nanos_of(rt, nanos_now(rt), timed_blocks(ctx, from, to, count));
+    run_to(nanos, count, arguments_sum(ctx, to))
+}

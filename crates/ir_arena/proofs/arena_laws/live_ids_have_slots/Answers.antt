@@ -1,8 +1,0 @@
-use Rattle.ir_model.proofs.Arenas.{live-numbered, live-unique}
-use Rattle.ir_arena.proofs.arena_laws.live_ids_have_slots.Goals as goal
-
-pub returns : goal.returns
-returns g c = record {
-  numbered = live-numbered;
-  one = live-unique;
-}

@@ -1,5 +1,0 @@
-use Rattle.ir_arena.proofs.ListLaws.{SameBut-read}
-use Rattle.ir_arena.proofs.list_laws.edits_keep_fields.Goals as goal
-
-pub returns : goal.returns
-returns g c clear field old new reads same id = SameBut-read clear field old new reads same id

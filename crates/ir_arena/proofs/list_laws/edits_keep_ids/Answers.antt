@@ -1,5 +1,0 @@
-use Rattle.ir_arena.proofs.ListLaws.{SameIds-from}
-use Rattle.ir_arena.proofs.list_laws.edits_keep_ids.Goals as goal
-
-pub returns : goal.returns
-returns g c clear old new same = SameIds-from clear old new same

@@ -1,8 +1,0 @@
--- What a `Seq` ends as, where a `&mut` to one of its items is returned.
-use Rattle.std.specs.Prelude.{ℕ, List, slice_set}
-use Rattle.std.specs.Borrow.{Lends, Fml, RattleType, MutBor}
-use Rattle.ir_arena.specs.contracts.seq.Seq.{the_row}
-
--- once the borrow r ends, the item at i is the last value written through r
-abbrev pub lends_item : (T : RattleType) → MutBor (List T.Denot) → ℕ → MutBor T.Denot → Fml
-lends_item T s i r = Lends (the_row T) T s r (slice_set s.now i)

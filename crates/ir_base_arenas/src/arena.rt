@@ -1,0 +1,306 @@
+//! Arenas: storage for records under ids that are never given out twice.
+//!
+//! A slot keeps the version that it handed out last. A slot whose record was removed is handed out again under the version two above, the slot freed last first, unless that is past the last version: then the slot stays empty for good. Free slots are chained through themselves, so that a removal takes no memory, and an insertion takes memory only where no free slot is left.
+
+ghost use Rattle.std.specs.Prelude.{◌≡◌, ◌⊎◌, ◌+◌, ◌<◌, ◌≤◌, ◌==◌, ◌↔◌, IsTrue, IfOk, IfErr, IfNone, OnErr, OnSome, OnOk, if◌then◌else◌, is_some, None, Err, option_copied, nat_le};
+ghost use Rattle.std.specs.Option.{option_copied_mut};
+ghost use Rattle.std.specs.Borrow.{LendsIf, sem};
+ghost use Rattle.ir_model.specs.Slots.{item_under};
+ghost use Rattle.ir_base_arenas.specs.declared.ptr.Ptr.{Ptr as Handle};
+ghost use Rattle.ir_base_arenas.specs.Arena.{empty, get, IsLive, IsWhole, IsNew, cut, miss, room, unused, arena_len, Inserts};
+
+use crate::tally::Tally;
+use crate::{ArenaIndex, CoreError, Ptr};
+use std::alloc::Global;
+use std::marker::Model;
+use std::mem::{replace, size_of};
+
+/// A slot: the version that was handed out last, with its record, or with the number of the free slot after it.
+#[derive(Drop)]
+pub enum Slot<T> {
+    /// A slot with a record.
+    Full { version: u32, item: T },
+    /// An empty slot.
+    Free { version: u32, next: u32 },
+}
+
+// A slot takes 8 bytes more than its record.
+const _: () = prove!(size_of::<Slot<[u64; 4]>>() == size_of::<[u64; 4]>() + 8);
+
+const _: () = prove!(size_of::<Slot<[u32; 3]>>() == size_of::<[u32; 3]>() + 8);
+
+impl<T> Slot<T> {
+    ghost use Rattle.ir_base_arenas.specs.contracts.arena.Slot.{the_row};
+    ghost use Rattle.ir_base_arenas.specs.ArenaSound.{shown, next_in, with_item};
+
+    // The version that was handed out last.
+    fn version(&self) -> u32
+        ensures { result ≡ (shown self.now).version }
+    {
+        match self {
+            Slot::Full { version, .. } => *version,
+            Slot::Free { version, .. } => *version,
+        }
+    }
+
+    // The number of the free slot after this one, or 0.
+    fn next(&self) -> u32
+        ensures { result ≡ next_in self.now }
+    {
+        match self {
+            Slot::Full { .. } => 0,
+            Slot::Free { next, .. } => *next,
+        }
+    }
+
+    // The record under a version.
+    fn item(&self, under: u32) -> Option<&T>
+        ensures { option_copied result ≡ item_under (shown self.now) under }
+    {
+        match self {
+            Slot::Full { version, item } => { if *version == under { Some(item) } else { None } }
+            Slot::Free { .. } => None,
+        }
+    }
+
+    // The record under a version, for writing.
+    fn item_mut(&mut self, under: u32) -> Option<&mut T>
+        ensures* lends { sem 𝓛 (LendsIf (the_row T.row) T.row self.entry result (with_item self.old) self.old) }
+        ensures value { option_copied_mut result ≡ item_under (shown self.old) under }
+    {
+        if self.version() != under {
+            return None;
+        }
+        match self {
+            Slot::Full { item, .. } => Some(item),
+            Slot::Free { .. } => None,
+        }
+    }
+
+    // Takes the record under a version out. The slot then names the free slot after it.
+    fn vacate(&mut self, under: u32, next: u32) -> Option<T>
+        ensures value { result ≡ item_under (shown self.old) under }
+        ensures left { self.new ≡ (if is_some result then Slot.Free under next else self.old) }
+    {
+        if self.item(under).is_none() {
+            return None;
+        }
+        match replace(
+            self,
+            Slot::Free {
+                version: under,
+                next,
+            },
+        ) {
+            Slot::Full { item, .. } => Some(item),
+            Slot::Free { .. } => unreachable!(),
+        }
+    }
+}
+
+/// Records under ids that are never given out twice. It stands for the `Arena` of pliron's `context`.
+///
+/// Slots count from 1. The first id of a slot has version 1, and each later one a version two above.
+#[derive(Drop)]
+pub struct Arena<T> {
+    slots: Vec<Slot<T>>,
+    // The number of the slot that is handed out again next, or 0.
+    first_free: u32,
+    // How many slots can be handed out again.
+    free: u32,
+    // How many slots have a record.
+    len: u32,
+    limit: u32,
+    last_version: u32,
+    removals: Tally,
+}
+
+impl<T> Model for Arena<T> {
+    ghost use Rattle.std.specs.Prelude.{map};
+    ghost use Rattle.ir_base_arenas.specs.Arena.{Arena as Records, arena_code};
+
+    ghost Value = { Records T };
+
+    ghost coded = { arena_code T.code };
+
+    ghost use Rattle.ir_base_arenas.specs.ArenaSound.{shown, IsLaid};
+
+    ghost view = { λ a. record { slots = map shown a.slots.items; limit = a.limit; last_version = a.last_version; removals = a.removals.count } };
+
+    ghost invariant = { λ a. IsLaid a.slots.items a.first_free a.free a.len a.limit a.last_version };
+}
+
+// Whether a slot with this version may be handed out again.
+fn has_next(version: u32, last_version: u32) -> bool
+    ensures { result ≡ nat_le (version + 2) last_version }
+{
+    last_version >= 2 && version <= last_version - 2
+}
+
+impl<T> Arena<T> {
+    ghost use Rattle.ir_base_arenas.specs.ArenaLends.{lends_get, lends_value};
+
+    /// An empty arena of at most this many slots, in which no id has a version past `last_version`. It allocates nothing.
+    pub fn new(alloc: Global, slots: u32, last_version: u32) -> Self
+        requires slots { slots < 4294967295 }
+        requires versions { 1 ≤ last_version }
+        ensures { result ≡ empty slots last_version }
+    {
+        Arena {
+            slots: Vec::new(alloc),
+            first_free: 0,
+            free: 0,
+            len: 0,
+            limit: slots,
+            last_version,
+            removals: Tally::new(),
+        }
+    }
+
+    /// How many records are live.
+    pub fn len(&self) -> usize
+        ensures { result ≡ arena_len self.now }
+    {
+        self.len as usize
+    }
+
+    /// Whether no record is live.
+    pub fn is_empty(&self) -> bool
+        ensures { result ≡ (arena_len self.now == 0) }
+    {
+        self.len == 0
+    }
+
+    /// How many more records the arena can hold at once: the slots that were never handed out, and those that can be handed out again.
+    pub fn room(&self) -> u32
+        ensures value { result ≡ room self.now }
+        ensures whole { IsWhole self.now }
+    {
+        self.limit - self.slots.len() as u32 + self.free
+    }
+
+    /// The record under `ptr`, if it is live.
+    pub fn get(&self, ptr: Ptr<T>) -> Option<&T>
+        ensures { option_copied result ≡ get self.now ptr.index }
+    {
+        let id = ptr.index;
+        let place = (id.slot as usize).checked_sub(1)?;
+        match self.slots.get(place) {
+            Some(slot) => slot.item(id.version),
+            None => None,
+        }
+    }
+
+    /// Whether a record stands under `ptr`.
+    pub fn is_live(&self, ptr: Ptr<T>) -> bool
+        ensures { IsTrue result ↔ IsLive self.now ptr.index }
+    {
+        self.get(ptr).is_some()
+    }
+
+    /// The record under `ptr` for writing, if it is live.
+    pub fn get_mut(&mut self, ptr: Ptr<T>) -> Option<&mut T>
+        ensures* writes_back { sem 𝓛 (lends_get T.row self.entry ptr.index result) }
+        ensures value { option_copied_mut result ≡ get self.old ptr.index }
+    {
+        let id = ptr.index;
+        let place = (id.slot as usize).checked_sub(1)?;
+        let record = self.slots.get_mut(place)?.item_mut(id.version)?;
+        Some(record)
+    }
+
+    /// The record under a live `ptr`.
+    pub fn at(&self, ptr: Ptr<T>) -> &T
+        requires { IsLive self.now ptr.index }
+        ensures { get self.now ptr.index ≡ Some result.now }
+    {
+        match self.get(ptr) {
+            Some(record) => record,
+            None => unreachable!(),
+        }
+    }
+
+    /// The record under a live `ptr`, for writing.
+    pub fn at_mut(&mut self, ptr: Ptr<T>) -> &mut T
+        requires { IsLive self.old ptr.index }
+        ensures* writes_back { sem 𝓛 (lends_value T.row self.entry ptr.index result) }
+        ensures value { get self.old ptr.index ≡ Some result.now }
+    {
+        match self.get_mut(ptr) {
+            Some(record) => record,
+            None => unreachable!(),
+        }
+    }
+
+    /// Stores what `make` answers for a new handle, and answers the handle. `make` is called only where no refusal comes: a caller promises that it can be called with a new handle, and where the arena has no room, none is new.
+    ///
+    /// # Errors
+    /// `SlotsSpent` where the arena has no room, and else `OutOfMemory` where no freed slot was left, and the arena had to grow and couldn't. Then nothing has changed.
+    pub fn insert_with<F: FnOnce(Ptr<T>) -> T + Drop>(
+        &mut self,
+        make: F,
+    ) -> Result<Ptr<T>, CoreError>
+    where
+        T: Drop,
+        requires { (ptr : Handle T) → IsNew self.old ptr.index → F.pre make ptr }
+        ensures inserted { IfOk result (λ ptr. Inserts (F.post make ptr) self.old self.new ptr.index) }
+        ensures err { OnErr result (self.new ≡ self.old) }
+        ensures room { OnOk result (room self.new + 1 ≡ room self.old) }
+        ensures spent { (result ≡ Err CoreError.SlotsSpent) ↔ (room self.old ≡ 0) }
+        ensures memory { IfErr result (λ e. (e ≡ CoreError.SlotsSpent) ⊎ (e ≡ CoreError.OutOfMemory)) }
+        ensures grown { (result ≡ Err CoreError.OutOfMemory) → (room self.old ≡ unused self.old) }
+        ensures whole { IsWhole self.old }
+    {
+        if self.first_free > 0 {
+            let place = self.first_free as usize - 1;
+            let slot = &self.slots[place];
+            let version = slot.version() + 2;
+            let next = slot.next();
+            let ptr = Ptr::from_index(ArenaIndex {
+                slot: self.first_free,
+                version,
+            });
+            let item = make(ptr);
+            self.slots[place] = Slot::Full { version, item };
+            self.first_free = next;
+            self.free -= 1;
+            self.len += 1;
+            return Ok(ptr);
+        }
+        let at = self.slots.len();
+        if at == self.limit as usize {
+            return Err(CoreError::SlotsSpent);
+        }
+        if self.slots.reserve(1).is_err() {
+            return Err(CoreError::OutOfMemory);
+        }
+        let ptr = Ptr::from_index(ArenaIndex {
+            slot: at as u32 + 1,
+            version: 1,
+        });
+        let item = make(ptr);
+        self.slots.push_reserved(Slot::Full { version: 1, item });
+        self.len += 1;
+        Ok(ptr)
+    }
+
+    /// Takes the record under `ptr` out, if it is live. It takes no memory. Each call counts as a removal.
+    pub fn remove(&mut self, ptr: Ptr<T>) -> Option<T>
+        ensures value { result ≡ get self.old ptr.index }
+        ensures cut { OnSome result (self.new ≡ cut self.old ptr.index) }
+        ensures gone { get self.new ptr.index ≡ None }
+        ensures absent { IfNone result (self.new ≡ miss self.old) }
+    {
+        self.removals = self.removals.next();
+        let id = ptr.index;
+        let next = self.first_free;
+        let place = (id.slot as usize).checked_sub(1)?;
+        let item = self.slots.get_mut(place)?.vacate(id.version, next)?;
+        self.len -= 1;
+        if has_next(id.version, self.last_version) {
+            self.first_free = id.slot;
+            self.free += 1;
+        }
+        Some(item)
+    }
+}

@@ -1,0 +1,36 @@
+-- What an insertion, and a write through a loan of one attribute, leave of a dictionary.
+use Rattle.std.proofs.Common.{◌≡◌, ◌∙◌, sym, ap, refl, ℕ, Bool, true, false, cond, List, [], ◌∷◌, Option, Some, option_and_then}
+use Rattle.std.specs.Option.{option_map_or}
+use Rattle.std.specs.Map.{set_value}
+use Rattle.std.proofs.lemmas.Map.Steps.{set_value_same}
+use Rattle.indexmap.specs.IndexMap.{insert_entry}
+use Rattle.ir_model.specs.Stores.{attribute_at, set_attribute}
+use Rattle.ir_base_dialects.specs.Attributes.{same_key, with_changed}
+
+module _ {A : Type 0} (key : List ℕ) where
+  -- an insertion is `set_attribute`
+  pub insert_entry-is : (pairs : List (List ℕ × A)) (attr : A) → insert_entry same_key pairs key attr ≡ set_attribute pairs key attr
+  insert_entry-is [] attr = refl
+  insert_entry-is (p ∷ ps) attr = ap (λ qs. cond (same_key key p.0) ((p.0, attr) ∷ ps) (p ∷ qs)) (insert_entry-is ps attr)
+
+  -- a write at a key that is there is `set_attribute`
+  set_value-there : (pairs : List (List ℕ × A)) (attr new : A) → attribute_at pairs key ≡ Some attr → set_value (same_key key) pairs new ≡ set_attribute pairs key new
+  set_value-there [] attr new there = absurd (cc there)
+  set_value-there (p ∷ ps) attr new there = by (same_key key p.0) there (λ rest. set_value-there ps attr new rest)
+    where
+      by : (b : Bool) → cond b (Some p.1) (attribute_at ps key) ≡ Some attr → (attribute_at ps key ≡ Some attr → set_value (same_key key) ps new ≡ set_attribute ps key new) → cond b ((p.0, new) ∷ ps) (p ∷ set_value (same_key key) ps new) ≡ cond b ((p.0, new) ∷ ps) (p ∷ set_attribute ps key new)
+      by true _ _ = refl
+      by false found rest = ap (λ qs. p ∷ qs) (rest found)
+
+  module _ (pairs new : List (List ℕ × A)) (attr : A) (seen : Some attr ≡ attribute_at pairs key) where
+    -- a write of what a change makes of the attribute that is there is `with_changed`
+    pub written-changed : (change : A → A) → new ≡ set_value (same_key key) pairs (change attr) → new ≡ with_changed pairs key change
+    written-changed change written = written ∙ set_value-there pairs attr (change attr) (sym seen) ∙ ap (λ found. option_map_or (λ a. set_attribute pairs key (change a)) found pairs) seen
+
+    -- a write of the attribute that is there changes nothing
+    pub written-again : new ≡ set_value (same_key key) pairs attr → new ≡ pairs
+    written-again written = written ∙ set_value_same (same_key key) pairs attr (sym seen)
+
+  -- what is asked of the attribute that is there
+  pub asked-there : {B : Type 0} (pairs : List (List ℕ × A)) (attr : A) (ask : A → Option B) (answer : Option B) → Some attr ≡ attribute_at pairs key → answer ≡ ask attr → answer ≡ option_and_then ask (attribute_at pairs key)
+  asked-there pairs attr ask answer seen asked = asked ∙ ap (option_and_then ask) seen

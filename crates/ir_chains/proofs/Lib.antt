@@ -1,3 +1,0 @@
-pub mod InsertLemmas
-pub mod Releases
-pub mod ChainLoops

@@ -1,0 +1,5 @@
+pub mod InsertLemmas
+pub mod Releases
+pub mod ChainLoops
+pub mod Written
+pub mod Edits

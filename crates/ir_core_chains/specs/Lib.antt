@@ -1,0 +1,12 @@
+pub mod Besides
+pub mod Chain
+pub mod Edits
+pub mod TableLaws
+pub mod ListReads
+pub mod WrittenLists
+pub mod LinkLemmas
+pub mod ChainEdits
+pub mod Frames
+pub mod Meanings
+pub mod Definers
+pub mod Lends

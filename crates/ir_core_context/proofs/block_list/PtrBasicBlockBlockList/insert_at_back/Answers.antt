@@ -1,0 +1,28 @@
+use Rattle.std.proofs.Common.{◌∷◌, ◌++◌, [], sym}
+use Rattle.ir_model.proofs.Entries.{AddsOne-push}
+use Rattle.ir_core_context.proofs.Edited.{block-into-edited}
+use Rattle.ir_core_context.proofs.block_list.PtrBasicBlockBlockList.insert_at_back.Goals as goal
+
+pub invariant_of-ctx : goal.invariant_of-ctx
+invariant_of-ctx g c =
+    let e = c.insert_at_back.ensures in
+    let live = rw (sym c.ctx.view_is) at c.requires.live in
+    let may = rw (sym c.ctx.view_is) at c.requires.may_go in
+    (block-into-edited c.ctx.invariant e.keeps e.nested c.args.self.index c.args.container.index (λ xs. xs ++ c.args.self.index ∷ []) (AddsOne-push c.args.self.index) live may e.forest).sound
+
+pub returns-clause-forest : goal.returns-clause-forest
+returns-clause-forest g c = rw (sym c.ctx.view_is) c.insert_at_back.ensures.forest
+
+pub returns-clause-rest : goal.returns-clause-rest
+returns-clause-rest g c =
+    let e = c.insert_at_back.ensures in
+    let live = rw (sym c.ctx.view_is) at c.requires.live in
+    let may = rw (sym c.ctx.view_is) at c.requires.may_go in
+    rw (sym c.ctx.view_is) (block-into-edited c.ctx.invariant e.keeps e.nested c.args.self.index c.args.container.index (λ xs. xs ++ c.args.self.index ∷ []) (AddsOne-push c.args.self.index) live may e.forest).rest
+
+pub returns-clause-stay_live : goal.returns-clause-stay_live
+returns-clause-stay_live g c =
+    let e = c.insert_at_back.ensures in
+    let live = rw (sym c.ctx.view_is) at c.requires.live in
+    let may = rw (sym c.ctx.view_is) at c.requires.may_go in
+    rw (sym c.ctx.view_is) (block-into-edited c.ctx.invariant e.keeps e.nested c.args.self.index c.args.container.index (λ xs. xs ++ c.args.self.index ∷ []) (AddsOne-push c.args.self.index) live may e.forest).stay_live

@@ -1,0 +1,27 @@
+use Rattle.std.proofs.Common.{sym}
+use Rattle.ir_core_context.proofs.Edited.{blocks-joined-edited}
+use Rattle.ir_core_context.proofs.block_list.PtrRegionBlockContainer.append_linked_list.Goals as goal
+
+pub invariant_of-ctx : goal.invariant_of-ctx
+invariant_of-ctx g c =
+    let e = c.append.ensures in
+    let live = rw (sym c.ctx.view_is) at c.requires.donor_live in
+    let may = rw (sym c.ctx.view_is) at c.requires.may_join in
+    (blocks-joined-edited c.ctx.invariant e.keeps e.nested c.args.self.index c.args.donor.index live may e.forest).sound
+
+pub returns-clause-forest : goal.returns-clause-forest
+returns-clause-forest g c = rw (sym c.ctx.view_is) c.append.ensures.forest
+
+pub returns-clause-rest : goal.returns-clause-rest
+returns-clause-rest g c =
+    let e = c.append.ensures in
+    let live = rw (sym c.ctx.view_is) at c.requires.donor_live in
+    let may = rw (sym c.ctx.view_is) at c.requires.may_join in
+    rw (sym c.ctx.view_is) (blocks-joined-edited c.ctx.invariant e.keeps e.nested c.args.self.index c.args.donor.index live may e.forest).rest
+
+pub returns-clause-stay_live : goal.returns-clause-stay_live
+returns-clause-stay_live g c =
+    let e = c.append.ensures in
+    let live = rw (sym c.ctx.view_is) at c.requires.donor_live in
+    let may = rw (sym c.ctx.view_is) at c.requires.may_join in
+    rw (sym c.ctx.view_is) (blocks-joined-edited c.ctx.invariant e.keeps e.nested c.args.self.index c.args.donor.index live may e.forest).stay_live

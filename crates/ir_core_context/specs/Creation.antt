@@ -1,0 +1,55 @@
+-- What is made, and what a refused making leaves.
+use Rattle.std.specs.Prelude.{◌≡◌, ℕ, ◌<◌, if◌then◌else◌, List, [], ◌++◌, length, Some, None, IsSome}
+use Rattle.std.specs.List.{list_any}
+use Rattle.ir_model.specs.declared.ids.ArenaIndex.{ArenaIndex}
+use Rattle.ir_model.specs.ContextIds.{context_ids, same_id}
+use Rattle.ir_model.specs.Forest.{Dialect, Forest}
+use Rattle.ir_model.specs.Ids.{Distinct}
+use Rattle.ir_model.specs.Nesting.{In, regions_of, uses_of}
+use Rattle.ir_model.specs.Changes.{on_regions, rewrite}
+use Rattle.ir_core_records.specs.Chains.{chains_of, AreLinked}
+use Rattle.ir_core_records.specs.Growth.{Grows, SkipsIds}
+use Rattle.ir_core_records.specs.Nested.{AreNested}
+use Rattle.ir_core_records.specs.Table.{KnowOwn}
+use Rattle.ir_core_records.specs.Tree.{tree_of}
+use Rattle.ir_core_records.specs.declared.records.Records.{Records}
+
+module _ {W : Dialect} where
+  -- the forest with these empty regions, the last of the operation
+  abbrev pub with_regions : Forest context_ids W → ArenaIndex → List ArenaIndex → Forest context_ids W
+  with_regions f o rs = record f {
+    ops = rewrite same_id o (on_regions (λ xs. xs ++ rs)) f.ops;
+    regions = λ r. if list_any (λ s. same_id s r) rs then Some [] else f.regions r;
+  }
+
+  -- a live operation without regions was given so many new ones, and all else is the same
+  pub record IsGiven (f : Forest context_ids W) (o : ArenaIndex) (rs : List ArenaIndex) (count : ℕ) (g : Forest context_ids W) : Type 0 where
+    pub number : length rs ≡ count
+    pub distinct : Distinct rs
+    pub were_dead : (r : ArenaIndex) → In r rs → f.regions r ≡ None
+    pub live : IsSome (f.ops o)
+    pub bare : regions_of f o ≡ []
+    pub is : g ≡ with_regions f o rs
+
+module _ {D A K B S X L : Type 0} where
+  -- uses and places name each other, links are those of lists, and records know their places
+  pub record HoldTogether (t : Records D A K B S X L) : Type 0 where
+    pub linked : AreLinked (chains_of t)
+    pub nested : AreNested (tree_of t)
+    pub own : KnowOwn t
+
+  -- these ids of each kind were handed out
+  pub record Extends (old new : Records D A K B S X L) (new_ops new_blocks new_regions : List ArenaIndex) : Type 0 where
+    pub ops : Grows old.ops new.ops new_ops
+    pub blocks : Grows old.blocks new.blocks new_blocks
+    pub regions : Grows old.regions new.regions new_regions
+
+  -- at most so many ids of each kind were skipped
+  pub record Skips (old new : Records D A K B S X L) (most_ops most_blocks most_regions : ℕ) : Type 0 where
+    pub ops : SkipsIds old.ops new.ops most_ops
+    pub blocks : SkipsIds old.blocks new.blocks most_blocks
+    pub regions : SkipsIds old.regions new.regions most_regions
+
+-- no place of an operation has this use number or a greater one
+pub record AreFresh {W : Dialect} (f : Forest context_ids W) (first : ℕ) : Type 0 where
+  pub below : (o : ArenaIndex) (n : ℕ) → In n (uses_of f o) → n < first

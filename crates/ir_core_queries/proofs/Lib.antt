@@ -1,0 +1,14 @@
+pub mod ValueLemmas
+pub mod FindIndex
+pub mod JoinedUses
+pub mod Above
+pub mod Live
+pub mod Listed
+pub mod Neighbours
+pub mod Handles
+pub mod Shallow
+pub mod Dominance
+pub mod Places
+pub mod BlockUsers
+pub mod Numbered
+pub mod Given

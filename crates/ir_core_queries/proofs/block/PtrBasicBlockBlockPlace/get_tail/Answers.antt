@@ -1,0 +1,12 @@
+use Rattle.std.proofs.Common.{◌∙◌}
+use Rattle.ir_model.specs.Forest.{an_op}
+use Rattle.ir_model.specs.Nesting.{IsLive}
+use Rattle.ir_core_context.specs.State.{forest_of}
+use Rattle.ir_core_queries.proofs.Handles.{live-of}
+use Rattle.ir_core_queries.proofs.block.PtrBasicBlockBlockPlace.get_tail.Goals as goal
+
+pub returns-clause-last : goal.returns-clause-last
+returns-clause-last g c = c.handle.ensures ∙ c.block.ensures.ends.last
+
+pub returns-clause-live : goal.returns-clause-live
+returns-clause-live g c = live-of (λ x. IsLive (forest_of c.args.ctx.now) (an_op x)) c.handle.result c.block.result.now.last c.handle.ensures c.block.ensures.ends.last_live

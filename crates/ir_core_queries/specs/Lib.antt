@@ -1,0 +1,11 @@
+pub mod Values
+pub mod Above
+pub mod Dominance
+pub mod Entities
+pub mod Neighbours
+pub mod Shallow
+pub use Rattle.ir_core_context.specs.State
+pub use Rattle.ir_core_context.specs.Calls
+pub use Rattle.ir_core_context.specs.Named
+pub use Rattle.ir_core_context.specs.Places
+pub use Rattle.ir_core_context.specs.Definitions

@@ -1,0 +1,135 @@
+//! What places name and the lists of uses, written anew.
+
+ghost use Rattle.std.specs.Prelude.{◌≡◌, ◌↔◌, IsTrue};
+ghost use Rattle.ir_base_arenas.specs.Arena.{IsLive};
+ghost use Rattle.ir_core_records.specs.Links.{HasPlace};
+ghost use Rattle.ir_core_records.specs.Lists.{HaveDistinctUses};
+ghost use Rattle.ir_core_replacing.specs.Renamed.{put_name, IsPlaceOf};
+
+use ir_base_dialects::{ArenaIndex, Dialects, Ptr};
+use ir_core_chains::Named;
+use ir_core_records::{
+    BlockIndex, Definer, Records, UseIndex, UsePlace, Uses, ValueIndex, find_place, find_place_near,
+};
+use std::mem;
+
+/// What a place names, where the place can come to name another.
+pub(crate) trait Renames<D: Dialects>: Named<D> {
+    // Whether both are one.
+    fn is_same(self, other: Self) -> bool
+        ensures { IsTrue result ↔ (self ≡ other) };
+
+    // The place of a use, and the index where it stands.
+    fn place_of(records: &Records<D>, used: UseIndex) -> (UsePlace<Self>, usize)
+        requires live { IsLive records.now.ops used.user }
+        requires distinct { HaveDistinctUses (Self.places_at records.now used.user) }
+        requires has { HasPlace (Self.places_at records.now) used }
+        ensures { IsPlaceOf (Self.places_at records.now) used result.0 };
+
+    // Lets the place of a use, which was near an index once, name another definition, among whose uses the use stands at `place`.
+    fn rename_place(
+        records: &mut Records<D>,
+        used: UseIndex,
+        near: usize,
+        names: Self,
+        place: usize,
+    )
+        requires live { IsLive records.old.ops used.user }
+        requires distinct { HaveDistinctUses (Self.places_at records.old used.user) }
+        requires has { HasPlace (Self.places_at records.old) used }
+        ensures { records.new ≡ Self.with_places records.old used.user (put_name (Self.places_at records.old used.user) used.number names place) };
+
+    // Keeps these uses of what is live in place of those that were kept, and gives those back.
+    fn replace_uses(records: &mut Records<D>, named: Self, uses: Uses) -> Uses
+        requires { Self.IsNamed records.old named }
+        ensures records { records.new ≡ Self.with_uses records.old named uses }
+        ensures kept { result ≡ Self.uses_at records.old named };
+}
+
+impl<D: Dialects> Renames<D> for ValueIndex {
+    fn is_same(self, other: ValueIndex) -> bool {
+        self == other
+    }
+
+    fn place_of(records: &Records<D>, used: UseIndex) -> (UsePlace<ValueIndex>, usize) {
+        let operands = &records.ops.at(Ptr::from_index(used.user)).operands;
+        match find_place(operands.as_slice(), used.number) {
+            Some(found) => (*operands.at(found), found),
+            None => unreachable!(),
+        }
+    }
+
+    fn rename_place(
+        records: &mut Records<D>,
+        used: UseIndex,
+        near: usize,
+        names: ValueIndex,
+        place: usize,
+    ) {
+        let operands = &mut records.ops.at_mut(Ptr::from_index(used.user)).operands;
+        let number = used.number;
+        match find_place_near(operands.as_slice(), number, near) {
+            Some(found) => {
+                *operands.at_mut(found) = UsePlace {
+                    number,
+                    names,
+                    place,
+                };
+            }
+            None => unreachable!(),
+        }
+    }
+
+    fn replace_uses(records: &mut Records<D>, named: ValueIndex, uses: Uses) -> Uses {
+        match named.definer {
+            Definer::Op(op) => {
+                let operation = records.ops.at_mut(Ptr::from_index(op));
+                mem::replace(operation.results.uses_mut(named.number), uses)
+            }
+            Definer::Block(block) => {
+                let block = records.blocks.at_mut(Ptr::from_index(block));
+                mem::replace(block.arguments.uses_mut(named.number), uses)
+            }
+        }
+    }
+}
+
+impl<D: Dialects> Renames<D> for BlockIndex {
+    fn is_same(self, other: BlockIndex) -> bool {
+        self == other
+    }
+
+    fn place_of(records: &Records<D>, used: UseIndex) -> (UsePlace<BlockIndex>, usize) {
+        let successors = &records.ops.at(Ptr::from_index(used.user)).successors;
+        match find_place(successors.as_slice(), used.number) {
+            Some(found) => (*successors.at(found), found),
+            None => unreachable!(),
+        }
+    }
+
+    fn rename_place(
+        records: &mut Records<D>,
+        used: UseIndex,
+        near: usize,
+        names: BlockIndex,
+        place: usize,
+    ) {
+        let successors = &mut records.ops.at_mut(Ptr::from_index(used.user)).successors;
+        let number = used.number;
+        match find_place_near(successors.as_slice(), number, near) {
+            Some(found) => {
+                *successors.at_mut(found) = UsePlace {
+                    number,
+                    names,
+                    place,
+                };
+            }
+            None => unreachable!(),
+        }
+    }
+
+    fn replace_uses(records: &mut Records<D>, named: BlockIndex, uses: Uses) -> Uses {
+        let block = records.blocks.at_mut(Ptr::from_index(named.index));
+        mem::replace(&mut block.uses, uses)
+    }
+}

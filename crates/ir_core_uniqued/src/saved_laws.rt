@@ -1,0 +1,19 @@
+//! What holds of saved values, whatever their types.
+
+ghost use Rattle.std.specs.Prelude.{◌≡◌, ◌≢◌, ◌↔◌, true, false};
+ghost use Rattle.ir_model.specs.Saved.{saved_place, with_saved};
+ghost use Rattle.ir_model.specs.Sessions.{Beside};
+ghost use Rattle.ir_core_records.specs.Meaning.{closed};
+ghost use Rattle.ir_core_data.specs.Side.{kinds};
+
+use ir_base_dialects::{Dialects, SavedValue};
+
+/// Values of different kinds are never saved as equal ones.
+pub fn kinds_are_never_equal<D: Dialects, T: SavedValue<D>, U: SavedValue<D>>()
+    ensures { (a : T) (b : U) → T.KIND ≢ U.KIND → D.Saved.eq (T.saved_of a) (U.saved_of b) ≡ false }
+{}
+
+/// Two values that are saved one after the other have one place exactly where they are equal.
+pub fn equal_keys_for_equal_values<D: Dialects, T: SavedValue<D>>()
+    ensures { (beside : Beside (closed D.Attr D.TypeKey D.TypeBody D.Saved D.Aux D.Loc)) (a b : T) → (saved_place (kinds D.attr_kind_of D.type_kind_of D.type_impls_of D.saved_kind_of D.Saved.eq D.region_ssa_dominance_of) beside (T.saved_of a) ≡ saved_place (kinds D.attr_kind_of D.type_kind_of D.type_impls_of D.saved_kind_of D.Saved.eq D.region_ssa_dominance_of) (with_saved (kinds D.attr_kind_of D.type_kind_of D.type_impls_of D.saved_kind_of D.Saved.eq D.region_ssa_dominance_of) beside (T.saved_of a)) (T.saved_of b)) ↔ (T.eq a b ≡ true) }
+{}

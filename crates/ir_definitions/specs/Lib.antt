@@ -1,2 +1,0 @@
-pub mod Definers
-pub mod Lends

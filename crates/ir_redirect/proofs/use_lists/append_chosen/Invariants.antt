@@ -1,6 +1,0 @@
-use Rattle.std.proofs.Common.{◌≡◌, ◌++◌, take}
-use Rattle.ir_redirect.specs.Chosen.{chosen}
-use Rattle.ir_redirect.proofs.use_lists.append_chosen.Given as goal
-
-abbrev pub invariant-loop-index : goal.invariant-loop-index
-invariant-loop-index l = l.uses ≡ l.fn.uses ++ chosen (take l.index l.from) (take l.index l.answers)

@@ -1,4 +1,0 @@
-use Rattle.ir_run.proofs.laws.choices_unseen.Goals as goal
-
-pub returns : goal.returns
-returns g c = c.choices_unseen.ensures _

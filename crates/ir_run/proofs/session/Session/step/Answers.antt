@@ -1,6 +1,0 @@
-use Rattle.ir_model.proofs.StepSound.{steps_sound}
-use Rattle.ir_run.specs.SessionEdits.{edit_of}
-use Rattle.ir_run.proofs.session.Session.step.Goals as goal
-
-pub invariant_of-self : goal.invariant_of-self
-invariant_of-self g c = steps_sound _ (edit_of c.args.edit) _ _ c.step.result c.self.invariant c.step.ensures

@@ -1,0 +1,11 @@
+pub mod SessionRuns
+pub mod Conditions
+pub mod SessionSteps
+pub mod NewEntities
+pub mod EntryKinds
+pub mod DoneSteps
+pub mod ListSteps
+pub mod UseSteps
+pub mod EraseSteps
+pub mod DefinitionSteps
+pub mod RedirectSteps

@@ -1,0 +1,24 @@
+use Rattle.std.proofs.Common.{◌∙◌, ap, arith}
+use Rattle.std.proofs.lemmas.List.{length-map}
+use Rattle.ir_model.specs.Forest.{of_op}
+use Rattle.ir_core_records.specs.Meaning.{definer_of, op_record, value_of}
+use Rattle.ir_run_tables.specs.State.{forest_of}
+use Rattle.ir_run_tables.specs.DefinitionEntries.{result_count, result_number}
+use Rattle.ir_run_tables.specs.SessionTables.{entries_of, with_value}
+use Rattle.ir_run_sessions.proofs.DefinitionSteps.{value_by}
+use Rattle.ir_run_sessions.proofs.definition_steps.enter_result.Goals as goal
+
+pub get_result-requires : goal.get_result-requires
+get_result-requires g c = omega (arith, result_count (forest_of c.args.ctx.now) c.args.op.index (op_record c.deref.result.now) c.deref.ensures.found.found, c.requires.there)
+
+pub returns-clause-number : goal.returns-clause-number
+returns-clause-number g c = omega (arith, c.len-number.ensures, c.args.tables.now.values.ok, length-map c.args.tables.now.values.items (λ v. value_of v.index))
+
+pub returns-clause-entered : goal.returns-clause-entered
+returns-clause-entered g c =
+    let v = value_of c.get_result.result.index in
+    record {
+      value = v.number;
+      found = result_number (forest_of c.args.ctx.now) c.args.op.index (op_record c.deref.result.now) c.deref.ensures.found.found c.args.at v.number c.get_result.ensures.number;
+      holds = c.enter_value.ensures ∙ ap (λ d. with_value (entries_of c.args.tables.now) (value_by d v.number)) (ap definer_of c.get_result.ensures.definer ∙ ap of_op c.deref.ensures.found.own);
+    }

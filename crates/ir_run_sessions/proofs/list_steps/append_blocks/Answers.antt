@@ -1,0 +1,16 @@
+use Rattle.std.proofs.Common.{refl}
+use Rattle.ir_model.specs.Edits.{AppendBlocks}
+use Rattle.ir_run_tables.specs.SessionTables.{entries_of}
+use Rattle.ir_run_sessions.proofs.DoneSteps.{refused_so}
+use Rattle.ir_run_sessions.proofs.ListSteps.{append_blocks_done, not_append_blocks}
+use Rattle.ir_run_sessions.proofs.list_steps.append_blocks.Goals as goal
+
+pub returns-in-Some : goal.returns-in-Some
+returns-in-Some g c =
+    append_blocks_done c.args.ctx.now (entries_of c.args.tables.now) _ (record { numbers = c.needs_nothing.ensures.numbers; slots = c.needs_nothing.ensures.slots }) c.append_linked_list.new.ctx c.append_linked_list.ensures.rest
+    c.args.donee c.args.donor c.in-Some.donee.index c.in-Some.donor.index c.in-Some.ensures.donee c.in-Some.ensures.donor c.in-Some.ensures.may_join c.append_linked_list.ensures.forest
+
+pub returns-in-None : goal.returns-in-None
+returns-in-None g c =
+    let tables = entries_of c.args.tables.now in
+    refused_so c.args.ctx.now tables _ (AppendBlocks c.args.donee c.args.donor) (not_append_blocks c.args.ctx.now tables c.args.donee c.args.donor (c.in-None.ensures.missing refl))

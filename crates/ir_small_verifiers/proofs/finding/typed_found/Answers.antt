@@ -1,5 +1,0 @@
-use Rattle.ir_small_verifiers.proofs.finding.typed_found.Goals as goal
-
--- src/finding.rt:126:10
-pub verify-requires : goal.verify-requires
-verify-requires g c = c.is_known-2.ensures.0 c.if-not-is_known-2.false

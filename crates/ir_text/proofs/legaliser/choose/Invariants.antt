@@ -1,7 +1,0 @@
-use Rattle.std.proofs.Common.{◌≡◌, ◌<◌, ◌≤◌, ℕ, None}
-use Rattle.ir_model.specs.Legaliser.{base, numbered}
-use Rattle.ir_text.specs.LegaliserTables.{source_at}
-use Rattle.ir_text.proofs.legaliser.choose.Given as goal
-
-abbrev pub invariant-loop-number : goal.invariant-loop-number
-invariant-loop-number l = (c : ℕ) → l.fn.counter ≤ c → c < l.number → ¬ (source_at l.sources (numbered (base l.source) c) ≡ None)

@@ -1,6 +1,0 @@
-use Rattle.std.proofs.Common.{◌≡◌, string_bytes}
-use Rattle.ir_text.proofs.LegaliserLemmas.{stand_ins}
-use Rattle.ir_text.proofs.legaliser.replaced.Given as goal
-
-abbrev pub invariant-loop-character : goal.invariant-loop-character
-invariant-loop-character l = string_bytes l.text ≡ stand_ins l.yielded

@@ -1,5 +1,0 @@
-use Rattle.ir_text.proofs.NameLawLemmas.{FollowsRule-from, IsIdentifier-from}
-use Rattle.ir_text.proofs.name_laws.identifiers_follow_the_rule.Goals as goal
-
-pub returns : goal.returns
-returns c = λ text. (FollowsRule-from text, IsIdentifier-from text)

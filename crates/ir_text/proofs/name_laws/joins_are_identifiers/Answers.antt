@@ -1,5 +1,0 @@
-use Rattle.ir_text.proofs.IdentifierLemmas.{is_identifier-join}
-use Rattle.ir_text.proofs.name_laws.joins_are_identifiers.Goals as goal
-
-pub returns : goal.returns
-returns c = is_identifier-join

@@ -1,3 +1,0 @@
-pub mod ValueLemmas
-pub mod FindIndex
-pub mod JoinedUses

@@ -1,5 +1,0 @@
-use Rattle.ir_core.specs.Named.{live-value}
-use Rattle.ir_values.proofs.value.ValueValueQueries.num_uses.Goals as goal
-
-pub uses-requires : goal.uses-requires
-uses-requires g c = rw c.records.ensures (live-value c.args.ctx.now.records c.args.self.index c.requires)

@@ -1,5 +1,0 @@
-use Rattle.std.proofs.Common.{◌≡◌, map, take}
-use Rattle.ir_values.proofs.value.copy_uses.Given as goal
-
-abbrev pub invariant-loop-used : goal.invariant-loop-used
-invariant-loop-used g l = map (λ u. u.index) l.uses.items ≡ take l.used-index l.kept

@@ -1,5 +1,0 @@
-use Rattle.ir_view.proofs.Leads.{arguments-live}
-use Rattle.ir_view.proofs.block_parts.BasicBlockBlockParts.arguments.Goals as goal
-
-pub returns-clause-live : goal.returns-clause-live
-returns-clause-live g c = arguments-live c.args.self.now c.all.result c.all.ensures

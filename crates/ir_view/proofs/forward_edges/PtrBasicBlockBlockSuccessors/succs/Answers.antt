@@ -1,6 +1,0 @@
-use Rattle.ir_walk.specs.State.{forest_of}
-use Rattle.ir_view.proofs.Leads.{targets-live}
-use Rattle.ir_view.proofs.forward_edges.PtrBasicBlockBlockSuccessors.succs.Goals as goal
-
-pub returns-in-Some-clause-live : goal.returns-in-Some-clause-live
-returns-in-Some-clause-live g c = targets-live c.deref.result.now (λ p. p.index) (λ blocks. blocks.items) c.targets.result c.targets.ensures.exact (forest_of c.args.ctx.now) _ c.deref.ensures.leads

@@ -1,8 +1,0 @@
-use Rattle.std.proofs.Common.{sym, ◌∙◌, arith, ◌<◌}
-use Rattle.ir_view.proofs.Ranges.{range-last}
-use Rattle.ir_view.proofs.indexed.PartsDoubleEndedIterator.next_back.Goals as goal
-
-pub returns-clause-steps : goal.returns-clause-steps
-returns-clause-steps g c =
-    let below : c.self.inside.first < c.self.inside.end = omega (arith, c.if-self.false) in
-    sym c.self.view_is ∙ range-last _ c.self.inside.first c.self.inside.end _ below c.part.ensures

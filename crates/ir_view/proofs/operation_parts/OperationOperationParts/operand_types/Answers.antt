@@ -1,9 +1,0 @@
-use Rattle.ir_walk.specs.State.{forest_of}
-use Rattle.ir_view.proofs.TypeLemmas.{operand-types, operand-types-known}
-use Rattle.ir_view.proofs.operation_parts.OperationOperationParts.operand_types.Goals as goal
-
-pub returns-clause-exact : goal.returns-clause-exact
-returns-clause-exact g c = operand-types (forest_of c.args.ctx.now) _ c.is_well_formed.ensures c.args.self.now c.requires c.all.result c.all.ensures
-
-pub returns-clause-known : goal.returns-clause-known
-returns-clause-known g c = operand-types-known (forest_of c.args.ctx.now) _ c.is_well_formed.ensures c.args.self.now c.requires c.all.result c.all.ensures

@@ -1,0 +1,11 @@
+pub mod Parts
+pub mod Types
+pub mod Wrapped
+pub use Rattle.ir_core_queries.specs.State
+pub use Rattle.ir_core_queries.specs.Calls
+pub use Rattle.ir_core_queries.specs.Named
+pub use Rattle.ir_core_queries.specs.Places
+pub use Rattle.ir_core_queries.specs.Definitions
+pub use Rattle.ir_core_queries.specs.Entities
+pub use Rattle.ir_core_queries.specs.Dominance
+pub use Rattle.ir_core_queries.specs.Values

@@ -1,9 +1,0 @@
-pub mod Above
-pub mod Live
-pub mod Listed
-pub mod Neighbours
-pub mod Handles
-pub mod Shallow
-pub mod Dominance
-pub mod Places
-pub mod BlockUsers

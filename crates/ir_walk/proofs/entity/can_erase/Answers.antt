@@ -1,4 +1,0 @@
-use Rattle.ir_walk.proofs.entity.can_erase.Goals as goal
-
-pub returns : goal.returns
-returns g c = rw (c.records.ensures, c.index.ensures) at c.can_erase.ensures

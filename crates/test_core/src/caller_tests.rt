@@ -1,0 +1,126 @@
+//! Calls on what earlier calls gave, none of which is asked first whether it is live.
+
+ghost use Rattle.std.specs.Prelude.{length};
+ghost use Rattle.ir_view_parts.specs.Calls.{LeadsToLive};
+ghost use Rattle.ir_view_parts.specs.State.{forest_of, types_of};
+
+use crate::contexts::expect_same;
+use crate::core_tests::two_uses;
+use ir_base_dialects::{CoreError, Dialects, Ptr};
+use ir_checked::{
+    Context, Operation, OperationPtr, RegionPtr, TypeQueries, UseQueries, ValueQueries, end,
+    new_op, new_type,
+};
+use ir_view_parts::{NewOperation, ResultUses};
+use std::panic::Expect;
+use std::process::Abort;
+use toy_dialect::{Toy, ToyType};
+
+// From a live operation to a result, and whether it is used.
+fn walk_to_result<D: Dialects>(ctx: &Context<D>, op: &Operation<D>, index: usize)
+    requires { LeadsToLive (forest_of ctx.now) (length (types_of ctx.now)) op.now }
+{
+    if index < op.get_num_results() {
+        let _used = op.get_result(index).is_used(ctx);
+    }
+}
+
+// From a live operation to the type of a result, and its key.
+fn walk_to_type<D: Dialects>(ctx: &Context<D>, op: &Operation<D>, index: usize)
+    requires { LeadsToLive (forest_of ctx.now) (length (types_of ctx.now)) op.now }
+{
+    if index < op.get_num_results() {
+        let _key = op.get_type(index).deref(ctx);
+    }
+}
+
+// From a live operation to a region, and back.
+fn walk_to_region<D: Dialects>(ctx: &Context<D>, op: &Operation<D>, index: usize)
+    requires { LeadsToLive (forest_of ctx.now) (length (types_of ctx.now)) op.now }
+{
+    if index < op.num_regions() {
+        let _op = op.get_region(index).get_parent_op(ctx).deref(ctx);
+    }
+}
+
+// From a live operation to what an operand names: to the key of its type, and to the operation that defines it.
+fn walk_to_named<D: Dialects>(ctx: &Context<D>, op: &Operation<D>, index: usize)
+    requires { LeadsToLive (forest_of ctx.now) (length (types_of ctx.now)) op.now }
+{
+    if index < op.get_num_operands() {
+        let value = op.get_operand(index);
+        let _key = value.get_type(ctx).deref(ctx);
+        if let Some(maker) = value.defining_op() {
+            let _kind = maker.deref(ctx).kind();
+        }
+    }
+}
+
+// From a live operation to an operand, and back.
+fn walk_to_user<D: Dialects>(ctx: &Context<D>, op: &Operation<D>, index: usize)
+    requires { LeadsToLive (forest_of ctx.now) (length (types_of ctx.now)) op.now }
+{
+    if index < op.get_num_operands() {
+        let _kind = op.get_operand_as_use(index).user_op().deref(ctx).kind();
+    }
+}
+
+// From a live operation to an operand, and to what it names. Answers how often that is used.
+fn walk_to_uses<D: Dialects>(ctx: &Context<D>, op: &Operation<D>, index: usize) -> usize
+    requires { LeadsToLive (forest_of ctx.now) (length (types_of ctx.now)) op.now }
+{
+    if index < op.get_num_operands() {
+        return op.get_operand_as_use(index).get_def(ctx).num_uses(ctx);
+    }
+    0
+}
+
+// Walks from a live operation to all that it leads to. Answers how often its first operand is used.
+fn walk<D: Dialects>(ctx: &Context<D>, op: &Operation<D>) -> usize
+    requires { LeadsToLive (forest_of ctx.now) (length (types_of ctx.now)) op.now }
+{
+    walk_to_result(ctx, op, 0);
+    walk_to_type(ctx, op, 0);
+    walk_to_region(ctx, op, 0);
+    walk_to_region(ctx, op, 1);
+    walk_to_named(ctx, op, 0);
+    walk_to_user(ctx, op, 0);
+    walk_to_uses(ctx, op, 0)
+}
+
+// Makes an operation that uses a value for the third time, and walks from there.
+fn make_and_walk<D: Dialects>(rt: &impl Abort, ctx: &mut Context<D>, key: D::TypeKey) {
+    let ty = new_type(ctx, key).expect(rt, "the type");
+    let made = two_uses(ctx, ty).expect(rt, "the operations");
+    let last = new_op(ctx, 5, &[ty], &[made.value], &[], 2).expect(rt, "the third");
+    let record = last.try_deref(ctx).expect(rt, "its record");
+    expect_same(rt, walk(ctx, record), 3, "how often its operand is used");
+}
+
+#[test]
+fn what_live_operations_give_is_live(rt: HostRuntime) {
+    let mut ctx: Context<Toy> = Context::new(rt.alloc());
+    make_and_walk(&rt, &mut ctx, ToyType::Int { width: 32 });
+    end(ctx, ());
+}
+
+// Makes an operation, which is live then, and asks it. One dialect is all that this caller has.
+fn make_and_ask(rt: &impl Abort, ctx: &mut Context<Toy>) {
+    let made: Result<Ptr<Operation<Toy>>, CoreError> = Operation::new(ctx, 5, &[], &[], &[], 1);
+    let op = made.expect(rt, "the operation");
+    expect_same(rt, op.has_use(ctx), false, "a use");
+    expect_same(
+        rt,
+        op.deref(ctx).num_regions(),
+        1,
+        "how many regions it has",
+    );
+    expect_same(rt, op.is_live(ctx), true, "the operation");
+}
+
+#[test]
+fn calls_over_one_dialect(rt: HostRuntime) {
+    let mut ctx: Context<Toy> = Context::new(rt.alloc());
+    make_and_ask(&rt, &mut ctx);
+    end(ctx, ());
+}

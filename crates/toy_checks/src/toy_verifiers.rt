@@ -1,0 +1,88 @@
+//! The own checks of the dialect Toy: an integer type has a width, and an addition has two operands.
+
+ghost use Rattle.toy_checks.specs.ToyVerifiers.{toy_verifiers};
+
+use ir_verify_checks::{CheckErr, Context, OpObj, OperationPtr, Verifiers};
+use toy_dialect::{Toy, ToyAttr, ToyType};
+
+/// The code of an integer type whose width is 0.
+pub const EMPTY_INTEGER: u32 = 1;
+
+/// The code of an addition that hasn't two operands.
+pub const OPERAND_COUNT: u32 = 2;
+
+// The kind of additions.
+const ADDITION: u32 = 1;
+
+/// The checks of the dialect Toy. None is listed for any kind, and none takes memory.
+#[derive(Clone, Copy, Debug, Default, Drop, PartialEq, Eq)]
+pub struct ToyVerifiers;
+
+impl Verifiers<Toy> for ToyVerifiers {
+    ghost handed_in = { λ _. toy_verifiers };
+
+    fn op_verifiers(&self, _kind: u32) -> &[u32] {
+        // No checks of operations are listed.
+        &[]
+    }
+
+    fn attr_verifiers(&self, _kind: u32) -> &[u32] {
+        // No checks of attributes are listed.
+        &[]
+    }
+
+    fn type_verifiers(&self, _kind: u32) -> &[u32] {
+        // No checks of types are listed.
+        &[]
+    }
+
+    fn check_op_interface(
+        &self,
+        _number: u32,
+        _op: &OpObj<Toy>,
+        _ctx: &Context<Toy>,
+    ) -> Result<(), CheckErr> {
+        // No check of an operation has a number.
+        Ok(())
+    }
+
+    fn check_attr_interface(
+        &self,
+        _number: u32,
+        _attr: &ToyAttr,
+        _ctx: &Context<Toy>,
+    ) -> Result<(), CheckErr> {
+        // No check of an attribute has a number.
+        Ok(())
+    }
+
+    fn check_type_interface(
+        &self,
+        _number: u32,
+        _ty: &ToyType,
+        _ctx: &Context<Toy>,
+    ) -> Result<(), CheckErr> {
+        // No check of a type has a number.
+        Ok(())
+    }
+
+    fn check_op(&self, op: &OpObj<Toy>, ctx: &Context<Toy>) -> Result<(), CheckErr> {
+        let operands = op.get_operation().deref(ctx).get_num_operands();
+        if op.kind() == ADDITION && operands != 2 {
+            return Err(CheckErr::Code(OPERAND_COUNT));
+        }
+        Ok(())
+    }
+
+    fn check_attr(&self, _attr: &ToyAttr, _ctx: &Context<Toy>) -> Result<(), CheckErr> {
+        // Attributes have no own check.
+        Ok(())
+    }
+
+    fn check_type(&self, ty: &ToyType, _ctx: &Context<Toy>) -> Result<(), CheckErr> {
+        match ty {
+            ToyType::Int { width: 0 } => Err(CheckErr::Code(EMPTY_INTEGER)),
+            ToyType::Int { .. } | ToyType::Named(_) => Ok(()),
+        }
+    }
+}
