@@ -19,7 +19,7 @@ pub fn append_ops<D: Dialects>(
     if !donee.is_live(ctx) || !donor.is_live(ctx) {
         return Err(CheckedErr::Condition);
     }
-    ctx.is_well_formed();
+    ctx.recall_well_formed();
     if is_inside(ctx, Entity::Block(donee), Entity::Block(donor)) {
         return Err(CheckedErr::Condition);
     }
@@ -39,7 +39,7 @@ pub fn append_blocks<D: Dialects>(
     if !donee.is_live(ctx) || !donor.is_live(ctx) {
         return Err(CheckedErr::Condition);
     }
-    ctx.is_well_formed();
+    ctx.recall_well_formed();
     if is_inside(ctx, Entity::Region(donee), Entity::Region(donor)) {
         return Err(CheckedErr::Condition);
     }

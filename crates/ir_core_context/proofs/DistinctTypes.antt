@@ -8,7 +8,7 @@ use Rattle.std.proofs.lemmas.Map.Keys.{IsDistinct-head, IsDistinct-tail}
 use Rattle.ir_model.specs.Edits.{StoredType}
 use Rattle.ir_core_context.specs.Calls.{TypesAreExact}
 use Rattle.ir_core_records.specs.Meaning.{closed}
-use Rattle.ir_core_context.specs.State.{behaviour}
+use Rattle.ir_core_records.specs.DialectAnswers.{behaviour}
 
 absurd_bool : {A : Type 0} (b : Bool) → b ≡ true → b ≡ false → A
 absurd_bool b t f = absurd (cc)

@@ -10,7 +10,7 @@ use Rattle.indexmap.specs.IndexMap.{set_value_at}
 use Rattle.ir_model.specs.Saved.{set_body}
 use Rattle.ir_base_dialects.specs.Stores.{Stores, has_key}
 use Rattle.ir_core_records.specs.Meaning.{closed}
-use Rattle.ir_core_context.specs.State.{behaviour}
+use Rattle.ir_core_records.specs.DialectAnswers.{behaviour}
 
 module _ (A K B S X L : Type 0) (same : K → K → Bool) (first : B) (unknown : L) (impls : ℕ → ℕ → Bool) where
   abbrev stored : K × B → StoredType (closed A K B S X L)

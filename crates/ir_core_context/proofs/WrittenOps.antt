@@ -22,7 +22,8 @@ use Rattle.ir_core_records.specs.Lists.{edited, in_record, uses_with}
 use Rattle.ir_core_records.specs.Meaning.{block_record, closed, forest_of as forest_in, op_record}
 use Rattle.ir_core_records.specs.Table.{KnowOwn, block_uses_at, definitions_at}
 use Rattle.ir_core_records.specs.Tree.{blocks_in, block_ends, block_links, op_links, op_regions, ops_in, region_ends, region_parent, tree_of}
-use Rattle.ir_core_context.specs.Lending.{SameButForest, WritesOp, with_op_rest, written_op}
+use Rattle.ir_core_context.specs.Lending.{WritesOp, with_op_rest, written_op}
+use Rattle.ir_core_context.specs.Calls.{SameButForest}
 use Rattle.ir_core_context.specs.Sound.{IsSound}
 use Rattle.ir_core_context.specs.State.{State, bare, forest_of}
 use Rattle.ir_core_context.proofs.Rewritten.{edited-ids, not_there, own-edited, rewritten-sound, same-ids, structure-entities-stay, structure-stays, structure-then, twice}

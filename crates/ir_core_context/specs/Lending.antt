@@ -18,15 +18,8 @@ use Rattle.ir_core_records.specs.Lists.{edited}
 use Rattle.ir_core_records.specs.Meaning.{closed}
 use Rattle.ir_core_context.specs.contracts.context.Context.{the_row}
 use Rattle.ir_core_context.specs.declared.error.DanglingPtrDerefError.{DanglingPtrDerefError}
-use Rattle.ir_core_context.specs.Calls.{EntitiesStayLive, StayLive}
+use Rattle.ir_core_context.specs.Calls.{EntitiesStayLive, SameButForest, StayLive}
 use Rattle.ir_core_context.specs.State.{State, bare, forest_of}
-
--- all but the forest is as before
-pub record SameButForest {W : Dialect} (old new : Session W) : Type 0 where
-  pub store : new.state.store ≡ old.state.store
-  pub beside : new.beside ≡ old.beside
-  pub passed : new.passed ≡ old.passed
-  pub limits : new.limits ≡ old.limits
 
 module _ {D A K B S X L : Type 0} where
   -- the context with this written of the operation

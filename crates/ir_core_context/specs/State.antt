@@ -1,9 +1,9 @@
 -- What a contract sees of a `Context`, and what it means: a forest, a store of types, saved and auxiliary data, what has passed, and limits.
-use Rattle.std.specs.Prelude.{ℕ, Bool, List, [], map, nat_lt}
+use Rattle.std.specs.Prelude.{ℕ, List, [], map, nat_lt}
 use Rattle.ir_model.specs.declared.ids.ArenaIndex.{ArenaIndex}
 use Rattle.ir_model.specs.declared.ids.Limits.{Limits}
 use Rattle.ir_model.specs.ContextIds.{context_ids}
-use Rattle.ir_model.specs.Forest.{Behaviour, Forest}
+use Rattle.ir_model.specs.Forest.{Forest}
 use Rattle.ir_model.specs.Edits.{StoredType, Tables}
 use Rattle.ir_model.specs.Sessions.{Passed, Session, Beside}
 use Rattle.ir_model.specs.Uses.{Use}
@@ -15,10 +15,6 @@ use Rattle.ir_core_records.specs.Table.{uses_at, block_uses_at}
 use Rattle.ir_core_records.specs.Meaning.{closed, use_of, forest_of as forest_in}
 use Rattle.ir_core_data.specs.declared.side_data.SideData.{SideData}
 use Rattle.ir_core_data.specs.Side.{beside_in}
-
--- what the code of a dialect answers, as the definitions ask it
-abbrev pub behaviour : {A K B S X L : Type 0} → (K → K → Bool) → B → L → (ℕ → ℕ → Bool) → Behaviour (closed A K B S X L)
-behaviour same_key first_body unknown op_impls = record { same_key = same_key; first_body = first_body; unknown = unknown; op_impls = op_impls }
 
 -- the records, the store of types, the next numbers, what is kept beside, and the limits
 pub record State (D A K B S X L : Type 0) : Type 0 where

@@ -76,8 +76,8 @@ fn block_of_user<D: Dialects>(ctx: &Context<D>, user: ArenaIndex) -> ArenaIndex
     requires linked { IsLinked (forest_of ctx.now) (an_op user) }
     ensures { In user (ops_of (forest_of ctx.now) result) }
 {
-    ctx.holds_together();
-    ctx.is_well_formed();
+    ctx.recall_holds_together();
+    ctx.recall_well_formed();
     match parent_of(ctx.records(), EntityIndex::Op(user)) {
         Some(EntityIndex::Block(block)) => block,
         Some(EntityIndex::Op(_)) => unreachable!(),

@@ -74,7 +74,7 @@ impl<D: Dialects> Context<D> {
     }
 
     /// What holds of every context: an index under which there is data was handed out.
-    pub fn aux_was_made(&self)
+    pub fn recall_aux_was_made(&self)
         ensures { AuxIsSound (bare self.now).beside }
     {
         let _aux_room = self.side.room();

@@ -45,12 +45,12 @@ impl<D: Dialects> BlockPtr<D> for Ptr<BasicBlock<D>> {
     }
 
     fn deref(self, ctx: &Context<D>) -> &BasicBlock<D> {
-        ctx.is_well_formed();
+        ctx.recall_well_formed();
         ctx.records.blocks.at(self)
     }
 
     fn try_deref(self, ctx: &Context<D>) -> Result<&BasicBlock<D>, DanglingPtrDerefError> {
-        ctx.is_well_formed();
+        ctx.recall_well_formed();
         ctx.records.blocks.get(self).ok_or(DanglingPtrDerefError)
     }
 }

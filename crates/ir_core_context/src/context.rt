@@ -15,10 +15,11 @@ ghost use Rattle.ir_model.specs.Sessions.{IsNewSession, Number, Session};
 ghost use Rattle.ir_base_arenas.specs.Arena.{room};
 ghost use Rattle.ir_core_records.specs.declared.record.ValueIndex.{ValueIndex as PlainIndex};
 ghost use Rattle.ir_core_records.specs.Meaning.{value_of};
-ghost use Rattle.ir_core_context.specs.State.{bare, behaviour, block_uses_of, forest_of, types_of, uses_of};
+ghost use Rattle.ir_core_context.specs.State.{bare, block_uses_of, forest_of, types_of, uses_of};
 ghost use Rattle.ir_core_context.specs.Sound.{AreLimits};
 ghost use Rattle.ir_core_context.specs.Creation.{HoldTogether};
 ghost use Rattle.ir_core_context.specs.Calls.{IsRoom, LiveWasMade, NoEntity, SameButTypes, TypesAreExact, nothing_beside};
+ghost use Rattle.ir_core_records.specs.DialectAnswers.{behaviour_of};
 
 use ir_base_dialects::{Arena, CoreError, Dialects, Limits, Room, TypeHandle, TypeStore};
 use ir_core_data::SideData;
@@ -118,13 +119,13 @@ impl<D: Dialects> Context<D> {
     ///
     /// The key that was stored first stays, and the argument is dropped. `OutOfMemory` comes only for a key that isn't stored yet, and changes nothing.
     pub fn instantiate_key(&mut self, key: D::TypeKey) -> Result<TypeHandle, CoreError>
-        ensures place { IfOk result (λ t. t.place ≡ type_place (behaviour D.TypeKey.eq D.first_body D.unknown D.op_impls_of) (types_of self.old) key) }
+        ensures place { IfOk result (λ t. t.place ≡ type_place (behaviour_of D.Dialects D.TypeKey.eq) (types_of self.old) key) }
         ensures known { IfOk result (λ t. t.place < length (types_of self.new)) }
-        ensures types { OnOk result (types_of self.new ≡ with_type (behaviour D.TypeKey.eq D.first_body D.unknown D.op_impls_of) (types_of self.old) key) }
+        ensures types { OnOk result (types_of self.new ≡ with_type (behaviour_of D.Dialects D.TypeKey.eq) (types_of self.old) key) }
         ensures rest { SameButTypes (bare self.old) (bare self.new) }
         ensures memory { IfErr result (λ e. e ≡ CoreError.OutOfMemory) }
         ensures err { OnErr result (self.new ≡ self.old) }
-        ensures only_new { OnErr result (type_place (behaviour D.TypeKey.eq D.first_body D.unknown D.op_impls_of) (types_of self.old) key ≡ length (types_of self.old)) }
+        ensures only_new { OnErr result (type_place (behaviour_of D.Dialects D.TypeKey.eq) (types_of self.old) key ≡ length (types_of self.old)) }
     {
         let place = self.types.get_or_insert(key)?;
         Ok(TypeHandle::at(place))
@@ -154,14 +155,14 @@ impl<D: Dialects> Context<D> {
     }
 
     /// What holds of every context: it means a well formed forest.
-    pub fn is_well_formed(&self)
+    pub fn recall_well_formed(&self)
         ensures { WellFormed (forest_of self.now) (length (types_of self.now)) }
     {
         let _value = self.next_value;
     }
 
     /// What holds of every context: what is live was handed out.
-    pub fn live_was_made(&self)
+    pub fn recall_live_was_made(&self)
         ensures { LiveWasMade (bare self.now) }
     {
         let _op_room = self.records.ops.room();
@@ -170,7 +171,7 @@ impl<D: Dialects> Context<D> {
     }
 
     /// What holds of every context: the kept uses of each live value and of each live block are exactly the places that name it.
-    pub fn uses_are_exact(&self)
+    pub fn recall_uses_exact(&self)
         ensures values { (v : PlainIndex) → IsLiveNamed (forest_of self.now) (a_value (value_of v)) → AreUses (forest_of self.now) (a_value (value_of v)) (uses_of self.now v) }
         ensures blocks { (b : ArenaIndex) → IsLiveNamed (forest_of self.now) (the_block b) → AreUses (forest_of self.now) (the_block b) (block_uses_of self.now b) }
     {
@@ -185,21 +186,21 @@ impl<D: Dialects> Context<D> {
     }
 
     /// What holds of every context: uses and places name each other, links are those of lists, and records know their places.
-    pub fn holds_together(&self)
+    pub fn recall_holds_together(&self)
         ensures { HoldTogether self.now.records }
     {
         let _value = self.next_value;
     }
 
     /// What holds of every context: so many use numbers were handed out, fewer than 2^64.
-    pub fn use_numbers_fit(&self)
+    pub fn recall_use_numbers_fit(&self)
         ensures { (gone : ℕ) × Number (λ n. IsTrue ((bare self.now).passed.uses n)) gone × (gone < 2 ^ 64) }
     {
         let _value = self.next_use;
     }
 
     // What holds of every context: no more numbers were handed out than there are.
-    pub(crate) fn keeps_to_limits(&self)
+    pub(crate) fn recall_keeps_to_limits(&self)
         ensures values { self.now.next_value ≤ self.now.limits.values }
         ensures uses { self.now.next_use ≤ self.now.limits.uses }
     {
@@ -207,8 +208,8 @@ impl<D: Dialects> Context<D> {
     }
 
     /// What holds of every context: types are equal exactly where their keys are.
-    pub fn types_are_exact(&self)
-        ensures { TypesAreExact (behaviour D.TypeKey.eq D.first_body D.unknown D.op_impls_of) (types_of self.now) }
+    pub fn recall_types_exact(&self)
+        ensures { TypesAreExact (behaviour_of D.Dialects D.TypeKey.eq) (types_of self.now) }
     {
         let _len = self.types.len();
     }

@@ -141,7 +141,7 @@ impl<D: Dialects> EraseRegion<D> for Ptr<Operation<D>> {
     ghost index_of = { λ p. p.index };
 
     fn erase_region(self, ctx: &mut Context<D>, index: usize) {
-        ctx.is_well_formed();
+        ctx.recall_well_formed();
         let region = ctx.records.ops.at(self).get_region(index);
         erase_whole(ctx, EntityIndex::Region(region.index));
     }

@@ -139,7 +139,7 @@ impl<D: Dialects> AddRegion<D> for Ptr<Operation<D>> {
     ghost index_of = { λ p. p.index };
 
     fn add_region(self, ctx: &mut Context<D>) -> Result<Ptr<Region>, CoreError> {
-        ctx.keeps_to_limits();
+        ctx.recall_keeps_to_limits();
         ctx.covers(Needs {
             regions: 1,
             ..Needs::none()

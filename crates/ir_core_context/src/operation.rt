@@ -45,12 +45,12 @@ impl<D: Dialects> OperationPtr<D> for Ptr<Operation<D>> {
     }
 
     fn deref(self, ctx: &Context<D>) -> &Operation<D> {
-        ctx.is_well_formed();
+        ctx.recall_well_formed();
         ctx.records.ops.at(self)
     }
 
     fn try_deref(self, ctx: &Context<D>) -> Result<&Operation<D>, DanglingPtrDerefError> {
-        ctx.is_well_formed();
+        ctx.recall_well_formed();
         ctx.records.ops.get(self).ok_or(DanglingPtrDerefError)
     }
 }

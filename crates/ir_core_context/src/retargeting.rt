@@ -35,7 +35,7 @@ fn answers_for_preds<D: Dialects, C: Shown<D>, B: ShownBlock<D>, P: Fn(&C, B) ->
     ensures answers { IfOk result (λ answers. AreAnswers (MayAnswer P.Fn (λ c. C.shows c ctx.now) (λ b u. In u.user (ops_of (forest_of ctx.now) (B.index_of b))) pred.now) (block_uses_at ctx.now.records block) answers.items) }
     ensures memory { IfErr result (λ e. e ≡ CoreError.OutOfMemory) }
 {
-    ctx.uses_are_exact();
+    ctx.recall_uses_exact();
     answers_for_blocks(ctx, block_uses(ctx.records(), block).as_slice(), pred)
 }
 

@@ -6,9 +6,9 @@ ghost use Rattle.std.specs.Prelude.{◌≡◌, IfOk, IfErr, OnOk, OnErr, slice_g
 ghost use Rattle.std.specs.Option.{option_copied};
 ghost use Rattle.ir_model.specs.Saved.{saved_place, with_saved};
 ghost use Rattle.ir_model.specs.StoreLaws.{SavedApart};
-ghost use Rattle.ir_core_data.specs.Side.{kinds};
 ghost use Rattle.ir_core_context.specs.Calls.{SameButSide};
 ghost use Rattle.ir_core_context.specs.State.{bare};
+ghost use Rattle.ir_core_records.specs.DialectAnswers.{kinds_of};
 
 use crate::context::Context;
 use ir_base_dialects::{CoreError, Dialects};
@@ -18,8 +18,8 @@ impl<D: Dialects> Context<D> {
     ///
     /// The value that came first stays, and the other is dropped. `OutOfMemory` comes only for a value that isn't saved yet, and changes nothing.
     pub fn save_value(&mut self, value: D::Saved) -> Result<usize, CoreError>
-        ensures place { IfOk result (λ place. place ≡ saved_place (kinds D.attr_kind_of D.type_kind_of D.type_impls_of D.saved_kind_of D.Saved.eq D.region_ssa_dominance_of) (bare self.old).beside value) }
-        ensures saved { OnOk result ((bare self.new).beside ≡ with_saved (kinds D.attr_kind_of D.type_kind_of D.type_impls_of D.saved_kind_of D.Saved.eq D.region_ssa_dominance_of) (bare self.old).beside value) }
+        ensures place { IfOk result (λ place. place ≡ saved_place (kinds_of D.Dialects D.Saved.eq) (bare self.old).beside value) }
+        ensures saved { OnOk result ((bare self.new).beside ≡ with_saved (kinds_of D.Dialects D.Saved.eq) (bare self.old).beside value) }
         ensures rest { SameButSide (bare self.old) (bare self.new) }
         ensures memory { IfErr result (λ e. e ≡ CoreError.OutOfMemory) }
         ensures err { OnErr result (self.new ≡ self.old) }

@@ -36,7 +36,7 @@ fn answers_for_uses<D: Dialects, C: Shown<D>, P: Fn(&C, Use<Value<D>>) -> bool>(
     ensures exact { AreUses (forest_of ctx.now) (a_value (value_in value)) (uses_of ctx.now value) }
     ensures memory { IfErr result (λ e. e ≡ CoreError.OutOfMemory) }
 {
-    ctx.uses_are_exact();
+    ctx.recall_uses_exact();
     answers(ctx, uses(&ctx.records, value).as_slice(), pred)
 }
 

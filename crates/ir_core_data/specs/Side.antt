@@ -1,8 +1,7 @@
 -- What a context keeps beside the forest and the types, and what it means.
-use Rattle.std.specs.Prelude.{◌≡◌, ℕ, Bool, []}
+use Rattle.std.specs.Prelude.{◌≡◌, ℕ, []}
 use Rattle.ir_model.specs.declared.ids.ArenaIndex.{ArenaIndex}
 use Rattle.ir_model.specs.declared.ids.Limits.{Limits}
-use Rattle.ir_model.specs.Kinds.{Kinds}
 use Rattle.ir_model.specs.Sessions.{Beside}
 use Rattle.ir_base_arenas.specs.Arena.{Arena, empty, fill, get, is_passed}
 use Rattle.ir_core_records.specs.Meaning.{closed}
@@ -13,17 +12,6 @@ use Rattle.ir_core_data.specs.Names.{index_at, no_names}
 pub record Keeps {T : Type 0} (l : Limits) (a : Arena T) : Type 0 where
   pub limit : a.limit ≡ l.slots
   pub last_version : a.last_version ≡ l.last_version
-
--- what the code of a dialect answers of kinds, as the definitions ask it
-abbrev pub kinds : {A K B S X L : Type 0} → (A → ℕ) → (K → ℕ) → (ℕ → ℕ → Bool) → (S → ℕ) → (S → S → Bool) → (ℕ → ℕ → Bool) → Kinds (closed A K B S X L)
-kinds attr_kind type_kind type_impls saved_kind same_saved dominates = record {
-  attr_kind = attr_kind;
-  type_kind = type_kind;
-  type_impls = type_impls;
-  saved_kind = saved_kind;
-  same_saved = same_saved;
-  dominates = dominates;
-}
 
 module _ {D A K B S X L : Type 0} where
   -- no data, and no name

@@ -8,6 +8,7 @@ ghost use Rattle.ir_model.specs.AuxData.{InsertsAux, LacksAuxSlot, aux_by_name, 
 ghost use Rattle.ir_model.specs.Saved.{IsSavedAt, saved_place, with_saved};
 ghost use Rattle.ir_model.specs.Stores.{with_aux_name, without_aux};
 ghost use Rattle.ir_base_arenas.specs.Arena.{IsWhole, room};
+ghost use Rattle.ir_core_records.specs.DialectAnswers.{kinds_of};
 
 use crate::aux_index::AuxDataIndex;
 use crate::aux_names::AuxNames;
@@ -27,7 +28,7 @@ pub struct SideData<D: Dialects> {
 }
 
 impl<D: Dialects> SideData<D> {
-    ghost use Rattle.ir_core_data.specs.Side.{Keeps, beside_in, kinds, nothing, with_written};
+    ghost use Rattle.ir_core_data.specs.Side.{Keeps, beside_in, nothing, with_written};
     ghost use Rattle.ir_core_data.specs.SideLends.{lends_aux};
 
     /// No data and no names, with at most this many slots for auxiliary data, none of which has a version past `last_version`. It allocates nothing.
@@ -47,8 +48,8 @@ impl<D: Dialects> SideData<D> {
     ///
     /// The value that came first stays, and the other is dropped. `OutOfMemory` comes only for a value that isn't saved yet, and changes nothing.
     pub fn save(&mut self, value: D::Saved) -> Result<usize, CoreError>
-        ensures place { IfOk result (λ place. place ≡ saved_place (kinds D.attr_kind_of D.type_kind_of D.type_impls_of D.saved_kind_of D.Saved.eq D.region_ssa_dominance_of) (beside_in self.old) value) }
-        ensures saved { OnOk result (beside_in self.new ≡ with_saved (kinds D.attr_kind_of D.type_kind_of D.type_impls_of D.saved_kind_of D.Saved.eq D.region_ssa_dominance_of) (beside_in self.old) value) }
+        ensures place { IfOk result (λ place. place ≡ saved_place (kinds_of D.Dialects D.Saved.eq) (beside_in self.old) value) }
+        ensures saved { OnOk result (beside_in self.new ≡ with_saved (kinds_of D.Dialects D.Saved.eq) (beside_in self.old) value) }
         ensures aux { self.new.aux ≡ self.old.aux }
         ensures memory { IfErr result (λ e. e ≡ CoreError.OutOfMemory) }
         ensures err { OnErr result (self.new ≡ self.old) }

@@ -11,7 +11,7 @@ ghost use Rattle.ir_core_records.specs.Nested.{AreNested};
 ghost use Rattle.ir_core_records.specs.Tree.{tree_of};
 ghost use Rattle.ir_core_nesting.specs.Edits.{KeepsChains};
 
-use crate::list_edits::block_lists_tell;
+use crate::list_edits::recall_block_lists;
 use ir_base_dialects::list_laws::lists_hold_nodes;
 use ir_base_dialects::{ArenaIndex, Dialects, Ptr, linked_list};
 use ir_core_records::{BasicBlock, Records, Region};
@@ -26,7 +26,7 @@ pub fn insert_at_front<D: Dialects>(records: &mut Records<D>, block: ArenaIndex,
     ensures nested { AreNested (tree_of records.new) }
     ensures keeps { KeepsChains records.old records.new }
 {
-    block_lists_tell::<D>();
+    recall_block_lists::<D>();
     lists_hold_nodes::<BasicBlock<D>, Region>();
     linked_list::insert_at_front(
         &mut records.blocks,
@@ -46,7 +46,7 @@ pub fn insert_at_back<D: Dialects>(records: &mut Records<D>, block: ArenaIndex, 
     ensures nested { AreNested (tree_of records.new) }
     ensures keeps { KeepsChains records.old records.new }
 {
-    block_lists_tell::<D>();
+    recall_block_lists::<D>();
     lists_hold_nodes::<BasicBlock<D>, Region>();
     linked_list::insert_at_back(
         &mut records.blocks,
@@ -66,7 +66,7 @@ pub fn insert_before<D: Dialects>(records: &mut Records<D>, block: ArenaIndex, m
     ensures nested { AreNested (tree_of records.new) }
     ensures keeps { KeepsChains records.old records.new }
 {
-    block_lists_tell::<D>();
+    recall_block_lists::<D>();
     lists_hold_nodes::<BasicBlock<D>, Region>();
     linked_list::insert_before(
         &mut records.blocks,
@@ -86,7 +86,7 @@ pub fn insert_after<D: Dialects>(records: &mut Records<D>, block: ArenaIndex, ma
     ensures nested { AreNested (tree_of records.new) }
     ensures keeps { KeepsChains records.old records.new }
 {
-    block_lists_tell::<D>();
+    recall_block_lists::<D>();
     lists_hold_nodes::<BasicBlock<D>, Region>();
     linked_list::insert_after(
         &mut records.blocks,
@@ -104,7 +104,7 @@ pub fn unlink<D: Dialects>(records: &mut Records<D>, block: ArenaIndex)
     ensures nested { AreNested (tree_of records.new) }
     ensures keeps { KeepsChains records.old records.new }
 {
-    block_lists_tell::<D>();
+    recall_block_lists::<D>();
     lists_hold_nodes::<BasicBlock<D>, Region>();
     linked_list::unlink(
         &mut records.blocks,
@@ -123,7 +123,7 @@ pub fn append<D: Dialects>(records: &mut Records<D>, donee: ArenaIndex, donor: A
     ensures nested { AreNested (tree_of records.new) }
     ensures keeps { KeepsChains records.old records.new }
 {
-    block_lists_tell::<D>();
+    recall_block_lists::<D>();
     linked_list::append_linked_list(
         &mut records.blocks,
         &mut records.regions,

@@ -7,7 +7,7 @@ use ir_base_dialects::list_laws::{edits_keep_fields, edits_keep_ids, lists_are_o
 use ir_core_records::{BasicBlock, Operation, Region};
 
 // The new lists tell what an edit of the lists of operations leads to.
-pub(crate) fn operation_lists_tell<D: Dialects>()
+pub(crate) fn recall_operation_lists<D: Dialects>()
     ensures { OpListsTell D D.Attr D.TypeKey D.TypeBody D.Saved D.Aux D.Loc }
 {
     lists_are_one::<Operation<D>, BasicBlock<D>>();
@@ -19,7 +19,7 @@ pub(crate) fn operation_lists_tell<D: Dialects>()
 }
 
 // The new lists tell what an edit of the lists of blocks leads to.
-pub(crate) fn block_lists_tell<D: Dialects>()
+pub(crate) fn recall_block_lists<D: Dialects>()
     ensures { BlockListsTell D D.Attr D.TypeKey D.TypeBody D.Saved D.Aux D.Loc }
 {
     lists_are_one::<Operation<D>, BasicBlock<D>>();

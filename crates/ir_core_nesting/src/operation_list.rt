@@ -11,7 +11,7 @@ ghost use Rattle.ir_core_records.specs.Nested.{AreNested};
 ghost use Rattle.ir_core_records.specs.Tree.{tree_of};
 ghost use Rattle.ir_core_nesting.specs.Edits.{KeepsChains};
 
-use crate::list_edits::operation_lists_tell;
+use crate::list_edits::recall_operation_lists;
 use ir_base_dialects::list_laws::lists_hold_nodes;
 use ir_base_dialects::{ArenaIndex, Dialects, Ptr, linked_list};
 use ir_core_records::{BasicBlock, Operation, Records};
@@ -26,7 +26,7 @@ pub fn insert_at_front<D: Dialects>(records: &mut Records<D>, op: ArenaIndex, bl
     ensures nested { AreNested (tree_of records.new) }
     ensures keeps { KeepsChains records.old records.new }
 {
-    operation_lists_tell::<D>();
+    recall_operation_lists::<D>();
     lists_hold_nodes::<Operation<D>, BasicBlock<D>>();
     linked_list::insert_at_front(
         &mut records.ops,
@@ -46,7 +46,7 @@ pub fn insert_at_back<D: Dialects>(records: &mut Records<D>, op: ArenaIndex, blo
     ensures nested { AreNested (tree_of records.new) }
     ensures keeps { KeepsChains records.old records.new }
 {
-    operation_lists_tell::<D>();
+    recall_operation_lists::<D>();
     lists_hold_nodes::<Operation<D>, BasicBlock<D>>();
     linked_list::insert_at_back(
         &mut records.ops,
@@ -66,7 +66,7 @@ pub fn insert_before<D: Dialects>(records: &mut Records<D>, op: ArenaIndex, mark
     ensures nested { AreNested (tree_of records.new) }
     ensures keeps { KeepsChains records.old records.new }
 {
-    operation_lists_tell::<D>();
+    recall_operation_lists::<D>();
     lists_hold_nodes::<Operation<D>, BasicBlock<D>>();
     linked_list::insert_before(
         &mut records.ops,
@@ -86,7 +86,7 @@ pub fn insert_after<D: Dialects>(records: &mut Records<D>, op: ArenaIndex, mark:
     ensures nested { AreNested (tree_of records.new) }
     ensures keeps { KeepsChains records.old records.new }
 {
-    operation_lists_tell::<D>();
+    recall_operation_lists::<D>();
     lists_hold_nodes::<Operation<D>, BasicBlock<D>>();
     linked_list::insert_after(
         &mut records.ops,
@@ -104,7 +104,7 @@ pub fn unlink<D: Dialects>(records: &mut Records<D>, op: ArenaIndex)
     ensures nested { AreNested (tree_of records.new) }
     ensures keeps { KeepsChains records.old records.new }
 {
-    operation_lists_tell::<D>();
+    recall_operation_lists::<D>();
     lists_hold_nodes::<Operation<D>, BasicBlock<D>>();
     linked_list::unlink(&mut records.ops, &mut records.blocks, Ptr::from_index(op));
 }
@@ -119,7 +119,7 @@ pub fn append<D: Dialects>(records: &mut Records<D>, donee: ArenaIndex, donor: A
     ensures nested { AreNested (tree_of records.new) }
     ensures keeps { KeepsChains records.old records.new }
 {
-    operation_lists_tell::<D>();
+    recall_operation_lists::<D>();
     linked_list::append_linked_list(
         &mut records.ops,
         &mut records.blocks,

@@ -1,6 +1,5 @@
 pub mod Values
 pub mod Above
-pub mod Dominance
 pub mod Entities
 pub mod Neighbours
 pub mod Shallow

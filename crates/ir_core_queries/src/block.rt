@@ -82,7 +82,7 @@ impl<D: Dialects> BlockPlace<D> for Ptr<BasicBlock<D>> {
     }
 
     fn get_parent_op(self, ctx: &Context<D>) -> Option<Ptr<Operation<D>>> {
-        ctx.is_well_formed();
+        ctx.recall_well_formed();
         let region = self.get_parent_region(ctx)?;
         Some(region.get_parent_op(ctx))
     }
@@ -112,8 +112,8 @@ impl<D: Dialects> BlockPlace<D> for Ptr<BasicBlock<D>> {
     }
 
     fn iter(self, ctx: &Context<D>) -> Iter<'_, Operation<D>> {
-        ctx.is_well_formed();
-        ctx.holds_together();
+        ctx.recall_well_formed();
+        ctx.recall_holds_together();
         let records = ctx.records();
         linked_list::iter(&records.ops, &records.blocks, self)
     }

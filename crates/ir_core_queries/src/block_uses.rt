@@ -48,17 +48,17 @@ impl<D: Dialects> BlockUses<D> for Ptr<BasicBlock<D>> {
     ghost index_of = { λ p. p.index };
 
     fn has_pred(self, ctx: &Context<D>) -> bool {
-        ctx.uses_are_exact();
+        ctx.recall_uses_exact();
         !block_uses(ctx.records(), BlockIndex { index: self.index }).is_empty()
     }
 
     fn num_preds(self, ctx: &Context<D>) -> usize {
-        ctx.uses_are_exact();
+        ctx.recall_uses_exact();
         block_uses(ctx.records(), BlockIndex { index: self.index }).len()
     }
 
     fn uses(self, ctx: &Context<D>) -> Result<Vec<Use<Ptr<BasicBlock<D>>>>, CoreError> {
-        ctx.uses_are_exact();
+        ctx.recall_uses_exact();
         let kept = block_uses(ctx.records(), BlockIndex { index: self.index });
         copy_uses(ctx.alloc(), kept.as_slice())
     }

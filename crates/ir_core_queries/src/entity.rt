@@ -44,8 +44,8 @@ impl<D: Dialects> Entity<D> {
 pub(crate) fn is_linked<D: Dialects>(ctx: &Context<D>, entity: EntityIndex) -> bool
     ensures { IsTrue result ↔ IsLinked (forest_of ctx.now) (entity_of entity) }
 {
-    ctx.is_well_formed();
-    ctx.holds_together();
+    ctx.recall_well_formed();
+    ctx.recall_holds_together();
     parent_of(ctx.records(), entity).is_some()
 }
 
@@ -113,8 +113,8 @@ fn is_at<D: Dialects>(records: &Records<D>, inner: EntityIndex, outer: EntityInd
 pub fn is_inside<D: Dialects>(ctx: &Context<D>, inner: Entity<D>, outer: Entity<D>) -> bool
     ensures { IsTrue result ↔ Inside (forest_of ctx.now) (meant outer) (meant inner) }
 {
-    ctx.is_well_formed();
-    ctx.holds_together();
+    ctx.recall_well_formed();
+    ctx.recall_holds_together();
     let records = ctx.records();
     let outer = outer.index();
     let inner = inner.index();
@@ -129,7 +129,7 @@ pub fn can_erase<D: Dialects>(ctx: &Context<D>, entity: Entity<D>) -> bool
     requires { IsLive (forest_of ctx.now) (meant entity) }
     ensures { IsTrue result ↔ IsClosed (forest_of ctx.now) (meant entity) }
 {
-    ctx.is_well_formed();
-    ctx.holds_together();
+    ctx.recall_well_formed();
+    ctx.recall_holds_together();
     ir_core_erasing::can_erase(ctx.records(), entity.index())
 }

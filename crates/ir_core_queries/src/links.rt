@@ -30,8 +30,8 @@ pub(crate) fn operation<D: Dialects>(ctx: &Context<D>, op: Ptr<Operation<D>>) ->
     ensures { LinksTell (forest_of ctx.now) an_op a_block op.index (op_links result.now) }
 {
     links_are_neighbours::<Operation<D>, BasicBlock<D>>();
-    ctx.is_well_formed();
-    ctx.holds_together();
+    ctx.recall_well_formed();
+    ctx.recall_holds_together();
     ctx.records().ops.at(op)
 }
 
@@ -42,8 +42,8 @@ pub(crate) fn block<D: Dialects>(ctx: &Context<D>, block: Ptr<BasicBlock<D>>) ->
     ensures ends { EndsTell (forest_of ctx.now) an_op (ops_of (forest_of ctx.now) block.index) (block_ends result.now) }
 {
     links_are_neighbours::<BasicBlock<D>, Region>();
-    ctx.is_well_formed();
-    ctx.holds_together();
+    ctx.recall_well_formed();
+    ctx.recall_holds_together();
     ctx.records().blocks.at(block)
 }
 
@@ -52,7 +52,7 @@ pub(crate) fn region<D: Dialects>(ctx: &Context<D>, region: Ptr<Region>) -> &Reg
     requires { IsLive (forest_of ctx.now) (a_region region.index) }
     ensures { EndsTell (forest_of ctx.now) a_block (blocks_of (forest_of ctx.now) region.index) (region_ends result.now) }
 {
-    ctx.is_well_formed();
-    ctx.holds_together();
+    ctx.recall_well_formed();
+    ctx.recall_holds_together();
     ctx.records().regions.at(region)
 }

@@ -136,7 +136,7 @@ impl<D: Dialects> Named<D> for Ptr<BasicBlock<D>> {
     }
 
     fn unique_name(&self, ctx: &Context<D>) -> Result<Identifier, CoreError> {
-        ctx.holds_together();
+        ctx.recall_holds_together();
         ctx.records().blocks.at(*self).unique_name(ctx)
     }
 }

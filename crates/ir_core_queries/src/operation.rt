@@ -64,12 +64,12 @@ impl<D: Dialects> OperationPlace<D> for Ptr<Operation<D>> {
     }
 
     fn get_parent_region(self, ctx: &Context<D>) -> Option<Ptr<Region>> {
-        ctx.is_well_formed();
+        ctx.recall_well_formed();
         self.get_parent_block(ctx)?.get_parent_region(ctx)
     }
 
     fn get_parent_op(self, ctx: &Context<D>) -> Option<Ptr<Operation<D>>> {
-        ctx.is_well_formed();
+        ctx.recall_well_formed();
         self.get_parent_block(ctx)?.get_parent_op(ctx)
     }
 

@@ -7,9 +7,9 @@ ghost use Rattle.ir_model.specs.Kinds.{IsDominance};
 ghost use Rattle.ir_model.specs.Nesting.{blocks_of, In, IsLive};
 ghost use Rattle.ir_model.specs.ContextIds.{same_id};
 ghost use Rattle.ir_model.specs.Parent.{first_of, IsIndex, last_of};
-ghost use Rattle.ir_core_context.specs.State.{behaviour, forest_of};
+ghost use Rattle.ir_core_context.specs.State.{forest_of};
 ghost use Rattle.ir_core_queries.specs.Above.{IsAbove};
-ghost use Rattle.ir_core_queries.specs.Dominance.{kinds};
+ghost use Rattle.ir_core_records.specs.DialectAnswers.{behaviour_of, kinds_of};
 
 use crate::links::{handle, region};
 use crate::operation::OperationPlace;
@@ -86,19 +86,19 @@ pub trait RegionPlace<D: Dialects> {
     /// Whether the live region has SSA dominance: yes where the kind of its operation doesn't implement `REGION_KIND`, and else what the dialect answers for that kind and the region's index. It stands for pliron's `Region::has_ssa_dominance`.
     fn has_ssa_dominance(self, ctx: &Context<D>) -> bool
         requires { IsLive (forest_of ctx.now) (a_region (index_of self)) }
-        ensures { IsDominance (behaviour D.TypeKey.eq D.first_body D.unknown D.op_impls_of) (kinds D.attr_kind_of D.type_kind_of D.type_impls_of D.saved_kind_of D.Saved.eq D.region_ssa_dominance_of) (forest_of ctx.now) (index_of self) result };
+        ensures { IsDominance (behaviour_of D.Dialects D.TypeKey.eq) (kinds_of D.Dialects D.Saved.eq) (forest_of ctx.now) (index_of self) result };
 }
 
 impl<D: Dialects> RegionPlace<D> for Ptr<Region> {
     ghost index_of = { λ p. p.index };
 
     fn get_parent_block(self, ctx: &Context<D>) -> Option<Ptr<BasicBlock<D>>> {
-        ctx.is_well_formed();
+        ctx.recall_well_formed();
         self.get_parent_op(ctx).get_parent_block(ctx)
     }
 
     fn get_parent_region(self, ctx: &Context<D>) -> Option<Ptr<Region>> {
-        ctx.is_well_formed();
+        ctx.recall_well_formed();
         self.get_parent_op(ctx).get_parent_region(ctx)
     }
 
@@ -115,8 +115,8 @@ impl<D: Dialects> RegionPlace<D> for Ptr<Region> {
     }
 
     fn iter(self, ctx: &Context<D>) -> Iter<'_, BasicBlock<D>> {
-        ctx.is_well_formed();
-        ctx.holds_together();
+        ctx.recall_well_formed();
+        ctx.recall_holds_together();
         let records = ctx.records();
         linked_list::iter(&records.blocks, &records.regions, self)
     }
@@ -127,7 +127,7 @@ impl<D: Dialects> RegionPlace<D> for Ptr<Region> {
     }
 
     fn has_ssa_dominance(self, ctx: &Context<D>) -> bool {
-        ctx.is_well_formed();
+        ctx.recall_well_formed();
         let kind = self.get_parent_op(ctx).deref(ctx).kind();
         if D::op_impls(kind, REGION_KIND) {
             D::region_ssa_dominance(kind, self.find_index_in_parent(ctx))

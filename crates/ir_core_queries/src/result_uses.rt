@@ -44,25 +44,25 @@ impl<D: Dialects> ResultUses<D> for Ptr<Operation<D>> {
     ghost index_of = { λ p. p.index };
 
     fn has_use(self, ctx: &Context<D>) -> bool {
-        ctx.is_well_formed();
-        ctx.holds_together();
-        ctx.uses_are_exact();
+        ctx.recall_well_formed();
+        ctx.recall_holds_together();
+        ctx.recall_uses_exact();
         has_any_use(ctx.records().ops.at(self).results.as_slice())
     }
 
     fn num_uses(self, ctx: &Context<D>) -> usize {
-        ctx.is_well_formed();
-        ctx.holds_together();
-        ctx.uses_are_exact();
-        ctx.live_was_made();
-        ctx.use_numbers_fit();
+        ctx.recall_well_formed();
+        ctx.recall_holds_together();
+        ctx.recall_uses_exact();
+        ctx.recall_live_was_made();
+        ctx.recall_use_numbers_fit();
         count_uses(ctx.records().ops.at(self).results.as_slice())
     }
 
     fn uses(self, ctx: &Context<D>) -> OperationUses<'_, D> {
-        ctx.is_well_formed();
-        ctx.holds_together();
-        ctx.uses_are_exact();
+        ctx.recall_well_formed();
+        ctx.recall_holds_together();
+        ctx.recall_uses_exact();
         OperationUses::of_results(ctx.records().ops.at(self).results.as_slice())
     }
 }

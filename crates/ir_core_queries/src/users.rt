@@ -22,7 +22,7 @@ pub fn kept_uses<D: Dialects>(ctx: &Context<D>, block: Ptr<BasicBlock<D>>) -> &[
     ensures users { (o : ArenaIndex) → In (the_block block.index) (names_of (forest_of ctx.now) o) ↔ In o (map (λ u. u.user) result.now) }
     ensures linked { All (λ u. IsLinked (forest_of ctx.now) (an_op u.user)) result.now ↔ UsersLinked (forest_of ctx.now) block.index }
 {
-    ctx.uses_are_exact();
+    ctx.recall_uses_exact();
     let uses = block_uses(ctx.records(), BlockIndex { index: block.index });
     uses.as_slice()
 }

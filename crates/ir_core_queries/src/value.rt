@@ -142,22 +142,22 @@ impl<D: Dialects> ValueQueries<D> for Value<D> {
     }
 
     fn num_uses(self, ctx: &Context<D>) -> usize {
-        ctx.uses_are_exact();
+        ctx.recall_uses_exact();
         uses(ctx.records(), self.index).len()
     }
 
     fn is_used(self, ctx: &Context<D>) -> bool {
-        ctx.uses_are_exact();
+        ctx.recall_uses_exact();
         !uses(ctx.records(), self.index).is_empty()
     }
 
     fn uses(self, ctx: &Context<D>) -> Result<Vec<Use<Value<D>>>, CoreError> {
-        ctx.uses_are_exact();
+        ctx.recall_uses_exact();
         copy_uses(ctx.alloc(), uses(ctx.records(), self.index).as_slice())
     }
 
     fn get_type(self, ctx: &Context<D>) -> TypeHandle {
-        ctx.is_well_formed();
+        ctx.recall_well_formed();
         TypeHandle::at(definition(ctx.records(), self.index).ty)
     }
 
@@ -208,7 +208,7 @@ impl<D: Dialects> UseQueries<D> for Use<Value<D>> {
     ghost index_of = { λ u. u.index };
 
     fn try_find_index(self, ctx: &Context<D>) -> Result<usize, IndexErr> {
-        ctx.holds_together();
+        ctx.recall_holds_together();
         match ctx.records().ops.get(Ptr::from_index(self.index.user)) {
             Some(op) => match find_place(op.operands.as_slice(), self.index.number) {
                 Some(index) => Ok(index),
@@ -226,7 +226,7 @@ impl<D: Dialects> UseQueries<D> for Use<Value<D>> {
     }
 
     fn get_def(self, ctx: &Context<D>) -> Value<D> {
-        ctx.is_well_formed();
+        ctx.recall_well_formed();
         let index = self.find_index(ctx);
         let user = ctx.records().ops.at(Ptr::from_index(self.index.user));
         Value::from_index(user.operands.at(index).names)
@@ -270,7 +270,7 @@ impl<D: Dialects> BlockUseQueries<D> for Use<Ptr<BasicBlock<D>>> {
     ghost index_of = { λ u. u.index };
 
     fn try_find_index(self, ctx: &Context<D>) -> Result<usize, IndexErr> {
-        ctx.holds_together();
+        ctx.recall_holds_together();
         match ctx.records().ops.get(Ptr::from_index(self.index.user)) {
             Some(op) => match find_place(op.successors.as_slice(), self.index.number) {
                 Some(index) => Ok(index),
@@ -288,7 +288,7 @@ impl<D: Dialects> BlockUseQueries<D> for Use<Ptr<BasicBlock<D>>> {
     }
 
     fn get_def(self, ctx: &Context<D>) -> Ptr<BasicBlock<D>> {
-        ctx.is_well_formed();
+        ctx.recall_well_formed();
         let index = self.find_index(ctx);
         let user = ctx.records().ops.at(Ptr::from_index(self.index.user));
         Ptr::from_index(user.successors.at(index).names.index)

@@ -37,7 +37,7 @@ impl<D: Dialects> ValuePlace<D> for Value<D> {
     ghost index_of = { λ v. v.index };
 
     fn get_parent_block(self, ctx: &Context<D>) -> Option<Ptr<BasicBlock<D>>> {
-        ctx.is_well_formed();
+        ctx.recall_well_formed();
         match self.defining_entity() {
             DefiningEntity::Op(op) => op.get_parent_block(ctx),
             DefiningEntity::Block(block) => Some(block),
@@ -45,7 +45,7 @@ impl<D: Dialects> ValuePlace<D> for Value<D> {
     }
 
     fn get_parent_region(self, ctx: &Context<D>) -> Option<Ptr<Region>> {
-        ctx.is_well_formed();
+        ctx.recall_well_formed();
         self.get_parent_block(ctx)?.get_parent_region(ctx)
     }
 }

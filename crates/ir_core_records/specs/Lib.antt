@@ -1,6 +1,7 @@
 pub mod Lists
 pub mod Tree
 pub mod Meaning
+pub mod DialectAnswers
 pub mod Table
 pub mod Links
 pub mod Chains

@@ -10,7 +10,7 @@ use Rattle.ir_model.specs.Sessions.{Beside}
 use Rattle.ir_model.specs.StoreLaws.{SavedAreLawful}
 use Rattle.ir_model.proofs.Saving.{saved_are_exact}
 use Rattle.ir_core_records.specs.Meaning.{closed}
-use Rattle.ir_core_data.specs.Side.{kinds}
+use Rattle.ir_core_records.specs.DialectAnswers.{kinds}
 
 -- the code of a dialect is lawful
 pub lawful : {A K B S X L : Type 0} (attr_kind : A → ℕ) (type_kind : K → ℕ) (type_impls : ℕ → ℕ → Bool) (saved_kind : S → ℕ) (same : S → S → Bool) (dominates : ℕ → ℕ → Bool)

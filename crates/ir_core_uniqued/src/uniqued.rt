@@ -2,9 +2,9 @@
 
 ghost use Rattle.std.specs.Prelude.{◌≡◌, ◌↔◌, Some, IsTrue, IfOk, IfErr, OnOk, OnErr, option_and_then, slice_get};
 ghost use Rattle.ir_model.specs.Saved.{IsSavedAt, IsSavedKind, saved_place, with_saved};
-ghost use Rattle.ir_core_data.specs.Side.{kinds};
 ghost use Rattle.ir_core_context.specs.Calls.{SameButSide};
 ghost use Rattle.ir_core_context.specs.State.{bare};
+ghost use Rattle.ir_core_records.specs.DialectAnswers.{kinds_of};
 
 use ir_base_dialects::SavedValue;
 use ir_core_context::{Context, CoreError, Dialects};
@@ -41,7 +41,7 @@ impl<T> UniquedKey<T> {
     pub fn is_known<D: Dialects>(self, ctx: &Context<D>) -> bool
     where
         T: SavedValue<D>,
-        ensures { IsTrue result ↔ IsSavedKind (kinds D.attr_kind_of D.type_kind_of D.type_impls_of D.saved_kind_of D.Saved.eq D.region_ssa_dominance_of) (bare ctx.now).beside self.place T.KIND }
+        ensures { IsTrue result ↔ IsSavedKind (kinds_of D.Dialects D.Saved.eq) (bare ctx.now).beside self.place T.KIND }
     {
         match ctx.saved_at(self.place) {
             Some(saved) => D::saved_kind(saved) == T::KIND,
@@ -58,10 +58,10 @@ pub fn save<D: Dialects, T: SavedValue<D>>(
     ctx: &mut Context<D>,
     value: T,
 ) -> Result<UniquedKey<T>, CoreError>
-    ensures place { IfOk result (λ key. key.place ≡ saved_place (kinds D.attr_kind_of D.type_kind_of D.type_impls_of D.saved_kind_of D.Saved.eq D.region_ssa_dominance_of) (bare ctx.old).beside (T.saved_of value)) }
-    ensures saved { OnOk result ((bare ctx.new).beside ≡ with_saved (kinds D.attr_kind_of D.type_kind_of D.type_impls_of D.saved_kind_of D.Saved.eq D.region_ssa_dominance_of) (bare ctx.old).beside (T.saved_of value)) }
-    ensures there { IfOk result (λ key. IsSavedAt (kinds D.attr_kind_of D.type_kind_of D.type_impls_of D.saved_kind_of D.Saved.eq D.region_ssa_dominance_of) (bare ctx.new).beside key.place (T.saved_of value)) }
-    ensures known { IfOk result (λ key. IsSavedKind (kinds D.attr_kind_of D.type_kind_of D.type_impls_of D.saved_kind_of D.Saved.eq D.region_ssa_dominance_of) (bare ctx.new).beside key.place T.KIND) }
+    ensures place { IfOk result (λ key. key.place ≡ saved_place (kinds_of D.Dialects D.Saved.eq) (bare ctx.old).beside (T.saved_of value)) }
+    ensures saved { OnOk result ((bare ctx.new).beside ≡ with_saved (kinds_of D.Dialects D.Saved.eq) (bare ctx.old).beside (T.saved_of value)) }
+    ensures there { IfOk result (λ key. IsSavedAt (kinds_of D.Dialects D.Saved.eq) (bare ctx.new).beside key.place (T.saved_of value)) }
+    ensures known { IfOk result (λ key. IsSavedKind (kinds_of D.Dialects D.Saved.eq) (bare ctx.new).beside key.place T.KIND) }
     ensures rest { SameButSide (bare ctx.old) (bare ctx.new) }
     ensures memory { IfErr result (λ e. e ≡ CoreError.OutOfMemory) }
     ensures err { OnErr result (ctx.new ≡ ctx.old) }
@@ -72,7 +72,7 @@ pub fn save<D: Dialects, T: SavedValue<D>>(
 
 /// The value under a known key.
 pub fn get<D: Dialects, T: SavedValue<D>>(ctx: &Context<D>, key: UniquedKey<T>) -> &T
-    requires known { IsSavedKind (kinds D.attr_kind_of D.type_kind_of D.type_impls_of D.saved_kind_of D.Saved.eq D.region_ssa_dominance_of) (bare ctx.now).beside key.place T.KIND }
+    requires known { IsSavedKind (kinds_of D.Dialects D.Saved.eq) (bare ctx.now).beside key.place T.KIND }
     ensures { option_and_then T.value_of (slice_get (bare ctx.now).beside.saved key.place) ≡ Some result.now }
 {
     match ctx.saved_at(key.place) {
@@ -100,9 +100,9 @@ impl<T> Uniqued<T> {
     pub fn new<D: Dialects>(ctx: &mut Context<D>, value: T) -> Result<Self, CoreError>
     where
         T: SavedValue<D>,
-        ensures place { IfOk result (λ saved. saved.key.place ≡ saved_place (kinds D.attr_kind_of D.type_kind_of D.type_impls_of D.saved_kind_of D.Saved.eq D.region_ssa_dominance_of) (bare ctx.old).beside (T.saved_of value)) }
-        ensures saved { OnOk result ((bare ctx.new).beside ≡ with_saved (kinds D.attr_kind_of D.type_kind_of D.type_impls_of D.saved_kind_of D.Saved.eq D.region_ssa_dominance_of) (bare ctx.old).beside (T.saved_of value)) }
-        ensures known { IfOk result (λ saved. IsSavedKind (kinds D.attr_kind_of D.type_kind_of D.type_impls_of D.saved_kind_of D.Saved.eq D.region_ssa_dominance_of) (bare ctx.new).beside saved.key.place T.KIND) }
+        ensures place { IfOk result (λ saved. saved.key.place ≡ saved_place (kinds_of D.Dialects D.Saved.eq) (bare ctx.old).beside (T.saved_of value)) }
+        ensures saved { OnOk result ((bare ctx.new).beside ≡ with_saved (kinds_of D.Dialects D.Saved.eq) (bare ctx.old).beside (T.saved_of value)) }
+        ensures known { IfOk result (λ saved. IsSavedKind (kinds_of D.Dialects D.Saved.eq) (bare ctx.new).beside saved.key.place T.KIND) }
         ensures rest { SameButSide (bare ctx.old) (bare ctx.new) }
         ensures memory { IfErr result (λ e. e ≡ CoreError.OutOfMemory) }
         ensures err { OnErr result (ctx.new ≡ ctx.old) }
@@ -115,7 +115,7 @@ impl<T> Uniqued<T> {
     pub fn get<D: Dialects>(self, ctx: &Context<D>) -> &T
     where
         T: SavedValue<D>,
-        requires known { IsSavedKind (kinds D.attr_kind_of D.type_kind_of D.type_impls_of D.saved_kind_of D.Saved.eq D.region_ssa_dominance_of) (bare ctx.now).beside self.key.place T.KIND }
+        requires known { IsSavedKind (kinds_of D.Dialects D.Saved.eq) (bare ctx.now).beside self.key.place T.KIND }
         ensures { option_and_then T.value_of (slice_get (bare ctx.now).beside.saved self.key.place) ≡ Some result.now }
     {
         get(ctx, self.key)

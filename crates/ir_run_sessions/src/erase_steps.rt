@@ -4,10 +4,11 @@
 
 ghost use Rattle.ir_model.specs.Edits.{DropBlockUses as PlainDropBlockUses, DropOpUses as PlainDropOpUses, DropRegionUses as PlainDropRegionUses, EraseBlock as PlainEraseBlock, EraseOp as PlainEraseOp, EraseRegion as PlainEraseRegion};
 ghost use Rattle.ir_model.specs.Sessions.{Step};
-ghost use Rattle.ir_run_tables.specs.State.{behaviour, session_of};
+ghost use Rattle.ir_run_tables.specs.State.{session_of};
 ghost use Rattle.ir_run_tables.specs.SessionTables.{entries_of};
+ghost use Rattle.ir_core_records.specs.DialectAnswers.{behaviour_of};
 
-use crate::steps::needs_nothing;
+use crate::steps::recall_needs_nothing;
 use ir_base_dialects::{Answer, Dialects, Ptr, Refused};
 use ir_run_tables::{
     BasicBlock, Context, DropUses, Erase, EraseRegion, Operation, Region, Tables, find,
@@ -16,9 +17,9 @@ use ir_run_tables::{
 
 /// Takes the operands and successors of all operations inside the operation out, also its own.
 pub fn drop_op_uses<D: Dialects>(ctx: &mut Context<D>, tables: &Tables<D>, op: usize) -> Answer
-    ensures { Step (behaviour D.TypeKey.eq D.first_body D.unknown D.op_impls_of) (session_of ctx.old (entries_of tables.now)) (PlainDropOpUses op) result (session_of ctx.new (entries_of tables.now)) }
+    ensures { Step (behaviour_of D.Dialects D.TypeKey.eq) (session_of ctx.old (entries_of tables.now)) (PlainDropOpUses op) result (session_of ctx.new (entries_of tables.now)) }
 {
-    needs_nothing(ctx);
+    recall_needs_nothing(ctx);
     match find::<D, Ptr<Operation<D>>>(ctx, tables, op) {
         Some(op) => {
             op.drop_all_uses(ctx);
@@ -34,9 +35,9 @@ pub fn drop_block_uses<D: Dialects>(
     tables: &Tables<D>,
     block: usize,
 ) -> Answer
-    ensures { Step (behaviour D.TypeKey.eq D.first_body D.unknown D.op_impls_of) (session_of ctx.old (entries_of tables.now)) (PlainDropBlockUses block) result (session_of ctx.new (entries_of tables.now)) }
+    ensures { Step (behaviour_of D.Dialects D.TypeKey.eq) (session_of ctx.old (entries_of tables.now)) (PlainDropBlockUses block) result (session_of ctx.new (entries_of tables.now)) }
 {
-    needs_nothing(ctx);
+    recall_needs_nothing(ctx);
     match find::<D, Ptr<BasicBlock<D>>>(ctx, tables, block) {
         Some(block) => {
             block.drop_all_uses(ctx);
@@ -52,9 +53,9 @@ pub fn drop_region_uses<D: Dialects>(
     tables: &Tables<D>,
     region: usize,
 ) -> Answer
-    ensures { Step (behaviour D.TypeKey.eq D.first_body D.unknown D.op_impls_of) (session_of ctx.old (entries_of tables.now)) (PlainDropRegionUses region) result (session_of ctx.new (entries_of tables.now)) }
+    ensures { Step (behaviour_of D.Dialects D.TypeKey.eq) (session_of ctx.old (entries_of tables.now)) (PlainDropRegionUses region) result (session_of ctx.new (entries_of tables.now)) }
 {
-    needs_nothing(ctx);
+    recall_needs_nothing(ctx);
     match find::<D, Ptr<Region>>(ctx, tables, region) {
         Some(region) => {
             region.drop_all_uses(ctx);
@@ -66,9 +67,9 @@ pub fn drop_region_uses<D: Dialects>(
 
 /// Erases the operation with all that stands inside it.
 pub fn erase_op<D: Dialects>(ctx: &mut Context<D>, tables: &Tables<D>, op: usize) -> Answer
-    ensures { Step (behaviour D.TypeKey.eq D.first_body D.unknown D.op_impls_of) (session_of ctx.old (entries_of tables.now)) (PlainEraseOp op) result (session_of ctx.new (entries_of tables.now)) }
+    ensures { Step (behaviour_of D.Dialects D.TypeKey.eq) (session_of ctx.old (entries_of tables.now)) (PlainEraseOp op) result (session_of ctx.new (entries_of tables.now)) }
 {
-    needs_nothing(ctx);
+    recall_needs_nothing(ctx);
     match find_closed::<D, Ptr<Operation<D>>>(ctx, tables, op) {
         Some(op) => {
             op.erase(ctx);
@@ -80,9 +81,9 @@ pub fn erase_op<D: Dialects>(ctx: &mut Context<D>, tables: &Tables<D>, op: usize
 
 /// Erases the block with all that stands inside it.
 pub fn erase_block<D: Dialects>(ctx: &mut Context<D>, tables: &Tables<D>, block: usize) -> Answer
-    ensures { Step (behaviour D.TypeKey.eq D.first_body D.unknown D.op_impls_of) (session_of ctx.old (entries_of tables.now)) (PlainEraseBlock block) result (session_of ctx.new (entries_of tables.now)) }
+    ensures { Step (behaviour_of D.Dialects D.TypeKey.eq) (session_of ctx.old (entries_of tables.now)) (PlainEraseBlock block) result (session_of ctx.new (entries_of tables.now)) }
 {
-    needs_nothing(ctx);
+    recall_needs_nothing(ctx);
     match find_closed::<D, Ptr<BasicBlock<D>>>(ctx, tables, block) {
         Some(block) => {
             block.erase(ctx);
@@ -99,9 +100,9 @@ pub fn erase_region<D: Dialects>(
     op: usize,
     at: usize,
 ) -> Answer
-    ensures { Step (behaviour D.TypeKey.eq D.first_body D.unknown D.op_impls_of) (session_of ctx.old (entries_of tables.now)) (PlainEraseRegion op at) result (session_of ctx.new (entries_of tables.now)) }
+    ensures { Step (behaviour_of D.Dialects D.TypeKey.eq) (session_of ctx.old (entries_of tables.now)) (PlainEraseRegion op at) result (session_of ctx.new (entries_of tables.now)) }
 {
-    needs_nothing(ctx);
+    recall_needs_nothing(ctx);
     match find_closed_region(ctx, tables, op, at) {
         Some(op) => {
             op.erase_region(ctx, at);

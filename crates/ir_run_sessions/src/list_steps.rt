@@ -4,10 +4,11 @@
 
 ghost use Rattle.ir_model.specs.Edits.{AppendBlocks as PlainAppendBlocks, AppendOps as PlainAppendOps, BlockAfter as PlainBlockAfter, BlockBack as PlainBlockBack, BlockBefore as PlainBlockBefore, BlockFront as PlainBlockFront, MoveRegion as PlainMoveRegion, OpAfter as PlainOpAfter, OpBack as PlainOpBack, OpBefore as PlainOpBefore, OpFront as PlainOpFront, UnlinkBlock as PlainUnlinkBlock, UnlinkOp as PlainUnlinkOp};
 ghost use Rattle.ir_model.specs.Sessions.{Step};
-ghost use Rattle.ir_run_tables.specs.State.{behaviour, session_of};
+ghost use Rattle.ir_run_tables.specs.State.{session_of};
 ghost use Rattle.ir_run_tables.specs.SessionTables.{entries_of};
+ghost use Rattle.ir_core_records.specs.DialectAnswers.{behaviour_of};
 
-use crate::steps::needs_nothing;
+use crate::steps::recall_needs_nothing;
 use ir_base_dialects::{Answer, Dialects, Ptr, Refused};
 use ir_run_tables::{
     BasicBlock, BlockContainer, BlockList, Context, Operation, OperationContainer, OperationList,
@@ -21,9 +22,9 @@ pub fn op_front<D: Dialects>(
     op: usize,
     block: usize,
 ) -> Answer
-    ensures { Step (behaviour D.TypeKey.eq D.first_body D.unknown D.op_impls_of) (session_of ctx.old (entries_of tables.now)) (PlainOpFront op block) result (session_of ctx.new (entries_of tables.now)) }
+    ensures { Step (behaviour_of D.Dialects D.TypeKey.eq) (session_of ctx.old (entries_of tables.now)) (PlainOpFront op block) result (session_of ctx.new (entries_of tables.now)) }
 {
-    needs_nothing(ctx);
+    recall_needs_nothing(ctx);
     match find_into::<D, Ptr<Operation<D>>, Ptr<BasicBlock<D>>>(ctx, tables, op, block) {
         Some((op, block)) => {
             op.insert_at_front(block, ctx);
@@ -40,9 +41,9 @@ pub fn op_back<D: Dialects>(
     op: usize,
     block: usize,
 ) -> Answer
-    ensures { Step (behaviour D.TypeKey.eq D.first_body D.unknown D.op_impls_of) (session_of ctx.old (entries_of tables.now)) (PlainOpBack op block) result (session_of ctx.new (entries_of tables.now)) }
+    ensures { Step (behaviour_of D.Dialects D.TypeKey.eq) (session_of ctx.old (entries_of tables.now)) (PlainOpBack op block) result (session_of ctx.new (entries_of tables.now)) }
 {
-    needs_nothing(ctx);
+    recall_needs_nothing(ctx);
     match find_into::<D, Ptr<Operation<D>>, Ptr<BasicBlock<D>>>(ctx, tables, op, block) {
         Some((op, block)) => {
             op.insert_at_back(block, ctx);
@@ -59,9 +60,9 @@ pub fn op_before<D: Dialects>(
     op: usize,
     mark: usize,
 ) -> Answer
-    ensures { Step (behaviour D.TypeKey.eq D.first_body D.unknown D.op_impls_of) (session_of ctx.old (entries_of tables.now)) (PlainOpBefore op mark) result (session_of ctx.new (entries_of tables.now)) }
+    ensures { Step (behaviour_of D.Dialects D.TypeKey.eq) (session_of ctx.old (entries_of tables.now)) (PlainOpBefore op mark) result (session_of ctx.new (entries_of tables.now)) }
 {
-    needs_nothing(ctx);
+    recall_needs_nothing(ctx);
     match find_beside::<D, Ptr<Operation<D>>>(ctx, tables, op, mark) {
         Some((op, mark)) => {
             op.insert_before(ctx, mark);
@@ -78,9 +79,9 @@ pub fn op_after<D: Dialects>(
     op: usize,
     mark: usize,
 ) -> Answer
-    ensures { Step (behaviour D.TypeKey.eq D.first_body D.unknown D.op_impls_of) (session_of ctx.old (entries_of tables.now)) (PlainOpAfter op mark) result (session_of ctx.new (entries_of tables.now)) }
+    ensures { Step (behaviour_of D.Dialects D.TypeKey.eq) (session_of ctx.old (entries_of tables.now)) (PlainOpAfter op mark) result (session_of ctx.new (entries_of tables.now)) }
 {
-    needs_nothing(ctx);
+    recall_needs_nothing(ctx);
     match find_beside::<D, Ptr<Operation<D>>>(ctx, tables, op, mark) {
         Some((op, mark)) => {
             op.insert_after(ctx, mark);
@@ -92,9 +93,9 @@ pub fn op_after<D: Dialects>(
 
 /// Takes the operation out of its block.
 pub fn unlink_op<D: Dialects>(ctx: &mut Context<D>, tables: &Tables<D>, op: usize) -> Answer
-    ensures { Step (behaviour D.TypeKey.eq D.first_body D.unknown D.op_impls_of) (session_of ctx.old (entries_of tables.now)) (PlainUnlinkOp op) result (session_of ctx.new (entries_of tables.now)) }
+    ensures { Step (behaviour_of D.Dialects D.TypeKey.eq) (session_of ctx.old (entries_of tables.now)) (PlainUnlinkOp op) result (session_of ctx.new (entries_of tables.now)) }
 {
-    needs_nothing(ctx);
+    recall_needs_nothing(ctx);
     match find_linked::<D, Ptr<Operation<D>>>(ctx, tables, op) {
         Some(op) => {
             op.unlink(ctx);
@@ -111,9 +112,9 @@ pub fn block_front<D: Dialects>(
     block: usize,
     region: usize,
 ) -> Answer
-    ensures { Step (behaviour D.TypeKey.eq D.first_body D.unknown D.op_impls_of) (session_of ctx.old (entries_of tables.now)) (PlainBlockFront block region) result (session_of ctx.new (entries_of tables.now)) }
+    ensures { Step (behaviour_of D.Dialects D.TypeKey.eq) (session_of ctx.old (entries_of tables.now)) (PlainBlockFront block region) result (session_of ctx.new (entries_of tables.now)) }
 {
-    needs_nothing(ctx);
+    recall_needs_nothing(ctx);
     match find_into::<D, Ptr<BasicBlock<D>>, Ptr<Region>>(ctx, tables, block, region) {
         Some((block, region)) => {
             block.insert_at_front(region, ctx);
@@ -130,9 +131,9 @@ pub fn block_back<D: Dialects>(
     block: usize,
     region: usize,
 ) -> Answer
-    ensures { Step (behaviour D.TypeKey.eq D.first_body D.unknown D.op_impls_of) (session_of ctx.old (entries_of tables.now)) (PlainBlockBack block region) result (session_of ctx.new (entries_of tables.now)) }
+    ensures { Step (behaviour_of D.Dialects D.TypeKey.eq) (session_of ctx.old (entries_of tables.now)) (PlainBlockBack block region) result (session_of ctx.new (entries_of tables.now)) }
 {
-    needs_nothing(ctx);
+    recall_needs_nothing(ctx);
     match find_into::<D, Ptr<BasicBlock<D>>, Ptr<Region>>(ctx, tables, block, region) {
         Some((block, region)) => {
             block.insert_at_back(region, ctx);
@@ -149,9 +150,9 @@ pub fn block_before<D: Dialects>(
     block: usize,
     mark: usize,
 ) -> Answer
-    ensures { Step (behaviour D.TypeKey.eq D.first_body D.unknown D.op_impls_of) (session_of ctx.old (entries_of tables.now)) (PlainBlockBefore block mark) result (session_of ctx.new (entries_of tables.now)) }
+    ensures { Step (behaviour_of D.Dialects D.TypeKey.eq) (session_of ctx.old (entries_of tables.now)) (PlainBlockBefore block mark) result (session_of ctx.new (entries_of tables.now)) }
 {
-    needs_nothing(ctx);
+    recall_needs_nothing(ctx);
     match find_beside::<D, Ptr<BasicBlock<D>>>(ctx, tables, block, mark) {
         Some((block, mark)) => {
             block.insert_before(ctx, mark);
@@ -168,9 +169,9 @@ pub fn block_after<D: Dialects>(
     block: usize,
     mark: usize,
 ) -> Answer
-    ensures { Step (behaviour D.TypeKey.eq D.first_body D.unknown D.op_impls_of) (session_of ctx.old (entries_of tables.now)) (PlainBlockAfter block mark) result (session_of ctx.new (entries_of tables.now)) }
+    ensures { Step (behaviour_of D.Dialects D.TypeKey.eq) (session_of ctx.old (entries_of tables.now)) (PlainBlockAfter block mark) result (session_of ctx.new (entries_of tables.now)) }
 {
-    needs_nothing(ctx);
+    recall_needs_nothing(ctx);
     match find_beside::<D, Ptr<BasicBlock<D>>>(ctx, tables, block, mark) {
         Some((block, mark)) => {
             block.insert_after(ctx, mark);
@@ -182,9 +183,9 @@ pub fn block_after<D: Dialects>(
 
 /// Takes the block out of its region.
 pub fn unlink_block<D: Dialects>(ctx: &mut Context<D>, tables: &Tables<D>, block: usize) -> Answer
-    ensures { Step (behaviour D.TypeKey.eq D.first_body D.unknown D.op_impls_of) (session_of ctx.old (entries_of tables.now)) (PlainUnlinkBlock block) result (session_of ctx.new (entries_of tables.now)) }
+    ensures { Step (behaviour_of D.Dialects D.TypeKey.eq) (session_of ctx.old (entries_of tables.now)) (PlainUnlinkBlock block) result (session_of ctx.new (entries_of tables.now)) }
 {
-    needs_nothing(ctx);
+    recall_needs_nothing(ctx);
     match find_linked::<D, Ptr<BasicBlock<D>>>(ctx, tables, block) {
         Some(block) => {
             block.unlink(ctx);
@@ -201,9 +202,9 @@ pub fn append_ops<D: Dialects>(
     donee: usize,
     donor: usize,
 ) -> Answer
-    ensures { Step (behaviour D.TypeKey.eq D.first_body D.unknown D.op_impls_of) (session_of ctx.old (entries_of tables.now)) (PlainAppendOps donee donor) result (session_of ctx.new (entries_of tables.now)) }
+    ensures { Step (behaviour_of D.Dialects D.TypeKey.eq) (session_of ctx.old (entries_of tables.now)) (PlainAppendOps donee donor) result (session_of ctx.new (entries_of tables.now)) }
 {
-    needs_nothing(ctx);
+    recall_needs_nothing(ctx);
     match find_joined::<D, Ptr<BasicBlock<D>>>(ctx, tables, donee, donor) {
         Some((donee, donor)) => {
             donee.append_linked_list(ctx, donor);
@@ -220,9 +221,9 @@ pub fn append_blocks<D: Dialects>(
     donee: usize,
     donor: usize,
 ) -> Answer
-    ensures { Step (behaviour D.TypeKey.eq D.first_body D.unknown D.op_impls_of) (session_of ctx.old (entries_of tables.now)) (PlainAppendBlocks donee donor) result (session_of ctx.new (entries_of tables.now)) }
+    ensures { Step (behaviour_of D.Dialects D.TypeKey.eq) (session_of ctx.old (entries_of tables.now)) (PlainAppendBlocks donee donor) result (session_of ctx.new (entries_of tables.now)) }
 {
-    needs_nothing(ctx);
+    recall_needs_nothing(ctx);
     match find_joined::<D, Ptr<Region>>(ctx, tables, donee, donor) {
         Some((donee, donor)) => {
             donee.append_linked_list(ctx, donor);
@@ -239,9 +240,9 @@ pub fn move_region<D: Dialects>(
     region: usize,
     op: usize,
 ) -> Answer
-    ensures { Step (behaviour D.TypeKey.eq D.first_body D.unknown D.op_impls_of) (session_of ctx.old (entries_of tables.now)) (PlainMoveRegion region op) result (session_of ctx.new (entries_of tables.now)) }
+    ensures { Step (behaviour_of D.Dialects D.TypeKey.eq) (session_of ctx.old (entries_of tables.now)) (PlainMoveRegion region op) result (session_of ctx.new (entries_of tables.now)) }
 {
-    needs_nothing(ctx);
+    recall_needs_nothing(ctx);
     match find_outside(ctx, tables, region, op) {
         Some((region, op)) => match region.move_to_op(op, ctx) {
             Ok(()) => Answer::Done,

@@ -4,10 +4,11 @@
 
 ghost use Rattle.ir_model.specs.Edits.{ReplaceAllUses as PlainReplaceAllUses, RetargetAll as PlainRetargetAll};
 ghost use Rattle.ir_model.specs.Sessions.{Step};
-ghost use Rattle.ir_run_tables.specs.State.{behaviour, session_of};
+ghost use Rattle.ir_run_tables.specs.State.{session_of};
 ghost use Rattle.ir_run_tables.specs.SessionTables.{entries_of};
+ghost use Rattle.ir_core_records.specs.DialectAnswers.{behaviour_of};
 
-use crate::steps::{done, needs_nothing};
+use crate::steps::{done, recall_needs_nothing};
 use ir_base_dialects::{Answer, Dialects, Refused};
 use ir_run_tables::{Context, Retarget, Tables, ValueEdits, find_retargeted, find_values};
 
@@ -18,9 +19,9 @@ pub fn replace_all_uses<D: Dialects>(
     value: usize,
     other: usize,
 ) -> Answer
-    ensures { Step (behaviour D.TypeKey.eq D.first_body D.unknown D.op_impls_of) (session_of ctx.old (entries_of tables.now)) (PlainReplaceAllUses value other) result (session_of ctx.new (entries_of tables.now)) }
+    ensures { Step (behaviour_of D.Dialects D.TypeKey.eq) (session_of ctx.old (entries_of tables.now)) (PlainReplaceAllUses value other) result (session_of ctx.new (entries_of tables.now)) }
 {
-    needs_nothing(ctx);
+    recall_needs_nothing(ctx);
     match find_values(ctx, tables, value, other) {
         Some((value, other)) => done(value.replace_all_uses_with(ctx, other)),
         None => Answer::Refused(Refused::Condition),
@@ -34,9 +35,9 @@ pub fn retarget_all<D: Dialects>(
     block: usize,
     other: usize,
 ) -> Answer
-    ensures { Step (behaviour D.TypeKey.eq D.first_body D.unknown D.op_impls_of) (session_of ctx.old (entries_of tables.now)) (PlainRetargetAll block other) result (session_of ctx.new (entries_of tables.now)) }
+    ensures { Step (behaviour_of D.Dialects D.TypeKey.eq) (session_of ctx.old (entries_of tables.now)) (PlainRetargetAll block other) result (session_of ctx.new (entries_of tables.now)) }
 {
-    needs_nothing(ctx);
+    recall_needs_nothing(ctx);
     match find_retargeted(ctx, tables, block, other) {
         Some((block, other)) => done(block.retarget_all_preds_to(ctx, other)),
         None => Answer::Refused(Refused::Condition),

@@ -14,10 +14,11 @@ ghost use Rattle.ir_model.specs.Uses.{AreUses};
 ghost use Rattle.ir_core_records.specs.declared.record.ValueIndex.{ValueIndex as PlainIndex};
 ghost use Rattle.ir_core_records.specs.Meaning.{value_of};
 ghost use Rattle.ir_run_tables.specs.Calls.{LiveWasMade, TypesAreExact};
-ghost use Rattle.ir_run_tables.specs.State.{bare, behaviour, block_uses_of, uses_of};
+ghost use Rattle.ir_run_tables.specs.State.{bare, block_uses_of, uses_of};
 ghost use Rattle.ir_run_sessions.specs.SessionEdits.{edit_of};
 ghost use Rattle.ir_run_sessions.specs.Headline.{GoneAtCuts, KeepsKeys};
 ghost use Rattle.ir_run_sessions.specs.SessionState.{plain};
+ghost use Rattle.ir_core_records.specs.DialectAnswers.{behaviour_of};
 
 use crate::stepping::step;
 use ir_base_dialects::{Answer, CoreError, Dialects, Limits, Ptr, TypeHandle};
@@ -108,28 +109,28 @@ impl<D: Dialects> Session<D> {
     /// # Errors
     /// `OutOfMemory`, where there was no room for the answers. Then nothing was done.
     pub fn run(&mut self, edits: Vec<Edit<D>>) -> Result<Vec<Answer>, CoreError>
-        ensures headline { IfOk result (λ answers. Run (behaviour D.TypeKey.eq D.first_body D.unknown D.op_impls_of) (plain self.old) (map edit_of edits.items) answers.items (plain self.new)) }
+        ensures headline { IfOk result (λ answers. Run (behaviour_of D.Dialects D.TypeKey.eq) (plain self.old) (map edit_of edits.items) answers.items (plain self.new)) }
         ensures well_formed { WellFormed (plain self.new).state.forest (length (plain self.new).state.store) }
         ensures uses_exact { (v : PlainIndex) → IsLiveNamed (plain self.new).state.forest (a_value (value_of v)) → AreUses (plain self.new).state.forest (a_value (value_of v)) (uses_of self.new.ctx v) }
         ensures block_uses_exact { (b : ArenaIndex) → IsLiveNamed (plain self.new).state.forest (the_block b) → AreUses (plain self.new).state.forest (the_block b) (block_uses_of self.new.ctx b) }
         ensures stays_gone { StaysGone (plain self.old) (plain self.new) }
-        ensures gone_at_cuts { IfOk result (λ answers. GoneAtCuts (behaviour D.TypeKey.eq D.first_body D.unknown D.op_impls_of) (plain self.old) (map edit_of edits.items) answers.items (plain self.new)) }
-        ensures live_was_made { LiveWasMade (bare self.new.ctx) }
-        ensures types_exact { TypesAreExact (behaviour D.TypeKey.eq D.first_body D.unknown D.op_impls_of) (plain self.new).state.store }
+        ensures gone_at_cuts { IfOk result (λ answers. GoneAtCuts (behaviour_of D.Dialects D.TypeKey.eq) (plain self.old) (map edit_of edits.items) answers.items (plain self.new)) }
+        ensures recall_live_was_made { LiveWasMade (bare self.new.ctx) }
+        ensures types_exact { TypesAreExact (behaviour_of D.Dialects D.TypeKey.eq) (plain self.new).state.store }
         ensures keys_stay { KeepsKeys (plain self.old) (plain self.new) }
         ensures memory { IfErr result (λ e. e ≡ CoreError.OutOfMemory) }
         ensures err { OnErr result (self.new ≡ self.old) }
     {
         let result = self.carry_out(edits);
-        self.ctx.uses_are_exact();
-        self.ctx.types_are_exact();
-        self.ctx.live_was_made();
+        self.ctx.recall_uses_exact();
+        self.ctx.recall_types_exact();
+        self.ctx.recall_live_was_made();
         result
     }
 
     // Carries the edits out in order, and answers each.
     fn carry_out(&mut self, edits: Vec<Edit<D>>) -> Result<Vec<Answer>, CoreError>
-        ensures headline { IfOk result (λ answers. Run (behaviour D.TypeKey.eq D.first_body D.unknown D.op_impls_of) (plain self.old) (map edit_of edits.items) answers.items (plain self.new)) }
+        ensures headline { IfOk result (λ answers. Run (behaviour_of D.Dialects D.TypeKey.eq) (plain self.old) (map edit_of edits.items) answers.items (plain self.new)) }
         ensures stays_gone { StaysGone (plain self.old) (plain self.new) }
         ensures was_sound { IfOk result (λ _. Sound (plain self.old)) }
         ensures keys_stay { KeepsKeys (plain self.old) (plain self.new) }
@@ -146,7 +147,7 @@ impl<D: Dialects> Session<D> {
 
     // Carries one edit out.
     fn step(&mut self, edit: Edit<D>) -> Answer
-        ensures { Step (behaviour D.TypeKey.eq D.first_body D.unknown D.op_impls_of) (plain self.old) (edit_of edit) result (plain self.new) }
+        ensures { Step (behaviour_of D.Dialects D.TypeKey.eq) (plain self.old) (edit_of edit) result (plain self.new) }
     {
         step(&mut self.ctx, &mut self.tables, edit)
     }

@@ -3,8 +3,9 @@
 ghost use Rattle.ir_model.specs.Sessions.{Step};
 ghost use Rattle.ir_model.specs.Soundness.{Sound};
 ghost use Rattle.ir_run_tables.specs.SessionTables.{entries_of};
-ghost use Rattle.ir_run_tables.specs.State.{behaviour, session_of};
+ghost use Rattle.ir_run_tables.specs.State.{session_of};
 ghost use Rattle.ir_run_sessions.specs.SessionEdits.{edit_of};
+ghost use Rattle.ir_core_records.specs.DialectAnswers.{behaviour_of};
 
 use crate::steps::{self, OpParts};
 use crate::{definition_steps, erase_steps, list_steps, redirect_steps, use_steps};
@@ -19,7 +20,7 @@ pub(crate) fn step<D: Dialects>(
     edit: Edit<D>,
 ) -> Answer
     requires { Sound (session_of ctx.old (entries_of tables.old)) }
-    ensures { Step (behaviour D.TypeKey.eq D.first_body D.unknown D.op_impls_of) (session_of ctx.old (entries_of tables.old)) (edit_of edit) result (session_of ctx.new (entries_of tables.new)) }
+    ensures { Step (behaviour_of D.Dialects D.TypeKey.eq) (session_of ctx.old (entries_of tables.old)) (edit_of edit) result (session_of ctx.new (entries_of tables.new)) }
 {
     match edit {
         Edit::NewType(key) => steps::new_type(ctx, tables, key),

@@ -9,8 +9,9 @@ ghost use Rattle.ir_model.specs.Nesting.{IsLive};
 ghost use Rattle.ir_model.specs.Sessions.{HasNumbers, HasSlots, LacksNumbers, LacksSlots, Step};
 ghost use Rattle.ir_model.specs.Soundness.{Sound};
 ghost use Rattle.ir_run_tables.specs.Calls.{HasAll, counts_of};
-ghost use Rattle.ir_run_tables.specs.State.{bare, behaviour, forest_of, session_of};
+ghost use Rattle.ir_run_tables.specs.State.{bare, forest_of, session_of};
 ghost use Rattle.ir_run_tables.specs.SessionTables.{HasPlace, answer_of, done_of, entries_of};
+ghost use Rattle.ir_core_records.specs.DialectAnswers.{behaviour_of};
 
 use ir_base_dialects::{Answer, CoreError, Dialects, Identifier, Ptr, Refused, TypeHandle};
 use ir_run_tables::{
@@ -48,9 +49,9 @@ pub fn new_type<D: Dialects>(
     tables: &mut Tables<D>,
     key: D::TypeKey,
 ) -> Answer
-    ensures { Step (behaviour D.TypeKey.eq D.first_body D.unknown D.op_impls_of) (session_of ctx.old (entries_of tables.old)) (PlainNewType key) result (session_of ctx.new (entries_of tables.new)) }
+    ensures { Step (behaviour_of D.Dialects D.TypeKey.eq) (session_of ctx.old (entries_of tables.old)) (PlainNewType key) result (session_of ctx.new (entries_of tables.new)) }
 {
-    needs_nothing(ctx);
+    recall_needs_nothing(ctx);
     answer(store_type(ctx, tables, key))
 }
 
@@ -61,7 +62,7 @@ pub fn new_op<D: Dialects>(
     parts: &OpParts<'_>,
 ) -> Answer
     requires { Sound (session_of ctx.old (entries_of tables.old)) }
-    ensures { Step (behaviour D.TypeKey.eq D.first_body D.unknown D.op_impls_of) (session_of ctx.old (entries_of tables.old)) (PlainNewOp parts.now.kind parts.now.types.now parts.now.operands.now parts.now.successors.now parts.now.regions) result (session_of ctx.new (entries_of tables.new)) }
+    ensures { Step (behaviour_of D.Dialects D.TypeKey.eq) (session_of ctx.old (entries_of tables.old)) (PlainNewOp parts.now.kind parts.now.types.now parts.now.operands.now parts.now.successors.now parts.now.regions) result (session_of ctx.new (entries_of tables.new)) }
 {
     if may_be_made(ctx, tables, parts) {
         answer(make_op(ctx, tables, parts))
@@ -78,7 +79,7 @@ pub fn new_block<D: Dialects>(
     types: &[usize],
 ) -> Answer
     requires { Sound (session_of ctx.old (entries_of tables.old)) }
-    ensures { Step (behaviour D.TypeKey.eq D.first_body D.unknown D.op_impls_of) (session_of ctx.old (entries_of tables.old)) (PlainNewBlock label types.now) result (session_of ctx.new (entries_of tables.new)) }
+    ensures { Step (behaviour_of D.Dialects D.TypeKey.eq) (session_of ctx.old (entries_of tables.old)) (PlainNewBlock label types.now) result (session_of ctx.new (entries_of tables.new)) }
 {
     if all_below(types, tables.types.len()) {
         answer(make_block(ctx, tables, label, types))
@@ -94,7 +95,7 @@ pub fn add_region<D: Dialects>(
     number: usize,
 ) -> Answer
     requires { Sound (session_of ctx.old (entries_of tables.old)) }
-    ensures { Step (behaviour D.TypeKey.eq D.first_body D.unknown D.op_impls_of) (session_of ctx.old (entries_of tables.old)) (PlainAddRegion number) result (session_of ctx.new (entries_of tables.new)) }
+    ensures { Step (behaviour_of D.Dialects D.TypeKey.eq) (session_of ctx.old (entries_of tables.old)) (PlainAddRegion number) result (session_of ctx.new (entries_of tables.new)) }
 {
     match live_entry(ctx, &tables.ops, number) {
         Some(op) => answer(make_region(ctx, tables, op)),
@@ -134,7 +135,7 @@ fn may_be_made<D: Dialects>(ctx: &Context<D>, tables: &Tables<D>, parts: &OpPart
 }
 
 /// What holds of every context: there is room for nothing.
-pub(crate) fn needs_nothing<D: Dialects>(ctx: &Context<D>)
+pub(crate) fn recall_needs_nothing<D: Dialects>(ctx: &Context<D>)
     ensures numbers { HasNumbers (bare ctx.now) no_needs }
     ensures slots { HasSlots (bare ctx.now) no_needs }
 {
@@ -169,7 +170,7 @@ fn store_type<D: Dialects>(
 ) -> Result<usize, CoreError>
     requires numbers { HasNumbers (bare ctx.old) no_needs }
     requires slots { HasSlots (bare ctx.old) no_needs }
-    ensures { Step (behaviour D.TypeKey.eq D.first_body D.unknown D.op_impls_of) (session_of ctx.old (entries_of tables.old)) (PlainNewType key) (answer_of result) (session_of ctx.new (entries_of tables.new)) }
+    ensures { Step (behaviour_of D.Dialects D.TypeKey.eq) (session_of ctx.old (entries_of tables.old)) (PlainNewType key) (answer_of result) (session_of ctx.new (entries_of tables.new)) }
 {
     tables.reserve_type()?;
     let ty = ctx.instantiate_key(key)?;
@@ -209,7 +210,7 @@ fn make_op<D: Dialects>(
 ) -> Result<usize, CoreError>
     requires sound { Sound (session_of ctx.old (entries_of tables.old)) }
     requires condition { Condition (session_of ctx.old (entries_of tables.old)).state (PlainNewOp parts.now.kind parts.now.types.now parts.now.operands.now parts.now.successors.now parts.now.regions) }
-    ensures { Step (behaviour D.TypeKey.eq D.first_body D.unknown D.op_impls_of) (session_of ctx.old (entries_of tables.old)) (PlainNewOp parts.now.kind parts.now.types.now parts.now.operands.now parts.now.successors.now parts.now.regions) (answer_of result) (session_of ctx.new (entries_of tables.new)) }
+    ensures { Step (behaviour_of D.Dialects D.TypeKey.eq) (session_of ctx.old (entries_of tables.old)) (PlainNewOp parts.now.kind parts.now.types.now parts.now.operands.now parts.now.successors.now parts.now.regions) (answer_of result) (session_of ctx.new (entries_of tables.new)) }
 {
     let needs = Needs {
         ops: 1,
@@ -243,7 +244,7 @@ fn make_block<D: Dialects>(
 ) -> Result<usize, CoreError>
     requires sound { Sound (session_of ctx.old (entries_of tables.old)) }
     requires condition { Condition (session_of ctx.old (entries_of tables.old)).state (PlainNewBlock label types.now) }
-    ensures { Step (behaviour D.TypeKey.eq D.first_body D.unknown D.op_impls_of) (session_of ctx.old (entries_of tables.old)) (PlainNewBlock label types.now) (answer_of result) (session_of ctx.new (entries_of tables.new)) }
+    ensures { Step (behaviour_of D.Dialects D.TypeKey.eq) (session_of ctx.old (entries_of tables.old)) (PlainNewBlock label types.now) (answer_of result) (session_of ctx.new (entries_of tables.new)) }
 {
     let needs = Needs {
         blocks: 1,
@@ -266,7 +267,7 @@ fn make_region<D: Dialects>(
 ) -> Result<usize, CoreError>
     requires sound { Sound (session_of ctx.old (entries_of tables.old)) }
     requires live { IsLive (forest_of ctx.old) (an_op op.index) }
-    ensures { (n : ℕ) → slice_get (entries_of tables.old).ops n ≡ Some op.index → Step (behaviour D.TypeKey.eq D.first_body D.unknown D.op_impls_of) (session_of ctx.old (entries_of tables.old)) (PlainAddRegion n) (answer_of result) (session_of ctx.new (entries_of tables.new)) }
+    ensures { (n : ℕ) → slice_get (entries_of tables.old).ops n ≡ Some op.index → Step (behaviour_of D.Dialects D.TypeKey.eq) (session_of ctx.old (entries_of tables.old)) (PlainAddRegion n) (answer_of result) (session_of ctx.new (entries_of tables.new)) }
 {
     let needs = Needs {
         regions: 1,

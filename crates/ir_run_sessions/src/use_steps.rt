@@ -4,10 +4,11 @@
 
 ghost use Rattle.ir_model.specs.Edits.{InsertOperand as PlainInsertOperand, InsertSuccessor as PlainInsertSuccessor, PushOperand as PlainPushOperand, PushSuccessor as PlainPushSuccessor, RemoveOperand as PlainRemoveOperand, RemoveSuccessor as PlainRemoveSuccessor, ReplaceOperand as PlainReplaceOperand, ReplaceSuccessor as PlainReplaceSuccessor};
 ghost use Rattle.ir_model.specs.Sessions.{Step};
-ghost use Rattle.ir_run_tables.specs.State.{behaviour, session_of};
+ghost use Rattle.ir_run_tables.specs.State.{session_of};
 ghost use Rattle.ir_run_tables.specs.SessionTables.{entries_of};
+ghost use Rattle.ir_core_records.specs.DialectAnswers.{behaviour_of};
 
-use crate::steps::{done, needs_nothing};
+use crate::steps::{done, recall_needs_nothing};
 use ir_base_dialects::{Answer, Dialects, Ptr, Refused};
 use ir_run_tables::{
     BasicBlock, Context, OperandEdits, Operation, OperationPtr, SuccessorEdits, Tables, find,
@@ -21,9 +22,9 @@ pub fn push_operand<D: Dialects>(
     op: usize,
     value: usize,
 ) -> Answer
-    ensures { Step (behaviour D.TypeKey.eq D.first_body D.unknown D.op_impls_of) (session_of ctx.old (entries_of tables.now)) (PlainPushOperand op value) result (session_of ctx.new (entries_of tables.now)) }
+    ensures { Step (behaviour_of D.Dialects D.TypeKey.eq) (session_of ctx.old (entries_of tables.now)) (PlainPushOperand op value) result (session_of ctx.new (entries_of tables.now)) }
 {
-    needs_nothing(ctx);
+    recall_needs_nothing(ctx);
     match find_op_and_value(ctx, tables, op, value) {
         Some((op, value)) => done(op.push_operand(ctx, value)),
         None => Answer::Refused(Refused::Condition),
@@ -38,9 +39,9 @@ pub fn insert_operand<D: Dialects>(
     at: usize,
     value: usize,
 ) -> Answer
-    ensures { Step (behaviour D.TypeKey.eq D.first_body D.unknown D.op_impls_of) (session_of ctx.old (entries_of tables.now)) (PlainInsertOperand op at value) result (session_of ctx.new (entries_of tables.now)) }
+    ensures { Step (behaviour_of D.Dialects D.TypeKey.eq) (session_of ctx.old (entries_of tables.now)) (PlainInsertOperand op at value) result (session_of ctx.new (entries_of tables.now)) }
 {
-    needs_nothing(ctx);
+    recall_needs_nothing(ctx);
     match find_op_and_value(ctx, tables, op, value) {
         Some((op, value)) if at <= op.deref(ctx).get_num_operands() => {
             done(op.insert_operand(ctx, at, value))
@@ -56,9 +57,9 @@ pub fn remove_operand<D: Dialects>(
     op: usize,
     at: usize,
 ) -> Answer
-    ensures { Step (behaviour D.TypeKey.eq D.first_body D.unknown D.op_impls_of) (session_of ctx.old (entries_of tables.now)) (PlainRemoveOperand op at) result (session_of ctx.new (entries_of tables.now)) }
+    ensures { Step (behaviour_of D.Dialects D.TypeKey.eq) (session_of ctx.old (entries_of tables.now)) (PlainRemoveOperand op at) result (session_of ctx.new (entries_of tables.now)) }
 {
-    needs_nothing(ctx);
+    recall_needs_nothing(ctx);
     match find::<D, Ptr<Operation<D>>>(ctx, tables, op) {
         Some(op) if at < op.deref(ctx).get_num_operands() => {
             op.remove_operand(ctx, at);
@@ -76,9 +77,9 @@ pub fn replace_operand<D: Dialects>(
     at: usize,
     value: usize,
 ) -> Answer
-    ensures { Step (behaviour D.TypeKey.eq D.first_body D.unknown D.op_impls_of) (session_of ctx.old (entries_of tables.now)) (PlainReplaceOperand op at value) result (session_of ctx.new (entries_of tables.now)) }
+    ensures { Step (behaviour_of D.Dialects D.TypeKey.eq) (session_of ctx.old (entries_of tables.now)) (PlainReplaceOperand op at value) result (session_of ctx.new (entries_of tables.now)) }
 {
-    needs_nothing(ctx);
+    recall_needs_nothing(ctx);
     match find_op_and_value(ctx, tables, op, value) {
         Some((op, value)) if at < op.deref(ctx).get_num_operands() => {
             done(op.replace_operand(ctx, at, value))
@@ -94,9 +95,9 @@ pub fn push_successor<D: Dialects>(
     op: usize,
     block: usize,
 ) -> Answer
-    ensures { Step (behaviour D.TypeKey.eq D.first_body D.unknown D.op_impls_of) (session_of ctx.old (entries_of tables.now)) (PlainPushSuccessor op block) result (session_of ctx.new (entries_of tables.now)) }
+    ensures { Step (behaviour_of D.Dialects D.TypeKey.eq) (session_of ctx.old (entries_of tables.now)) (PlainPushSuccessor op block) result (session_of ctx.new (entries_of tables.now)) }
 {
-    needs_nothing(ctx);
+    recall_needs_nothing(ctx);
     match find_both::<D, Ptr<Operation<D>>, Ptr<BasicBlock<D>>>(ctx, tables, op, block) {
         Some((op, block)) => done(op.push_successor(ctx, block)),
         None => Answer::Refused(Refused::Condition),
@@ -111,9 +112,9 @@ pub fn insert_successor<D: Dialects>(
     at: usize,
     block: usize,
 ) -> Answer
-    ensures { Step (behaviour D.TypeKey.eq D.first_body D.unknown D.op_impls_of) (session_of ctx.old (entries_of tables.now)) (PlainInsertSuccessor op at block) result (session_of ctx.new (entries_of tables.now)) }
+    ensures { Step (behaviour_of D.Dialects D.TypeKey.eq) (session_of ctx.old (entries_of tables.now)) (PlainInsertSuccessor op at block) result (session_of ctx.new (entries_of tables.now)) }
 {
-    needs_nothing(ctx);
+    recall_needs_nothing(ctx);
     match find_both::<D, Ptr<Operation<D>>, Ptr<BasicBlock<D>>>(ctx, tables, op, block) {
         Some((op, block)) if at <= op.deref(ctx).get_num_successors() => {
             done(op.insert_successor(ctx, at, block))
@@ -129,9 +130,9 @@ pub fn remove_successor<D: Dialects>(
     op: usize,
     at: usize,
 ) -> Answer
-    ensures { Step (behaviour D.TypeKey.eq D.first_body D.unknown D.op_impls_of) (session_of ctx.old (entries_of tables.now)) (PlainRemoveSuccessor op at) result (session_of ctx.new (entries_of tables.now)) }
+    ensures { Step (behaviour_of D.Dialects D.TypeKey.eq) (session_of ctx.old (entries_of tables.now)) (PlainRemoveSuccessor op at) result (session_of ctx.new (entries_of tables.now)) }
 {
-    needs_nothing(ctx);
+    recall_needs_nothing(ctx);
     match find::<D, Ptr<Operation<D>>>(ctx, tables, op) {
         Some(op) if at < op.deref(ctx).get_num_successors() => {
             op.remove_successor(ctx, at);
@@ -149,9 +150,9 @@ pub fn replace_successor<D: Dialects>(
     at: usize,
     block: usize,
 ) -> Answer
-    ensures { Step (behaviour D.TypeKey.eq D.first_body D.unknown D.op_impls_of) (session_of ctx.old (entries_of tables.now)) (PlainReplaceSuccessor op at block) result (session_of ctx.new (entries_of tables.now)) }
+    ensures { Step (behaviour_of D.Dialects D.TypeKey.eq) (session_of ctx.old (entries_of tables.now)) (PlainReplaceSuccessor op at block) result (session_of ctx.new (entries_of tables.now)) }
 {
-    needs_nothing(ctx);
+    recall_needs_nothing(ctx);
     match find_both::<D, Ptr<Operation<D>>, Ptr<BasicBlock<D>>>(ctx, tables, op, block) {
         Some((op, block)) if at < op.deref(ctx).get_num_successors() => {
             done(op.replace_successor(ctx, at, block))

@@ -9,9 +9,10 @@ ghost use Rattle.ir_model.specs.Forest.{a_block, a_value, an_op};
 ghost use Rattle.ir_model.specs.Nesting.{In, IsLive, IsLiveNamed, ops_of};
 ghost use Rattle.ir_model.specs.SweepLaws.{NoneIsClosed};
 ghost use Rattle.ir_core_records.specs.Meaning.{value_of};
-ghost use Rattle.ir_core_queries.specs.State.{bare, behaviour, forest_of};
+ghost use Rattle.ir_core_queries.specs.State.{bare, forest_of};
 ghost use Rattle.ir_core_queries.specs.Calls.{SameButForest};
 ghost use Rattle.ir_run_sweep.specs.Going.{CanGo, IsBeside, NoneGoesUpTo, rank};
+ghost use Rattle.ir_core_records.specs.DialectAnswers.{behaviour_of};
 
 use ir_base_dialects::interfaces::PURE_OPERATION;
 use ir_base_dialects::{Dialects, Ptr};
@@ -21,17 +22,17 @@ use ir_core_queries::{
 };
 
 // What holds of every block: its list has fewer operations than a `usize` can count.
-fn lists_are_short<D: Dialects>(ctx: &Context<D>, block: Ptr<BasicBlock<D>>)
+fn recall_lists_short<D: Dialects>(ctx: &Context<D>, block: Ptr<BasicBlock<D>>)
     ensures { length (ops_of (forest_of ctx.now) block.index) < 2 ^ 64 }
 {
-    ctx.is_well_formed();
+    ctx.recall_well_formed();
     let _most = ctx.records().ops.len();
 }
 
 // Whether a live operation can go: its kind is pure, and nothing outside it names what is defined inside.
 fn can_go<D: Dialects>(ctx: &Context<D>, op: Ptr<Operation<D>>) -> bool
     requires { IsLive (forest_of ctx.now) (an_op op.index) }
-    ensures { IsTrue result ↔ CanGo (behaviour D.TypeKey.eq D.first_body D.unknown D.op_impls_of) (forest_of ctx.now) op.index }
+    ensures { IsTrue result ↔ CanGo (behaviour_of D.Dialects D.TypeKey.eq) (forest_of ctx.now) op.index }
 {
     if D::op_impls(op.deref(ctx).kind(), PURE_OPERATION) {
         can_erase(ctx, Entity::Op(op))
@@ -108,9 +109,9 @@ fn start_of<D: Dialects>(
 ) -> Option<Ptr<Operation<D>>>
     requires { IsLive (forest_of ctx.now) (a_block block.index) }
     ensures listed { IfSome result (λ p. In p.index (ops_of (forest_of ctx.now) block.index)) }
-    ensures all { NoneGoesUpTo (behaviour D.TypeKey.eq D.first_body D.unknown D.op_impls_of) (forest_of ctx.now) to_end block.index (rank to_end (option_map (λ p. p.index) result) (ops_of (forest_of ctx.now) block.index)) → NoneIsClosed (behaviour D.TypeKey.eq D.first_body D.unknown D.op_impls_of) (forest_of ctx.now) block.index }
+    ensures all { NoneGoesUpTo (behaviour_of D.Dialects D.TypeKey.eq) (forest_of ctx.now) to_end block.index (rank to_end (option_map (λ p. p.index) result) (ops_of (forest_of ctx.now) block.index)) → NoneIsClosed (behaviour_of D.Dialects D.TypeKey.eq) (forest_of ctx.now) block.index }
 {
-    ctx.is_well_formed();
+    ctx.recall_well_formed();
     if to_end {
         block.get_head(ctx)
     } else {
@@ -143,10 +144,10 @@ fn next_to_go<D: Dialects>(
 ) -> Option<Ptr<Operation<D>>>
     requires { IfSome place (λ p. In p.index (ops_of (forest_of ctx.now) block.index)) }
     ensures listed { IfSome result (λ p. In p.index (ops_of (forest_of ctx.now) block.index)) }
-    ensures can_go { IfSome result (λ p. CanGo (behaviour D.TypeKey.eq D.first_body D.unknown D.op_impls_of) (forest_of ctx.now) p.index) }
-    ensures none { IsNone result → NoneGoesUpTo (behaviour D.TypeKey.eq D.first_body D.unknown D.op_impls_of) (forest_of ctx.now) to_end block.index (rank to_end (option_map (λ p. p.index) place) (ops_of (forest_of ctx.now) block.index)) }
+    ensures can_go { IfSome result (λ p. CanGo (behaviour_of D.Dialects D.TypeKey.eq) (forest_of ctx.now) p.index) }
+    ensures none { IsNone result → NoneGoesUpTo (behaviour_of D.Dialects D.TypeKey.eq) (forest_of ctx.now) to_end block.index (rank to_end (option_map (λ p. p.index) place) (ops_of (forest_of ctx.now) block.index)) }
 {
-    ctx.is_well_formed();
+    ctx.recall_well_formed();
     let mut place = place;
     while let Some(op) = place {
         if can_go(ctx, op) {
@@ -167,8 +168,8 @@ fn to_go_from<D: Dialects>(
     requires live { IsLive (forest_of ctx.now) (a_block block.index) }
     requires listed { IfSome place (λ p. In p.index (ops_of (forest_of ctx.now) block.index)) }
     ensures listed { IfSome result (λ p. In p.index (ops_of (forest_of ctx.now) block.index)) }
-    ensures can_go { IfSome result (λ p. CanGo (behaviour D.TypeKey.eq D.first_body D.unknown D.op_impls_of) (forest_of ctx.now) p.index) }
-    ensures none { IsNone result → NoneIsClosed (behaviour D.TypeKey.eq D.first_body D.unknown D.op_impls_of) (forest_of ctx.now) block.index }
+    ensures can_go { IfSome result (λ p. CanGo (behaviour_of D.Dialects D.TypeKey.eq) (forest_of ctx.now) p.index) }
+    ensures none { IsNone result → NoneIsClosed (behaviour_of D.Dialects D.TypeKey.eq) (forest_of ctx.now) block.index }
 {
     let found = next_to_go(ctx, block, place, *to_end);
     if found.is_some() {
@@ -192,7 +193,7 @@ fn place_beside<D: Dialects>(
     ensures listed { IfSome result (λ p. In p.index (ops_of (forest_of ctx.now) block.index)) }
     ensures other { IfSome result (λ p. p.index ≢ op.index) }
 {
-    ctx.is_well_formed();
+    ctx.recall_well_formed();
     if place? == op {
         beside(ctx, op, to_end)
     } else {
@@ -208,9 +209,9 @@ fn freed<D: Dialects>(
 ) -> Option<Ptr<Operation<D>>>
     requires { IfSome definer (λ p. In p.index (ops_of (forest_of ctx.now) block.index)) }
     ensures listed { IfSome result (λ p. In p.index (ops_of (forest_of ctx.now) block.index)) }
-    ensures can_go { IfSome result (λ p. CanGo (behaviour D.TypeKey.eq D.first_body D.unknown D.op_impls_of) (forest_of ctx.now) p.index) }
+    ensures can_go { IfSome result (λ p. CanGo (behaviour_of D.Dialects D.TypeKey.eq) (forest_of ctx.now) p.index) }
 {
-    ctx.is_well_formed();
+    ctx.recall_well_formed();
     let op = definer?;
     if can_go(ctx, op) { Some(op) } else { None }
 }
@@ -220,13 +221,13 @@ fn freed<D: Dialects>(
 /// An operation of the block is dead where its kind implements `PURE_OPERATION`, and each operation that names something defined inside it is inside it too, or inside a dead one. Pure operations that use each other in a ring stay. It takes no memory. pliron has no such call.
 pub fn sweep<D: Dialects>(block: Ptr<BasicBlock<D>>, ctx: &mut Context<D>) -> usize
     requires { IsLive (forest_of ctx.old) (a_block block.index) }
-    ensures dead_are_gone { Sweeps (behaviour D.TypeKey.eq D.first_body D.unknown D.op_impls_of) (forest_of ctx.old) block.index (forest_of ctx.new) result }
-    ensures none_can_go { NoneIsClosed (behaviour D.TypeKey.eq D.first_body D.unknown D.op_impls_of) (forest_of ctx.new) block.index }
+    ensures dead_are_gone { Sweeps (behaviour_of D.Dialects D.TypeKey.eq) (forest_of ctx.old) block.index (forest_of ctx.new) result }
+    ensures none_can_go { NoneIsClosed (behaviour_of D.Dialects D.TypeKey.eq) (forest_of ctx.new) block.index }
     ensures rest { SameButForest (bare ctx.old) (bare ctx.new) }
     ensures live { IsLive (forest_of ctx.new) (a_block block.index) }
 {
-    ctx.is_well_formed();
-    lists_are_short(ctx, block);
+    ctx.recall_well_formed();
+    recall_lists_short(ctx, block);
     let mut swept = 0;
     let mut to_end = true;
     let mut place = to_go_from(ctx, block, None, &mut to_end);

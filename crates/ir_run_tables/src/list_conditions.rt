@@ -154,7 +154,7 @@ fn may_go_beside<D: Dialects>(ctx: &Context<D>, node: Entity<D>, mark: Entity<D>
     requires mark { IsLive (forest_of ctx.now) (meant mark) }
     ensures { IsTrue result ↔ MayGoBeside (forest_of ctx.now) (meant node) (meant mark) }
 {
-    ctx.is_well_formed();
+    ctx.recall_well_formed();
     match parent_of(ctx, mark) {
         Some(container) => may_go_into(ctx, node, container),
         None => false,
@@ -165,6 +165,6 @@ fn may_go_beside<D: Dialects>(ctx: &Context<D>, node: Entity<D>, mark: Entity<D>
 fn may_join<D: Dialects>(ctx: &Context<D>, donee: Entity<D>, donor: Entity<D>) -> bool
     ensures { IsTrue result ↔ MayJoin (forest_of ctx.now) (meant donee) (meant donor) }
 {
-    ctx.is_well_formed();
+    ctx.recall_well_formed();
     !is_inside(ctx, donee, donor)
 }

@@ -5,8 +5,9 @@ ghost use Rattle.ir_model.specs.Faults.{IsEntry, IsNamed, IsNamedAside, LacksTer
 ghost use Rattle.ir_model.specs.Forest.{a_block, an_op, the_block};
 ghost use Rattle.ir_model.specs.Names.{IsBlockName};
 ghost use Rattle.ir_model.specs.Nesting.{In, IsLive, names_of};
-ghost use Rattle.ir_view_parts.specs.State.{behaviour, forest_of, types_of};
+ghost use Rattle.ir_view_parts.specs.State.{forest_of, types_of};
 ghost use Rattle.ir_verify_checks.specs.Parts.{BlockFault, IsAside, Tells};
+ghost use Rattle.ir_core_records.specs.DialectAnswers.{behaviour_of};
 
 use crate::error::{BasicBlockVerifyErr, DefUseVerifyErr, VerifyErr};
 use ir_base_dialects::interfaces::NO_TERMINATOR;
@@ -36,9 +37,9 @@ pub(crate) fn name_of<D: Dialects>(
 // Whether the parent operation of a live block asks for terminators, and the block has none.
 fn lacks_terminator<D: Dialects>(block: Ptr<BasicBlock<D>>, ctx: &Context<D>) -> bool
     requires { IsLive (forest_of ctx.now) (a_block block.index) }
-    ensures { IsTrue result ↔ LacksTerminator (behaviour D.TypeKey.eq D.first_body D.unknown D.op_impls_of) (forest_of ctx.now) (types_of ctx.now) block.index }
+    ensures { IsTrue result ↔ LacksTerminator (behaviour_of D.Dialects D.TypeKey.eq) (forest_of ctx.now) (types_of ctx.now) block.index }
 {
-    ctx.is_well_formed();
+    ctx.recall_well_formed();
     let Some(region) = block.get_parent_region(ctx) else {
         return false;
     };
@@ -52,9 +53,9 @@ fn lacks_terminator<D: Dialects>(block: Ptr<BasicBlock<D>>, ctx: &Context<D>) ->
 // Whether a live block is the first of a region.
 fn is_entry<D: Dialects>(block: Ptr<BasicBlock<D>>, ctx: &Context<D>) -> bool
     requires { IsLive (forest_of ctx.now) (a_block block.index) }
-    ensures { IsTrue result ↔ IsEntry (behaviour D.TypeKey.eq D.first_body D.unknown D.op_impls_of) (forest_of ctx.now) (types_of ctx.now) block.index }
+    ensures { IsTrue result ↔ IsEntry (behaviour_of D.Dialects D.TypeKey.eq) (forest_of ctx.now) (types_of ctx.now) block.index }
 {
-    ctx.is_well_formed();
+    ctx.recall_well_formed();
     let Some(region) = block.get_parent_region(ctx) else {
         return false;
     };
@@ -67,7 +68,7 @@ fn is_entry<D: Dialects>(block: Ptr<BasicBlock<D>>, ctx: &Context<D>) -> bool
 // Whether a live block is the first of a region, and an operation names it, inside the region or not.
 fn is_entered<D: Dialects>(block: Ptr<BasicBlock<D>>, ctx: &Context<D>) -> bool
     requires { IsLive (forest_of ctx.now) (a_block block.index) }
-    ensures { IsTrue result ↔ (IsEntry (behaviour D.TypeKey.eq D.first_body D.unknown D.op_impls_of) (forest_of ctx.now) (types_of ctx.now) block.index × IsNamed (behaviour D.TypeKey.eq D.first_body D.unknown D.op_impls_of) (forest_of ctx.now) (types_of ctx.now) block.index) }
+    ensures { IsTrue result ↔ (IsEntry (behaviour_of D.Dialects D.TypeKey.eq) (forest_of ctx.now) (types_of ctx.now) block.index × IsNamed (behaviour_of D.Dialects D.TypeKey.eq) (forest_of ctx.now) (types_of ctx.now) block.index) }
 {
     is_entry(block, ctx) && block.has_pred(ctx)
 }
@@ -76,9 +77,9 @@ fn is_entered<D: Dialects>(block: Ptr<BasicBlock<D>>, ctx: &Context<D>) -> bool
 fn is_aside<D: Dialects>(op: Ptr<Operation<D>>, block: Ptr<BasicBlock<D>>, ctx: &Context<D>) -> bool
     requires live { IsLive (forest_of ctx.now) (an_op op.index) }
     requires names { In (the_block block.index) (names_of (forest_of ctx.now) op.index) }
-    ensures { IsTrue result ↔ IsAside (behaviour D.TypeKey.eq D.first_body D.unknown D.op_impls_of) (forest_of ctx.now) (types_of ctx.now) op.index block.index }
+    ensures { IsTrue result ↔ IsAside (behaviour_of D.Dialects D.TypeKey.eq) (forest_of ctx.now) (types_of ctx.now) op.index block.index }
 {
-    ctx.is_well_formed();
+    ctx.recall_well_formed();
     let Some(parent) = op.get_parent_block(ctx) else {
         return true;
     };
@@ -96,10 +97,10 @@ fn is_aside<D: Dialects>(op: Ptr<Operation<D>>, block: Ptr<BasicBlock<D>>, ctx: 
 // Whether some operation names a live block, and is unlinked or isn't followed by the terminator of its block.
 fn is_named_aside<D: Dialects>(block: Ptr<BasicBlock<D>>, ctx: &Context<D>) -> bool
     requires { IsLive (forest_of ctx.now) (a_block block.index) }
-    ensures { IsTrue result ↔ IsNamedAside (behaviour D.TypeKey.eq D.first_body D.unknown D.op_impls_of) (forest_of ctx.now) (types_of ctx.now) block.index }
+    ensures { IsTrue result ↔ IsNamedAside (behaviour_of D.Dialects D.TypeKey.eq) (forest_of ctx.now) (types_of ctx.now) block.index }
 {
-    ctx.is_well_formed();
-    ctx.uses_are_exact();
+    ctx.recall_well_formed();
+    ctx.recall_uses_exact();
     let uses = block_uses(ctx.records(), BlockIndex { index: block.index });
     for index in uses.as_slice() {
         if is_aside(Ptr::from_index(index.user()), block, ctx) {
@@ -115,7 +116,7 @@ pub(crate) fn verify_block<D: Dialects>(
     ctx: &Context<D>,
 ) -> Result<(), VerifyErr>
     requires { IsLive (forest_of ctx.now) (a_block block.index) }
-    ensures { Tells (BlockFault (behaviour D.TypeKey.eq D.first_body D.unknown D.op_impls_of) (forest_of ctx.now) (types_of ctx.now) block.index) result }
+    ensures { Tells (BlockFault (behaviour_of D.Dialects D.TypeKey.eq) (forest_of ctx.now) (types_of ctx.now) block.index) result }
 {
     if !block.is_linked(ctx) {
         let name = name_of(block, ctx)?;

@@ -6,10 +6,10 @@ ghost use Rattle.ir_model.specs.Forest.{an_op};
 ghost use Rattle.ir_model.specs.Nesting.{In, IsLive};
 ghost use Rattle.ir_core_records.specs.declared.record.Definition.{Definition as PlainDefinition};
 ghost use Rattle.ir_core_records.specs.Meaning.{definition_of};
-ghost use Rattle.ir_view_parts.specs.State.{behaviour, forest_of, types_of};
-ghost use Rattle.ir_view_parts.specs.Dominance.{kinds};
+ghost use Rattle.ir_view_parts.specs.State.{forest_of, types_of};
 ghost use Rattle.ir_verify_checks.specs.Parts.{Finds, FindsAt, NoFault, RunsOnAttributes, RunsOnOp, RunsOnTypes};
 ghost use Rattle.ir_verify_checks.specs.Shown.{checks_in};
+ghost use Rattle.ir_core_records.specs.DialectAnswers.{behaviour_of, kinds_of};
 
 use crate::error::VerifyErr;
 use crate::verifiers::Verifiers;
@@ -24,7 +24,7 @@ pub(crate) fn check_type<D: Dialects, V: Verifiers<D>>(
     ctx: &Context<D>,
     verifiers: &V,
 ) -> Result<(), VerifyErr>
-    ensures { FindsAt (behaviour D.TypeKey.eq D.first_body D.unknown D.op_impls_of) (forest_of ctx.now) (types_of ctx.now) (checks_in (kinds D.attr_kind_of D.type_kind_of D.type_impls_of D.saved_kind_of D.Saved.eq D.region_ssa_dominance_of) (V.handed_in verifiers.now) ctx.now) (the_type key.now) result }
+    ensures { FindsAt (behaviour_of D.Dialects D.TypeKey.eq) (forest_of ctx.now) (types_of ctx.now) (checks_in (kinds_of D.Dialects D.Saved.eq) (V.handed_in verifiers.now) ctx.now) (the_type key.now) result }
 {
     for number in verifiers.type_verifiers(D::type_kind(key)) {
         verifiers.check_type_interface(*number, key, ctx)?;
@@ -38,7 +38,7 @@ pub(crate) fn check_own_type<D: Dialects, V: Verifiers<D>>(
     ctx: &Context<D>,
     verifiers: &V,
 ) -> Result<(), VerifyErr>
-    ensures { FindsAt (behaviour D.TypeKey.eq D.first_body D.unknown D.op_impls_of) (forest_of ctx.now) (types_of ctx.now) (checks_in (kinds D.attr_kind_of D.type_kind_of D.type_impls_of D.saved_kind_of D.Saved.eq D.region_ssa_dominance_of) (V.handed_in verifiers.now) ctx.now) (the_typed key.now) result }
+    ensures { FindsAt (behaviour_of D.Dialects D.TypeKey.eq) (forest_of ctx.now) (types_of ctx.now) (checks_in (kinds_of D.Dialects D.Saved.eq) (V.handed_in verifiers.now) ctx.now) (the_typed key.now) result }
 {
     Ok(verifiers.check_type(key, ctx)?)
 }
@@ -49,7 +49,7 @@ pub(crate) fn check_attribute<D: Dialects, V: Verifiers<D>>(
     ctx: &Context<D>,
     verifiers: &V,
 ) -> Result<(), VerifyErr>
-    ensures { FindsAt (behaviour D.TypeKey.eq D.first_body D.unknown D.op_impls_of) (forest_of ctx.now) (types_of ctx.now) (checks_in (kinds D.attr_kind_of D.type_kind_of D.type_impls_of D.saved_kind_of D.Saved.eq D.region_ssa_dominance_of) (V.handed_in verifiers.now) ctx.now) (the_attribute attr.now) result }
+    ensures { FindsAt (behaviour_of D.Dialects D.TypeKey.eq) (forest_of ctx.now) (types_of ctx.now) (checks_in (kinds_of D.Dialects D.Saved.eq) (V.handed_in verifiers.now) ctx.now) (the_attribute attr.now) result }
 {
     for number in verifiers.attr_verifiers(D::attr_kind(attr)) {
         verifiers.check_attr_interface(*number, attr, ctx)?;
@@ -64,7 +64,7 @@ pub(crate) fn check_operation<D: Dialects, V: Verifiers<D>>(
     verifiers: &V,
 ) -> Result<(), VerifyErr>
     requires { IsLive (forest_of ctx.now) (an_op op.index) }
-    ensures { Finds (checks_in (kinds D.attr_kind_of D.type_kind_of D.type_impls_of D.saved_kind_of D.Saved.eq D.region_ssa_dominance_of) (V.handed_in verifiers.now) ctx.now) NoFault (RunsOnOp (behaviour D.TypeKey.eq D.first_body D.unknown D.op_impls_of) (forest_of ctx.now) (types_of ctx.now) (checks_in (kinds D.attr_kind_of D.type_kind_of D.type_impls_of D.saved_kind_of D.Saved.eq D.region_ssa_dominance_of) (V.handed_in verifiers.now) ctx.now) op.index) result }
+    ensures { Finds (checks_in (kinds_of D.Dialects D.Saved.eq) (V.handed_in verifiers.now) ctx.now) NoFault (RunsOnOp (behaviour_of D.Dialects D.TypeKey.eq) (forest_of ctx.now) (types_of ctx.now) (checks_in (kinds_of D.Dialects D.Saved.eq) (V.handed_in verifiers.now) ctx.now) op.index) result }
 {
     let object = op.get_op_dyn(ctx);
     for number in verifiers.op_verifiers(object.kind()) {
@@ -79,7 +79,7 @@ pub(crate) fn check_attributes<D: Dialects, V: Verifiers<D>>(
     ctx: &Context<D>,
     verifiers: &V,
 ) -> Result<(), VerifyErr>
-    ensures { Finds (checks_in (kinds D.attr_kind_of D.type_kind_of D.type_impls_of D.saved_kind_of D.Saved.eq D.region_ssa_dominance_of) (V.handed_in verifiers.now) ctx.now) NoFault (RunsOnAttributes (behaviour D.TypeKey.eq D.first_body D.unknown D.op_impls_of) (forest_of ctx.now) (types_of ctx.now) (checks_in (kinds D.attr_kind_of D.type_kind_of D.type_impls_of D.saved_kind_of D.Saved.eq D.region_ssa_dominance_of) (V.handed_in verifiers.now) ctx.now) attributes.now) result }
+    ensures { Finds (checks_in (kinds_of D.Dialects D.Saved.eq) (V.handed_in verifiers.now) ctx.now) NoFault (RunsOnAttributes (behaviour_of D.Dialects D.TypeKey.eq) (forest_of ctx.now) (types_of ctx.now) (checks_in (kinds_of D.Dialects D.Saved.eq) (V.handed_in verifiers.now) ctx.now) attributes.now) result }
 {
     for (_, attr) in attributes.iter() {
         check_attribute(attr, ctx, verifiers)?;
@@ -94,7 +94,7 @@ pub(crate) fn check_types<D: Dialects, V: Verifiers<D>>(
     verifiers: &V,
 ) -> Result<(), VerifyErr>
     requires { (d : PlainDefinition) → In d definitions.now → d.ty < length (types_of ctx.now) }
-    ensures { Finds (checks_in (kinds D.attr_kind_of D.type_kind_of D.type_impls_of D.saved_kind_of D.Saved.eq D.region_ssa_dominance_of) (V.handed_in verifiers.now) ctx.now) NoFault (RunsOnTypes (behaviour D.TypeKey.eq D.first_body D.unknown D.op_impls_of) (forest_of ctx.now) (types_of ctx.now) (checks_in (kinds D.attr_kind_of D.type_kind_of D.type_impls_of D.saved_kind_of D.Saved.eq D.region_ssa_dominance_of) (V.handed_in verifiers.now) ctx.now) (map definition_of definitions.now)) result }
+    ensures { Finds (checks_in (kinds_of D.Dialects D.Saved.eq) (V.handed_in verifiers.now) ctx.now) NoFault (RunsOnTypes (behaviour_of D.Dialects D.TypeKey.eq) (forest_of ctx.now) (types_of ctx.now) (checks_in (kinds_of D.Dialects D.Saved.eq) (V.handed_in verifiers.now) ctx.now) (map definition_of definitions.now)) result }
 {
     for definition in definitions {
         check_type(TypeHandle::at(definition.ty).deref(ctx), ctx, verifiers)?;

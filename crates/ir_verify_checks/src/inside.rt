@@ -4,10 +4,10 @@ ghost use Rattle.ir_model.specs.Faults.{the_entity};
 ghost use Rattle.ir_model.specs.Forest.{a_block, an_op};
 ghost use Rattle.ir_model.specs.Nesting.{IsLive};
 ghost use Rattle.ir_core_records.specs.Meaning.{entity_of};
-ghost use Rattle.ir_view_parts.specs.State.{behaviour, forest_of, types_of};
-ghost use Rattle.ir_view_parts.specs.Dominance.{kinds};
+ghost use Rattle.ir_view_parts.specs.State.{forest_of, types_of};
 ghost use Rattle.ir_verify_checks.specs.Parts.{FaultAt, Finds, FindsAt, RunAt};
 ghost use Rattle.ir_verify_checks.specs.Shown.{checks_in};
+ghost use Rattle.ir_core_records.specs.DialectAnswers.{behaviour_of, kinds_of};
 
 use crate::block_faults::verify_block;
 use crate::checks::{check_attributes, check_operation, check_types};
@@ -26,9 +26,9 @@ fn verify_operation_alone<D: Dialects, V: Verifiers<D>>(
     verifiers: &V,
 ) -> Result<(), VerifyErr>
     requires { IsLive (forest_of ctx.now) (an_op op.index) }
-    ensures { Finds (checks_in (kinds D.attr_kind_of D.type_kind_of D.type_impls_of D.saved_kind_of D.Saved.eq D.region_ssa_dominance_of) (V.handed_in verifiers.now) ctx.now) (FaultAt (behaviour D.TypeKey.eq D.first_body D.unknown D.op_impls_of) (forest_of ctx.now) (types_of ctx.now) (an_op op.index)) (RunAt (behaviour D.TypeKey.eq D.first_body D.unknown D.op_impls_of) (forest_of ctx.now) (types_of ctx.now) (checks_in (kinds D.attr_kind_of D.type_kind_of D.type_impls_of D.saved_kind_of D.Saved.eq D.region_ssa_dominance_of) (V.handed_in verifiers.now) ctx.now) (an_op op.index)) result }
+    ensures { Finds (checks_in (kinds_of D.Dialects D.Saved.eq) (V.handed_in verifiers.now) ctx.now) (FaultAt (behaviour_of D.Dialects D.TypeKey.eq) (forest_of ctx.now) (types_of ctx.now) (an_op op.index)) (RunAt (behaviour_of D.Dialects D.TypeKey.eq) (forest_of ctx.now) (types_of ctx.now) (checks_in (kinds_of D.Dialects D.Saved.eq) (V.handed_in verifiers.now) ctx.now) (an_op op.index)) result }
 {
-    ctx.is_well_formed();
+    ctx.recall_well_formed();
     verify_place(op, ctx)?;
     check_operation(op, ctx, verifiers)?;
     let operation = ctx.records().ops.at(op);
@@ -43,9 +43,9 @@ fn verify_block_alone<D: Dialects, V: Verifiers<D>>(
     verifiers: &V,
 ) -> Result<(), VerifyErr>
     requires { IsLive (forest_of ctx.now) (a_block block.index) }
-    ensures { Finds (checks_in (kinds D.attr_kind_of D.type_kind_of D.type_impls_of D.saved_kind_of D.Saved.eq D.region_ssa_dominance_of) (V.handed_in verifiers.now) ctx.now) (FaultAt (behaviour D.TypeKey.eq D.first_body D.unknown D.op_impls_of) (forest_of ctx.now) (types_of ctx.now) (a_block block.index)) (RunAt (behaviour D.TypeKey.eq D.first_body D.unknown D.op_impls_of) (forest_of ctx.now) (types_of ctx.now) (checks_in (kinds D.attr_kind_of D.type_kind_of D.type_impls_of D.saved_kind_of D.Saved.eq D.region_ssa_dominance_of) (V.handed_in verifiers.now) ctx.now) (a_block block.index)) result }
+    ensures { Finds (checks_in (kinds_of D.Dialects D.Saved.eq) (V.handed_in verifiers.now) ctx.now) (FaultAt (behaviour_of D.Dialects D.TypeKey.eq) (forest_of ctx.now) (types_of ctx.now) (a_block block.index)) (RunAt (behaviour_of D.Dialects D.TypeKey.eq) (forest_of ctx.now) (types_of ctx.now) (checks_in (kinds_of D.Dialects D.Saved.eq) (V.handed_in verifiers.now) ctx.now) (a_block block.index)) result }
 {
-    ctx.is_well_formed();
+    ctx.recall_well_formed();
     verify_block(block, ctx)?;
     let record = ctx.records().blocks.at(block);
     check_attributes(record.attributes(), ctx, verifiers)?;
@@ -59,7 +59,7 @@ fn verify_alone<D: Dialects, V: Verifiers<D>>(
     verifiers: &V,
 ) -> Result<(), VerifyErr>
     requires { IsLive (forest_of ctx.now) (entity_of entity) }
-    ensures { Finds (checks_in (kinds D.attr_kind_of D.type_kind_of D.type_impls_of D.saved_kind_of D.Saved.eq D.region_ssa_dominance_of) (V.handed_in verifiers.now) ctx.now) (FaultAt (behaviour D.TypeKey.eq D.first_body D.unknown D.op_impls_of) (forest_of ctx.now) (types_of ctx.now) (entity_of entity)) (RunAt (behaviour D.TypeKey.eq D.first_body D.unknown D.op_impls_of) (forest_of ctx.now) (types_of ctx.now) (checks_in (kinds D.attr_kind_of D.type_kind_of D.type_impls_of D.saved_kind_of D.Saved.eq D.region_ssa_dominance_of) (V.handed_in verifiers.now) ctx.now) (entity_of entity)) result }
+    ensures { Finds (checks_in (kinds_of D.Dialects D.Saved.eq) (V.handed_in verifiers.now) ctx.now) (FaultAt (behaviour_of D.Dialects D.TypeKey.eq) (forest_of ctx.now) (types_of ctx.now) (entity_of entity)) (RunAt (behaviour_of D.Dialects D.TypeKey.eq) (forest_of ctx.now) (types_of ctx.now) (checks_in (kinds_of D.Dialects D.Saved.eq) (V.handed_in verifiers.now) ctx.now) (entity_of entity)) result }
 {
     match entity {
         EntityIndex::Op(op) => {
@@ -81,10 +81,10 @@ pub(crate) fn verify_inside<D: Dialects, V: Verifiers<D>>(
     verifiers: &V,
 ) -> Result<(), VerifyErr>
     requires { IsLive (forest_of ctx.now) (entity_of root) }
-    ensures { FindsAt (behaviour D.TypeKey.eq D.first_body D.unknown D.op_impls_of) (forest_of ctx.now) (types_of ctx.now) (checks_in (kinds D.attr_kind_of D.type_kind_of D.type_impls_of D.saved_kind_of D.Saved.eq D.region_ssa_dominance_of) (V.handed_in verifiers.now) ctx.now) (the_entity (entity_of root)) result }
+    ensures { FindsAt (behaviour_of D.Dialects D.TypeKey.eq) (forest_of ctx.now) (types_of ctx.now) (checks_in (kinds_of D.Dialects D.Saved.eq) (V.handed_in verifiers.now) ctx.now) (the_entity (entity_of root)) result }
 {
-    ctx.is_well_formed();
-    ctx.holds_together();
+    ctx.recall_well_formed();
+    ctx.recall_holds_together();
     subtrees_are_listed::<D>();
     let records = ctx.records();
     let mut current = Some(deepest(records, root));

@@ -2,8 +2,9 @@
 
 ghost use Rattle.ir_model.specs.Forest.{an_op};
 ghost use Rattle.ir_model.specs.Nesting.{IsLive};
-ghost use Rattle.ir_view_parts.specs.State.{behaviour, forest_of, types_of};
+ghost use Rattle.ir_view_parts.specs.State.{forest_of, types_of};
 ghost use Rattle.ir_verify_checks.specs.Parts.{OpFault, Tells};
+ghost use Rattle.ir_core_records.specs.DialectAnswers.{behaviour_of};
 
 use crate::block_faults::name_of;
 use crate::error::{BasicBlockVerifyErr, VerifyErr};
@@ -17,9 +18,9 @@ pub(crate) fn verify_place<D: Dialects>(
     ctx: &Context<D>,
 ) -> Result<(), VerifyErr>
     requires { IsLive (forest_of ctx.now) (an_op op.index) }
-    ensures { Tells (OpFault (behaviour D.TypeKey.eq D.first_body D.unknown D.op_impls_of) (forest_of ctx.now) (types_of ctx.now) op.index) result }
+    ensures { Tells (OpFault (behaviour_of D.Dialects D.TypeKey.eq) (forest_of ctx.now) (types_of ctx.now) op.index) result }
 {
-    ctx.is_well_formed();
+    ctx.recall_well_formed();
     let Some(block) = op.get_parent_block(ctx) else {
         return Ok(());
     };

@@ -6,7 +6,7 @@ ghost use Rattle.ir_model.specs.Faults.{the_type, the_typed};
 ghost use Rattle.ir_model.specs.Kinds.{HasKind, Implements};
 ghost use Rattle.ir_view_types.specs.Handles.{interface_place, typed_place};
 ghost use Rattle.ir_view_parts.specs.State.{types_of};
-ghost use Rattle.ir_view_parts.specs.Dominance.{kinds};
+ghost use Rattle.ir_core_records.specs.DialectAnswers.{kinds_of};
 
 use crate::checks::{check_own_type, check_type};
 use crate::error::VerifyErr;
@@ -18,7 +18,7 @@ use ir_view_parts::{Context, TypeQueries};
 use ir_view_types::{IrType, TypeInterfaceHandle, TypedHandle};
 
 impl<D: Dialects, T: IrType<D>> Verify<D> for TypedHandle<T, D> {
-    ghost IsThere = { λ s t. HasKind (kinds D.attr_kind_of D.type_kind_of D.type_impls_of D.saved_kind_of D.Saved.eq D.region_ssa_dominance_of) (types_of s) (typed_place t) T.KIND };
+    ghost IsThere = { λ s t. HasKind (kinds_of D.Dialects D.Saved.eq) (types_of s) (typed_place t) T.KIND };
 
     ghost IsRoot = { λ s t root. The (slice_get (types_of s) (typed_place t)) λ x. root ≡ the_typed x.key };
 
@@ -28,7 +28,7 @@ impl<D: Dialects, T: IrType<D>> Verify<D> for TypedHandle<T, D> {
 }
 
 impl<D: Dialects, I: TypeInterfaceMarker> Verify<D> for TypeInterfaceHandle<I, D> {
-    ghost IsThere = { λ s t. Implements (kinds D.attr_kind_of D.type_kind_of D.type_impls_of D.saved_kind_of D.Saved.eq D.region_ssa_dominance_of) (types_of s) (interface_place t) I.NUMBER };
+    ghost IsThere = { λ s t. Implements (kinds_of D.Dialects D.Saved.eq) (types_of s) (interface_place t) I.NUMBER };
 
     ghost IsRoot = { λ s t root. The (slice_get (types_of s) (interface_place t)) λ x. root ≡ the_type x.key };
 

@@ -7,5 +7,4 @@ pub use Rattle.ir_core_queries.specs.Named
 pub use Rattle.ir_core_queries.specs.Places
 pub use Rattle.ir_core_queries.specs.Definitions
 pub use Rattle.ir_core_queries.specs.Entities
-pub use Rattle.ir_core_queries.specs.Dominance
 pub use Rattle.ir_core_queries.specs.Values

@@ -12,7 +12,8 @@ ghost use Rattle.ir_model.specs.Forest.{a_block, an_op};
 ghost use Rattle.ir_model.specs.Nesting.{In, IsLinked, IsLive, ops_of};
 ghost use Rattle.ir_model.specs.Parent.{FindsOne};
 ghost use Rattle.ir_model.specs.Predecessors.{ArePredecessorsBy, IsPredecessorAt};
-ghost use Rattle.ir_core_queries.specs.State.{behaviour, block_uses_of, forest_of};
+ghost use Rattle.ir_core_queries.specs.State.{block_uses_of, forest_of};
+ghost use Rattle.ir_core_records.specs.DialectAnswers.{behaviour_of};
 
 use crate::forward_edges::{names_block, tail};
 use ir_base_dialects::{ArenaIndex, CoreError, Dialects, Ptr};
@@ -24,8 +25,8 @@ use ir_core_records::{EntityIndex, KeptUse};
 fn parent_block<D: Dialects>(ctx: &Context<D>, op: ArenaIndex) -> Option<ArenaIndex>
     ensures { FindsOne (λ a. In op (ops_of (forest_of ctx.now) a)) result }
 {
-    ctx.holds_together();
-    ctx.is_well_formed();
+    ctx.recall_holds_together();
+    ctx.recall_well_formed();
     let parent = parent_of(ctx.records(), EntityIndex::Op(op))?;
     match parent {
         EntityIndex::Op(_) => None,
@@ -38,7 +39,7 @@ fn parent_block<D: Dialects>(ctx: &Context<D>, op: ArenaIndex) -> Option<ArenaIn
 fn stands_in<D: Dialects>(ctx: &Context<D>, op: ArenaIndex, block: ArenaIndex) -> bool
     ensures { IsTrue result ↔ In op (ops_of (forest_of ctx.now) block) }
 {
-    ctx.is_well_formed();
+    ctx.recall_well_formed();
     match parent_block(ctx, op) {
         Some(parent) => parent == block,
         None => false,
@@ -102,7 +103,7 @@ pub trait BlockPredecessors<D: Dialects> {
         requires live { IsLive (forest_of ctx.now) (a_block (index_of self)) }
         requires linked { UsersLinked (forest_of ctx.now) (index_of self) }
         ensures exact { IfOk result (λ blocks. ArePredecessorsBy (forest_of ctx.now) (index_of self) (block_uses_of ctx.now (index_of self)) (map (λ p. p.index) blocks.items)) }
-        ensures edges { IfOk result (λ blocks. OnlyTerminatorsBranch (forest_of ctx.now) (behaviour D.TypeKey.eq D.first_body D.unknown D.op_impls_of) → (a : Index) → IsSuccessor (behaviour D.TypeKey.eq D.first_body D.unknown D.op_impls_of) (forest_of ctx.now) a (index_of self) ↔ In a (map (λ p. p.index) blocks.items)) }
+        ensures edges { IfOk result (λ blocks. OnlyTerminatorsBranch (forest_of ctx.now) (behaviour_of D.Dialects D.TypeKey.eq) → (a : Index) → IsSuccessor (behaviour_of D.Dialects D.TypeKey.eq) (forest_of ctx.now) a (index_of self) ↔ In a (map (λ p. p.index) blocks.items)) }
         ensures live { IfOk result (λ blocks. All (λ p. IsLive (forest_of ctx.now) (a_block p.index)) blocks.items) }
         ensures memory { IfErr result (λ e. e ≡ CoreError.OutOfMemory) };
 
@@ -129,12 +130,12 @@ impl<D: Dialects> BlockPredecessors<D> for Ptr<BasicBlock<D>> {
     }
 
     fn preds(self, ctx: &Context<D>) -> Result<Vec<Ptr<BasicBlock<D>>>, CoreError> {
-        ctx.is_well_formed();
+        ctx.recall_well_formed();
         blocks_of_users(ctx, kept_uses(ctx, self))
     }
 
     fn get_pred(self, ctx: &Context<D>, index: usize) -> Ptr<BasicBlock<D>> {
-        ctx.is_well_formed();
+        ctx.recall_well_formed();
         let uses = kept_uses(ctx, self);
         linked_block(ctx, uses[index].user())
     }

@@ -6,8 +6,9 @@ ghost use Rattle.ir_model.specs.BlockGraph.{last_op, succs, terminator, IsSucces
 ghost use Rattle.ir_model.specs.Forest.{a_block, an_op};
 ghost use Rattle.ir_model.specs.Nesting.{In, IsLive};
 ghost use Rattle.ir_core_queries.specs.Calls.{LeadsToLive};
-ghost use Rattle.ir_core_queries.specs.State.{behaviour, forest_of};
+ghost use Rattle.ir_core_queries.specs.State.{forest_of};
 ghost use Rattle.ir_view_parts.specs.Parts.{successors_of};
+ghost use Rattle.ir_core_records.specs.DialectAnswers.{behaviour_of};
 
 use crate::operation_parts::OperationParts;
 use ir_base_dialects::interfaces::TERMINATOR;
@@ -24,8 +25,8 @@ pub(crate) fn tail<D: Dialects>(
     ensures found { option_map (λ p. p.index) result ≡ last_op (forest_of ctx.now) block.index }
     ensures live { IfSome result (λ p. IsLive (forest_of ctx.now) (an_op p.index)) }
 {
-    ctx.holds_together();
-    ctx.is_well_formed();
+    ctx.recall_holds_together();
+    ctx.recall_well_formed();
     let last = ctx.records().blocks.at(block).last.get()?;
     Some(Ptr::from_index(last))
 }
@@ -57,7 +58,7 @@ pub trait BlockSuccessors<D: Dialects> {
     /// The terminator: the last operation, where its kind says that it ends blocks. It stands for pliron's `BasicBlock::get_terminator`.
     fn get_terminator(self, ctx: &Context<D>) -> Option<Ptr<Operation<D>>>
         requires { IsLive (forest_of ctx.now) (a_block (index_of self)) }
-        ensures found { option_map (λ p. p.index) result ≡ terminator (behaviour D.TypeKey.eq D.first_body D.unknown D.op_impls_of) (forest_of ctx.now) (index_of self) }
+        ensures found { option_map (λ p. p.index) result ≡ terminator (behaviour_of D.Dialects D.TypeKey.eq) (forest_of ctx.now) (index_of self) }
         ensures live { IfSome result (λ p. IsLive (forest_of ctx.now) (an_op p.index)) };
 
     /// The successors, in order; none without a terminator. It stands for pliron's `BasicBlock::succs`.
@@ -66,30 +67,30 @@ pub trait BlockSuccessors<D: Dialects> {
     /// `OutOfMemory`.
     fn succs(self, ctx: &Context<D>) -> Result<Vec<Ptr<BasicBlock<D>>>, CoreError>
         requires { IsLive (forest_of ctx.now) (a_block (index_of self)) }
-        ensures exact { IfOk result (λ blocks. map (λ p. p.index) blocks.items ≡ succs (behaviour D.TypeKey.eq D.first_body D.unknown D.op_impls_of) (forest_of ctx.now) (index_of self)) }
+        ensures exact { IfOk result (λ blocks. map (λ p. p.index) blocks.items ≡ succs (behaviour_of D.Dialects D.TypeKey.eq) (forest_of ctx.now) (index_of self)) }
         ensures live { IfOk result (λ blocks. All (λ p. IsLive (forest_of ctx.now) (a_block p.index)) blocks.items) }
         ensures memory { IfErr result (λ e. e ≡ CoreError.OutOfMemory) };
 
     /// Whether there is a successor. It stands for pliron's `BasicBlock::has_succ`.
     fn has_succ(self, ctx: &Context<D>) -> bool
         requires { IsLive (forest_of ctx.now) (a_block (index_of self)) }
-        ensures { IsTrue result ↔ ((b : ArenaIndex) × IsSuccessor (behaviour D.TypeKey.eq D.first_body D.unknown D.op_impls_of) (forest_of ctx.now) (index_of self) b) };
+        ensures { IsTrue result ↔ ((b : ArenaIndex) × IsSuccessor (behaviour_of D.Dialects D.TypeKey.eq) (forest_of ctx.now) (index_of self) b) };
 
     /// Whether this block is among the successors. It stands for pliron's `BasicBlock::is_succ`.
     fn is_succ(self, ctx: &Context<D>, succ: Self) -> bool
         requires { IsLive (forest_of ctx.now) (a_block (index_of self)) }
-        ensures { IsTrue result ↔ IsSuccessor (behaviour D.TypeKey.eq D.first_body D.unknown D.op_impls_of) (forest_of ctx.now) (index_of self) (index_of succ) };
+        ensures { IsTrue result ↔ IsSuccessor (behaviour_of D.Dialects D.TypeKey.eq) (forest_of ctx.now) (index_of self) (index_of succ) };
 
     /// How many successors there are. It stands for pliron's `BasicBlock::num_succ`.
     fn num_succ(self, ctx: &Context<D>) -> usize
         requires { IsLive (forest_of ctx.now) (a_block (index_of self)) }
-        ensures { result ≡ length (succs (behaviour D.TypeKey.eq D.first_body D.unknown D.op_impls_of) (forest_of ctx.now) (index_of self)) };
+        ensures { result ≡ length (succs (behaviour_of D.Dialects D.TypeKey.eq) (forest_of ctx.now) (index_of self)) };
 
     /// The successor at an index below their number. It stands for pliron's `BasicBlock::get_succ`.
     fn get_succ(self, ctx: &Context<D>, index: usize) -> Ptr<BasicBlock<D>>
         requires live { IsLive (forest_of ctx.now) (a_block (index_of self)) }
-        requires within { index < length (succs (behaviour D.TypeKey.eq D.first_body D.unknown D.op_impls_of) (forest_of ctx.now) (index_of self)) }
-        ensures found { slice_get (succs (behaviour D.TypeKey.eq D.first_body D.unknown D.op_impls_of) (forest_of ctx.now) (index_of self)) index ≡ Some result.index }
+        requires within { index < length (succs (behaviour_of D.Dialects D.TypeKey.eq) (forest_of ctx.now) (index_of self)) }
+        ensures found { slice_get (succs (behaviour_of D.Dialects D.TypeKey.eq) (forest_of ctx.now) (index_of self)) index ≡ Some result.index }
         ensures live { IsLive (forest_of ctx.now) (a_block result.index) };
 }
 

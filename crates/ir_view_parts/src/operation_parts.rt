@@ -145,7 +145,7 @@ impl<'a, D: Dialects> HasParts<usize> for OperandTypesOf<'a, D> {
     ghost seen = { λ t. t.place };
 
     fn part(&self, index: usize) -> TypeHandle {
-        self.ctx.is_well_formed();
+        self.ctx.recall_well_formed();
         self.op.get_operand(index).get_type(self.ctx)
     }
 }
@@ -284,7 +284,7 @@ impl<D: Dialects> OperationParts<D> for Operation<D> {
     }
 
     fn operand_types<'a>(&'a self, ctx: &'a Context<D>) -> OperandTypes<'a, D> {
-        ctx.is_well_formed();
+        ctx.recall_well_formed();
         Parts::all(OperandTypesOf { op: self, ctx }, self.get_num_operands())
     }
 

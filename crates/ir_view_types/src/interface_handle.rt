@@ -3,9 +3,9 @@
 ghost use Rattle.std.specs.Prelude.{◌≡◌, ◌<◌, ◌↔◌, length, true, Some, IsOk, IsTrue, IfErr, IfOk, slice_get};
 ghost use Rattle.std.specs.Option.{option_map};
 ghost use Rattle.ir_model.specs.Kinds.{Implements, LacksInterface};
-ghost use Rattle.ir_core_queries.specs.Dominance.{kinds};
 ghost use Rattle.ir_core_queries.specs.State.{types_of};
 ghost use Rattle.ir_view_types.specs.Handles.{interface_place, typed_place};
+ghost use Rattle.ir_core_records.specs.DialectAnswers.{kinds_of};
 
 use crate::error::TypeInterfaceHandleErr;
 use crate::ir_type::IrType;
@@ -72,9 +72,9 @@ impl<D: Dialects, I: TypeInterfaceMarker> TypeInterfaceHandle<I, D> {
     pub fn from_handle(handle: TypeHandle, ctx: &Context<D>) -> Result<Self, TypeInterfaceHandleErr>
         requires { handle.place < length (types_of ctx.now) }
         ensures place { IfOk result (λ h. interface_place h ≡ handle.place) }
-        ensures exact { IsOk result ↔ Implements (kinds D.attr_kind_of D.type_kind_of D.type_impls_of D.saved_kind_of D.Saved.eq D.region_ssa_dominance_of) (types_of ctx.now) handle.place I.NUMBER }
+        ensures exact { IsOk result ↔ Implements (kinds_of D.Dialects D.Saved.eq) (types_of ctx.now) handle.place I.NUMBER }
         ensures interface { IfErr result (λ e. e.interface ≡ I.NUMBER) }
-        ensures provided { IfErr result (λ e. LacksInterface (kinds D.attr_kind_of D.type_kind_of D.type_impls_of D.saved_kind_of D.Saved.eq D.region_ssa_dominance_of) (types_of ctx.now) handle.place e.interface e.provided) }
+        ensures provided { IfErr result (λ e. LacksInterface (kinds_of D.Dialects D.Saved.eq) (types_of ctx.now) handle.place e.interface e.provided) }
     {
         let provided = D::type_kind(handle.deref(ctx));
         if D::type_impls(provided, I::NUMBER) {
@@ -89,7 +89,7 @@ impl<D: Dialects, I: TypeInterfaceMarker> TypeInterfaceHandle<I, D> {
 
     /// Whether the context has the type, and its kind implements the interface.
     pub fn is_known(self, ctx: &Context<D>) -> bool
-        ensures { IsTrue result ↔ Implements (kinds D.attr_kind_of D.type_kind_of D.type_impls_of D.saved_kind_of D.Saved.eq D.region_ssa_dominance_of) (types_of ctx.now) (interface_place self) I.NUMBER }
+        ensures { IsTrue result ↔ Implements (kinds_of D.Dialects D.Saved.eq) (types_of ctx.now) (interface_place self) I.NUMBER }
     {
         let handle = self.to_handle();
         handle.is_known(ctx) && type_impls::<I, D>(handle.deref(ctx))
@@ -97,7 +97,7 @@ impl<D: Dialects, I: TypeInterfaceMarker> TypeInterfaceHandle<I, D> {
 
     /// The key of the known type.
     pub fn deref(self, ctx: &Context<D>) -> &D::TypeKey
-        requires { Implements (kinds D.attr_kind_of D.type_kind_of D.type_impls_of D.saved_kind_of D.Saved.eq D.region_ssa_dominance_of) (types_of ctx.now) (interface_place self) I.NUMBER }
+        requires { Implements (kinds_of D.Dialects D.Saved.eq) (types_of ctx.now) (interface_place self) I.NUMBER }
         ensures { option_map (λ t. t.key) (slice_get (types_of ctx.now) (interface_place self)) ≡ Some result.now }
     {
         self.to_handle().deref(ctx)
@@ -120,7 +120,7 @@ impl<D: Dialects, I: TypeInterfaceMarker, T: TypeImplsInterface<I, D>> From<Type
     ghost use Rattle.ir_core_records.specs.Meaning.{closed};
 
     // The place is the same, and where the type is a `T` its kind implements the interface.
-    ghost from_gives = { λ typed h. (interface_place h ≡ typed_place typed) × ((store : List (StoredType (closed D.Attr D.TypeKey D.TypeBody D.Saved D.Aux D.Loc))) → HasKind (kinds D.attr_kind_of D.type_kind_of D.type_impls_of D.saved_kind_of D.Saved.eq D.region_ssa_dominance_of) store (typed_place typed) T.KIND → Implements (kinds D.attr_kind_of D.type_kind_of D.type_impls_of D.saved_kind_of D.Saved.eq D.region_ssa_dominance_of) store (interface_place h) I.NUMBER) };
+    ghost from_gives = { λ typed h. (interface_place h ≡ typed_place typed) × ((store : List (StoredType (closed D.Attr D.TypeKey D.TypeBody D.Saved D.Aux D.Loc))) → HasKind (kinds_of D.Dialects D.Saved.eq) store (typed_place typed) T.KIND → Implements (kinds_of D.Dialects D.Saved.eq) store (interface_place h) I.NUMBER) };
 
     fn from(typed: TypedHandle<T, D>) -> TypeInterfaceHandle<I, D> {
         TypeInterfaceHandle::of_handle(typed.to_handle())

@@ -6,9 +6,9 @@ ghost use Rattle.ir_model.specs.Edits.{type_place, with_type};
 ghost use Rattle.ir_model.specs.Kinds.{HasKind};
 ghost use Rattle.ir_model.specs.declared.error.CoreError.TheVariants.{OutOfMemory};
 ghost use Rattle.ir_core_queries.specs.Calls.{SameButTypes};
-ghost use Rattle.ir_core_queries.specs.Dominance.{kinds};
-ghost use Rattle.ir_core_queries.specs.State.{bare, behaviour, types_of};
+ghost use Rattle.ir_core_queries.specs.State.{bare, types_of};
 ghost use Rattle.ir_view_types.specs.Handles.{typed_place};
+ghost use Rattle.ir_core_records.specs.DialectAnswers.{behaviour_of, kinds_of};
 
 use crate::typed_handle::TypedHandle;
 use ir_base_dialects::{CoreError, Dialects, TypeHandle, TypeId};
@@ -84,13 +84,13 @@ pub trait IrType<D: Dialects>: Eq + Sized {
     /// # Errors
     /// `OutOfMemory`, only for a type that isn't stored yet; it changes nothing.
     final fn instantiate(self, ctx: &mut Context<D>) -> Result<TypedHandle<Self, D>, CoreError>
-        ensures place { IfOk result (λ t. typed_place t ≡ type_place (behaviour D.TypeKey.eq D.first_body D.unknown D.op_impls_of) (types_of ctx.old) (key_of self)) }
-        ensures kind { IfOk result (λ t. HasKind (kinds D.attr_kind_of D.type_kind_of D.type_impls_of D.saved_kind_of D.Saved.eq D.region_ssa_dominance_of) (types_of ctx.new) (typed_place t) KIND) }
-        ensures types { OnOk result (types_of ctx.new ≡ with_type (behaviour D.TypeKey.eq D.first_body D.unknown D.op_impls_of) (types_of ctx.old) (key_of self)) }
+        ensures place { IfOk result (λ t. typed_place t ≡ type_place (behaviour_of D.Dialects D.TypeKey.eq) (types_of ctx.old) (key_of self)) }
+        ensures kind { IfOk result (λ t. HasKind (kinds_of D.Dialects D.Saved.eq) (types_of ctx.new) (typed_place t) KIND) }
+        ensures types { OnOk result (types_of ctx.new ≡ with_type (behaviour_of D.Dialects D.TypeKey.eq) (types_of ctx.old) (key_of self)) }
         ensures rest { SameButTypes (bare ctx.old) (bare ctx.new) }
         ensures memory { IfErr result (λ e. e ≡ OutOfMemory) }
         ensures err { OnErr result (ctx.new ≡ ctx.old) }
-        ensures only_new { OnErr result (type_place (behaviour D.TypeKey.eq D.first_body D.unknown D.op_impls_of) (types_of ctx.old) (key_of self) ≡ length (types_of ctx.old)) }
+        ensures only_new { OnErr result (type_place (behaviour_of D.Dialects D.TypeKey.eq) (types_of ctx.old) (key_of self) ≡ length (types_of ctx.old)) }
     {
         let handle = ctx.instantiate_key(self.to_key())?;
         Ok(TypedHandle::of_handle(handle))

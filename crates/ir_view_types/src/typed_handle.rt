@@ -2,9 +2,9 @@
 
 ghost use Rattle.std.specs.Prelude.{◌≡◌, ◌<◌, ◌↔◌, length, Some, IsOk, IsTrue, IfErr, IfOk, option_and_then, slice_get};
 ghost use Rattle.ir_model.specs.Kinds.{HasKind, IsOtherKind};
-ghost use Rattle.ir_core_queries.specs.Dominance.{kinds};
 ghost use Rattle.ir_core_queries.specs.State.{types_of};
 ghost use Rattle.ir_view_types.specs.Handles.{typed_place};
+ghost use Rattle.ir_core_records.specs.DialectAnswers.{kinds_of};
 
 use crate::error::TypedHandleErr;
 use crate::ir_type::IrType;
@@ -49,9 +49,9 @@ impl<D: Dialects, T: IrType<D>> TypedHandle<T, D> {
     pub fn from_handle(handle: TypeHandle, ctx: &Context<D>) -> Result<Self, TypedHandleErr>
         requires { handle.place < length (types_of ctx.now) }
         ensures place { IfOk result (λ typed. typed_place typed ≡ handle.place) }
-        ensures exact { IsOk result ↔ HasKind (kinds D.attr_kind_of D.type_kind_of D.type_impls_of D.saved_kind_of D.Saved.eq D.region_ssa_dominance_of) (types_of ctx.now) handle.place T.KIND }
+        ensures exact { IsOk result ↔ HasKind (kinds_of D.Dialects D.Saved.eq) (types_of ctx.now) handle.place T.KIND }
         ensures expected { IfErr result (λ e. e.expected ≡ T.KIND) }
-        ensures provided { IfErr result (λ e. IsOtherKind (kinds D.attr_kind_of D.type_kind_of D.type_impls_of D.saved_kind_of D.Saved.eq D.region_ssa_dominance_of) (types_of ctx.now) handle.place e.expected e.provided) }
+        ensures provided { IfErr result (λ e. IsOtherKind (kinds_of D.Dialects D.Saved.eq) (types_of ctx.now) handle.place e.expected e.provided) }
     {
         let provided = D::type_kind(handle.deref(ctx));
         if provided == T::KIND {
@@ -66,7 +66,7 @@ impl<D: Dialects, T: IrType<D>> TypedHandle<T, D> {
 
     /// Whether the context has the type, and it is a `T`.
     pub fn is_known(self, ctx: &Context<D>) -> bool
-        ensures { IsTrue result ↔ HasKind (kinds D.attr_kind_of D.type_kind_of D.type_impls_of D.saved_kind_of D.Saved.eq D.region_ssa_dominance_of) (types_of ctx.now) (typed_place self) T.KIND }
+        ensures { IsTrue result ↔ HasKind (kinds_of D.Dialects D.Saved.eq) (types_of ctx.now) (typed_place self) T.KIND }
     {
         let handle = self.to_handle();
         handle.is_known(ctx) && D::type_kind(handle.deref(ctx)) == T::KIND
@@ -74,7 +74,7 @@ impl<D: Dialects, T: IrType<D>> TypedHandle<T, D> {
 
     /// The known type.
     pub fn deref(self, ctx: &Context<D>) -> &T
-        requires { HasKind (kinds D.attr_kind_of D.type_kind_of D.type_impls_of D.saved_kind_of D.Saved.eq D.region_ssa_dominance_of) (types_of ctx.now) (typed_place self) T.KIND }
+        requires { HasKind (kinds_of D.Dialects D.Saved.eq) (types_of ctx.now) (typed_place self) T.KIND }
         ensures { option_and_then (λ t. T.value_of t.key) (slice_get (types_of ctx.now) (typed_place self)) ≡ Some result.now }
     {
         match T::of_key(self.to_handle().deref(ctx)) {

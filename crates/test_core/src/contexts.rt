@@ -19,7 +19,7 @@ pub(crate) const SLOTS_SPENT: Option<CheckedErr> = Some(CheckedErr::Core(CoreErr
 
 /// Calls the laws that say what holds of every context.
 pub(crate) fn call_laws<D: Dialects>(ctx: &Context<D>) {
-    ctx.is_well_formed();
-    ctx.uses_are_exact();
-    ctx.types_are_exact();
+    ctx.recall_well_formed();
+    ctx.recall_uses_exact();
+    ctx.recall_types_exact();
 }

@@ -8,10 +8,10 @@ use toy_dialect::Toy;
 
 // Calls each law of a context that no other test calls.
 fn call_laws<D: Dialects>(ctx: &Context<D>) {
-    ctx.aux_was_made();
-    ctx.live_was_made();
-    ctx.holds_together();
-    ctx.use_numbers_fit();
+    ctx.recall_aux_was_made();
+    ctx.recall_live_was_made();
+    ctx.recall_holds_together();
+    ctx.recall_use_numbers_fit();
 }
 
 // Calls the laws of saved values.

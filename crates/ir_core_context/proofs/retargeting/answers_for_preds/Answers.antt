@@ -18,7 +18,7 @@ answers_for_blocks-requires-clause-linked g c used here =
     let b = c.args.block.index in
     let kept = c.as_slice.ensures ∙ c.block_uses.ensures ∙ ap (λ (t : Records _ _ _ _ _ _ _). block_uses_at t c.args.block) c.records.ensures in
     let among = In-map use_of used (block_uses_at c.args.ctx.now.records c.args.block) (subst (λ (us : List UseIndex). In used us) kept here) in
-    let is : IsUse f (the_block b) (use_of used) = ((c.uses_are_exact.ensures.blocks b c.requires.live).exact (use_of used)).0 among in
+    let is : IsUse f (the_block b) (use_of used) = ((c.recall_uses_exact.ensures.blocks b c.requires.live).exact (use_of used)).0 among in
     c.requires.linked used.user (block-use-names f b (use_of used) is)
 
 pub answers_for_blocks-requires-clause-callable : goal.answers_for_blocks-requires-clause-callable
@@ -27,7 +27,7 @@ answers_for_blocks-requires-clause-callable g c context block used shown here st
     let b = c.args.block.index in
     let kept = c.as_slice.ensures ∙ c.block_uses.ensures ∙ ap (λ (t : Records _ _ _ _ _ _ _). block_uses_at t c.args.block) c.records.ensures in
     let among = In-map use_of used (block_uses_at c.args.ctx.now.records c.args.block) (subst (λ (us : List UseIndex). In used us) kept here) in
-    let is : IsUse f (the_block b) (use_of used) = ((c.uses_are_exact.ensures.blocks b c.requires.live).exact (use_of used)).0 among in
+    let is : IsUse f (the_block b) (use_of used) = ((c.recall_uses_exact.ensures.blocks b c.requires.live).exact (use_of used)).0 among in
     c.requires.callable context block shown (used.user, stands, block-use-names f b (use_of used) is)
 
 pub returns-clause-answers : goal.returns-clause-answers

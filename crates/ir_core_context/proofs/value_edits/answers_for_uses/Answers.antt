@@ -17,7 +17,7 @@ answers-requires g c = record {
   callable = λ context used shown here.
       let kept = c.as_slice.ensures ∙ c.uses.ensures ∙ ap (λ (s : State _ _ _ _ _ _ _). uses_at s.records c.args.value) c.ctx.view_is in
       let among = In-map use_in used.index (uses_at c.args.ctx.now.records c.args.value) (subst (λ (us : List UseIndex). In used.index us) kept here) in
-      c.requires.callable context used shown (((c.uses_are_exact.ensures.values c.args.value c.requires.live).exact (use_in used.index)).0 among);
+      c.requires.callable context used shown (((c.recall_uses_exact.ensures.values c.args.value c.requires.live).exact (use_in used.index)).0 among);
 }
 
 pub returns-clause-answers : goal.returns-clause-answers

@@ -20,19 +20,19 @@ pub returns-clause-forest : goal.returns-clause-forest
 returns-clause-forest g c =
     let old = c.args.records.now in
     let n = c.from_index.result.index in
-    let told = blocks-one c.block_lists_tell.ensures old c.requires.nested c.insert_at_back.new.nodes c.insert_at_back.new.containers c.insert_at_back.ensures.nodes_rest c.insert_at_back.ensures.containers_rest (λ bs. bs ++ n ∷ []) c.from_index-2.result.index (c.insert_at_back.ensures.lists (blocks_in (tree_of old)) c.requires.nested.block_lists) in
+    let told = blocks-one c.recall_block_lists.ensures old c.requires.nested c.insert_at_back.new.nodes c.insert_at_back.new.containers c.insert_at_back.ensures.nodes_rest c.insert_at_back.ensures.containers_rest (λ bs. bs ++ n ∷ []) c.from_index-2.result.index (c.insert_at_back.ensures.lists (blocks_in (tree_of old)) c.requires.nested.block_lists) in
     told.forest ∙ (λ i. on_region (forest_of old) (c.from_index-2.ensures i) (λ bs. bs ++ c.from_index.ensures i ∷ []))
 
 pub returns-clause-nested : goal.returns-clause-nested
 returns-clause-nested g c =
     let old = c.args.records.now in
     let n = c.from_index.result.index in
-    let told = blocks-one c.block_lists_tell.ensures old c.requires.nested c.insert_at_back.new.nodes c.insert_at_back.new.containers c.insert_at_back.ensures.nodes_rest c.insert_at_back.ensures.containers_rest (λ bs. bs ++ n ∷ []) c.from_index-2.result.index (c.insert_at_back.ensures.lists (blocks_in (tree_of old)) c.requires.nested.block_lists) in
+    let told = blocks-one c.recall_block_lists.ensures old c.requires.nested c.insert_at_back.new.nodes c.insert_at_back.new.containers c.insert_at_back.ensures.nodes_rest c.insert_at_back.ensures.containers_rest (λ bs. bs ++ n ∷ []) c.from_index-2.result.index (c.insert_at_back.ensures.lists (blocks_in (tree_of old)) c.requires.nested.block_lists) in
     told.nested
 
 pub returns-clause-keeps : goal.returns-clause-keeps
 returns-clause-keeps g c =
     let old = c.args.records.now in
     let n = c.from_index.result.index in
-    let told = blocks-one c.block_lists_tell.ensures old c.requires.nested c.insert_at_back.new.nodes c.insert_at_back.new.containers c.insert_at_back.ensures.nodes_rest c.insert_at_back.ensures.containers_rest (λ bs. bs ++ n ∷ []) c.from_index-2.result.index (c.insert_at_back.ensures.lists (blocks_in (tree_of old)) c.requires.nested.block_lists) in
+    let told = blocks-one c.recall_block_lists.ensures old c.requires.nested c.insert_at_back.new.nodes c.insert_at_back.new.containers c.insert_at_back.ensures.nodes_rest c.insert_at_back.ensures.containers_rest (λ bs. bs ++ n ∷ []) c.from_index-2.result.index (c.insert_at_back.ensures.lists (blocks_in (tree_of old)) c.requires.nested.block_lists) in
     told.keeps

@@ -33,7 +33,7 @@ returns-clause-forest g c =
     let m = c.from_index-2.result.index in
     let place = list-of_block old c.requires.nested m (subst (λ (u : ArenaIndex). IsLinked (forest_of old) (a_block u)) (sym c.from_index-2.ensures) c.requires.mark_linked) in
     let split = In-split m (blocks_in (tree_of old) place.0) place.1 in
-    let told = blocks-each c.block_lists_tell.ensures old c.requires.nested c.insert_before.new.nodes c.insert_before.new.containers c.insert_before.ensures.nodes_rest c.insert_before.ensures.containers_rest (put_before same_id n m) _ (c.insert_before.ensures.lists (blocks_in (tree_of old)) place.0 split.0 split.1 c.requires.nested.block_lists split.2)
+    let told = blocks-each c.recall_block_lists.ensures old c.requires.nested c.insert_before.new.nodes c.insert_before.new.containers c.insert_before.ensures.nodes_rest c.insert_before.ensures.containers_rest (put_before same_id n m) _ (c.insert_before.ensures.lists (blocks_in (tree_of old)) place.0 split.0 split.1 c.requires.nested.block_lists split.2)
     (before-each (blocks_in (tree_of old)) (container_of (seen block_links old.blocks)) (c.lists_hold_nodes.ensures.container old.blocks old.regions (blocks_in (tree_of old)) c.requires.nested.block_lists) (c.lists_hold_nodes.ensures.apart old.blocks old.regions (blocks_in (tree_of old)) c.requires.nested.block_lists) n m place.0 split.0 split.1 split.2) in
     told.forest ∙ (λ i. in_regions (forest_of old) (put_before same_id (c.from_index.ensures i) (c.from_index-2.ensures i)))
 
@@ -44,7 +44,7 @@ returns-clause-nested g c =
     let m = c.from_index-2.result.index in
     let place = list-of_block old c.requires.nested m (subst (λ (u : ArenaIndex). IsLinked (forest_of old) (a_block u)) (sym c.from_index-2.ensures) c.requires.mark_linked) in
     let split = In-split m (blocks_in (tree_of old) place.0) place.1 in
-    let told = blocks-each c.block_lists_tell.ensures old c.requires.nested c.insert_before.new.nodes c.insert_before.new.containers c.insert_before.ensures.nodes_rest c.insert_before.ensures.containers_rest (put_before same_id n m) _ (c.insert_before.ensures.lists (blocks_in (tree_of old)) place.0 split.0 split.1 c.requires.nested.block_lists split.2)
+    let told = blocks-each c.recall_block_lists.ensures old c.requires.nested c.insert_before.new.nodes c.insert_before.new.containers c.insert_before.ensures.nodes_rest c.insert_before.ensures.containers_rest (put_before same_id n m) _ (c.insert_before.ensures.lists (blocks_in (tree_of old)) place.0 split.0 split.1 c.requires.nested.block_lists split.2)
     (before-each (blocks_in (tree_of old)) (container_of (seen block_links old.blocks)) (c.lists_hold_nodes.ensures.container old.blocks old.regions (blocks_in (tree_of old)) c.requires.nested.block_lists) (c.lists_hold_nodes.ensures.apart old.blocks old.regions (blocks_in (tree_of old)) c.requires.nested.block_lists) n m place.0 split.0 split.1 split.2) in
     told.nested
 
@@ -55,6 +55,6 @@ returns-clause-keeps g c =
     let m = c.from_index-2.result.index in
     let place = list-of_block old c.requires.nested m (subst (λ (u : ArenaIndex). IsLinked (forest_of old) (a_block u)) (sym c.from_index-2.ensures) c.requires.mark_linked) in
     let split = In-split m (blocks_in (tree_of old) place.0) place.1 in
-    let told = blocks-each c.block_lists_tell.ensures old c.requires.nested c.insert_before.new.nodes c.insert_before.new.containers c.insert_before.ensures.nodes_rest c.insert_before.ensures.containers_rest (put_before same_id n m) _ (c.insert_before.ensures.lists (blocks_in (tree_of old)) place.0 split.0 split.1 c.requires.nested.block_lists split.2)
+    let told = blocks-each c.recall_block_lists.ensures old c.requires.nested c.insert_before.new.nodes c.insert_before.new.containers c.insert_before.ensures.nodes_rest c.insert_before.ensures.containers_rest (put_before same_id n m) _ (c.insert_before.ensures.lists (blocks_in (tree_of old)) place.0 split.0 split.1 c.requires.nested.block_lists split.2)
     (before-each (blocks_in (tree_of old)) (container_of (seen block_links old.blocks)) (c.lists_hold_nodes.ensures.container old.blocks old.regions (blocks_in (tree_of old)) c.requires.nested.block_lists) (c.lists_hold_nodes.ensures.apart old.blocks old.regions (blocks_in (tree_of old)) c.requires.nested.block_lists) n m place.0 split.0 split.1 split.2) in
     told.keeps

@@ -25,7 +25,7 @@ returns-clause-forest g c =
     let n = c.from_index.result.index in
     let place = list-of_block old c.requires.nested n (subst (λ (u : ArenaIndex). IsLinked (forest_of old) (a_block u)) (sym c.from_index.ensures) c.requires.linked) in
     let split = In-split n (blocks_in (tree_of old) place.0) place.1 in
-    let told = blocks-each c.block_lists_tell.ensures old c.requires.nested c.unlink.new.nodes c.unlink.new.containers c.unlink.ensures.nodes_rest c.unlink.ensures.containers_rest (without same_id n) _ (c.unlink.ensures.lists (blocks_in (tree_of old)) place.0 split.0 split.1 c.requires.nested.block_lists split.2)
+    let told = blocks-each c.recall_block_lists.ensures old c.requires.nested c.unlink.new.nodes c.unlink.new.containers c.unlink.ensures.nodes_rest c.unlink.ensures.containers_rest (without same_id n) _ (c.unlink.ensures.lists (blocks_in (tree_of old)) place.0 split.0 split.1 c.requires.nested.block_lists split.2)
     (without-each (blocks_in (tree_of old)) (container_of (seen block_links old.blocks)) (c.lists_hold_nodes.ensures.container old.blocks old.regions (blocks_in (tree_of old)) c.requires.nested.block_lists) (c.lists_hold_nodes.ensures.apart old.blocks old.regions (blocks_in (tree_of old)) c.requires.nested.block_lists) n place.0 split.0 split.1 split.2) in
     told.forest ∙ (λ i. in_regions (forest_of old) (without same_id (c.from_index.ensures i)))
 
@@ -35,7 +35,7 @@ returns-clause-nested g c =
     let n = c.from_index.result.index in
     let place = list-of_block old c.requires.nested n (subst (λ (u : ArenaIndex). IsLinked (forest_of old) (a_block u)) (sym c.from_index.ensures) c.requires.linked) in
     let split = In-split n (blocks_in (tree_of old) place.0) place.1 in
-    let told = blocks-each c.block_lists_tell.ensures old c.requires.nested c.unlink.new.nodes c.unlink.new.containers c.unlink.ensures.nodes_rest c.unlink.ensures.containers_rest (without same_id n) _ (c.unlink.ensures.lists (blocks_in (tree_of old)) place.0 split.0 split.1 c.requires.nested.block_lists split.2)
+    let told = blocks-each c.recall_block_lists.ensures old c.requires.nested c.unlink.new.nodes c.unlink.new.containers c.unlink.ensures.nodes_rest c.unlink.ensures.containers_rest (without same_id n) _ (c.unlink.ensures.lists (blocks_in (tree_of old)) place.0 split.0 split.1 c.requires.nested.block_lists split.2)
     (without-each (blocks_in (tree_of old)) (container_of (seen block_links old.blocks)) (c.lists_hold_nodes.ensures.container old.blocks old.regions (blocks_in (tree_of old)) c.requires.nested.block_lists) (c.lists_hold_nodes.ensures.apart old.blocks old.regions (blocks_in (tree_of old)) c.requires.nested.block_lists) n place.0 split.0 split.1 split.2) in
     told.nested
 
@@ -45,6 +45,6 @@ returns-clause-keeps g c =
     let n = c.from_index.result.index in
     let place = list-of_block old c.requires.nested n (subst (λ (u : ArenaIndex). IsLinked (forest_of old) (a_block u)) (sym c.from_index.ensures) c.requires.linked) in
     let split = In-split n (blocks_in (tree_of old) place.0) place.1 in
-    let told = blocks-each c.block_lists_tell.ensures old c.requires.nested c.unlink.new.nodes c.unlink.new.containers c.unlink.ensures.nodes_rest c.unlink.ensures.containers_rest (without same_id n) _ (c.unlink.ensures.lists (blocks_in (tree_of old)) place.0 split.0 split.1 c.requires.nested.block_lists split.2)
+    let told = blocks-each c.recall_block_lists.ensures old c.requires.nested c.unlink.new.nodes c.unlink.new.containers c.unlink.ensures.nodes_rest c.unlink.ensures.containers_rest (without same_id n) _ (c.unlink.ensures.lists (blocks_in (tree_of old)) place.0 split.0 split.1 c.requires.nested.block_lists split.2)
     (without-each (blocks_in (tree_of old)) (container_of (seen block_links old.blocks)) (c.lists_hold_nodes.ensures.container old.blocks old.regions (blocks_in (tree_of old)) c.requires.nested.block_lists) (c.lists_hold_nodes.ensures.apart old.blocks old.regions (blocks_in (tree_of old)) c.requires.nested.block_lists) n place.0 split.0 split.1 split.2) in
     told.keeps

@@ -12,7 +12,7 @@ returns-clause-forest g c =
     let old = c.args.records.now in
     let donee = c.from_index.result.index in
     let donor = c.from_index-2.result.index in
-    let told = ops-append c.operation_lists_tell.ensures old c.requires.nested c.append_linked_list.new.nodes c.append_linked_list.new.containers c.append_linked_list.ensures.nodes_rest c.append_linked_list.ensures.containers_rest donee donor (c.append_linked_list.ensures.lists (ops_in (tree_of old)) c.requires.nested.op_lists) in
+    let told = ops-append c.recall_operation_lists.ensures old c.requires.nested c.append_linked_list.new.nodes c.append_linked_list.new.containers c.append_linked_list.ensures.nodes_rest c.append_linked_list.ensures.containers_rest donee donor (c.append_linked_list.ensures.lists (ops_in (tree_of old)) c.requires.nested.op_lists) in
     told.forest ∙ ap (append_ops (forest_of old) donee donor) (sym (ops_of-is old c.requires.nested donor)) ∙ (λ i. append_ops (forest_of old) (c.from_index.ensures i) (c.from_index-2.ensures i) (ops_of (forest_of old) (c.from_index-2.ensures i)))
 
 pub returns-clause-nested : goal.returns-clause-nested
@@ -20,7 +20,7 @@ returns-clause-nested g c =
     let old = c.args.records.now in
     let donee = c.from_index.result.index in
     let donor = c.from_index-2.result.index in
-    let told = ops-append c.operation_lists_tell.ensures old c.requires.nested c.append_linked_list.new.nodes c.append_linked_list.new.containers c.append_linked_list.ensures.nodes_rest c.append_linked_list.ensures.containers_rest donee donor (c.append_linked_list.ensures.lists (ops_in (tree_of old)) c.requires.nested.op_lists) in
+    let told = ops-append c.recall_operation_lists.ensures old c.requires.nested c.append_linked_list.new.nodes c.append_linked_list.new.containers c.append_linked_list.ensures.nodes_rest c.append_linked_list.ensures.containers_rest donee donor (c.append_linked_list.ensures.lists (ops_in (tree_of old)) c.requires.nested.op_lists) in
     told.nested
 
 pub returns-clause-keeps : goal.returns-clause-keeps
@@ -28,5 +28,5 @@ returns-clause-keeps g c =
     let old = c.args.records.now in
     let donee = c.from_index.result.index in
     let donor = c.from_index-2.result.index in
-    let told = ops-append c.operation_lists_tell.ensures old c.requires.nested c.append_linked_list.new.nodes c.append_linked_list.new.containers c.append_linked_list.ensures.nodes_rest c.append_linked_list.ensures.containers_rest donee donor (c.append_linked_list.ensures.lists (ops_in (tree_of old)) c.requires.nested.op_lists) in
+    let told = ops-append c.recall_operation_lists.ensures old c.requires.nested c.append_linked_list.new.nodes c.append_linked_list.new.containers c.append_linked_list.ensures.nodes_rest c.append_linked_list.ensures.containers_rest donee donor (c.append_linked_list.ensures.lists (ops_in (tree_of old)) c.requires.nested.op_lists) in
     told.keeps

@@ -33,7 +33,7 @@ returns-clause-forest g c =
     let m = c.from_index-2.result.index in
     let place = list-of_op old c.requires.nested m (subst (λ (u : ArenaIndex). IsLinked (forest_of old) (an_op u)) (sym c.from_index-2.ensures) c.requires.mark_linked) in
     let split = In-split m (ops_in (tree_of old) place.0) place.1 in
-    let told = ops-each c.operation_lists_tell.ensures old c.requires.nested c.insert_after.new.nodes c.insert_after.new.containers c.insert_after.ensures.nodes_rest c.insert_after.ensures.containers_rest (put_after same_id n m) _ (c.insert_after.ensures.lists (ops_in (tree_of old)) place.0 split.0 split.1 c.requires.nested.op_lists split.2)
+    let told = ops-each c.recall_operation_lists.ensures old c.requires.nested c.insert_after.new.nodes c.insert_after.new.containers c.insert_after.ensures.nodes_rest c.insert_after.ensures.containers_rest (put_after same_id n m) _ (c.insert_after.ensures.lists (ops_in (tree_of old)) place.0 split.0 split.1 c.requires.nested.op_lists split.2)
     (after-each (ops_in (tree_of old)) (container_of (seen op_links old.ops)) (c.lists_hold_nodes.ensures.container old.ops old.blocks (ops_in (tree_of old)) c.requires.nested.op_lists) (c.lists_hold_nodes.ensures.apart old.ops old.blocks (ops_in (tree_of old)) c.requires.nested.op_lists) n m place.0 split.0 split.1 split.2) in
     told.forest ∙ (λ i. in_blocks (forest_of old) (put_after same_id (c.from_index.ensures i) (c.from_index-2.ensures i)))
 
@@ -44,7 +44,7 @@ returns-clause-nested g c =
     let m = c.from_index-2.result.index in
     let place = list-of_op old c.requires.nested m (subst (λ (u : ArenaIndex). IsLinked (forest_of old) (an_op u)) (sym c.from_index-2.ensures) c.requires.mark_linked) in
     let split = In-split m (ops_in (tree_of old) place.0) place.1 in
-    let told = ops-each c.operation_lists_tell.ensures old c.requires.nested c.insert_after.new.nodes c.insert_after.new.containers c.insert_after.ensures.nodes_rest c.insert_after.ensures.containers_rest (put_after same_id n m) _ (c.insert_after.ensures.lists (ops_in (tree_of old)) place.0 split.0 split.1 c.requires.nested.op_lists split.2)
+    let told = ops-each c.recall_operation_lists.ensures old c.requires.nested c.insert_after.new.nodes c.insert_after.new.containers c.insert_after.ensures.nodes_rest c.insert_after.ensures.containers_rest (put_after same_id n m) _ (c.insert_after.ensures.lists (ops_in (tree_of old)) place.0 split.0 split.1 c.requires.nested.op_lists split.2)
     (after-each (ops_in (tree_of old)) (container_of (seen op_links old.ops)) (c.lists_hold_nodes.ensures.container old.ops old.blocks (ops_in (tree_of old)) c.requires.nested.op_lists) (c.lists_hold_nodes.ensures.apart old.ops old.blocks (ops_in (tree_of old)) c.requires.nested.op_lists) n m place.0 split.0 split.1 split.2) in
     told.nested
 
@@ -55,6 +55,6 @@ returns-clause-keeps g c =
     let m = c.from_index-2.result.index in
     let place = list-of_op old c.requires.nested m (subst (λ (u : ArenaIndex). IsLinked (forest_of old) (an_op u)) (sym c.from_index-2.ensures) c.requires.mark_linked) in
     let split = In-split m (ops_in (tree_of old) place.0) place.1 in
-    let told = ops-each c.operation_lists_tell.ensures old c.requires.nested c.insert_after.new.nodes c.insert_after.new.containers c.insert_after.ensures.nodes_rest c.insert_after.ensures.containers_rest (put_after same_id n m) _ (c.insert_after.ensures.lists (ops_in (tree_of old)) place.0 split.0 split.1 c.requires.nested.op_lists split.2)
+    let told = ops-each c.recall_operation_lists.ensures old c.requires.nested c.insert_after.new.nodes c.insert_after.new.containers c.insert_after.ensures.nodes_rest c.insert_after.ensures.containers_rest (put_after same_id n m) _ (c.insert_after.ensures.lists (ops_in (tree_of old)) place.0 split.0 split.1 c.requires.nested.op_lists split.2)
     (after-each (ops_in (tree_of old)) (container_of (seen op_links old.ops)) (c.lists_hold_nodes.ensures.container old.ops old.blocks (ops_in (tree_of old)) c.requires.nested.op_lists) (c.lists_hold_nodes.ensures.apart old.ops old.blocks (ops_in (tree_of old)) c.requires.nested.op_lists) n m place.0 split.0 split.1 split.2) in
     told.keeps

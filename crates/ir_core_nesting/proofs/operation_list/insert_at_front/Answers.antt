@@ -20,19 +20,19 @@ pub returns-clause-forest : goal.returns-clause-forest
 returns-clause-forest g c =
     let old = c.args.records.now in
     let n = c.from_index.result.index in
-    let told = ops-one c.operation_lists_tell.ensures old c.requires.nested c.insert_at_front.new.nodes c.insert_at_front.new.containers c.insert_at_front.ensures.nodes_rest c.insert_at_front.ensures.containers_rest (λ os. n ∷ os) c.from_index-2.result.index (c.insert_at_front.ensures.lists (ops_in (tree_of old)) c.requires.nested.op_lists) in
+    let told = ops-one c.recall_operation_lists.ensures old c.requires.nested c.insert_at_front.new.nodes c.insert_at_front.new.containers c.insert_at_front.ensures.nodes_rest c.insert_at_front.ensures.containers_rest (λ os. n ∷ os) c.from_index-2.result.index (c.insert_at_front.ensures.lists (ops_in (tree_of old)) c.requires.nested.op_lists) in
     told.forest ∙ (λ i. on_block (forest_of old) (c.from_index-2.ensures i) (on_ops (λ os. c.from_index.ensures i ∷ os)))
 
 pub returns-clause-nested : goal.returns-clause-nested
 returns-clause-nested g c =
     let old = c.args.records.now in
     let n = c.from_index.result.index in
-    let told = ops-one c.operation_lists_tell.ensures old c.requires.nested c.insert_at_front.new.nodes c.insert_at_front.new.containers c.insert_at_front.ensures.nodes_rest c.insert_at_front.ensures.containers_rest (λ os. n ∷ os) c.from_index-2.result.index (c.insert_at_front.ensures.lists (ops_in (tree_of old)) c.requires.nested.op_lists) in
+    let told = ops-one c.recall_operation_lists.ensures old c.requires.nested c.insert_at_front.new.nodes c.insert_at_front.new.containers c.insert_at_front.ensures.nodes_rest c.insert_at_front.ensures.containers_rest (λ os. n ∷ os) c.from_index-2.result.index (c.insert_at_front.ensures.lists (ops_in (tree_of old)) c.requires.nested.op_lists) in
     told.nested
 
 pub returns-clause-keeps : goal.returns-clause-keeps
 returns-clause-keeps g c =
     let old = c.args.records.now in
     let n = c.from_index.result.index in
-    let told = ops-one c.operation_lists_tell.ensures old c.requires.nested c.insert_at_front.new.nodes c.insert_at_front.new.containers c.insert_at_front.ensures.nodes_rest c.insert_at_front.ensures.containers_rest (λ os. n ∷ os) c.from_index-2.result.index (c.insert_at_front.ensures.lists (ops_in (tree_of old)) c.requires.nested.op_lists) in
+    let told = ops-one c.recall_operation_lists.ensures old c.requires.nested c.insert_at_front.new.nodes c.insert_at_front.new.containers c.insert_at_front.ensures.nodes_rest c.insert_at_front.ensures.containers_rest (λ os. n ∷ os) c.from_index-2.result.index (c.insert_at_front.ensures.lists (ops_in (tree_of old)) c.requires.nested.op_lists) in
     told.keeps

@@ -25,7 +25,7 @@ returns-clause-forest g c =
     let n = c.from_index.result.index in
     let place = list-of_op old c.requires.nested n (subst (λ (u : ArenaIndex). IsLinked (forest_of old) (an_op u)) (sym c.from_index.ensures) c.requires.linked) in
     let split = In-split n (ops_in (tree_of old) place.0) place.1 in
-    let told = ops-each c.operation_lists_tell.ensures old c.requires.nested c.unlink.new.nodes c.unlink.new.containers c.unlink.ensures.nodes_rest c.unlink.ensures.containers_rest (without same_id n) _ (c.unlink.ensures.lists (ops_in (tree_of old)) place.0 split.0 split.1 c.requires.nested.op_lists split.2)
+    let told = ops-each c.recall_operation_lists.ensures old c.requires.nested c.unlink.new.nodes c.unlink.new.containers c.unlink.ensures.nodes_rest c.unlink.ensures.containers_rest (without same_id n) _ (c.unlink.ensures.lists (ops_in (tree_of old)) place.0 split.0 split.1 c.requires.nested.op_lists split.2)
     (without-each (ops_in (tree_of old)) (container_of (seen op_links old.ops)) (c.lists_hold_nodes.ensures.container old.ops old.blocks (ops_in (tree_of old)) c.requires.nested.op_lists) (c.lists_hold_nodes.ensures.apart old.ops old.blocks (ops_in (tree_of old)) c.requires.nested.op_lists) n place.0 split.0 split.1 split.2) in
     told.forest ∙ (λ i. in_blocks (forest_of old) (without same_id (c.from_index.ensures i)))
 
@@ -35,7 +35,7 @@ returns-clause-nested g c =
     let n = c.from_index.result.index in
     let place = list-of_op old c.requires.nested n (subst (λ (u : ArenaIndex). IsLinked (forest_of old) (an_op u)) (sym c.from_index.ensures) c.requires.linked) in
     let split = In-split n (ops_in (tree_of old) place.0) place.1 in
-    let told = ops-each c.operation_lists_tell.ensures old c.requires.nested c.unlink.new.nodes c.unlink.new.containers c.unlink.ensures.nodes_rest c.unlink.ensures.containers_rest (without same_id n) _ (c.unlink.ensures.lists (ops_in (tree_of old)) place.0 split.0 split.1 c.requires.nested.op_lists split.2)
+    let told = ops-each c.recall_operation_lists.ensures old c.requires.nested c.unlink.new.nodes c.unlink.new.containers c.unlink.ensures.nodes_rest c.unlink.ensures.containers_rest (without same_id n) _ (c.unlink.ensures.lists (ops_in (tree_of old)) place.0 split.0 split.1 c.requires.nested.op_lists split.2)
     (without-each (ops_in (tree_of old)) (container_of (seen op_links old.ops)) (c.lists_hold_nodes.ensures.container old.ops old.blocks (ops_in (tree_of old)) c.requires.nested.op_lists) (c.lists_hold_nodes.ensures.apart old.ops old.blocks (ops_in (tree_of old)) c.requires.nested.op_lists) n place.0 split.0 split.1 split.2) in
     told.nested
 
@@ -45,6 +45,6 @@ returns-clause-keeps g c =
     let n = c.from_index.result.index in
     let place = list-of_op old c.requires.nested n (subst (λ (u : ArenaIndex). IsLinked (forest_of old) (an_op u)) (sym c.from_index.ensures) c.requires.linked) in
     let split = In-split n (ops_in (tree_of old) place.0) place.1 in
-    let told = ops-each c.operation_lists_tell.ensures old c.requires.nested c.unlink.new.nodes c.unlink.new.containers c.unlink.ensures.nodes_rest c.unlink.ensures.containers_rest (without same_id n) _ (c.unlink.ensures.lists (ops_in (tree_of old)) place.0 split.0 split.1 c.requires.nested.op_lists split.2)
+    let told = ops-each c.recall_operation_lists.ensures old c.requires.nested c.unlink.new.nodes c.unlink.new.containers c.unlink.ensures.nodes_rest c.unlink.ensures.containers_rest (without same_id n) _ (c.unlink.ensures.lists (ops_in (tree_of old)) place.0 split.0 split.1 c.requires.nested.op_lists split.2)
     (without-each (ops_in (tree_of old)) (container_of (seen op_links old.ops)) (c.lists_hold_nodes.ensures.container old.ops old.blocks (ops_in (tree_of old)) c.requires.nested.op_lists) (c.lists_hold_nodes.ensures.apart old.ops old.blocks (ops_in (tree_of old)) c.requires.nested.op_lists) n place.0 split.0 split.1 split.2) in
     told.keeps

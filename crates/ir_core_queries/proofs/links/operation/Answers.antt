@@ -13,9 +13,9 @@ use Rattle.ir_core_queries.proofs.links.operation.Goals as goal
 pub returns : goal.returns
 returns g c =
     let t = c.args.ctx.now.records in
-    let nested = c.holds_together.ensures.nested in
+    let nested = c.recall_holds_together.ensures.nested in
     let o = c.args.op.index in
     let here = ap (option_map op_links) (rw c.records.ensures at c.at.ensures) in
-    links-tell (forest_of t) c.is_well_formed.ensures.nested an_op a_block (ops_in (tree_of t)) (ops-listed t nested) (tree_of t).ops
+    links-tell (forest_of t) c.recall_well_formed.ensures.nested an_op a_block (ops_in (tree_of t)) (ops-listed t nested) (tree_of t).ops
     (c.links_are_neighbours.ensures.links t.ops t.blocks (ops_in (tree_of t)) nested.op_lists)
     o (op_links c.at.result.now) here (nested.op_lists.covers o (op_links c.at.result.now) here)

@@ -11,9 +11,9 @@ use Rattle.ir_core_queries.proofs.links.region.Goals as goal
 pub returns : goal.returns
 returns g c =
     let t = c.args.ctx.now.records in
-    let nested = c.holds_together.ensures.nested in
+    let nested = c.recall_holds_together.ensures.nested in
     let r = c.args.region.index in
     let here = ap (option_map region_ends) (rw c.records.ensures at c.at.ensures) in
     subst (λ list. EndsTell (forest_of t) a_block list (region_ends c.at.result.now)) (sym (blocks-meant t nested r))
-    (ends-tell (forest_of t) c.is_well_formed.ensures.nested a_block (a_region r) (blocks_in (tree_of t) r) ((blocks-listed t nested).list r)
+    (ends-tell (forest_of t) c.recall_well_formed.ensures.nested a_block (a_region r) (blocks_in (tree_of t) r) ((blocks-listed t nested).list r)
     (region_ends c.at.result.now) (nested.block_lists.ends r (region_ends c.at.result.now) here))

@@ -12,7 +12,7 @@ returns-clause-kept g c = kept-meant c.records.result.now c.args.ctx.now.records
 pub returns-clause-exact : goal.returns-clause-exact
 returns-clause-exact g c =
     let kept = kept-meant c.records.result.now c.args.ctx.now.records c.records.ensures c.args.block.index c.as_slice.result.now (c.as_slice.ensures ∙ c.block_uses-uses.ensures) in
-    subst (AreUses (forest_of c.args.ctx.now) (the_block c.args.block.index)) (sym kept) (c.uses_are_exact.ensures.blocks c.args.block.index c.requires)
+    subst (AreUses (forest_of c.args.ctx.now) (the_block c.args.block.index)) (sym kept) (c.recall_uses_exact.ensures.blocks c.args.block.index c.requires)
 
 pub returns-clause-users : goal.returns-clause-users
 returns-clause-users g c = users-named (forest_of c.args.ctx.now) c.args.block.index c.as_slice.result.now (returns-clause-exact g c)

@@ -1,17 +1,17 @@
-use Rattle.ir_core_data.specs.Side.{kinds}
 use Rattle.ir_core_context.specs.State.{bare}
 use Rattle.ir_core_uniqued.proofs.SavedLemmas.{kind-is, lawful, saved-known, saved-there}
 use Rattle.ir_core_uniqued.proofs.uniqued.save.Goals as goal
+use Rattle.ir_core_records.specs.DialectAnswers.{kinds_of}
 
 pub returns-clause-there : goal.returns-clause-there
 returns-clause-there g c =
-    let K = kinds {B = g.row.D-TypeBody.Denot} {X = g.row.D-Aux.Denot} {L = g.row.D-Loc.Denot} g.D.Dialects.attr_kind_of g.D.Dialects.type_kind_of g.D.Dialects.type_impls_of g.D.Dialects.saved_kind_of g.D.Saved.PartialEq.eq g.D.Dialects.region_ssa_dominance_of in
+    let K = kinds_of g.D.Dialects g.D.Saved.PartialEq.eq in
     saved-there K (lawful _ _ _ _ _ _ g.met.D.Saved.Eq.laws g.met.D.Dialects.saved_kinds) (bare c.args.ctx.now).beside (bare c.save_value.new.self).beside
     (g.T.SavedValue.saved_of c.args.value) c.to_saved.result c.at.result.place c.in_ok-place.place c.to_saved.ensures c.in_ok-place.ensures.place c.in_ok-place.ensures.saved c.at.ensures
 
 pub returns-clause-known : goal.returns-clause-known
 returns-clause-known g c =
-    let K = kinds {B = g.row.D-TypeBody.Denot} {X = g.row.D-Aux.Denot} {L = g.row.D-Loc.Denot} g.D.Dialects.attr_kind_of g.D.Dialects.type_kind_of g.D.Dialects.type_impls_of g.D.Dialects.saved_kind_of g.D.Saved.PartialEq.eq g.D.Dialects.region_ssa_dominance_of in
+    let K = kinds_of g.D.Dialects g.D.Saved.PartialEq.eq in
     saved-known K (lawful _ _ _ _ _ _ g.met.D.Saved.Eq.laws g.met.D.Dialects.saved_kinds) (bare c.args.ctx.now).beside (bare c.save_value.new.self).beside
     (g.T.SavedValue.saved_of c.args.value) c.to_saved.result c.at.result.place c.in_ok-place.place c.to_saved.ensures c.in_ok-place.ensures.place c.in_ok-place.ensures.saved c.at.ensures
     g.T.SavedValue.KIND

@@ -7,7 +7,7 @@ use Rattle.ir_run_sessions.proofs.definition_steps.remove_argument.Goals as goal
 
 pub returns-in-Some : goal.returns-in-Some
 returns-in-Some g c =
-    remove_argument_done c.args.ctx.now (entries_of c.args.tables.now) _ (record { numbers = c.needs_nothing.ensures.numbers; slots = c.needs_nothing.ensures.slots }) c.remove_argument.new.ctx c.remove_argument.ensures.rest
+    remove_argument_done c.args.ctx.now (entries_of c.args.tables.now) _ (record { numbers = c.recall_needs_nothing.ensures.numbers; slots = c.recall_needs_nothing.ensures.slots }) c.remove_argument.new.ctx c.remove_argument.ensures.rest
     c.args.block c.args.at c.in-Some.block.index c.in-Some.ensures.named c.in-Some.ensures.unused c.remove_argument.ensures.forest
 
 pub returns-in-None : goal.returns-in-None

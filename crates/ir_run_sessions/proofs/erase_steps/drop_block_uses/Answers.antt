@@ -6,7 +6,7 @@ use Rattle.ir_run_sessions.proofs.erase_steps.drop_block_uses.Goals as goal
 
 pub returns-in-Some : goal.returns-in-Some
 returns-in-Some g c =
-    drop_block_uses_done c.args.ctx.now (entries_of c.args.tables.now) _ (record { numbers = c.needs_nothing.ensures.numbers; slots = c.needs_nothing.ensures.slots }) c.drop_all_uses.new.ctx c.drop_all_uses.ensures.rest
+    drop_block_uses_done c.args.ctx.now (entries_of c.args.tables.now) _ (record { numbers = c.recall_needs_nothing.ensures.numbers; slots = c.recall_needs_nothing.ensures.slots }) c.drop_all_uses.new.ctx c.drop_all_uses.ensures.rest
     c.args.block c.in-Some.block.index c.in-Some.ensures c.drop_all_uses.ensures.forest
 
 pub returns-in-None : goal.returns-in-None

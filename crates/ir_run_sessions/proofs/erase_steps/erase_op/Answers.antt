@@ -7,7 +7,7 @@ use Rattle.ir_run_sessions.proofs.erase_steps.erase_op.Goals as goal
 
 pub returns-in-Some : goal.returns-in-Some
 returns-in-Some g c =
-    erase_op_done c.args.ctx.now (entries_of c.args.tables.now) _ (record { numbers = c.needs_nothing.ensures.numbers; slots = c.needs_nothing.ensures.slots }) c.erase.new.ctx c.erase.ensures.rest
+    erase_op_done c.args.ctx.now (entries_of c.args.tables.now) _ (record { numbers = c.recall_needs_nothing.ensures.numbers; slots = c.recall_needs_nothing.ensures.slots }) c.erase.new.ctx c.erase.ensures.rest
     c.args.op c.in-Some.op.index c.in-Some.ensures.named c.in-Some.ensures.closed c.erase.ensures.forest
 
 pub returns-in-None : goal.returns-in-None

@@ -7,7 +7,7 @@ use Rattle.ir_run_sessions.proofs.list_steps.block_after.Goals as goal
 
 pub returns-in-Some : goal.returns-in-Some
 returns-in-Some g c =
-    block_after_done c.args.ctx.now (entries_of c.args.tables.now) _ (record { numbers = c.needs_nothing.ensures.numbers; slots = c.needs_nothing.ensures.slots }) c.insert_after.new.ctx c.insert_after.ensures.rest
+    block_after_done c.args.ctx.now (entries_of c.args.tables.now) _ (record { numbers = c.recall_needs_nothing.ensures.numbers; slots = c.recall_needs_nothing.ensures.slots }) c.insert_after.new.ctx c.insert_after.ensures.rest
     c.args.block c.args.mark c.in-Some.block.index c.in-Some.mark.index c.in-Some.ensures.node c.in-Some.ensures.mark c.in-Some.ensures.may_go c.insert_after.ensures.forest
 
 pub returns-in-None : goal.returns-in-None

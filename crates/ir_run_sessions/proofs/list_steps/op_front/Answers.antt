@@ -7,7 +7,7 @@ use Rattle.ir_run_sessions.proofs.list_steps.op_front.Goals as goal
 
 pub returns-in-Some : goal.returns-in-Some
 returns-in-Some g c =
-    op_front_done c.args.ctx.now (entries_of c.args.tables.now) _ (record { numbers = c.needs_nothing.ensures.numbers; slots = c.needs_nothing.ensures.slots }) c.insert_at_front.new.ctx c.insert_at_front.ensures.rest
+    op_front_done c.args.ctx.now (entries_of c.args.tables.now) _ (record { numbers = c.recall_needs_nothing.ensures.numbers; slots = c.recall_needs_nothing.ensures.slots }) c.insert_at_front.new.ctx c.insert_at_front.ensures.rest
     c.args.op c.args.block c.in-Some.op.index c.in-Some.block.index c.in-Some.ensures.node c.in-Some.ensures.container c.in-Some.ensures.may_go c.insert_at_front.ensures.forest
 
 pub returns-in-None : goal.returns-in-None

@@ -7,7 +7,7 @@ use Rattle.ir_run_sessions.proofs.list_steps.unlink_block.Goals as goal
 
 pub returns-in-Some : goal.returns-in-Some
 returns-in-Some g c =
-    unlink_block_done c.args.ctx.now (entries_of c.args.tables.now) _ (record { numbers = c.needs_nothing.ensures.numbers; slots = c.needs_nothing.ensures.slots }) c.unlink.new.ctx c.unlink.ensures.rest
+    unlink_block_done c.args.ctx.now (entries_of c.args.tables.now) _ (record { numbers = c.recall_needs_nothing.ensures.numbers; slots = c.recall_needs_nothing.ensures.slots }) c.unlink.new.ctx c.unlink.ensures.rest
     c.args.block c.in-Some.block.index c.in-Some.ensures.named c.in-Some.ensures.linked c.unlink.ensures.forest
 
 pub returns-in-None : goal.returns-in-None

@@ -8,7 +8,7 @@ use Rattle.ir_run_sessions.proofs.redirect_steps.replace_all_uses.Goals as goal
 
 pub returns-in-Some : goal.returns-in-Some
 returns-in-Some g c =
-    replace_all_made c.args.ctx.now (entries_of c.args.tables.now) c.args.value c.args.other _ (record { numbers = c.needs_nothing.ensures.numbers; slots = c.needs_nothing.ensures.slots }) c.replace_all_uses_with.new.ctx
+    replace_all_made c.args.ctx.now (entries_of c.args.tables.now) c.args.value c.args.other _ (record { numbers = c.recall_needs_nothing.ensures.numbers; slots = c.recall_needs_nothing.ensures.slots }) c.replace_all_uses_with.new.ctx
     c.replace_all_uses_with.result c.replace_all_uses_with.ensures.memory c.replace_all_uses_with.ensures.err c.replace_all_uses_with.ensures.rest c.done.result c.done.ensures
     (value_of c.in-Some.value.index) (value_of c.in-Some.other.index) c.in-Some.ensures.first c.in-Some.ensures.second c.replace_all_uses_with.ensures.itself c.replace_all_uses_with.ensures.forest
 

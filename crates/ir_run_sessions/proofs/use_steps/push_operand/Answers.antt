@@ -8,7 +8,7 @@ use Rattle.ir_run_sessions.proofs.use_steps.push_operand.Goals as goal
 
 pub returns-in-Some : goal.returns-in-Some
 returns-in-Some g c =
-    push_operand_made c.args.ctx.now (entries_of c.args.tables.now) _ (record { numbers = c.needs_nothing.ensures.numbers; slots = c.needs_nothing.ensures.slots }) c.push_operand.new.ctx
+    push_operand_made c.args.ctx.now (entries_of c.args.tables.now) _ (record { numbers = c.recall_needs_nothing.ensures.numbers; slots = c.recall_needs_nothing.ensures.slots }) c.push_operand.new.ctx
     c.push_operand.result c.push_operand.ensures.counter c.push_operand.ensures.slots c.push_operand.ensures.err c.done.result c.done.ensures
     c.args.op c.in-Some.op.index c.in-Some.ensures.op c.args.value (value_of c.in-Some.value.index) c.in-Some.ensures.value c.push_operand.ensures.made
 

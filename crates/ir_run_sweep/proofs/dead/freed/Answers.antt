@@ -7,4 +7,4 @@ use Rattle.ir_run_sweep.proofs.dead.freed.Goals as goal
 pub can_go-requires : goal.can_go-requires
 can_go-requires g c =
     let f = forest_of c.args.ctx.now in
-    listed_live f c.args.block.index c.is_well_formed.ensures.nested c.in_ok-op.op.index (subst (λ m. IfSome m (λ p. In p.index (ops_of f c.args.block.index))) c.in_ok-op.was c.requires)
+    listed_live f c.args.block.index c.recall_well_formed.ensures.nested c.in_ok-op.op.index (subst (λ m. IfSome m (λ p. In p.index (ops_of f c.args.block.index))) c.in_ok-op.was c.requires)

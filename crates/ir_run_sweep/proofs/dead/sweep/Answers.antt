@@ -1,10 +1,11 @@
 use Rattle.std.proofs.Common.{refl, sym, ap, ◌∙◌, subst, ◌+◌, ◌<◌, ◌^◌, length, not, IfSome, is_some, arith}
 use Rattle.ir_model.specs.Nesting.{In, ops_of}
-use Rattle.ir_core_queries.specs.State.{bare, behaviour, forest_of}
+use Rattle.ir_core_queries.specs.State.{bare, forest_of}
 use Rattle.ir_run_sweep.specs.Going.{CanGo, none_goes}
 use Rattle.ir_run_sweep.proofs.Ranks.{not_both}
 use Rattle.ir_run_sweep.proofs.Sequences.{goes-one, goes-formed, goes-live, goes-sweeps, goes-fewer, list_fewer, stay_listed, same_joined}
 use Rattle.ir_run_sweep.proofs.dead.sweep.Goals as goal
+use Rattle.ir_core_records.specs.DialectAnswers.{behaviour_of}
 
 pub loop-next-init : goal.loop-next-init
 loop-next-init g c =
@@ -20,35 +21,35 @@ loop-next-init g c =
 
 pub overflow_add-swept : goal.overflow_add-swept
 overflow_add-swept g c =
-    let B = behaviour g.D.TypeKey.PartialEq.eq g.D.Dialects.first_body g.D.Dialects.unknown g.D.Dialects.op_impls_of in
+    let B = behaviour_of g.D.Dialects g.D.TypeKey.PartialEq.eq in
     let b = c.args.block.index in
     let f = forest_of c.args.ctx.now in
     let now = forest_of c.loop-next.ctx in
     let next = forest_of c.erase.new.ctx in
     let o = c.in-Some.op.index in
     let h : In o (ops_of now b) = subst (λ m. IfSome m (λ p. In p.index (ops_of now b))) c.in-Some.is c.loop-next.invariant.listed in
-    let w = goes-formed B b f _ c.is_well_formed.ensures now c.loop-next.swept c.loop-next.invariant.goes in
+    let w = goes-formed B b f _ c.recall_well_formed.ensures now c.loop-next.swept c.loop-next.invariant.goes in
     let less = list_fewer b now next _ w o h c.erase.ensures.forest in
-    let most = goes-fewer B b f _ c.is_well_formed.ensures now c.loop-next.swept c.loop-next.invariant.goes in
-    let fits : length (ops_of f b) < 2 ^ 64 = c.lists_are_short.ensures in
+    let most = goes-fewer B b f _ c.recall_well_formed.ensures now c.loop-next.swept c.loop-next.invariant.goes in
+    let fits : length (ops_of f b) < 2 ^ 64 = c.recall_lists_short.ensures in
     omega (arith, less, most, fits)
 
 pub freed-next-requires : goal.freed-next-requires
 freed-next-requires g c =
-    let B = behaviour g.D.TypeKey.PartialEq.eq g.D.Dialects.first_body g.D.Dialects.unknown g.D.Dialects.op_impls_of in
+    let B = behaviour_of g.D.Dialects g.D.TypeKey.PartialEq.eq in
     let b = c.args.block.index in
     let f = forest_of c.args.ctx.now in
     let now = forest_of c.loop-next.ctx in
     let next = forest_of c.erase.new.ctx in
     let o = c.in-Some.op.index in
     let h : In o (ops_of now b) = subst (λ m. IfSome m (λ p. In p.index (ops_of now b))) c.in-Some.is c.loop-next.invariant.listed in
-    let w = goes-formed B b f _ c.is_well_formed.ensures now c.loop-next.swept c.loop-next.invariant.goes in
+    let w = goes-formed B b f _ c.recall_well_formed.ensures now c.loop-next.swept c.loop-next.invariant.goes in
     let d = c.last_definer-definer in
     stay_listed b now next _ w o h c.erase.ensures.forest (λ p. p.index) d.result d.ensures.listed d.ensures.other
 
 pub to_go_from-place-requires-then-is_none-clause-live : goal.to_go_from-place-requires-then-is_none-clause-live
 to_go_from-place-requires-then-is_none-clause-live g c =
-    let B = behaviour g.D.TypeKey.PartialEq.eq g.D.Dialects.first_body g.D.Dialects.unknown g.D.Dialects.op_impls_of in
+    let B = behaviour_of g.D.Dialects g.D.TypeKey.PartialEq.eq in
     let b = c.args.block.index in
     let f = forest_of c.args.ctx.now in
     let now = forest_of c.loop-next.ctx in
@@ -58,52 +59,52 @@ to_go_from-place-requires-then-is_none-clause-live g c =
     let can : CanGo B now o = subst (λ m. IfSome m (λ p. CanGo B now p.index)) c.in-Some.is c.loop-next.invariant.can_go in
     let once = c.erase.ensures.once in
     let goes = goes-one B b f now next c.loop-next.swept (c.loop-next.swept + 1) once.0 o refl c.loop-next.invariant.goes h can once.1 c.erase.ensures.forest in
-    goes-live B b f _ c.is_well_formed.ensures next (c.loop-next.swept + 1) goes c.requires
+    goes-live B b f _ c.recall_well_formed.ensures next (c.loop-next.swept + 1) goes c.requires
 
 pub to_go_from-place-requires-then-is_none-clause-listed : goal.to_go_from-place-requires-then-is_none-clause-listed
 to_go_from-place-requires-then-is_none-clause-listed g c =
-    let B = behaviour g.D.TypeKey.PartialEq.eq g.D.Dialects.first_body g.D.Dialects.unknown g.D.Dialects.op_impls_of in
+    let B = behaviour_of g.D.Dialects g.D.TypeKey.PartialEq.eq in
     let b = c.args.block.index in
     let f = forest_of c.args.ctx.now in
     let now = forest_of c.loop-next.ctx in
     let next = forest_of c.erase.new.ctx in
     let o = c.in-Some.op.index in
     let h : In o (ops_of now b) = subst (λ m. IfSome m (λ p. In p.index (ops_of now b))) c.in-Some.is c.loop-next.invariant.listed in
-    let w = goes-formed B b f _ c.is_well_formed.ensures now c.loop-next.swept c.loop-next.invariant.goes in
+    let w = goes-formed B b f _ c.recall_well_formed.ensures now c.loop-next.swept c.loop-next.invariant.goes in
     let d = c.place_beside-place in
     stay_listed b now next _ w o h c.erase.ensures.forest (λ p. p.index) d.result d.ensures.listed d.ensures.other
 
 pub loop-next-smaller-then-is_none : goal.loop-next-smaller-then-is_none
 loop-next-smaller-then-is_none g c =
-    let B = behaviour g.D.TypeKey.PartialEq.eq g.D.Dialects.first_body g.D.Dialects.unknown g.D.Dialects.op_impls_of in
+    let B = behaviour_of g.D.Dialects g.D.TypeKey.PartialEq.eq in
     let b = c.args.block.index in
     let f = forest_of c.args.ctx.now in
     let now = forest_of c.loop-next.ctx in
     let next = forest_of c.erase.new.ctx in
     let o = c.in-Some.op.index in
     let h : In o (ops_of now b) = subst (λ m. IfSome m (λ p. In p.index (ops_of now b))) c.in-Some.is c.loop-next.invariant.listed in
-    let w = goes-formed B b f _ c.is_well_formed.ensures now c.loop-next.swept c.loop-next.invariant.goes in
+    let w = goes-formed B b f _ c.recall_well_formed.ensures now c.loop-next.swept c.loop-next.invariant.goes in
     let less = list_fewer b now next _ w o h c.erase.ensures.forest in
     let smaller : length (ops_of next b) < length (ops_of now b) = omega (arith, less) in
     smaller
 
 pub loop-next-smaller : goal.loop-next-smaller
 loop-next-smaller g c =
-    let B = behaviour g.D.TypeKey.PartialEq.eq g.D.Dialects.first_body g.D.Dialects.unknown g.D.Dialects.op_impls_of in
+    let B = behaviour_of g.D.Dialects g.D.TypeKey.PartialEq.eq in
     let b = c.args.block.index in
     let f = forest_of c.args.ctx.now in
     let now = forest_of c.loop-next.ctx in
     let next = forest_of c.erase.new.ctx in
     let o = c.in-Some.op.index in
     let h : In o (ops_of now b) = subst (λ m. IfSome m (λ p. In p.index (ops_of now b))) c.in-Some.is c.loop-next.invariant.listed in
-    let w = goes-formed B b f _ c.is_well_formed.ensures now c.loop-next.swept c.loop-next.invariant.goes in
+    let w = goes-formed B b f _ c.recall_well_formed.ensures now c.loop-next.swept c.loop-next.invariant.goes in
     let less = list_fewer b now next _ w o h c.erase.ensures.forest in
     let smaller : length (ops_of next b) < length (ops_of now b) = omega (arith, less) in
     smaller
 
 pub loop-next-preserved-then-is_none : goal.loop-next-preserved-then-is_none
 loop-next-preserved-then-is_none g c =
-    let B = behaviour g.D.TypeKey.PartialEq.eq g.D.Dialects.first_body g.D.Dialects.unknown g.D.Dialects.op_impls_of in
+    let B = behaviour_of g.D.Dialects g.D.TypeKey.PartialEq.eq in
     let b = c.args.block.index in
     let f = forest_of c.args.ctx.now in
     let now = forest_of c.loop-next.ctx in
@@ -125,14 +126,14 @@ loop-next-preserved-then-is_none g c =
 
 pub loop-next-preserved : goal.loop-next-preserved
 loop-next-preserved g c =
-    let B = behaviour g.D.TypeKey.PartialEq.eq g.D.Dialects.first_body g.D.Dialects.unknown g.D.Dialects.op_impls_of in
+    let B = behaviour_of g.D.Dialects g.D.TypeKey.PartialEq.eq in
     let b = c.args.block.index in
     let f = forest_of c.args.ctx.now in
     let now = forest_of c.loop-next.ctx in
     let next = forest_of c.erase.new.ctx in
     let o = c.in-Some.op.index in
     let h : In o (ops_of now b) = subst (λ m. IfSome m (λ p. In p.index (ops_of now b))) c.in-Some.is c.loop-next.invariant.listed in
-    let w = goes-formed B b f _ c.is_well_formed.ensures now c.loop-next.swept c.loop-next.invariant.goes in
+    let w = goes-formed B b f _ c.recall_well_formed.ensures now c.loop-next.swept c.loop-next.invariant.goes in
     let can : CanGo B now o = subst (λ m. IfSome m (λ p. CanGo B now p.index)) c.in-Some.is c.loop-next.invariant.can_go in
     let once = c.erase.ensures.once in
     let goes = goes-one B b f now next c.loop-next.swept (c.loop-next.swept + 1) once.0 o refl c.loop-next.invariant.goes h can once.1 c.erase.ensures.forest in
@@ -148,10 +149,10 @@ loop-next-preserved g c =
 
 pub returns-clause-dead_are_gone : goal.returns-clause-dead_are_gone
 returns-clause-dead_are_gone g c =
-    let B = behaviour g.D.TypeKey.PartialEq.eq g.D.Dialects.first_body g.D.Dialects.unknown g.D.Dialects.op_impls_of in
-    goes-sweeps B c.args.block.index (forest_of c.args.ctx.now) _ c.is_well_formed.ensures (forest_of c.loop-next.ctx) c.loop-next.swept c.loop-next.invariant.goes (c.loop-next.invariant.none (ap is_some c.in_default.is))
+    let B = behaviour_of g.D.Dialects g.D.TypeKey.PartialEq.eq in
+    goes-sweeps B c.args.block.index (forest_of c.args.ctx.now) _ c.recall_well_formed.ensures (forest_of c.loop-next.ctx) c.loop-next.swept c.loop-next.invariant.goes (c.loop-next.invariant.none (ap is_some c.in_default.is))
 
 pub returns-clause-live : goal.returns-clause-live
 returns-clause-live g c =
-    let B = behaviour g.D.TypeKey.PartialEq.eq g.D.Dialects.first_body g.D.Dialects.unknown g.D.Dialects.op_impls_of in
-    goes-live B c.args.block.index (forest_of c.args.ctx.now) _ c.is_well_formed.ensures (forest_of c.loop-next.ctx) c.loop-next.swept c.loop-next.invariant.goes c.requires
+    let B = behaviour_of g.D.Dialects g.D.TypeKey.PartialEq.eq in
+    goes-live B c.args.block.index (forest_of c.args.ctx.now) _ c.recall_well_formed.ensures (forest_of c.loop-next.ctx) c.loop-next.swept c.loop-next.invariant.goes c.requires

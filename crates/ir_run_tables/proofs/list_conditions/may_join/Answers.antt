@@ -6,4 +6,4 @@ use Rattle.ir_run_tables.proofs.list_conditions.may_join.Goals as goal
 pub returns : goal.returns
 returns g c =
     let f = forest_of c.args.ctx.now in
-    both_ways (not_so _ c.is_inside.result c.is_inside.ensures) (join_so f (c.is_well_formed.ensures).nested (meant c.args.donee) (meant c.args.donor))
+    both_ways (not_so _ c.is_inside.result c.is_inside.ensures) (join_so f (c.recall_well_formed.ensures).nested (meant c.args.donee) (meant c.args.donor))

@@ -8,11 +8,12 @@ use Rattle.ir_model.specs.Uses.{AreUses, Use}
 use Rattle.ir_model.proofs.Back.{slice_get-in}
 use Rattle.ir_core_records.specs.declared.record.UseIndex.{UseIndex}
 use Rattle.ir_core_records.specs.Meaning.{use_of}
-use Rattle.ir_view_parts.specs.State.{behaviour, forest_of, types_of}
+use Rattle.ir_view_parts.specs.State.{forest_of, types_of}
 use Rattle.ir_verify_checks.specs.Parts.{IsAside}
 use Rattle.ir_verify_checks.proofs.Blocks.{kept-named, named-kept, namer-live}
 use Rattle.ir_verify_checks.proofs.Loops.{before-all, before-more}
 use Rattle.ir_verify_checks.proofs.block_faults.is_named_aside.Goals as goal
+use Rattle.ir_core_records.specs.DialectAnswers.{behaviour_of}
 
 pub is_aside-requires-clause-names : goal.is_aside-requires-clause-names
 is_aside-requires-clause-names g c =
@@ -21,21 +22,21 @@ is_aside-requires-clause-names g c =
     let kept = c.as_slice-index-items.result.now in
     let i = c.loop-index.index-index in
     let u : UseIndex = get_or kept i c.index-item.result in
-    let are : AreUses f (the_block b) (map use_of kept) = rw (c.as_slice-index-items.ensures, c.block_uses-uses.ensures, c.records.ensures) (c.uses_are_exact.ensures.blocks b c.requires) in
+    let are : AreUses f (the_block b) (map use_of kept) = rw (c.as_slice-index-items.ensures, c.block_uses-uses.ensures, c.records.ensures) (c.recall_uses_exact.ensures.blocks b c.requires) in
     let named = kept-named f b kept are u (slice_get-in kept i u (slice_get-get_or kept i c.index-item.result c.loop-index-test.true)) in
     rw (c.from_index.ensures ∙ c.user.ensures ∙ ap (λ (w : UseIndex). w.user) c.index-item.is) named
 
 pub is_aside-requires-clause-live : goal.is_aside-requires-clause-live
 is_aside-requires-clause-live g c =
-    let B = behaviour g.D.TypeKey.PartialEq.eq g.D.Dialects.first_body g.D.Dialects.unknown g.D.Dialects.op_impls_of in
+    let B = behaviour_of g.D.Dialects g.D.TypeKey.PartialEq.eq in
     let f = forest_of c.args.ctx.now in
     let b = c.args.block.index in
     let kept = c.as_slice-index-items.result.now in
     let i = c.loop-index.index-index in
     let u : UseIndex = get_or kept i c.index-item.result in
-    let are : AreUses f (the_block b) (map use_of kept) = rw (c.as_slice-index-items.ensures, c.block_uses-uses.ensures, c.records.ensures) (c.uses_are_exact.ensures.blocks b c.requires) in
+    let are : AreUses f (the_block b) (map use_of kept) = rw (c.as_slice-index-items.ensures, c.block_uses-uses.ensures, c.records.ensures) (c.recall_uses_exact.ensures.blocks b c.requires) in
     let named = kept-named f b kept are u (slice_get-in kept i u (slice_get-get_or kept i c.index-item.result c.loop-index-test.true)) in
-    rw (c.from_index.ensures ∙ c.user.ensures ∙ ap (λ (w : UseIndex). w.user) c.index-item.is) (namer-live B f (length (types_of c.args.ctx.now)) c.is_well_formed.ensures (types_of c.args.ctx.now) b u.user named)
+    rw (c.from_index.ensures ∙ c.user.ensures ∙ ap (λ (w : UseIndex). w.user) c.index-item.is) (namer-live B f (length (types_of c.args.ctx.now)) c.recall_well_formed.ensures (types_of c.args.ctx.now) b u.user named)
 
 pub returns-then-is_aside : goal.returns-then-is_aside
 returns-then-is_aside g c =
@@ -44,13 +45,13 @@ returns-then-is_aside g c =
     let kept = c.as_slice-index-items.result.now in
     let i = c.loop-index.index-index in
     let u : UseIndex = get_or kept i c.index-item.result in
-    let are : AreUses f (the_block b) (map use_of kept) = rw (c.as_slice-index-items.ensures, c.block_uses-uses.ensures, c.records.ensures) (c.uses_are_exact.ensures.blocks b c.requires) in
+    let are : AreUses f (the_block b) (map use_of kept) = rw (c.as_slice-index-items.ensures, c.block_uses-uses.ensures, c.records.ensures) (c.recall_uses_exact.ensures.blocks b c.requires) in
     let named = kept-named f b kept are u (slice_get-in kept i u (slice_get-get_or kept i c.index-item.result c.loop-index-test.true)) in
     (λ e. (c.from_index.result.index, rw (c.from_index.ensures ∙ c.user.ensures ∙ ap (λ (w : UseIndex). w.user) c.index-item.is) named, c.is_aside.ensures.0 c.if-is_aside.true), λ h. refl)
 
 pub loop-index-preserved : goal.loop-index-preserved
 loop-index-preserved g c =
-    let B = behaviour g.D.TypeKey.PartialEq.eq g.D.Dialects.first_body g.D.Dialects.unknown g.D.Dialects.op_impls_of in
+    let B = behaviour_of g.D.Dialects g.D.TypeKey.PartialEq.eq in
     let s = types_of c.args.ctx.now in
     let f = forest_of c.args.ctx.now in
     let b = c.args.block.index in
@@ -62,11 +63,11 @@ loop-index-preserved g c =
 
 pub returns : goal.returns
 returns g c =
-    let B = behaviour g.D.TypeKey.PartialEq.eq g.D.Dialects.first_body g.D.Dialects.unknown g.D.Dialects.op_impls_of in
+    let B = behaviour_of g.D.Dialects g.D.TypeKey.PartialEq.eq in
     let f = forest_of c.args.ctx.now in
     let s = types_of c.args.ctx.now in
     let b = c.args.block.index in
     let kept = c.as_slice-index-items.result.now in
-    let are : AreUses f (the_block b) (map use_of kept) = rw (c.as_slice-index-items.ensures, c.block_uses-uses.ensures, c.records.ensures) (c.uses_are_exact.ensures.blocks b c.requires) in
+    let are : AreUses f (the_block b) (map use_of kept) = rw (c.as_slice-index-items.ensures, c.block_uses-uses.ensures, c.records.ensures) (c.recall_uses_exact.ensures.blocks b c.requires) in
     let all = before-all (λ u. IsAside B f s u.user b → ⊥) kept c.loop-index.index-index c.loop-index.invariant c.loop-index-test.false in
     (λ e. absurd cc, λ h. (let u = named-kept f b kept are h.0 h.1 in absurd (all u.0 u.1 (subst (λ o. IsAside B f s o b) (sym u.2) h.2))))

@@ -1,10 +1,11 @@
 use Rattle.std.proofs.Common.{◌≡◌, ◌∙◌, Err, ap, refl, rules, sym}
 use Rattle.std.proofs.lemmas.Bool.{false≢true}
 use Rattle.ir_model.specs.Faults.{NoParent, MissingTerminator, EntryHasPred}
-use Rattle.ir_view_parts.specs.State.{behaviour, forest_of, types_of}
+use Rattle.ir_view_parts.specs.State.{forest_of, types_of}
 use Rattle.ir_verify_checks.proofs.Blocks.{has-name}
 use Rattle.ir_verify_checks.proofs.Ends.{no-block_fault}
 use Rattle.ir_verify_checks.proofs.block_faults.verify_block.Goals as goal
+use Rattle.ir_core_records.specs.DialectAnswers.{behaviour_of}
 
 pub returns-in_err-name : goal.returns-in_err-name
 returns-in_err-name g c =
@@ -27,7 +28,7 @@ returns-in_err-name-3 g c =
 
 pub returns : goal.returns
 returns g c =
-    let B = behaviour g.D.TypeKey.PartialEq.eq g.D.Dialects.first_body g.D.Dialects.unknown g.D.Dialects.op_impls_of in
+    let B = behaviour_of g.D.Dialects g.D.TypeKey.PartialEq.eq in
     no-block_fault B (forest_of c.args.ctx.now) (types_of c.args.ctx.now) c.args.block.index
     (c.is_linked.ensures.0 c.if-not-is_linked.false)
     (λ l. absurd (false≢true (sym c.if-lacks_terminator.false ∙ c.lacks_terminator.ensures.1 l)))

@@ -2,13 +2,13 @@ use Rattle.std.proofs.Common.{◌≡◌, ◌∙◌, Err, ap, arith, get_or, rule
 use Rattle.std.proofs.lemmas.Option.{slice_get-get_or}
 use Rattle.ir_model.specs.Nesting.{In}
 use Rattle.ir_model.proofs.Back.{slice_get-in}
-use Rattle.ir_view_parts.specs.State.{behaviour, forest_of, types_of}
-use Rattle.ir_view_parts.specs.Dominance.{kinds}
+use Rattle.ir_view_parts.specs.State.{forest_of, types_of}
 use Rattle.ir_verify_checks.specs.Shown.{shown}
 use Rattle.ir_verify_checks.specs.Told.{MayPass, of_check}
 use Rattle.ir_verify_checks.proofs.Passed.{attr-clean, attr-listed, attr-itself}
 use Rattle.ir_verify_checks.proofs.Loops.{before-all, before-more}
 use Rattle.ir_verify_checks.proofs.checks.check_attribute.Goals as goal
+use Rattle.ir_core_records.specs.DialectAnswers.{behaviour_of, kinds_of}
 
 pub loop-number-init : goal.loop-number-init
 loop-number-init g c = λ k below. absurd (omega arith)
@@ -16,8 +16,8 @@ loop-number-init g c = λ k below. absurd (omega arith)
 pub returns-in_err-check_attr_interface : goal.returns-in_err-check_attr_interface
 returns-in_err-check_attr_interface g c =
     let is : c.from_residual.result ≡ Err (of_check c.in_err-check_attr_interface.field-0.0) = search rules in
-    let B = behaviour g.D.TypeKey.PartialEq.eq g.D.Dialects.first_body g.D.Dialects.unknown g.D.Dialects.op_impls_of in
-    let K = kinds g.D.Dialects.attr_kind_of g.D.Dialects.type_kind_of g.D.Dialects.type_impls_of g.D.Dialects.saved_kind_of g.D.Saved.PartialEq.eq g.D.Dialects.region_ssa_dominance_of in
+    let B = behaviour_of g.D.Dialects g.D.TypeKey.PartialEq.eq in
+    let K = kinds_of g.D.Dialects g.D.Saved.PartialEq.eq in
     let v = g.V.Verifiers.handed_in c.args.verifiers.now in
     let s = c.args.ctx.now in
     let xs = c.attr_verifiers-number-items.result.now in
@@ -36,16 +36,16 @@ loop-number-preserved g c =
 pub returns-in_err-check_attr : goal.returns-in_err-check_attr
 returns-in_err-check_attr g c =
     let is : c.from_residual-in_err-check_attr.result ≡ Err (of_check c.in_err-check_attr.field-0.0) = search rules in
-    let B = behaviour g.D.TypeKey.PartialEq.eq g.D.Dialects.first_body g.D.Dialects.unknown g.D.Dialects.op_impls_of in
-    let K = kinds g.D.Dialects.attr_kind_of g.D.Dialects.type_kind_of g.D.Dialects.type_impls_of g.D.Dialects.saved_kind_of g.D.Saved.PartialEq.eq g.D.Dialects.region_ssa_dominance_of in
+    let B = behaviour_of g.D.Dialects g.D.TypeKey.PartialEq.eq in
+    let K = kinds_of g.D.Dialects g.D.Saved.PartialEq.eq in
     let v = g.V.Verifiers.handed_in c.args.verifiers.now in
     let s = c.args.ctx.now in
     rw is (attr-itself B (forest_of s) (types_of s) K v (shown s) c.args.attr.now c.in_err-check_attr.field-0.0 c.in_err-check_attr.ensures.fail)
 
 pub returns : goal.returns
 returns g c =
-    let B = behaviour g.D.TypeKey.PartialEq.eq g.D.Dialects.first_body g.D.Dialects.unknown g.D.Dialects.op_impls_of in
-    let K = kinds g.D.Dialects.attr_kind_of g.D.Dialects.type_kind_of g.D.Dialects.type_impls_of g.D.Dialects.saved_kind_of g.D.Saved.PartialEq.eq g.D.Dialects.region_ssa_dominance_of in
+    let B = behaviour_of g.D.Dialects g.D.TypeKey.PartialEq.eq in
+    let K = kinds_of g.D.Dialects g.D.Saved.PartialEq.eq in
     let v = g.V.Verifiers.handed_in c.args.verifiers.now in
     let s = c.args.ctx.now in
     let xs = c.attr_verifiers-number-items.result.now in

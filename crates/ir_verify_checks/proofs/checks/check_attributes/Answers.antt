@@ -2,12 +2,12 @@ use Rattle.std.proofs.Common.{◌≡◌, ◌∙◌, Err, Ok, refl, sym, subst, r
 use Rattle.ir_model.specs.Faults.{Fault, IsRun, the_attribute}
 use Rattle.ir_model.specs.Forest.{Text}
 use Rattle.ir_model.specs.Nesting.{In}
-use Rattle.ir_view_parts.specs.State.{behaviour, forest_of, types_of}
-use Rattle.ir_view_parts.specs.Dominance.{kinds}
+use Rattle.ir_view_parts.specs.State.{forest_of, types_of}
 use Rattle.ir_verify_checks.specs.Shown.{checks_in}
 use Rattle.ir_verify_checks.specs.Parts.{IsThere, NoFault}
 use Rattle.ir_verify_checks.proofs.Handles.{attribute-finds, none-of, some-err}
 use Rattle.ir_verify_checks.proofs.checks.check_attributes.Goals as goal
+use Rattle.ir_core_records.specs.DialectAnswers.{behaviour_of, kinds_of}
 
 pub loop-attr-init : goal.loop-attr-init
 loop-attr-init g c =
@@ -16,8 +16,8 @@ loop-attr-init g c =
 
 pub loop-attr-preserved : goal.loop-attr-preserved
 loop-attr-preserved g c =
-    let B = behaviour g.D.TypeKey.PartialEq.eq g.D.Dialects.first_body g.D.Dialects.unknown g.D.Dialects.op_impls_of in
-    let K = kinds g.D.Dialects.attr_kind_of g.D.Dialects.type_kind_of g.D.Dialects.type_impls_of g.D.Dialects.saved_kind_of g.D.Saved.PartialEq.eq g.D.Dialects.region_ssa_dominance_of in
+    let B = behaviour_of g.D.Dialects g.D.TypeKey.PartialEq.eq in
+    let K = kinds_of g.D.Dialects g.D.Saved.PartialEq.eq in
     let s = c.args.ctx.now in
     let ks = checks_in K (g.V.Verifiers.handed_in c.args.verifiers.now) s in
     let found = attribute-finds B (forest_of s) (types_of s) ks c.in-Some.attr.now (Ok tt) c.in_ok-check_attribute.ensures in (
@@ -34,8 +34,8 @@ loop-attr-preserved g c =
 pub returns-in_err-check_attribute : goal.returns-in_err-check_attribute
 returns-in_err-check_attribute g c =
     let is : c.from_residual.result ≡ Err c.in_err-check_attribute.field-0.0 = search rules in
-    let B = behaviour g.D.TypeKey.PartialEq.eq g.D.Dialects.first_body g.D.Dialects.unknown g.D.Dialects.op_impls_of in
-    let K = kinds g.D.Dialects.attr_kind_of g.D.Dialects.type_kind_of g.D.Dialects.type_impls_of g.D.Dialects.saved_kind_of g.D.Saved.PartialEq.eq g.D.Dialects.region_ssa_dominance_of in
+    let B = behaviour_of g.D.Dialects g.D.TypeKey.PartialEq.eq in
+    let K = kinds_of g.D.Dialects g.D.Saved.PartialEq.eq in
     let s = c.args.ctx.now in
     let ks = checks_in K (g.V.Verifiers.handed_in c.args.verifiers.now) s in
     let p : Text × g.row.D-Attr.Denot = (c.in-Some.field-0-0.now, c.in-Some.attr.now) in
@@ -45,8 +45,8 @@ returns-in_err-check_attribute g c =
 
 pub returns : goal.returns
 returns g c =
-    let B = behaviour g.D.TypeKey.PartialEq.eq g.D.Dialects.first_body g.D.Dialects.unknown g.D.Dialects.op_impls_of in
-    let K = kinds g.D.Dialects.attr_kind_of g.D.Dialects.type_kind_of g.D.Dialects.type_impls_of g.D.Dialects.saved_kind_of g.D.Saved.PartialEq.eq g.D.Dialects.region_ssa_dominance_of in
+    let B = behaviour_of g.D.Dialects g.D.TypeKey.PartialEq.eq in
+    let K = kinds_of g.D.Dialects g.D.Saved.PartialEq.eq in
     let s = c.args.ctx.now in
     let ks = checks_in K (g.V.Verifiers.handed_in c.args.verifiers.now) s in
     none-of B (forest_of s) (types_of s) ks c.args.attributes.now (λ q. IsRun B (forest_of s) (types_of s) ks (the_attribute q.1))

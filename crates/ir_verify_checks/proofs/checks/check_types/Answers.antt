@@ -6,13 +6,13 @@ use Rattle.ir_model.proofs.Back.{slice_get-in}
 use Rattle.ir_model.proofs.Nests.{In-map, In-map_back}
 use Rattle.ir_core_records.specs.declared.record.Definition.{Definition}
 use Rattle.ir_core_records.specs.Meaning.{definition_of}
-use Rattle.ir_view_parts.specs.State.{behaviour, forest_of, types_of}
-use Rattle.ir_view_parts.specs.Dominance.{kinds}
+use Rattle.ir_view_parts.specs.State.{forest_of, types_of}
 use Rattle.ir_verify_checks.specs.Parts.{IsThere, NoFault, RunsOnHandle}
 use Rattle.ir_verify_checks.specs.Shown.{checks_in}
 use Rattle.ir_verify_checks.proofs.Handles.{handle-finds, none-of, some-err}
 use Rattle.ir_verify_checks.proofs.Loops.{before-all, before-more}
 use Rattle.ir_verify_checks.proofs.checks.check_types.Goals as goal
+use Rattle.ir_core_records.specs.DialectAnswers.{behaviour_of, kinds_of}
 
 pub deref-requires : goal.deref-requires
 deref-requires g c =
@@ -24,8 +24,8 @@ deref-requires g c =
 pub returns-in_err-check_type : goal.returns-in_err-check_type
 returns-in_err-check_type g c =
     let is : c.from_residual.result ≡ Err c.in_err-check_type.field-0.0 = search rules in
-    let B = behaviour g.D.TypeKey.PartialEq.eq g.D.Dialects.first_body g.D.Dialects.unknown g.D.Dialects.op_impls_of in
-    let K = kinds g.D.Dialects.attr_kind_of g.D.Dialects.type_kind_of g.D.Dialects.type_impls_of g.D.Dialects.saved_kind_of g.D.Saved.PartialEq.eq g.D.Dialects.region_ssa_dominance_of in
+    let B = behaviour_of g.D.Dialects g.D.TypeKey.PartialEq.eq in
+    let K = kinds_of g.D.Dialects g.D.Saved.PartialEq.eq in
     let s = c.args.ctx.now in
     let ks = checks_in K (g.V.Verifiers.handed_in c.args.verifiers.now) s in
     let xs = c.args.definitions.now in
@@ -38,8 +38,8 @@ returns-in_err-check_type g c =
 
 pub loop-definition-preserved : goal.loop-definition-preserved
 loop-definition-preserved g c =
-    let B = behaviour g.D.TypeKey.PartialEq.eq g.D.Dialects.first_body g.D.Dialects.unknown g.D.Dialects.op_impls_of in
-    let K = kinds g.D.Dialects.attr_kind_of g.D.Dialects.type_kind_of g.D.Dialects.type_impls_of g.D.Dialects.saved_kind_of g.D.Saved.PartialEq.eq g.D.Dialects.region_ssa_dominance_of in
+    let B = behaviour_of g.D.Dialects g.D.TypeKey.PartialEq.eq in
+    let K = kinds_of g.D.Dialects g.D.Saved.PartialEq.eq in
     let s = c.args.ctx.now in
     let ks = checks_in K (g.V.Verifiers.handed_in c.args.verifiers.now) s in
     let xs = c.args.definitions.now in
@@ -51,8 +51,8 @@ loop-definition-preserved g c =
 
 pub returns : goal.returns
 returns g c =
-    let B = behaviour g.D.TypeKey.PartialEq.eq g.D.Dialects.first_body g.D.Dialects.unknown g.D.Dialects.op_impls_of in
-    let K = kinds g.D.Dialects.attr_kind_of g.D.Dialects.type_kind_of g.D.Dialects.type_impls_of g.D.Dialects.saved_kind_of g.D.Saved.PartialEq.eq g.D.Dialects.region_ssa_dominance_of in
+    let B = behaviour_of g.D.Dialects g.D.TypeKey.PartialEq.eq in
+    let K = kinds_of g.D.Dialects g.D.Saved.PartialEq.eq in
     let s = c.args.ctx.now in
     let ks = checks_in K (g.V.Verifiers.handed_in c.args.verifiers.now) s in
     let xs = c.args.definitions.now in

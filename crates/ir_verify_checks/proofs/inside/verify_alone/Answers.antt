@@ -2,16 +2,16 @@ use Rattle.std.proofs.Common.{◌≡◌, ◌∙◌, ap, subst, sym}
 use Rattle.ir_model.specs.ContextIds.{context_ids}
 use Rattle.ir_model.specs.Forest.{Entity, an_op, a_block}
 use Rattle.ir_core_records.specs.Meaning.{entity_of}
-use Rattle.ir_view_parts.specs.State.{behaviour, forest_of, types_of}
-use Rattle.ir_view_parts.specs.Dominance.{kinds}
+use Rattle.ir_view_parts.specs.State.{forest_of, types_of}
 use Rattle.ir_verify_checks.specs.Shown.{checks_in}
 use Rattle.ir_verify_checks.specs.Parts.{FaultAt, Finds, RunAt}
 use Rattle.ir_verify_checks.proofs.inside.verify_alone.Goals as goal
+use Rattle.ir_core_records.specs.DialectAnswers.{behaviour_of, kinds_of}
 
 pub returns-in-Op : goal.returns-in-Op
 returns-in-Op g c =
-    let B = behaviour g.D.TypeKey.PartialEq.eq g.D.Dialects.first_body g.D.Dialects.unknown g.D.Dialects.op_impls_of in
-    let K = kinds g.D.Dialects.attr_kind_of g.D.Dialects.type_kind_of g.D.Dialects.type_impls_of g.D.Dialects.saved_kind_of g.D.Saved.PartialEq.eq g.D.Dialects.region_ssa_dominance_of in
+    let B = behaviour_of g.D.Dialects g.D.TypeKey.PartialEq.eq in
+    let K = kinds_of g.D.Dialects g.D.Saved.PartialEq.eq in
     let s = c.args.ctx.now in
     let ks = checks_in K (g.V.Verifiers.handed_in c.args.verifiers.now) s in
     let here : ◌≡◌ {A = Entity context_ids} (an_op c.from_index-op.result.index) (entity_of c.args.entity) = ap an_op c.from_index-op.ensures ∙ ap entity_of (sym c.in-Op.is) in
@@ -19,8 +19,8 @@ returns-in-Op g c =
 
 pub returns-in-Block : goal.returns-in-Block
 returns-in-Block g c =
-    let B = behaviour g.D.TypeKey.PartialEq.eq g.D.Dialects.first_body g.D.Dialects.unknown g.D.Dialects.op_impls_of in
-    let K = kinds g.D.Dialects.attr_kind_of g.D.Dialects.type_kind_of g.D.Dialects.type_impls_of g.D.Dialects.saved_kind_of g.D.Saved.PartialEq.eq g.D.Dialects.region_ssa_dominance_of in
+    let B = behaviour_of g.D.Dialects g.D.TypeKey.PartialEq.eq in
+    let K = kinds_of g.D.Dialects g.D.Saved.PartialEq.eq in
     let s = c.args.ctx.now in
     let ks = checks_in K (g.V.Verifiers.handed_in c.args.verifiers.now) s in
     let here : ◌≡◌ {A = Entity context_ids} (a_block c.from_index-block.result.index) (entity_of c.args.entity) = ap a_block c.from_index-block.ensures ∙ ap entity_of (sym c.in-Block.is) in

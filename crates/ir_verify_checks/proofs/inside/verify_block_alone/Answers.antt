@@ -6,20 +6,20 @@ use Rattle.ir_core_records.specs.declared.record.Definer.TheVariants.{Block}
 use Rattle.ir_core_records.specs.Lists.{in_record}
 use Rattle.ir_core_records.specs.Meaning.{block_record, definition_of}
 use Rattle.ir_core_records.specs.Tree.{ops_in, tree_of}
-use Rattle.ir_view_parts.specs.State.{behaviour, forest_of, types_of}
-use Rattle.ir_view_parts.specs.Dominance.{kinds}
+use Rattle.ir_view_parts.specs.State.{forest_of, types_of}
 use Rattle.ir_verify_checks.specs.Shown.{checks_in}
 use Rattle.ir_verify_checks.specs.Parts.{BlockFault, IsThere, NoCheck, NoFault, RunAt, RunsOnAttributes, RunsOnOp, RunsOnTypes}
 use Rattle.ir_verify_checks.proofs.Alone.{and-last, and-passed, definitions-are, put-as, types-known}
 use Rattle.ir_verify_checks.proofs.Ends.{block-no_code}
 use Rattle.ir_verify_checks.proofs.Pieces.{from-tells, tells-whole}
 use Rattle.ir_verify_checks.proofs.inside.verify_block_alone.Goals as goal
+use Rattle.ir_core_records.specs.DialectAnswers.{behaviour_of, kinds_of}
 
 pub returns-in_err-check_attributes : goal.returns-in_err-check_attributes
 returns-in_err-check_attributes g c =
     let is : c.from_residual-in_err-check_attributes.result ≡ Err c.in_err-check_attributes.field-0.0 = search rules in
-    let B = behaviour g.D.TypeKey.PartialEq.eq g.D.Dialects.first_body g.D.Dialects.unknown g.D.Dialects.op_impls_of in
-    let K = kinds g.D.Dialects.attr_kind_of g.D.Dialects.type_kind_of g.D.Dialects.type_impls_of g.D.Dialects.saved_kind_of g.D.Saved.PartialEq.eq g.D.Dialects.region_ssa_dominance_of in
+    let B = behaviour_of g.D.Dialects g.D.TypeKey.PartialEq.eq in
+    let K = kinds_of g.D.Dialects g.D.Saved.PartialEq.eq in
     let s = c.args.ctx.now in
     let ks = checks_in K (g.V.Verifiers.handed_in c.args.verifiers.now) s in
     let b = c.args.block.index in
@@ -33,12 +33,12 @@ pub check_types-requires : goal.check_types-requires
 check_types-requires g c =
     let t = c.args.ctx.now.records in
     let same = ap (in_record (λ x. x.arguments) []) (rw c.records.ensures at c.at-record.ensures) ∙ sym c.as_slice.ensures in
-    types-known t (Block c.args.block.index) c.as_slice.result.now same _ c.is_well_formed.ensures
+    types-known t (Block c.args.block.index) c.as_slice.result.now same _ c.recall_well_formed.ensures
 
 pub returns : goal.returns
 returns g c =
-    let B = behaviour g.D.TypeKey.PartialEq.eq g.D.Dialects.first_body g.D.Dialects.unknown g.D.Dialects.op_impls_of in
-    let K = kinds g.D.Dialects.attr_kind_of g.D.Dialects.type_kind_of g.D.Dialects.type_impls_of g.D.Dialects.saved_kind_of g.D.Saved.PartialEq.eq g.D.Dialects.region_ssa_dominance_of in
+    let B = behaviour_of g.D.Dialects g.D.TypeKey.PartialEq.eq in
+    let K = kinds_of g.D.Dialects g.D.Saved.PartialEq.eq in
     let s = c.args.ctx.now in
     let ks = checks_in K (g.V.Verifiers.handed_in c.args.verifiers.now) s in
     let b = c.args.block.index in

@@ -1,8 +1,9 @@
 use Rattle.std.proofs.Common.{sym, ap, length, ◌∙◌, arith}
-use Rattle.ir_core_context.specs.State.{behaviour, types_of}
+use Rattle.ir_core_context.specs.State.{types_of}
 use Rattle.ir_model.proofs.GrowsNew.{WellFormed-more, stored_within}
 use Rattle.ir_core_context.proofs.StoredTypes.{new-place, on-err, places, stores, stores-longer}
 use Rattle.ir_core_context.proofs.context.Context.instantiate_key.Goals as goal
+use Rattle.ir_core_records.specs.DialectAnswers.{behaviour_of}
 
 pub invariant_of-self-2 : goal.invariant_of-self-2
 invariant_of-self-2 g c =
@@ -39,7 +40,7 @@ returns-clause-types g c =
 
 pub returns-clause-known : goal.returns-clause-known
 returns-clause-known g c =
-    let within = stored_within (behaviour {A = g.row.D-Attr.Denot} {S = g.row.D-Saved.Denot} {X = g.row.D-Aux.Denot} g.D.TypeKey.PartialEq.eq g.D.Dialects.first_body g.D.Dialects.unknown g.D.Dialects.op_impls_of) (types_of c.args.self.now) c.args.key in
+    let within = stored_within (behaviour_of g.D.Dialects g.D.TypeKey.PartialEq.eq) (types_of c.args.self.now) c.args.key in
     omega (arith, within.1, returns-clause-place g c, ap length (returns-clause-types g c))
 
 pub returns-in_err-place-clause-only_new : goal.returns-in_err-place-clause-only_new

@@ -15,14 +15,14 @@ returns-in_err-covers-clause-counter g c =
     let s = bare c.args.ctx.now in
     let told : TellsLacks s region_needs c.covers.result = tells-of s c.covers.result (ap (λ (k : Counts). record k { regions = 1 }) c.none.ensures) c.covers.ensures.counter c.covers.ensures.slots in
     let here = tells-refused s region_needs c.covers.result c.from_residual.result c.in_err-covers.field-0.0 told c.in_err-covers.was c.from_residual.ensures.1 in
-    λ e. lacks-no-numbers c.args.ctx.now c.keeps_to_limits.ensures.values c.keeps_to_limits.ensures.uses (here.counter.0 e)
+    λ e. lacks-no-numbers c.args.ctx.now c.recall_keeps_to_limits.ensures.values c.recall_keeps_to_limits.ensures.uses (here.counter.0 e)
 
 pub returns-in_err-covers-clause-slots : goal.returns-in_err-covers-clause-slots
 returns-in_err-covers-clause-slots g c =
     let s = bare c.args.ctx.now in
     let told : TellsLacks s region_needs c.covers.result = tells-of s c.covers.result (ap (λ (k : Counts). record k { regions = 1 }) c.none.ensures) c.covers.ensures.counter c.covers.ensures.slots in
     let here = tells-refused s region_needs c.covers.result c.from_residual.result c.in_err-covers.field-0.0 told c.in_err-covers.was c.from_residual.ensures.1 in
-    tells-slots s region_needs c.from_residual.result here (has-no-numbers c.args.ctx.now c.keeps_to_limits.ensures.values c.keeps_to_limits.ensures.uses)
+    tells-slots s region_needs c.from_residual.result here (has-no-numbers c.args.ctx.now c.recall_keeps_to_limits.ensures.values c.recall_keeps_to_limits.ensures.uses)
 
 pub returns-in_err-covers-clause-refused : goal.returns-in_err-covers-clause-refused
 returns-in_err-covers-clause-refused g c = err_holds c.from_residual.result (skips-nothing (bare c.args.ctx.now) region_needs)
@@ -35,7 +35,7 @@ returns-in_err-create_region-clause-slots g c =
     let s = bare c.args.ctx.now in
     let told : TellsLacks s region_needs c.covers.result = tells-of s c.covers.result (ap (λ (k : Counts). record k { regions = 1 }) c.none.ensures) c.covers.ensures.counter c.covers.ensures.slots in
     let here = tells-memory s region_needs c.covers.result c.from_residual-in_err-create_region.result c.in_ok-covers.field-0 told c.in_ok-covers.was c.from_residual-in_err-create_region.ensures.1 in
-    tells-slots s region_needs c.from_residual-in_err-create_region.result here (has-no-numbers c.args.ctx.now c.keeps_to_limits.ensures.values c.keeps_to_limits.ensures.uses)
+    tells-slots s region_needs c.from_residual-in_err-create_region.result here (has-no-numbers c.args.ctx.now c.recall_keeps_to_limits.ensures.values c.recall_keeps_to_limits.ensures.uses)
 
 pub returns-clause-live : goal.returns-clause-live
 returns-clause-live g c =
@@ -50,4 +50,4 @@ pub returns-clause-slots : goal.returns-clause-slots
 returns-clause-slots g c =
     let s = bare c.args.ctx.now in
     let told : TellsLacks s region_needs c.covers.result = tells-of s c.covers.result (ap (λ (k : Counts). record k { regions = 1 }) c.none.ensures) c.covers.ensures.counter c.covers.ensures.slots in
-    tells-slots s region_needs _ (tells-done s region_needs c.covers.result c.in_ok-covers.field-0 c.from_index.result told c.in_ok-covers.was) (has-no-numbers c.args.ctx.now c.keeps_to_limits.ensures.values c.keeps_to_limits.ensures.uses)
+    tells-slots s region_needs _ (tells-done s region_needs c.covers.result c.in_ok-covers.field-0 c.from_index.result told c.in_ok-covers.was) (has-no-numbers c.args.ctx.now c.recall_keeps_to_limits.ensures.values c.recall_keeps_to_limits.ensures.uses)

@@ -7,4 +7,4 @@ use Rattle.ir_core_context.proofs.operation.PtrOperationOperationPtr.try_deref.G
 pub returns-clause-leads : goal.returns-clause-leads
 returns-clause-leads g c =
     let found : IfOk c.ok_or.result (λ op. IsOperation (forest_of c.args.ctx.now) c.args.self.index op.now) = search rules in
-    leads-found (forest_of c.args.ctx.now) (length (types_of c.args.ctx.now)) c.args.self.index (λ op. op.now) c.ok_or.result c.is_well_formed.ensures found
+    leads-found (forest_of c.args.ctx.now) (length (types_of c.args.ctx.now)) c.args.self.index (λ op. op.now) c.ok_or.result c.recall_well_formed.ensures found

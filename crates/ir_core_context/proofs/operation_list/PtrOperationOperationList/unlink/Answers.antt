@@ -1,8 +1,8 @@
 use Rattle.std.proofs.Common.{sym}
-use Rattle.ir_core_context.specs.State.{behaviour}
 use Rattle.ir_core_context.proofs.Edited.{op-out-edited}
 use Rattle.ir_core_context.proofs.GoingBack.{op-unlinked-goes-back, op-unlinked-may-go-back}
 use Rattle.ir_core_context.proofs.operation_list.PtrOperationOperationList.unlink.Goals as goal
+use Rattle.ir_core_records.specs.DialectAnswers.{behaviour_of}
 
 pub invariant_of-ctx : goal.invariant_of-ctx
 invariant_of-ctx g c =
@@ -25,7 +25,7 @@ returns-clause-stay_live g c =
 pub returns-clause-may_go_back : goal.returns-clause-may_go_back
 returns-clause-may_go_back g c =
     let linked = rw (sym c.ctx.view_is) at c.requires.linked in
-    rw (sym c.ctx.view_is) (op-unlinked-may-go-back (behaviour g.D.TypeKey.PartialEq.eq g.D.Dialects.first_body g.D.Dialects.unknown g.D.Dialects.op_impls_of) c.ctx.invariant c.unlink.new.records c.args.self.index linked c.unlink.ensures.forest)
+    rw (sym c.ctx.view_is) (op-unlinked-may-go-back (behaviour_of g.D.Dialects g.D.TypeKey.PartialEq.eq) c.ctx.invariant c.unlink.new.records c.args.self.index linked c.unlink.ensures.forest)
 
 pub returns-clause-goes_back : goal.returns-clause-goes_back
-returns-clause-goes_back g c = rw (sym c.ctx.view_is) (op-unlinked-goes-back (behaviour g.D.TypeKey.PartialEq.eq g.D.Dialects.first_body g.D.Dialects.unknown g.D.Dialects.op_impls_of) c.ctx.invariant c.unlink.new.records c.args.self.index c.unlink.ensures.forest)
+returns-clause-goes_back g c = rw (sym c.ctx.view_is) (op-unlinked-goes-back (behaviour_of g.D.Dialects g.D.TypeKey.PartialEq.eq) c.ctx.invariant c.unlink.new.records c.args.self.index c.unlink.ensures.forest)

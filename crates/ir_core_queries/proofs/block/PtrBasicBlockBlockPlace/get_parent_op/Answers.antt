@@ -9,4 +9,4 @@ returns-clause-above g c =
     let f = forest_of c.args.ctx.now in
     let region = a_region c.in_ok-region.region.index in
     let op = an_op c.get_parent_op.result.index in
-    above-parent f c.is_well_formed.ensures.nested 1 (a_block c.args.self.index) region (Some op) c.in_ok-region.ensures.parent (above-one f region (Some op) c.get_parent_op.ensures.parent)
+    above-parent f c.recall_well_formed.ensures.nested 1 (a_block c.args.self.index) region (Some op) c.in_ok-region.ensures.parent (above-one f region (Some op) c.get_parent_op.ensures.parent)

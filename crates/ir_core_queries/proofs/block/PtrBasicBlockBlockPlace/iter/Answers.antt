@@ -9,11 +9,11 @@ use Rattle.ir_core_queries.proofs.block.PtrBasicBlockBlockPlace.iter.Goals as go
 
 pub returns-clause-items : goal.returns-clause-items
 returns-clause-items g c =
-    let nested = c.holds_together.ensures.nested in
+    let nested = c.recall_holds_together.ensures.nested in
     (rw c.records-records.ensures at c.iter.ensures) (ops_in (tree_of c.args.ctx.now.records)) nested.op_lists ∙ sym (ops-meant c.args.ctx.now.records nested c.args.self.index)
 
 pub returns-clause-live : goal.returns-clause-live
 returns-clause-live g c =
     let f = forest_of c.args.ctx.now in
     let listed = ops_of f c.args.self.index in
-    subst (All (λ x. IsLive f (an_op x))) (sym (returns-clause-items g c)) (all-of (λ x. IsLive f (an_op x)) listed (each-live f c.is_well_formed.ensures.nested an_op (a_block c.args.self.index) listed refl))
+    subst (All (λ x. IsLive f (an_op x))) (sym (returns-clause-items g c)) (all-of (λ x. IsLive f (an_op x)) listed (each-live f c.recall_well_formed.ensures.nested an_op (a_block c.args.self.index) listed refl))

@@ -6,5 +6,5 @@ use Rattle.ir_core_queries.proofs.block_uses.PtrBasicBlockBlockUses.has_pred.Goa
 pub returns : goal.returns
 returns g c =
     used-iff (forest_of c.args.ctx.now) (the_block c.args.self.index) c.block_uses.result.now c.is_empty.result
-    (rw (c.block_uses.ensures, c.records.ensures) (c.uses_are_exact.ensures.blocks c.args.self.index c.requires))
+    (rw (c.block_uses.ensures, c.records.ensures) (c.recall_uses_exact.ensures.blocks c.args.self.index c.requires))
     c.is_empty.ensures

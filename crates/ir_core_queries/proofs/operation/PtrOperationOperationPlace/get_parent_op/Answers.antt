@@ -14,5 +14,5 @@ returns-in_err-get_parent_block-clause-above g c =
 pub returns-clause-above : goal.returns-clause-above
 returns-clause-above g c =
     let f = forest_of c.args.ctx.now in
-    above-parent f c.is_well_formed.ensures.nested 2 (an_op c.args.self.index) (a_block c.in_ok-get_parent_block.field-0.index) (option_map (λ p. an_op p.index) c.get_parent_op.result) c.in_ok-get_parent_block.ensures.parent
+    above-parent f c.recall_well_formed.ensures.nested 2 (an_op c.args.self.index) (a_block c.in_ok-get_parent_block.field-0.index) (option_map (λ p. an_op p.index) c.get_parent_op.result) c.in_ok-get_parent_block.ensures.parent
     c.get_parent_op.ensures.above

@@ -7,5 +7,5 @@ use Rattle.ir_core_queries.proofs.operation.PtrOperationOperationPlace.get_paren
 pub returns-clause-above : goal.returns-clause-above
 returns-clause-above g c =
     let f = forest_of c.args.ctx.now in
-    above-parent f c.is_well_formed.ensures.nested 1 (an_op c.args.self.index) (a_block c.in_ok-get_parent_block.field-0.index) (option_map (λ p. a_region p.index) c.get_parent_region.result) c.in_ok-get_parent_block.ensures.parent
+    above-parent f c.recall_well_formed.ensures.nested 1 (an_op c.args.self.index) (a_block c.in_ok-get_parent_block.field-0.index) (option_map (λ p. a_region p.index) c.get_parent_region.result) c.in_ok-get_parent_block.ensures.parent
     (above-one f (a_block c.in_ok-get_parent_block.field-0.index) (option_map (λ p. a_region p.index) c.get_parent_region.result) c.get_parent_region.ensures.parent)

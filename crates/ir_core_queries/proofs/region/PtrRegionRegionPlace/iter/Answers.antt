@@ -9,11 +9,11 @@ use Rattle.ir_core_queries.proofs.region.PtrRegionRegionPlace.iter.Goals as goal
 
 pub returns-clause-items : goal.returns-clause-items
 returns-clause-items g c =
-    let nested = c.holds_together.ensures.nested in
+    let nested = c.recall_holds_together.ensures.nested in
     (rw c.records-records.ensures at c.iter.ensures) (blocks_in (tree_of c.args.ctx.now.records)) nested.block_lists ∙ sym (blocks-meant c.args.ctx.now.records nested c.args.self.index)
 
 pub returns-clause-live : goal.returns-clause-live
 returns-clause-live g c =
     let f = forest_of c.args.ctx.now in
     let listed = blocks_of f c.args.self.index in
-    subst (All (λ x. IsLive f (a_block x))) (sym (returns-clause-items g c)) (all-of (λ x. IsLive f (a_block x)) listed (each-live f c.is_well_formed.ensures.nested a_block (a_region c.args.self.index) listed refl))
+    subst (All (λ x. IsLive f (a_block x))) (sym (returns-clause-items g c)) (all-of (λ x. IsLive f (a_block x)) listed (each-live f c.recall_well_formed.ensures.nested a_block (a_region c.args.self.index) listed refl))

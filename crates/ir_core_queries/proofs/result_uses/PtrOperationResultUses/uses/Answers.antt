@@ -11,7 +11,7 @@ returns-clause-kept g c =
     let at = rw c.records.ensures at c.at.ensures in
     c.of_results.ensures
     ∙ ap (λ (rs : List Definition). map use_of (flat_map (λ (r : Definition). r.uses) rs)) c.as_slice.ensures
-    ∙ uses-here c.args.ctx.now (length (types_of c.args.ctx.now)) c.is_well_formed.ensures c.holds_together.ensures.linked c.uses_are_exact.ensures.values c.args.self.index c.at.result.now at
+    ∙ uses-here c.args.ctx.now (length (types_of c.args.ctx.now)) c.recall_well_formed.ensures c.recall_holds_together.ensures.linked c.recall_uses_exact.ensures.values c.args.self.index c.at.result.now at
 
 pub returns-clause-exact : goal.returns-clause-exact
-returns-clause-exact g c = uses_of_results-exact c.args.ctx.now (length (types_of c.args.ctx.now)) c.is_well_formed.ensures c.holds_together.ensures.linked c.uses_are_exact.ensures.values c.args.self.index
+returns-clause-exact g c = uses_of_results-exact c.args.ctx.now (length (types_of c.args.ctx.now)) c.recall_well_formed.ensures c.recall_holds_together.ensures.linked c.recall_uses_exact.ensures.values c.args.self.index

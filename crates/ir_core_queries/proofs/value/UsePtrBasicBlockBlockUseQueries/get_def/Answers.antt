@@ -13,4 +13,4 @@ returns-clause-found g c =
     (successor-names c.args.ctx.now.records c.args.self.index c.at-user.result.now (sym user ∙ ap (get c.args.ctx.now.records.ops) c.from_index.ensures) c.find_index-index.result c.at.result.now c.find_index-index.ensures c.at.ensures)
 
 pub returns-clause-live : goal.returns-clause-live
-returns-clause-live g c = block-use-live (forest_of c.args.ctx.now) (length (types_of c.args.ctx.now)) c.from_index-2.result.index (use_of c.args.self.index) c.is_well_formed.ensures (returns-clause-found g c)
+returns-clause-live g c = block-use-live (forest_of c.args.ctx.now) (length (types_of c.args.ctx.now)) c.from_index-2.result.index (use_of c.args.self.index) c.recall_well_formed.ensures (returns-clause-found g c)

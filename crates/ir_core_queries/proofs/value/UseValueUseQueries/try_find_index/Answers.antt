@@ -12,7 +12,7 @@ pub find_place-requires : goal.find_place-requires
 find_place-requires g c =
     let at = rw c.records.ensures at c.in-Some.ensures in
     subst (λ (xs : List (UsePlace ValueIndex)). HaveDistinctUses xs) (sym c.as_slice.ensures)
-    (operands-differ c.args.ctx.now.records c.args.self.index c.in-Some.op.now (at ∙ ap (get c.args.ctx.now.records.ops) c.from_index.ensures) c.holds_together.ensures.linked)
+    (operands-differ c.args.ctx.now.records c.args.self.index c.in-Some.op.now (at ∙ ap (get c.args.ctx.now.records.ops) c.from_index.ensures) c.recall_holds_together.ensures.linked)
 
 pub returns-in-Some-find_place-clause-found : goal.returns-in-Some-find_place-clause-found
 returns-in-Some-find_place-clause-found g c =

@@ -14,4 +14,4 @@ returns-clause-found g c =
     rw c.at.ensures (value-type c.args.ctx.now.records c.args.self.index c.definition.result.now is.0 is.1 is.2)
 
 pub returns-clause-known : goal.returns-clause-known
-returns-clause-known g c = type-known (forest_of c.args.ctx.now) (length (types_of c.args.ctx.now)) (value_of c.args.self.index) c.at.result.place c.is_well_formed.ensures (returns-clause-found g c)
+returns-clause-known g c = type-known (forest_of c.args.ctx.now) (length (types_of c.args.ctx.now)) (value_of c.args.self.index) c.at.result.place c.recall_well_formed.ensures (returns-clause-found g c)

@@ -11,5 +11,5 @@ uses-requires g c = rw c.records.ensures (live-value c.args.ctx.now.records c.ar
 pub returns : goal.returns
 returns g c =
     used-iff (forest_of c.args.ctx.now) (a_value (value_of c.args.self.index)) c.uses.result.now c.is_empty.result
-    (rw (c.uses.ensures, c.records.ensures) (c.uses_are_exact.ensures.values c.args.self.index c.requires))
+    (rw (c.uses.ensures, c.records.ensures) (c.recall_uses_exact.ensures.values c.args.self.index c.requires))
     c.is_empty.ensures

@@ -11,5 +11,5 @@ pub returns-clause-parent : goal.returns-clause-parent
 returns-clause-parent g c =
     let f = forest_of c.args.ctx.now in
     let block = c.in_ok-get_parent_block.field-0.index in
-    ((parents_of_values _ f (length (types_of c.args.ctx.now)) (value_of c.args.self.index) c.is_well_formed.ensures).region block (option_map (λ p. p.index) c.get_parent_region.result) c.in_ok-get_parent_block.ensures.parent).1
+    ((parents_of_values _ f (length (types_of c.args.ctx.now)) (value_of c.args.self.index) c.recall_well_formed.ensures).region block (option_map (λ p. p.index) c.get_parent_region.result) c.in_ok-get_parent_block.ensures.parent).1
     (plain-of f a_region (a_block block) c.get_parent_region.result c.get_parent_region.ensures.parent)

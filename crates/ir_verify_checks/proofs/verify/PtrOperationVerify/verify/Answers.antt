@@ -3,18 +3,18 @@ use Rattle.ir_model.specs.Faults.{the_entity, the_attribute, the_type, the_value
 use Rattle.ir_model.specs.Forest.{an_op, a_block, a_region}
 use Rattle.ir_model.specs.VerifyAnswers.{AllIsWell, MayAnswer}
 use Rattle.ir_core_records.specs.Meaning.{value_of}
-use Rattle.ir_view_parts.specs.State.{behaviour, forest_of, types_of}
-use Rattle.ir_view_parts.specs.Dominance.{kinds}
+use Rattle.ir_view_parts.specs.State.{forest_of, types_of}
 use Rattle.ir_verify_checks.specs.Shown.{checks_in}
 use Rattle.ir_verify_checks.specs.Told.{told}
 use Rattle.ir_verify_checks.proofs.Handles.{if-err, on-ok}
 use Rattle.ir_verify_checks.proofs.Roots.{all-told, all-well}
 use Rattle.ir_verify_checks.proofs.verify.PtrOperationVerify.verify.Goals as goal
+use Rattle.ir_core_records.specs.DialectAnswers.{behaviour_of, kinds_of}
 
 pub returns-clause-well : goal.returns-clause-well
 returns-clause-well g c =
-    let B = behaviour g.D.TypeKey.PartialEq.eq g.D.Dialects.first_body g.D.Dialects.unknown g.D.Dialects.op_impls_of in
-    let K = kinds g.D.Dialects.attr_kind_of g.D.Dialects.type_kind_of g.D.Dialects.type_impls_of g.D.Dialects.saved_kind_of g.D.Saved.PartialEq.eq g.D.Dialects.region_ssa_dominance_of in
+    let B = behaviour_of g.D.Dialects g.D.TypeKey.PartialEq.eq in
+    let K = kinds_of g.D.Dialects g.D.Saved.PartialEq.eq in
     let s = c.args.ctx.now in
     let ks = checks_in K (g.V.Verifiers.handed_in c.args.verifiers.now) s in
     let r = the_entity (an_op c.args.self.now.index) in
@@ -22,8 +22,8 @@ returns-clause-well g c =
 
 pub returns-clause-fault : goal.returns-clause-fault
 returns-clause-fault g c =
-    let B = behaviour g.D.TypeKey.PartialEq.eq g.D.Dialects.first_body g.D.Dialects.unknown g.D.Dialects.op_impls_of in
-    let K = kinds g.D.Dialects.attr_kind_of g.D.Dialects.type_kind_of g.D.Dialects.type_impls_of g.D.Dialects.saved_kind_of g.D.Saved.PartialEq.eq g.D.Dialects.region_ssa_dominance_of in
+    let B = behaviour_of g.D.Dialects g.D.TypeKey.PartialEq.eq in
+    let K = kinds_of g.D.Dialects g.D.Saved.PartialEq.eq in
     let s = c.args.ctx.now in
     let ks = checks_in K (g.V.Verifiers.handed_in c.args.verifiers.now) s in
     let r = the_entity (an_op c.args.self.now.index) in

@@ -27,4 +27,4 @@ returns-clause-listed g c =
     let kept = c.kept_uses-uses.result.now in
     let exact = c.kept_uses-uses.ensures.exact in
     predecessor-listed f b kept exact c.args.index _ (slice_get-get_or kept c.args.index _ (kept-within f b kept exact (block_uses_of c.args.ctx.now b) c.kept_uses-uses.ensures.kept c.args.index c.requires.within))
-    (block_uses_of c.args.ctx.now b) c.kept_uses-uses.ensures.kept _ c.is_well_formed.ensures c.linked_block.result.index (rw (c.user.ensures, c.index-uses-index.is) at c.linked_block.ensures.found)
+    (block_uses_of c.args.ctx.now b) c.kept_uses-uses.ensures.kept _ c.recall_well_formed.ensures c.linked_block.result.index (rw (c.user.ensures, c.index-uses-index.is) at c.linked_block.ensures.found)

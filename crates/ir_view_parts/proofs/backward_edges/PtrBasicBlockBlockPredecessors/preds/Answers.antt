@@ -1,7 +1,8 @@
 use Rattle.std.proofs.Common.{length}
-use Rattle.ir_core_queries.specs.State.{behaviour, block_uses_of, forest_of, types_of}
+use Rattle.ir_core_queries.specs.State.{block_uses_of, forest_of, types_of}
 use Rattle.ir_view_parts.proofs.Users.{edges-ok, predecessors-ok}
 use Rattle.ir_view_parts.proofs.backward_edges.PtrBasicBlockBlockPredecessors.preds.Goals as goal
+use Rattle.ir_core_records.specs.DialectAnswers.{behaviour_of}
 
 pub blocks_of_users-requires : goal.blocks_of_users-requires
 blocks_of_users-requires g c = record { linked = c.kept_uses.ensures.linked.1 c.requires.linked }
@@ -13,6 +14,6 @@ returns-clause-exact g c =
 
 pub returns-clause-edges : goal.returns-clause-edges
 returns-clause-edges g c =
-    edges-ok (forest_of c.args.ctx.now) (behaviour {A = g.row.D-Attr.Denot} {S = g.row.D-Saved.Denot} {X = g.row.D-Aux.Denot} g.D.TypeKey.PartialEq.eq g.D.Dialects.first_body g.D.Dialects.unknown g.D.Dialects.op_impls_of)
-    (length (types_of c.args.ctx.now)) c.is_well_formed.ensures c.args.self.index (λ p. p.index) (λ blocks. blocks.items) c.blocks_of_users.result
+    edges-ok (forest_of c.args.ctx.now) (behaviour_of g.D.Dialects g.D.TypeKey.PartialEq.eq)
+    (length (types_of c.args.ctx.now)) c.recall_well_formed.ensures c.args.self.index (λ p. p.index) (λ blocks. blocks.items) c.blocks_of_users.result
     (block_uses_of c.args.ctx.now c.args.self.index) (returns-clause-exact g c)

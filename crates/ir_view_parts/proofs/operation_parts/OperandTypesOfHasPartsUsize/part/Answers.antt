@@ -6,4 +6,4 @@ use Rattle.ir_view_parts.proofs.operation_parts.OperandTypesOfHasPartsUsize.part
 pub returns : goal.returns
 returns g c =
     operand-type-at (forest_of c.args.self.now.ctx.now) c.args.self.now.op.now c.args.index (value_of c.get_operand.result.index) c.get_type.result.place c.get_operand.ensures
-    (type-found (forest_of c.args.self.now.ctx.now) _ c.is_well_formed.ensures (value_of c.get_operand.result.index) c.get_type.result.place c.get_type.ensures.found)
+    (type-found (forest_of c.args.self.now.ctx.now) _ c.recall_well_formed.ensures (value_of c.get_operand.result.index) c.get_type.result.place c.get_type.ensures.found)

@@ -1,14 +1,14 @@
 use Rattle.std.proofs.Common.{◌∙◌, sym}
 use Rattle.std.proofs.lemmas.Bool.{false≢true}
-use Rattle.ir_core_queries.specs.Dominance.{kinds}
 use Rattle.ir_core_queries.specs.State.{types_of}
 use Rattle.ir_view_types.specs.Handles.{interface_place}
 use Rattle.ir_view_types.proofs.KeyKinds.{implemented, implements, kind-known}
 use Rattle.ir_view_types.proofs.interface_handle.TypeInterfaceHandle.is_known.Goals as goal
+use Rattle.ir_core_records.specs.DialectAnswers.{kinds_of}
 
 pub returns-then-is_known : goal.returns-then-is_known
 returns-then-is_known g c =
-    let K = kinds {B = g.row.D-TypeBody.Denot} {X = g.row.D-Aux.Denot} {L = g.row.D-Loc.Denot} g.D.Dialects.attr_kind_of g.D.Dialects.type_kind_of g.D.Dialects.type_impls_of g.D.Dialects.saved_kind_of g.D.Saved.PartialEq.eq g.D.Dialects.region_ssa_dominance_of in
+    let K = kinds_of g.D.Dialects g.D.Saved.PartialEq.eq in
     let N = g.I.TypeInterfaceMarker.NUMBER in
     let at = rw c.to_handle-handle.ensures at c.deref.ensures in (
       λ e. implements K (types_of c.args.ctx.now) (interface_place c.args.self) c.deref.result.now at N (sym c.type_impls.ensures ∙ e),
@@ -17,5 +17,5 @@ returns-then-is_known g c =
 
 pub returns-else-is_known : goal.returns-else-is_known
 returns-else-is_known g c =
-    let K = kinds {B = g.row.D-TypeBody.Denot} {X = g.row.D-Aux.Denot} {L = g.row.D-Loc.Denot} g.D.Dialects.attr_kind_of g.D.Dialects.type_kind_of g.D.Dialects.type_impls_of g.D.Dialects.saved_kind_of g.D.Saved.PartialEq.eq g.D.Dialects.region_ssa_dominance_of in
+    let K = kinds_of g.D.Dialects g.D.Saved.PartialEq.eq in
     (λ e. absurd (false≢true (sym c.if-is_known.false ∙ e)), λ h. (rw c.to_handle-handle.ensures at c.is_known.ensures).1 (kind-known K (types_of c.args.ctx.now) (interface_place c.args.self) h.0 h.1))

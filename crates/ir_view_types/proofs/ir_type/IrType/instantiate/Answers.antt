@@ -1,15 +1,15 @@
 use Rattle.std.proofs.Common.{◌∙◌, ap, is_some, sym}
 use Rattle.std.proofs.lemmas.Bool.{eqb-true}
-use Rattle.ir_core_queries.specs.Dominance.{kinds}
-use Rattle.ir_core_queries.specs.State.{behaviour, types_of}
+use Rattle.ir_core_queries.specs.State.{types_of}
 use Rattle.ir_view_types.specs.Handles.{typed_place}
 use Rattle.ir_view_types.proofs.KeyKinds.{made-kind}
 use Rattle.ir_view_types.proofs.ir_type.IrType.instantiate.Goals as goal
+use Rattle.ir_core_records.specs.DialectAnswers.{behaviour_of, kinds_of}
 
 pub returns-clause-kind : goal.returns-clause-kind
 returns-clause-kind g c =
-    let B = behaviour {A = g.row.D-Attr.Denot} {S = g.row.D-Saved.Denot} {X = g.row.D-Aux.Denot} g.D.TypeKey.PartialEq.eq g.D.Dialects.first_body g.D.Dialects.unknown g.D.Dialects.op_impls_of in
-    let K = kinds {B = g.row.D-TypeBody.Denot} {X = g.row.D-Aux.Denot} {L = g.row.D-Loc.Denot} g.D.Dialects.attr_kind_of g.D.Dialects.type_kind_of g.D.Dialects.type_impls_of g.D.Dialects.saved_kind_of g.D.Saved.PartialEq.eq g.D.Dialects.region_ssa_dominance_of in
+    let B = behaviour_of g.D.Dialects g.D.TypeKey.PartialEq.eq in
+    let K = kinds_of g.D.Dialects g.D.Saved.PartialEq.eq in
     let key = g.Self.IrType.key_of c.args.self in
     let kind = eqb-true _ _ (sym (g.met.Self.IrType.of_kind key) ∙ ap is_some (g.met.Self.IrType.given_back c.args.self)) in
     made-kind B K (types_of c.args.ctx.now) (types_of c.instantiate_key.new.self) key (typed_place c.of_handle.result) g.Self.IrType.KIND

@@ -1,7 +1,7 @@
 use Rattle.std.proofs.Common.{sym}
 use Rattle.ir_core_context.specs.State.{State}
 use Rattle.ir_core_context.proofs.LiveMade.{live-made}
-use Rattle.ir_core_context.proofs.context.Context.live_was_made.Goals as goal
+use Rattle.ir_core_context.proofs.context.Context.recall_live_was_made.Goals as goal
 
 pub returns : goal.returns
 returns g c =

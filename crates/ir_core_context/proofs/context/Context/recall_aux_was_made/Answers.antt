@@ -1,6 +1,6 @@
 use Rattle.std.proofs.Common.{sym}
 use Rattle.ir_model.proofs.Arenas.{live-passed}
-use Rattle.ir_core_context.proofs.context.Context.aux_was_made.Goals as goal
+use Rattle.ir_core_context.proofs.context.Context.recall_aux_was_made.Goals as goal
 
 -- what is live in the arena was handed out
 pub returns : goal.returns

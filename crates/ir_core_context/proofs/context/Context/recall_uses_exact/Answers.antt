@@ -1,6 +1,6 @@
 use Rattle.std.proofs.Common.{sym}
 use Rattle.ir_core_context.proofs.ExactUses.{uses-exact, block-uses-exact}
-use Rattle.ir_core_context.proofs.context.Context.uses_are_exact.Goals as goal
+use Rattle.ir_core_context.proofs.context.Context.recall_uses_exact.Goals as goal
 
 pub returns : goal.returns
 returns g c =

@@ -1,6 +1,6 @@
 use Rattle.std.proofs.Common.{sym}
 use Rattle.ir_core_context.proofs.DistinctTypes.{types_exact}
-use Rattle.ir_core_context.proofs.context.Context.types_are_exact.Goals as goal
+use Rattle.ir_core_context.proofs.context.Context.recall_types_exact.Goals as goal
 
 pub returns : goal.returns
 returns g c =

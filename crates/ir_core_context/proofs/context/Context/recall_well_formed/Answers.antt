@@ -1,7 +1,7 @@
 use Rattle.std.proofs.Common.{sym, arith}
 use Rattle.ir_model.proofs.GrowsNew.{WellFormed-more}
 use Rattle.ir_core_context.proofs.StoredTypes.{length-stored}
-use Rattle.ir_core_context.proofs.context.Context.is_well_formed.Goals as goal
+use Rattle.ir_core_context.proofs.context.Context.recall_well_formed.Goals as goal
 
 pub returns : goal.returns
 returns g c =
