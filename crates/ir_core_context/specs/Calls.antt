@@ -10,7 +10,7 @@ use Rattle.ir_model.specs.Nesting.{In, IsLive, IsLiveNamed, numbers_of, ops_of, 
 use Rattle.ir_model.specs.AuxData.{live_aux}
 use Rattle.ir_model.specs.Edits.{StoredType, no_needs}
 use Rattle.ir_model.specs.Changes.{definition, operand, successor, new_op, new_block, add_region}
-use Rattle.ir_model.specs.Sessions.{Beside, Session, Number, TakesSlot, AreNew, Passes, Within, live_op, live_block, live_region}
+use Rattle.ir_model.specs.Sessions.{Beside, Session, Number, TakesSlot, AreNew, Passes, Within, live_op, live_block, live_region, HasNumbers, LacksSlots}
 use Rattle.ir_base_arenas.specs.declared.room.Room.{Room}
 use Rattle.ir_base_arenas.specs.Arena.{room}
 use Rattle.ir_core_records.specs.declared.record.Operation.{Operation}
@@ -32,6 +32,10 @@ counts_of n = record { ops = n.ops; blocks = n.blocks; regions = n.regions; numb
 abbrev pub op_needs : ℕ → ℕ → ℕ → Counts
 op_needs results uses regions = record { ops = 1; blocks = 0; regions = regions; numbers = results; uses = uses }
 
+-- what an operation needs that has results of these types, names these values and blocks, and has so many regions
+abbrev pub needs_of : {A B C : Type 0} → List A → List B → List C → ℕ → Counts
+needs_of types operands successors regions = op_needs (length types) (length operands + length successors) regions
+
 -- what a block needs
 abbrev pub block_needs : ℕ → Counts
 block_needs arguments = record no_needs { blocks = 1; numbers = arguments }
@@ -47,6 +51,10 @@ pub record Left {A : Type 0} (count : ℕ) (P : A → Type 0) (left : ℕ) : Typ
   pub whole : gone + left ≡ count
 
 module _ {W : Dialect} where
+  -- there are numbers enough, and too few slots
+  abbrev pub LacksOnlySlots : Session W → Counts → Type 0
+  LacksOnlySlots s n = HasNumbers s n × LacksSlots s n
+
   -- the room is exact
   pub record IsRoom (s : Session W) (left : Room) : Type 0 where
     pub values : Left s.limits.values (λ n. IsTrue (s.passed.numbers n)) left.values

@@ -1,12 +1,13 @@
 -- What an edit of results or arguments promises.
 use Rattle.std.specs.Prelude.{◌≡◌, ◌≢◌, ℕ, [], ◌∷◌, ◌++◌, ◌-◌, Some, length, slice_get}
 use Rattle.std.specs.List.{insert, remove}
+use Rattle.ir_model.specs.declared.ids.ArenaIndex.{ArenaIndex}
 use Rattle.ir_model.specs.ContextIds.{context_ids}
 use Rattle.ir_model.specs.Calls.{on_definitions}
 use Rattle.ir_model.specs.Changes.{definition}
 use Rattle.ir_model.specs.Edits.{The, Unused, one_number}
-use Rattle.ir_model.specs.Forest.{Dialect, Definer, Forest, Named, a_value}
-use Rattle.ir_model.specs.Nesting.{IsLiveNamed, definitions_of, numbers_of}
+use Rattle.ir_model.specs.Forest.{Dialect, Definer, Forest, Named, a_region, a_value}
+use Rattle.ir_model.specs.Nesting.{IsClosed, IsLiveNamed, definitions_of, numbers_of, regions_of}
 use Rattle.ir_model.specs.Sessions.{Session}
 use Rattle.ir_core_context.specs.Calls.{HandsOut}
 
@@ -44,6 +45,10 @@ module _ {W : Dialect} where
   -- the value at this place is there, and no operation names it
   abbrev pub UnusedAt : Forest context_ids W → Definer context_ids → ℕ → Type 0
   UnusedAt f d at = ValueAt f d at (Unused f)
+
+  -- the operation has a region at this place, and nothing outside names a definition of its subtree
+  abbrev pub ClosedAt : Forest context_ids W → ArenaIndex → ℕ → Type 0
+  ClosedAt f o at = The (slice_get (regions_of f o) at) (λ g. IsClosed f (a_region g))
 
   -- the definition isn't live any more, and each other value and block that was live is live still
   pub record StayLiveBut (old new : Forest context_ids W) (gone : Named context_ids) : Type 0 where

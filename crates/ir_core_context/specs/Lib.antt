@@ -7,5 +7,6 @@ pub mod GoingBack
 pub mod Lending
 pub mod Places
 pub mod Definitions
+pub mod Removals
 pub mod Asked
 pub mod AuxLending

@@ -7,12 +7,11 @@ ghost use Rattle.ir_model.specs.declared.ids.ArenaIndex.{ArenaIndex};
 ghost use Rattle.ir_model.specs.ContextIds.{context_ids};
 ghost use Rattle.ir_model.specs.Forest.{Forest, a_value, an_op, the_block};
 ghost use Rattle.ir_model.specs.Nesting.{IsLive as IsLiveEntity, IsLiveNamed, WellFormed, operands_of, regions_of, successors_of};
-ghost use Rattle.ir_model.specs.Changes.{new_op, on_op, on_operands, on_successors};
 ghost use Rattle.ir_base_arenas.specs.Arena.{room, IsLive};
 ghost use Rattle.ir_core_records.specs.Frames.{KeepsTree};
-ghost use Rattle.ir_core_records.specs.Meaning.{closed, definition_of, forest_of as forest_in, operands_from, successors_from, value_of};
-ghost use Rattle.ir_core_context.specs.Calls.{EntitiesStayLive, HasAll, MakesBlock, MakesOperation, MakesRegion, SkipsAtMost, StayLive, block_needs, op_needs, region_needs};
-ghost use Rattle.ir_core_context.specs.Creation.{AreFresh, Extends, HoldTogether, IsGiven, Skips, with_regions};
+ghost use Rattle.ir_core_records.specs.Meaning.{closed, definition_of, forest_of as forest_in, value_of};
+ghost use Rattle.ir_core_context.specs.Calls.{EntitiesStayLive, HasAll, MakesBlock, MakesOperation, MakesRegion, SkipsAtMost, StayLive, block_needs, region_needs, needs_of};
+ghost use Rattle.ir_core_context.specs.Creation.{AreFresh, Extends, HoldTogether, IsGiven, Skips, with_places, Completes, InsertsWhole};
 ghost use Rattle.ir_core_context.specs.State.{bare, forest_of, types_of};
 
 use crate::context::Context;
@@ -104,7 +103,7 @@ fn link_places<D: Dialects>(
     requires numbers { first_use + (length parts.now.operands.now + length parts.now.successors.now) < 2 ^ 64 }
     ensures together { HoldTogether records.new }
     ensures keeps { KeepsTree records.old records.new }
-    ensures linked { OnOk result (forest_in records.new ≡ on_op (on_op (forest_in records.old) op (on_operands (λ _. operands_from first_use (map (λ v. v.index) parts.now.operands.now)))) op (on_successors (λ _. successors_from (first_use + length parts.now.operands.now) (map (λ b. record { index = b.index }) parts.now.successors.now)))) }
+    ensures linked { OnOk result (forest_in records.new ≡ with_places (forest_in records.old) op first_use (map (λ v. v.index) parts.now.operands.now) (first_use + length parts.now.operands.now) (map (λ b. record { index = b.index }) parts.now.successors.now)) }
     ensures same { OnErr result (forest_in records.new ≡ forest_in records.old) }
 {
     link_operands(records, op, first_use, parts.operands)?;
@@ -138,7 +137,7 @@ fn complete<D: Dialects>(
     requires room { parts.now.num_regions ≤ room records.old.regions }
     ensures together { HoldTogether records.new }
     ensures live { IsLive records.new.ops op }
-    ensures made { OnOk result ((rs : List ArenaIndex) × (length rs ≡ parts.now.num_regions) × (forest_in records.new ≡ on_op (on_op (with_regions (forest_in records.old) op rs) op (on_operands (λ _. operands_from first_use (map (λ v. v.index) parts.now.operands.now)))) op (on_successors (λ _. successors_from (first_use + length parts.now.operands.now) (map (λ b. record { index = b.index }) parts.now.successors.now)))) × Extends records.old records.new [] [] rs) }
+    ensures made { OnOk result (Completes records.old records.new op first_use (map (λ v. v.index) parts.now.operands.now) (first_use + length parts.now.operands.now) (map (λ b. record { index = b.index }) parts.now.successors.now) parts.now.num_regions) }
     ensures same { OnErr result (forest_in records.new ≡ forest_in records.old) }
     ensures skipped { OnErr result (Skips records.old records.new 0 0 parts.now.num_regions) }
 {
@@ -171,7 +170,7 @@ fn insert_whole<D: Dialects>(
     requires op_room { 0 < room records.old.ops }
     requires region_room { parts.now.num_regions ≤ room records.old.regions }
     ensures together { HoldTogether records.new }
-    ensures made { IfOk result (λ op. (rs : List ArenaIndex) × (length rs ≡ parts.now.num_regions) × (forest_in records.new ≡ new_op (forest_in records.old) op D.unknown parts.now.kind (map definition_of results) (operands_from first_use (map (λ v. v.index) parts.now.operands.now)) (successors_from (first_use + length parts.now.operands.now) (map (λ b. record { index = b.index }) parts.now.successors.now)) rs) × Extends records.old records.new (op ∷ []) [] rs) }
+    ensures made { IfOk result (λ op. InsertsWhole D.unknown records.old records.new op parts.now.kind (map definition_of results) first_use (map (λ v. v.index) parts.now.operands.now) (first_use + length parts.now.operands.now) (map (λ b. record { index = b.index }) parts.now.successors.now) parts.now.num_regions) }
     ensures same { OnErr result (forest_in records.new ≡ forest_in records.old) }
     ensures skipped { OnErr result (Skips records.old records.new 1 0 parts.now.num_regions) }
 {
@@ -194,11 +193,11 @@ pub(crate) fn create_operation<D: Dialects>(
     requires types { All (λ t. t.place < length (types_of ctx.old)) parts.now.types.now }
     requires operands { All (λ v. IsLiveNamed (forest_of ctx.old) (a_value (value_of v.index))) parts.now.operands.now }
     requires successors { All (λ b. IsLiveNamed (forest_of ctx.old) (the_block b.index)) parts.now.successors.now }
-    requires room { HasAll ctx.old (op_needs (length parts.now.types.now) (length parts.now.operands.now + length parts.now.successors.now) parts.now.num_regions) }
+    requires room { HasAll ctx.old (needs_of parts.now.types.now parts.now.operands.now parts.now.successors.now parts.now.num_regions) }
     ensures made { IfOk result (λ op. MakesOperation D.unknown (bare ctx.old) (bare ctx.new) op parts.now.kind (map (λ t. t.place) parts.now.types.now) (map (λ v. value_of v.index) parts.now.operands.now) (map (λ b. b.index) parts.now.successors.now) parts.now.num_regions) }
     ensures stay_live { OnOk result (StayLive (forest_of ctx.old) (forest_of ctx.new)) }
     ensures entities_stay_live { OnOk result (EntitiesStayLive (forest_of ctx.old) (forest_of ctx.new)) }
-    ensures refused { OnErr result (SkipsAtMost (bare ctx.old) (bare ctx.new) (op_needs (length parts.now.types.now) (length parts.now.operands.now + length parts.now.successors.now) parts.now.num_regions)) }
+    ensures refused { OnErr result (SkipsAtMost (bare ctx.old) (bare ctx.new) (needs_of parts.now.types.now parts.now.operands.now parts.now.successors.now parts.now.num_regions)) }
 {
     let results = Definitions::of_types(ctx.alloc, ctx.next_value, parts.types)?;
     let op = insert_whole(&mut ctx.records, ctx.alloc, results, ctx.next_use, parts)?;

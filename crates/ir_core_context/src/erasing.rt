@@ -7,11 +7,11 @@ ghost use Rattle.ir_model.specs.Changes.{DropsUses, Removes};
 ghost use Rattle.ir_model.specs.Edits.{The};
 ghost use Rattle.ir_model.specs.Forest.{a_region, an_op};
 ghost use Rattle.ir_model.specs.Nesting.{IsClosed, IsLive, regions_of};
-ghost use Rattle.ir_model.specs.Subtree.{IsSubtreeSize};
 ghost use Rattle.ir_core_records.specs.Meaning.{entity_of};
-ghost use Rattle.ir_core_erasing.specs.Erasing.{removals};
 ghost use Rattle.ir_core_context.specs.Calls.{EntitiesStayLive, SameButForest, StayLive};
 ghost use Rattle.ir_core_context.specs.State.{bare, forest_of};
+ghost use Rattle.ir_core_context.specs.Definitions.{ClosedAt};
+ghost use Rattle.ir_core_context.specs.Removals.{RemovesEachOnce};
 
 use crate::context::Context;
 use ir_base_dialects::{Dialects, Ptr};
@@ -46,7 +46,7 @@ pub trait Erase<D: Dialects> {
         requires live { IsLive (forest_of ctx.old) (entity_at self) }
         requires closed { IsClosed (forest_of ctx.old) (entity_at self) }
         ensures forest { Removes (forest_of ctx.old) (entity_at self) (forest_of ctx.new) }
-        ensures once { (n : ℕ) × IsSubtreeSize (forest_of ctx.old) (entity_at self) n × (removals ctx.new.records ≡ removals ctx.old.records + n) }
+        ensures once { RemovesEachOnce ctx.old ctx.new (entity_at self) }
         ensures rest { SameButForest (bare ctx.old) (bare ctx.new) };
 }
 
@@ -59,9 +59,9 @@ pub trait EraseRegion<D: Dialects> {
     /// Erases the region at the index, below their number, with all that stands inside it; those behind it move up. Nothing outside names a definition of its subtree, which `can_erase` tests. Each entity of the subtree is removed once. It stands for pliron's `Operation::erase_region`.
     fn erase_region(self, ctx: &mut Context<D>, index: usize)
         requires live { IsLive (forest_of ctx.old) (an_op (index_of self)) }
-        requires closed { The (slice_get (regions_of (forest_of ctx.old) (index_of self)) index) (λ g. IsClosed (forest_of ctx.old) (a_region g)) }
+        requires closed { ClosedAt (forest_of ctx.old) (index_of self) index }
         ensures forest { The (slice_get (regions_of (forest_of ctx.old) (index_of self)) index) (λ g. Removes (forest_of ctx.old) (a_region g) (forest_of ctx.new)) }
-        ensures once { The (slice_get (regions_of (forest_of ctx.old) (index_of self)) index) (λ g. (n : ℕ) × IsSubtreeSize (forest_of ctx.old) (a_region g) n × (removals ctx.new.records ≡ removals ctx.old.records + n)) }
+        ensures once { The (slice_get (regions_of (forest_of ctx.old) (index_of self)) index) (λ g. RemovesEachOnce ctx.old ctx.new (a_region g)) }
         ensures rest { SameButForest (bare ctx.old) (bare ctx.new) };
 }
 
@@ -81,7 +81,7 @@ fn erase_whole<D: Dialects>(ctx: &mut Context<D>, entity: EntityIndex)
     requires live { IsLive (forest_of ctx.old) (entity_of entity) }
     requires closed { IsClosed (forest_of ctx.old) (entity_of entity) }
     ensures forest { Removes (forest_of ctx.old) (entity_of entity) (forest_of ctx.new) }
-    ensures once { (n : ℕ) × IsSubtreeSize (forest_of ctx.old) (entity_of entity) n × (removals ctx.new.records ≡ removals ctx.old.records + n) }
+    ensures once { RemovesEachOnce ctx.old ctx.new (entity_of entity) }
     ensures rest { SameButForest (bare ctx.old) (bare ctx.new) }
 {
     erase(&mut ctx.records, entity);

@@ -1,10 +1,10 @@
 //! How many new ids and numbers a call needs, and whether they are left.
 
 ghost use Rattle.std.specs.Prelude.{◌≡◌, ◌⊎◌, ◌↔◌, Err, IfErr, OnOk};
-ghost use Rattle.ir_model.specs.Sessions.{HasNumbers, LacksNumbers, LacksSlots};
+ghost use Rattle.ir_model.specs.Sessions.{LacksNumbers};
 ghost use Rattle.ir_core_context.specs.State.{bare};
 ghost use Rattle.ir_model.specs.Edits.{no_needs, one_number, one_use};
-ghost use Rattle.ir_core_context.specs.Calls.{HasAll, counts_of};
+ghost use Rattle.ir_core_context.specs.Calls.{HasAll, counts_of, LacksOnlySlots};
 
 use crate::context::Context;
 use ir_base_dialects::{CoreError, Dialects};
@@ -50,7 +50,7 @@ impl<D: Dialects> Context<D> {
     pub fn covers(&self, needs: Needs) -> Result<(), CoreError>
         ensures enough { OnOk result (HasAll self.now (counts_of needs)) }
         ensures counter { (result ≡ Err CoreError.CounterSpent) ↔ LacksNumbers (bare self.now) (counts_of needs) }
-        ensures slots { (result ≡ Err CoreError.SlotsSpent) ↔ (HasNumbers (bare self.now) (counts_of needs) × LacksSlots (bare self.now) (counts_of needs)) }
+        ensures slots { (result ≡ Err CoreError.SlotsSpent) ↔ LacksOnlySlots (bare self.now) (counts_of needs) }
         ensures only { IfErr result (λ e. (e ≡ CoreError.CounterSpent) ⊎ (e ≡ CoreError.SlotsSpent)) }
     {
         let room = self.room();

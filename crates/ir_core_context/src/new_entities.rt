@@ -5,9 +5,9 @@
 ghost use Rattle.std.specs.Prelude.{◌≡◌, ◌+◌, ◌<◌, ◌↔◌, All, length, map, Err, IfOk, OnErr};
 ghost use Rattle.ir_model.specs.Forest.{a_block, a_region, a_value, an_op};
 ghost use Rattle.ir_model.specs.Nesting.{IsLive, IsLiveNamed};
-ghost use Rattle.ir_model.specs.Sessions.{HasNumbers, LacksNumbers, LacksSlots};
+ghost use Rattle.ir_model.specs.Sessions.{LacksNumbers, LacksSlots};
 ghost use Rattle.ir_core_records.specs.Meaning.{value_of};
-ghost use Rattle.ir_core_context.specs.Calls.{EntitiesStayLive, HasArguments, HasCounts, MakesBlock, MakesOperation, MakesRegion, SkipsAtMost, StayLive, block_needs, op_needs, region_needs};
+ghost use Rattle.ir_core_context.specs.Calls.{EntitiesStayLive, HasArguments, HasCounts, MakesBlock, MakesOperation, MakesRegion, SkipsAtMost, StayLive, block_needs, region_needs, needs_of, LacksOnlySlots};
 ghost use Rattle.ir_core_context.specs.State.{bare, forest_of, types_of};
 
 use crate::context::Context;
@@ -41,9 +41,9 @@ pub trait NewOperation<D: Dialects> {
         ensures stay_live { StayLive (forest_of ctx.old) (forest_of ctx.new) }
         ensures entities_stay_live { EntitiesStayLive (forest_of ctx.old) (forest_of ctx.new) }
         ensures types_stay { types_of ctx.new ≡ types_of ctx.old }
-        ensures counter { (result ≡ Err CoreError.CounterSpent) ↔ LacksNumbers (bare ctx.old) (op_needs (length result_types.now) (length operands.now + length successors.now) num_regions) }
-        ensures slots { (result ≡ Err CoreError.SlotsSpent) ↔ (HasNumbers (bare ctx.old) (op_needs (length result_types.now) (length operands.now + length successors.now) num_regions) × LacksSlots (bare ctx.old) (op_needs (length result_types.now) (length operands.now + length successors.now) num_regions)) }
-        ensures refused { OnErr result (SkipsAtMost (bare ctx.old) (bare ctx.new) (op_needs (length result_types.now) (length operands.now + length successors.now) num_regions)) };
+        ensures counter { (result ≡ Err CoreError.CounterSpent) ↔ LacksNumbers (bare ctx.old) (needs_of result_types.now operands.now successors.now num_regions) }
+        ensures slots { (result ≡ Err CoreError.SlotsSpent) ↔ LacksOnlySlots (bare ctx.old) (needs_of result_types.now operands.now successors.now num_regions) }
+        ensures refused { OnErr result (SkipsAtMost (bare ctx.old) (bare ctx.new) (needs_of result_types.now operands.now successors.now num_regions)) };
 }
 
 impl<D: Dialects> NewOperation<D> for Operation<D> {
@@ -93,7 +93,7 @@ pub trait NewBlock<D: Dialects> {
         ensures entities_stay_live { EntitiesStayLive (forest_of ctx.old) (forest_of ctx.new) }
         ensures types_stay { types_of ctx.new ≡ types_of ctx.old }
         ensures counter { (result ≡ Err CoreError.CounterSpent) ↔ LacksNumbers (bare ctx.old) (block_needs (length arg_types.now)) }
-        ensures slots { (result ≡ Err CoreError.SlotsSpent) ↔ (HasNumbers (bare ctx.old) (block_needs (length arg_types.now)) × LacksSlots (bare ctx.old) (block_needs (length arg_types.now))) }
+        ensures slots { (result ≡ Err CoreError.SlotsSpent) ↔ LacksOnlySlots (bare ctx.old) (block_needs (length arg_types.now)) }
         ensures err { OnErr result (ctx.new ≡ ctx.old) };
 }
 

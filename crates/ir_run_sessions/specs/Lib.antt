@@ -1,4 +1,5 @@
 pub mod SessionEdits
+pub mod NewOps
 pub mod SessionState
 pub mod Headline
 pub use Rattle.ir_run_tables.specs.State

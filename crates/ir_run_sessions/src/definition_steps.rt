@@ -9,8 +9,8 @@ ghost use Rattle.ir_model.specs.Nesting.{IsLive, definitions_of, numbers_of};
 ghost use Rattle.ir_model.specs.Sessions.{Step};
 ghost use Rattle.ir_model.specs.Soundness.{Sound};
 ghost use Rattle.ir_run_tables.specs.Calls.{counts_of};
-ghost use Rattle.ir_run_tables.specs.State.{forest_of, session_of, types_of};
-ghost use Rattle.ir_run_tables.specs.SessionTables.{answer_of, entries_of, with_value};
+ghost use Rattle.ir_run_tables.specs.State.{forest_of, types_of};
+ghost use Rattle.ir_run_tables.specs.SessionTables.{answer_of, entries_of, with_value, session_in, ForOpAndType, ForBlockAndType};
 ghost use Rattle.ir_core_records.specs.DialectAnswers.{behaviour_of};
 
 use crate::steps::{answer, make_room, recall_needs_nothing};
@@ -27,8 +27,8 @@ pub fn push_result<D: Dialects>(
     op: usize,
     ty: usize,
 ) -> Answer
-    requires { Sound (session_of ctx.old (entries_of tables.old)) }
-    ensures { Step (behaviour_of D.Dialects D.TypeKey.eq) (session_of ctx.old (entries_of tables.old)) (PlainPushResult op ty) result (session_of ctx.new (entries_of tables.new)) }
+    requires { Sound (session_in ctx.old tables.old) }
+    ensures { Step (behaviour_of D.Dialects D.TypeKey.eq) (session_in ctx.old tables.old) (PlainPushResult op ty) result (session_in ctx.new tables.new) }
 {
     match find_with_type::<D, Ptr<Operation<D>>>(ctx, tables, op, ty) {
         Some((op, ty)) => answer(make_last_result(ctx, tables, op, ty)),
@@ -44,8 +44,8 @@ pub fn insert_result<D: Dialects>(
     at: usize,
     ty: usize,
 ) -> Answer
-    requires { Sound (session_of ctx.old (entries_of tables.old)) }
-    ensures { Step (behaviour_of D.Dialects D.TypeKey.eq) (session_of ctx.old (entries_of tables.old)) (PlainInsertResult op at ty) result (session_of ctx.new (entries_of tables.new)) }
+    requires { Sound (session_in ctx.old tables.old) }
+    ensures { Step (behaviour_of D.Dialects D.TypeKey.eq) (session_in ctx.old tables.old) (PlainInsertResult op at ty) result (session_in ctx.new tables.new) }
 {
     match find_with_type::<D, Ptr<Operation<D>>>(ctx, tables, op, ty) {
         Some((op, ty)) if at <= op.deref(ctx).get_num_results() => {
@@ -62,7 +62,7 @@ pub fn remove_result<D: Dialects>(
     op: usize,
     at: usize,
 ) -> Answer
-    ensures { Step (behaviour_of D.Dialects D.TypeKey.eq) (session_of ctx.old (entries_of tables.now)) (PlainRemoveResult op at) result (session_of ctx.new (entries_of tables.now)) }
+    ensures { Step (behaviour_of D.Dialects D.TypeKey.eq) (session_in ctx.old tables.now) (PlainRemoveResult op at) result (session_in ctx.new tables.now) }
 {
     recall_needs_nothing(ctx);
     match find_unused_result(ctx, tables, op, at) {
@@ -81,8 +81,8 @@ pub fn push_argument<D: Dialects>(
     block: usize,
     ty: usize,
 ) -> Answer
-    requires { Sound (session_of ctx.old (entries_of tables.old)) }
-    ensures { Step (behaviour_of D.Dialects D.TypeKey.eq) (session_of ctx.old (entries_of tables.old)) (PlainPushArgument block ty) result (session_of ctx.new (entries_of tables.new)) }
+    requires { Sound (session_in ctx.old tables.old) }
+    ensures { Step (behaviour_of D.Dialects D.TypeKey.eq) (session_in ctx.old tables.old) (PlainPushArgument block ty) result (session_in ctx.new tables.new) }
 {
     match find_with_type::<D, Ptr<BasicBlock<D>>>(ctx, tables, block, ty) {
         Some((block, ty)) => answer(make_last_argument(ctx, tables, block, ty)),
@@ -98,8 +98,8 @@ pub fn insert_argument<D: Dialects>(
     at: usize,
     ty: usize,
 ) -> Answer
-    requires { Sound (session_of ctx.old (entries_of tables.old)) }
-    ensures { Step (behaviour_of D.Dialects D.TypeKey.eq) (session_of ctx.old (entries_of tables.old)) (PlainInsertArgument block at ty) result (session_of ctx.new (entries_of tables.new)) }
+    requires { Sound (session_in ctx.old tables.old) }
+    ensures { Step (behaviour_of D.Dialects D.TypeKey.eq) (session_in ctx.old tables.old) (PlainInsertArgument block at ty) result (session_in ctx.new tables.new) }
 {
     match find_with_type::<D, Ptr<BasicBlock<D>>>(ctx, tables, block, ty) {
         Some((block, ty)) if at <= block.deref(ctx).get_num_arguments() => {
@@ -116,7 +116,7 @@ pub fn remove_argument<D: Dialects>(
     block: usize,
     at: usize,
 ) -> Answer
-    ensures { Step (behaviour_of D.Dialects D.TypeKey.eq) (session_of ctx.old (entries_of tables.now)) (PlainRemoveArgument block at) result (session_of ctx.new (entries_of tables.now)) }
+    ensures { Step (behaviour_of D.Dialects D.TypeKey.eq) (session_in ctx.old tables.now) (PlainRemoveArgument block at) result (session_in ctx.new tables.now) }
 {
     recall_needs_nothing(ctx);
     match find_unused_argument(ctx, tables, block, at) {
@@ -145,10 +145,10 @@ fn make_last_result<D: Dialects>(
     op: Ptr<Operation<D>>,
     ty: TypeHandle,
 ) -> Result<usize, CoreError>
-    requires sound { Sound (session_of ctx.old (entries_of tables.old)) }
+    requires sound { Sound (session_in ctx.old tables.old) }
     requires live { IsLive (forest_of ctx.old) (an_op op.index) }
     requires known { ty.place < length (types_of ctx.old) }
-    ensures { (n m : ℕ) → slice_get (entries_of tables.old).ops n ≡ Some op.index → slice_get (entries_of tables.old).types m ≡ Some ty.place → Step (behaviour_of D.Dialects D.TypeKey.eq) (session_of ctx.old (entries_of tables.old)) (PlainPushResult n m) (answer_of result) (session_of ctx.new (entries_of tables.new)) }
+    ensures { ForOpAndType tables.old op.index ty.place (λ n m. Step (behaviour_of D.Dialects D.TypeKey.eq) (session_in ctx.old tables.old) (PlainPushResult n m) (answer_of result) (session_in ctx.new tables.new)) }
 {
     make_room(ctx, tables, one_value())?;
     let at = op.push_result(ctx, ty)?;
@@ -163,11 +163,11 @@ fn make_result<D: Dialects>(
     at: usize,
     ty: TypeHandle,
 ) -> Result<usize, CoreError>
-    requires sound { Sound (session_of ctx.old (entries_of tables.old)) }
+    requires sound { Sound (session_in ctx.old tables.old) }
     requires live { IsLive (forest_of ctx.old) (an_op op.index) }
     requires in_range { at ≤ length (definitions_of (forest_of ctx.old) (of_op op.index)) }
     requires known { ty.place < length (types_of ctx.old) }
-    ensures { (n m : ℕ) → slice_get (entries_of tables.old).ops n ≡ Some op.index → slice_get (entries_of tables.old).types m ≡ Some ty.place → Step (behaviour_of D.Dialects D.TypeKey.eq) (session_of ctx.old (entries_of tables.old)) (PlainInsertResult n at m) (answer_of result) (session_of ctx.new (entries_of tables.new)) }
+    ensures { ForOpAndType tables.old op.index ty.place (λ n m. Step (behaviour_of D.Dialects D.TypeKey.eq) (session_in ctx.old tables.old) (PlainInsertResult n at m) (answer_of result) (session_in ctx.new tables.new)) }
 {
     make_room(ctx, tables, one_value())?;
     op.insert_result(ctx, at, ty)?;
@@ -181,10 +181,10 @@ fn make_last_argument<D: Dialects>(
     block: Ptr<BasicBlock<D>>,
     ty: TypeHandle,
 ) -> Result<usize, CoreError>
-    requires sound { Sound (session_of ctx.old (entries_of tables.old)) }
+    requires sound { Sound (session_in ctx.old tables.old) }
     requires live { IsLive (forest_of ctx.old) (a_block block.index) }
     requires known { ty.place < length (types_of ctx.old) }
-    ensures { (n m : ℕ) → slice_get (entries_of tables.old).blocks n ≡ Some block.index → slice_get (entries_of tables.old).types m ≡ Some ty.place → Step (behaviour_of D.Dialects D.TypeKey.eq) (session_of ctx.old (entries_of tables.old)) (PlainPushArgument n m) (answer_of result) (session_of ctx.new (entries_of tables.new)) }
+    ensures { ForBlockAndType tables.old block.index ty.place (λ n m. Step (behaviour_of D.Dialects D.TypeKey.eq) (session_in ctx.old tables.old) (PlainPushArgument n m) (answer_of result) (session_in ctx.new tables.new)) }
 {
     make_room(ctx, tables, one_value())?;
     let at = block.push_argument(ctx, ty)?;
@@ -199,11 +199,11 @@ fn make_argument<D: Dialects>(
     at: usize,
     ty: TypeHandle,
 ) -> Result<usize, CoreError>
-    requires sound { Sound (session_of ctx.old (entries_of tables.old)) }
+    requires sound { Sound (session_in ctx.old tables.old) }
     requires live { IsLive (forest_of ctx.old) (a_block block.index) }
     requires in_range { at ≤ length (definitions_of (forest_of ctx.old) (of_block block.index)) }
     requires known { ty.place < length (types_of ctx.old) }
-    ensures { (n m : ℕ) → slice_get (entries_of tables.old).blocks n ≡ Some block.index → slice_get (entries_of tables.old).types m ≡ Some ty.place → Step (behaviour_of D.Dialects D.TypeKey.eq) (session_of ctx.old (entries_of tables.old)) (PlainInsertArgument n at m) (answer_of result) (session_of ctx.new (entries_of tables.new)) }
+    ensures { ForBlockAndType tables.old block.index ty.place (λ n m. Step (behaviour_of D.Dialects D.TypeKey.eq) (session_in ctx.old tables.old) (PlainInsertArgument n at m) (answer_of result) (session_in ctx.new tables.new)) }
 {
     make_room(ctx, tables, one_value())?;
     block.insert_argument(ctx, at, ty)?;

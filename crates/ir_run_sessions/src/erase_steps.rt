@@ -4,8 +4,7 @@
 
 ghost use Rattle.ir_model.specs.Edits.{DropBlockUses as PlainDropBlockUses, DropOpUses as PlainDropOpUses, DropRegionUses as PlainDropRegionUses, EraseBlock as PlainEraseBlock, EraseOp as PlainEraseOp, EraseRegion as PlainEraseRegion};
 ghost use Rattle.ir_model.specs.Sessions.{Step};
-ghost use Rattle.ir_run_tables.specs.State.{session_of};
-ghost use Rattle.ir_run_tables.specs.SessionTables.{entries_of};
+ghost use Rattle.ir_run_tables.specs.SessionTables.{session_in};
 ghost use Rattle.ir_core_records.specs.DialectAnswers.{behaviour_of};
 
 use crate::steps::recall_needs_nothing;
@@ -17,7 +16,7 @@ use ir_run_tables::{
 
 /// Takes the operands and successors of all operations inside the operation out, also its own.
 pub fn drop_op_uses<D: Dialects>(ctx: &mut Context<D>, tables: &Tables<D>, op: usize) -> Answer
-    ensures { Step (behaviour_of D.Dialects D.TypeKey.eq) (session_of ctx.old (entries_of tables.now)) (PlainDropOpUses op) result (session_of ctx.new (entries_of tables.now)) }
+    ensures { Step (behaviour_of D.Dialects D.TypeKey.eq) (session_in ctx.old tables.now) (PlainDropOpUses op) result (session_in ctx.new tables.now) }
 {
     recall_needs_nothing(ctx);
     match find::<D, Ptr<Operation<D>>>(ctx, tables, op) {
@@ -35,7 +34,7 @@ pub fn drop_block_uses<D: Dialects>(
     tables: &Tables<D>,
     block: usize,
 ) -> Answer
-    ensures { Step (behaviour_of D.Dialects D.TypeKey.eq) (session_of ctx.old (entries_of tables.now)) (PlainDropBlockUses block) result (session_of ctx.new (entries_of tables.now)) }
+    ensures { Step (behaviour_of D.Dialects D.TypeKey.eq) (session_in ctx.old tables.now) (PlainDropBlockUses block) result (session_in ctx.new tables.now) }
 {
     recall_needs_nothing(ctx);
     match find::<D, Ptr<BasicBlock<D>>>(ctx, tables, block) {
@@ -53,7 +52,7 @@ pub fn drop_region_uses<D: Dialects>(
     tables: &Tables<D>,
     region: usize,
 ) -> Answer
-    ensures { Step (behaviour_of D.Dialects D.TypeKey.eq) (session_of ctx.old (entries_of tables.now)) (PlainDropRegionUses region) result (session_of ctx.new (entries_of tables.now)) }
+    ensures { Step (behaviour_of D.Dialects D.TypeKey.eq) (session_in ctx.old tables.now) (PlainDropRegionUses region) result (session_in ctx.new tables.now) }
 {
     recall_needs_nothing(ctx);
     match find::<D, Ptr<Region>>(ctx, tables, region) {
@@ -67,7 +66,7 @@ pub fn drop_region_uses<D: Dialects>(
 
 /// Erases the operation with all that stands inside it.
 pub fn erase_op<D: Dialects>(ctx: &mut Context<D>, tables: &Tables<D>, op: usize) -> Answer
-    ensures { Step (behaviour_of D.Dialects D.TypeKey.eq) (session_of ctx.old (entries_of tables.now)) (PlainEraseOp op) result (session_of ctx.new (entries_of tables.now)) }
+    ensures { Step (behaviour_of D.Dialects D.TypeKey.eq) (session_in ctx.old tables.now) (PlainEraseOp op) result (session_in ctx.new tables.now) }
 {
     recall_needs_nothing(ctx);
     match find_closed::<D, Ptr<Operation<D>>>(ctx, tables, op) {
@@ -81,7 +80,7 @@ pub fn erase_op<D: Dialects>(ctx: &mut Context<D>, tables: &Tables<D>, op: usize
 
 /// Erases the block with all that stands inside it.
 pub fn erase_block<D: Dialects>(ctx: &mut Context<D>, tables: &Tables<D>, block: usize) -> Answer
-    ensures { Step (behaviour_of D.Dialects D.TypeKey.eq) (session_of ctx.old (entries_of tables.now)) (PlainEraseBlock block) result (session_of ctx.new (entries_of tables.now)) }
+    ensures { Step (behaviour_of D.Dialects D.TypeKey.eq) (session_in ctx.old tables.now) (PlainEraseBlock block) result (session_in ctx.new tables.now) }
 {
     recall_needs_nothing(ctx);
     match find_closed::<D, Ptr<BasicBlock<D>>>(ctx, tables, block) {
@@ -100,7 +99,7 @@ pub fn erase_region<D: Dialects>(
     op: usize,
     at: usize,
 ) -> Answer
-    ensures { Step (behaviour_of D.Dialects D.TypeKey.eq) (session_of ctx.old (entries_of tables.now)) (PlainEraseRegion op at) result (session_of ctx.new (entries_of tables.now)) }
+    ensures { Step (behaviour_of D.Dialects D.TypeKey.eq) (session_in ctx.old tables.now) (PlainEraseRegion op at) result (session_in ctx.new tables.now) }
 {
     recall_needs_nothing(ctx);
     match find_closed_region(ctx, tables, op, at) {

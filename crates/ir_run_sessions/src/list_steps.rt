@@ -4,8 +4,7 @@
 
 ghost use Rattle.ir_model.specs.Edits.{AppendBlocks as PlainAppendBlocks, AppendOps as PlainAppendOps, BlockAfter as PlainBlockAfter, BlockBack as PlainBlockBack, BlockBefore as PlainBlockBefore, BlockFront as PlainBlockFront, MoveRegion as PlainMoveRegion, OpAfter as PlainOpAfter, OpBack as PlainOpBack, OpBefore as PlainOpBefore, OpFront as PlainOpFront, UnlinkBlock as PlainUnlinkBlock, UnlinkOp as PlainUnlinkOp};
 ghost use Rattle.ir_model.specs.Sessions.{Step};
-ghost use Rattle.ir_run_tables.specs.State.{session_of};
-ghost use Rattle.ir_run_tables.specs.SessionTables.{entries_of};
+ghost use Rattle.ir_run_tables.specs.SessionTables.{session_in};
 ghost use Rattle.ir_core_records.specs.DialectAnswers.{behaviour_of};
 
 use crate::steps::recall_needs_nothing;
@@ -22,7 +21,7 @@ pub fn op_front<D: Dialects>(
     op: usize,
     block: usize,
 ) -> Answer
-    ensures { Step (behaviour_of D.Dialects D.TypeKey.eq) (session_of ctx.old (entries_of tables.now)) (PlainOpFront op block) result (session_of ctx.new (entries_of tables.now)) }
+    ensures { Step (behaviour_of D.Dialects D.TypeKey.eq) (session_in ctx.old tables.now) (PlainOpFront op block) result (session_in ctx.new tables.now) }
 {
     recall_needs_nothing(ctx);
     match find_into::<D, Ptr<Operation<D>>, Ptr<BasicBlock<D>>>(ctx, tables, op, block) {
@@ -41,7 +40,7 @@ pub fn op_back<D: Dialects>(
     op: usize,
     block: usize,
 ) -> Answer
-    ensures { Step (behaviour_of D.Dialects D.TypeKey.eq) (session_of ctx.old (entries_of tables.now)) (PlainOpBack op block) result (session_of ctx.new (entries_of tables.now)) }
+    ensures { Step (behaviour_of D.Dialects D.TypeKey.eq) (session_in ctx.old tables.now) (PlainOpBack op block) result (session_in ctx.new tables.now) }
 {
     recall_needs_nothing(ctx);
     match find_into::<D, Ptr<Operation<D>>, Ptr<BasicBlock<D>>>(ctx, tables, op, block) {
@@ -60,7 +59,7 @@ pub fn op_before<D: Dialects>(
     op: usize,
     mark: usize,
 ) -> Answer
-    ensures { Step (behaviour_of D.Dialects D.TypeKey.eq) (session_of ctx.old (entries_of tables.now)) (PlainOpBefore op mark) result (session_of ctx.new (entries_of tables.now)) }
+    ensures { Step (behaviour_of D.Dialects D.TypeKey.eq) (session_in ctx.old tables.now) (PlainOpBefore op mark) result (session_in ctx.new tables.now) }
 {
     recall_needs_nothing(ctx);
     match find_beside::<D, Ptr<Operation<D>>>(ctx, tables, op, mark) {
@@ -79,7 +78,7 @@ pub fn op_after<D: Dialects>(
     op: usize,
     mark: usize,
 ) -> Answer
-    ensures { Step (behaviour_of D.Dialects D.TypeKey.eq) (session_of ctx.old (entries_of tables.now)) (PlainOpAfter op mark) result (session_of ctx.new (entries_of tables.now)) }
+    ensures { Step (behaviour_of D.Dialects D.TypeKey.eq) (session_in ctx.old tables.now) (PlainOpAfter op mark) result (session_in ctx.new tables.now) }
 {
     recall_needs_nothing(ctx);
     match find_beside::<D, Ptr<Operation<D>>>(ctx, tables, op, mark) {
@@ -93,7 +92,7 @@ pub fn op_after<D: Dialects>(
 
 /// Takes the operation out of its block.
 pub fn unlink_op<D: Dialects>(ctx: &mut Context<D>, tables: &Tables<D>, op: usize) -> Answer
-    ensures { Step (behaviour_of D.Dialects D.TypeKey.eq) (session_of ctx.old (entries_of tables.now)) (PlainUnlinkOp op) result (session_of ctx.new (entries_of tables.now)) }
+    ensures { Step (behaviour_of D.Dialects D.TypeKey.eq) (session_in ctx.old tables.now) (PlainUnlinkOp op) result (session_in ctx.new tables.now) }
 {
     recall_needs_nothing(ctx);
     match find_linked::<D, Ptr<Operation<D>>>(ctx, tables, op) {
@@ -112,7 +111,7 @@ pub fn block_front<D: Dialects>(
     block: usize,
     region: usize,
 ) -> Answer
-    ensures { Step (behaviour_of D.Dialects D.TypeKey.eq) (session_of ctx.old (entries_of tables.now)) (PlainBlockFront block region) result (session_of ctx.new (entries_of tables.now)) }
+    ensures { Step (behaviour_of D.Dialects D.TypeKey.eq) (session_in ctx.old tables.now) (PlainBlockFront block region) result (session_in ctx.new tables.now) }
 {
     recall_needs_nothing(ctx);
     match find_into::<D, Ptr<BasicBlock<D>>, Ptr<Region>>(ctx, tables, block, region) {
@@ -131,7 +130,7 @@ pub fn block_back<D: Dialects>(
     block: usize,
     region: usize,
 ) -> Answer
-    ensures { Step (behaviour_of D.Dialects D.TypeKey.eq) (session_of ctx.old (entries_of tables.now)) (PlainBlockBack block region) result (session_of ctx.new (entries_of tables.now)) }
+    ensures { Step (behaviour_of D.Dialects D.TypeKey.eq) (session_in ctx.old tables.now) (PlainBlockBack block region) result (session_in ctx.new tables.now) }
 {
     recall_needs_nothing(ctx);
     match find_into::<D, Ptr<BasicBlock<D>>, Ptr<Region>>(ctx, tables, block, region) {
@@ -150,7 +149,7 @@ pub fn block_before<D: Dialects>(
     block: usize,
     mark: usize,
 ) -> Answer
-    ensures { Step (behaviour_of D.Dialects D.TypeKey.eq) (session_of ctx.old (entries_of tables.now)) (PlainBlockBefore block mark) result (session_of ctx.new (entries_of tables.now)) }
+    ensures { Step (behaviour_of D.Dialects D.TypeKey.eq) (session_in ctx.old tables.now) (PlainBlockBefore block mark) result (session_in ctx.new tables.now) }
 {
     recall_needs_nothing(ctx);
     match find_beside::<D, Ptr<BasicBlock<D>>>(ctx, tables, block, mark) {
@@ -169,7 +168,7 @@ pub fn block_after<D: Dialects>(
     block: usize,
     mark: usize,
 ) -> Answer
-    ensures { Step (behaviour_of D.Dialects D.TypeKey.eq) (session_of ctx.old (entries_of tables.now)) (PlainBlockAfter block mark) result (session_of ctx.new (entries_of tables.now)) }
+    ensures { Step (behaviour_of D.Dialects D.TypeKey.eq) (session_in ctx.old tables.now) (PlainBlockAfter block mark) result (session_in ctx.new tables.now) }
 {
     recall_needs_nothing(ctx);
     match find_beside::<D, Ptr<BasicBlock<D>>>(ctx, tables, block, mark) {
@@ -183,7 +182,7 @@ pub fn block_after<D: Dialects>(
 
 /// Takes the block out of its region.
 pub fn unlink_block<D: Dialects>(ctx: &mut Context<D>, tables: &Tables<D>, block: usize) -> Answer
-    ensures { Step (behaviour_of D.Dialects D.TypeKey.eq) (session_of ctx.old (entries_of tables.now)) (PlainUnlinkBlock block) result (session_of ctx.new (entries_of tables.now)) }
+    ensures { Step (behaviour_of D.Dialects D.TypeKey.eq) (session_in ctx.old tables.now) (PlainUnlinkBlock block) result (session_in ctx.new tables.now) }
 {
     recall_needs_nothing(ctx);
     match find_linked::<D, Ptr<BasicBlock<D>>>(ctx, tables, block) {
@@ -202,7 +201,7 @@ pub fn append_ops<D: Dialects>(
     donee: usize,
     donor: usize,
 ) -> Answer
-    ensures { Step (behaviour_of D.Dialects D.TypeKey.eq) (session_of ctx.old (entries_of tables.now)) (PlainAppendOps donee donor) result (session_of ctx.new (entries_of tables.now)) }
+    ensures { Step (behaviour_of D.Dialects D.TypeKey.eq) (session_in ctx.old tables.now) (PlainAppendOps donee donor) result (session_in ctx.new tables.now) }
 {
     recall_needs_nothing(ctx);
     match find_joined::<D, Ptr<BasicBlock<D>>>(ctx, tables, donee, donor) {
@@ -221,7 +220,7 @@ pub fn append_blocks<D: Dialects>(
     donee: usize,
     donor: usize,
 ) -> Answer
-    ensures { Step (behaviour_of D.Dialects D.TypeKey.eq) (session_of ctx.old (entries_of tables.now)) (PlainAppendBlocks donee donor) result (session_of ctx.new (entries_of tables.now)) }
+    ensures { Step (behaviour_of D.Dialects D.TypeKey.eq) (session_in ctx.old tables.now) (PlainAppendBlocks donee donor) result (session_in ctx.new tables.now) }
 {
     recall_needs_nothing(ctx);
     match find_joined::<D, Ptr<Region>>(ctx, tables, donee, donor) {
@@ -240,7 +239,7 @@ pub fn move_region<D: Dialects>(
     region: usize,
     op: usize,
 ) -> Answer
-    ensures { Step (behaviour_of D.Dialects D.TypeKey.eq) (session_of ctx.old (entries_of tables.now)) (PlainMoveRegion region op) result (session_of ctx.new (entries_of tables.now)) }
+    ensures { Step (behaviour_of D.Dialects D.TypeKey.eq) (session_in ctx.old tables.now) (PlainMoveRegion region op) result (session_in ctx.new tables.now) }
 {
     recall_needs_nothing(ctx);
     match find_outside(ctx, tables, region, op) {

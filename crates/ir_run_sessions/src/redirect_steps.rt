@@ -4,8 +4,7 @@
 
 ghost use Rattle.ir_model.specs.Edits.{ReplaceAllUses as PlainReplaceAllUses, RetargetAll as PlainRetargetAll};
 ghost use Rattle.ir_model.specs.Sessions.{Step};
-ghost use Rattle.ir_run_tables.specs.State.{session_of};
-ghost use Rattle.ir_run_tables.specs.SessionTables.{entries_of};
+ghost use Rattle.ir_run_tables.specs.SessionTables.{session_in};
 ghost use Rattle.ir_core_records.specs.DialectAnswers.{behaviour_of};
 
 use crate::steps::{done, recall_needs_nothing};
@@ -19,7 +18,7 @@ pub fn replace_all_uses<D: Dialects>(
     value: usize,
     other: usize,
 ) -> Answer
-    ensures { Step (behaviour_of D.Dialects D.TypeKey.eq) (session_of ctx.old (entries_of tables.now)) (PlainReplaceAllUses value other) result (session_of ctx.new (entries_of tables.now)) }
+    ensures { Step (behaviour_of D.Dialects D.TypeKey.eq) (session_in ctx.old tables.now) (PlainReplaceAllUses value other) result (session_in ctx.new tables.now) }
 {
     recall_needs_nothing(ctx);
     match find_values(ctx, tables, value, other) {
@@ -35,7 +34,7 @@ pub fn retarget_all<D: Dialects>(
     block: usize,
     other: usize,
 ) -> Answer
-    ensures { Step (behaviour_of D.Dialects D.TypeKey.eq) (session_of ctx.old (entries_of tables.now)) (PlainRetargetAll block other) result (session_of ctx.new (entries_of tables.now)) }
+    ensures { Step (behaviour_of D.Dialects D.TypeKey.eq) (session_in ctx.old tables.now) (PlainRetargetAll block other) result (session_in ctx.new tables.now) }
 {
     recall_needs_nothing(ctx);
     match find_retargeted(ctx, tables, block, other) {

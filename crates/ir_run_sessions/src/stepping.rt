@@ -2,8 +2,7 @@
 
 ghost use Rattle.ir_model.specs.Sessions.{Step};
 ghost use Rattle.ir_model.specs.Soundness.{Sound};
-ghost use Rattle.ir_run_tables.specs.SessionTables.{entries_of};
-ghost use Rattle.ir_run_tables.specs.State.{session_of};
+ghost use Rattle.ir_run_tables.specs.SessionTables.{session_in};
 ghost use Rattle.ir_run_sessions.specs.SessionEdits.{edit_of};
 ghost use Rattle.ir_core_records.specs.DialectAnswers.{behaviour_of};
 
@@ -19,8 +18,8 @@ pub(crate) fn step<D: Dialects>(
     tables: &mut Tables<D>,
     edit: Edit<D>,
 ) -> Answer
-    requires { Sound (session_of ctx.old (entries_of tables.old)) }
-    ensures { Step (behaviour_of D.Dialects D.TypeKey.eq) (session_of ctx.old (entries_of tables.old)) (edit_of edit) result (session_of ctx.new (entries_of tables.new)) }
+    requires { Sound (session_in ctx.old tables.old) }
+    ensures { Step (behaviour_of D.Dialects D.TypeKey.eq) (session_in ctx.old tables.old) (edit_of edit) result (session_in ctx.new tables.new) }
 {
     match edit {
         Edit::NewType(key) => steps::new_type(ctx, tables, key),

@@ -3,15 +3,16 @@
 //! Its condition is tested first. Then it is asked whether the context has numbers and slots enough, and only then is memory taken, for the tables and for what the edit names.
 
 ghost use Rattle.std.specs.Prelude.{◌≡◌, ◌<◌, ◌↔◌, ℕ, length, Err, IfOk, IsTrue, OnOk, Some, slice_get};
-ghost use Rattle.ir_model.specs.Edits.{AddRegion as PlainAddRegion, Condition, Each, NewBlock as PlainNewBlock, NewOp as PlainNewOp, NewType as PlainNewType, no_needs, these};
+ghost use Rattle.ir_model.specs.Edits.{AddRegion as PlainAddRegion, Condition, Each, NewBlock as PlainNewBlock, NewType as PlainNewType, no_needs, these};
 ghost use Rattle.ir_model.specs.Forest.{an_op};
 ghost use Rattle.ir_model.specs.Nesting.{IsLive};
-ghost use Rattle.ir_model.specs.Sessions.{HasNumbers, HasSlots, LacksNumbers, LacksSlots, Step};
+ghost use Rattle.ir_model.specs.Sessions.{HasNumbers, HasSlots, LacksNumbers, Step};
 ghost use Rattle.ir_model.specs.Soundness.{Sound};
-ghost use Rattle.ir_run_tables.specs.Calls.{HasAll, counts_of};
-ghost use Rattle.ir_run_tables.specs.State.{bare, forest_of, session_of};
-ghost use Rattle.ir_run_tables.specs.SessionTables.{HasPlace, answer_of, done_of, entries_of};
+ghost use Rattle.ir_run_tables.specs.Calls.{HasAll, counts_of, LacksOnlySlots};
+ghost use Rattle.ir_run_tables.specs.State.{bare, forest_of};
+ghost use Rattle.ir_run_tables.specs.SessionTables.{HasPlace, answer_of, done_of, entries_of, session_in};
 ghost use Rattle.ir_core_records.specs.DialectAnswers.{behaviour_of};
+ghost use Rattle.ir_run_sessions.specs.NewOps.{edit_of_parts};
 
 use ir_base_dialects::{Answer, CoreError, Dialects, Identifier, Ptr, Refused, TypeHandle};
 use ir_run_tables::{
@@ -49,7 +50,7 @@ pub fn new_type<D: Dialects>(
     tables: &mut Tables<D>,
     key: D::TypeKey,
 ) -> Answer
-    ensures { Step (behaviour_of D.Dialects D.TypeKey.eq) (session_of ctx.old (entries_of tables.old)) (PlainNewType key) result (session_of ctx.new (entries_of tables.new)) }
+    ensures { Step (behaviour_of D.Dialects D.TypeKey.eq) (session_in ctx.old tables.old) (PlainNewType key) result (session_in ctx.new tables.new) }
 {
     recall_needs_nothing(ctx);
     answer(store_type(ctx, tables, key))
@@ -61,8 +62,8 @@ pub fn new_op<D: Dialects>(
     tables: &mut Tables<D>,
     parts: &OpParts<'_>,
 ) -> Answer
-    requires { Sound (session_of ctx.old (entries_of tables.old)) }
-    ensures { Step (behaviour_of D.Dialects D.TypeKey.eq) (session_of ctx.old (entries_of tables.old)) (PlainNewOp parts.now.kind parts.now.types.now parts.now.operands.now parts.now.successors.now parts.now.regions) result (session_of ctx.new (entries_of tables.new)) }
+    requires { Sound (session_in ctx.old tables.old) }
+    ensures { Step (behaviour_of D.Dialects D.TypeKey.eq) (session_in ctx.old tables.old) (edit_of_parts parts.now) result (session_in ctx.new tables.new) }
 {
     if may_be_made(ctx, tables, parts) {
         answer(make_op(ctx, tables, parts))
@@ -78,8 +79,8 @@ pub fn new_block<D: Dialects>(
     label: Option<Identifier>,
     types: &[usize],
 ) -> Answer
-    requires { Sound (session_of ctx.old (entries_of tables.old)) }
-    ensures { Step (behaviour_of D.Dialects D.TypeKey.eq) (session_of ctx.old (entries_of tables.old)) (PlainNewBlock label types.now) result (session_of ctx.new (entries_of tables.new)) }
+    requires { Sound (session_in ctx.old tables.old) }
+    ensures { Step (behaviour_of D.Dialects D.TypeKey.eq) (session_in ctx.old tables.old) (PlainNewBlock label types.now) result (session_in ctx.new tables.new) }
 {
     if all_below(types, tables.types.len()) {
         answer(make_block(ctx, tables, label, types))
@@ -94,8 +95,8 @@ pub fn add_region<D: Dialects>(
     tables: &mut Tables<D>,
     number: usize,
 ) -> Answer
-    requires { Sound (session_of ctx.old (entries_of tables.old)) }
-    ensures { Step (behaviour_of D.Dialects D.TypeKey.eq) (session_of ctx.old (entries_of tables.old)) (PlainAddRegion number) result (session_of ctx.new (entries_of tables.new)) }
+    requires { Sound (session_in ctx.old tables.old) }
+    ensures { Step (behaviour_of D.Dialects D.TypeKey.eq) (session_in ctx.old tables.old) (PlainAddRegion number) result (session_in ctx.new tables.new) }
 {
     match live_entry(ctx, &tables.ops, number) {
         Some(op) => answer(make_region(ctx, tables, op)),
@@ -127,7 +128,7 @@ pub(crate) fn done<T: Drop>(made: Result<T, CoreError>) -> Answer
 
 // Whether the types are known, and the values and blocks live.
 fn may_be_made<D: Dialects>(ctx: &Context<D>, tables: &Tables<D>, parts: &OpParts<'_>) -> bool
-    ensures { IsTrue result ↔ Condition (session_of ctx.now (entries_of tables.now)).state (PlainNewOp parts.now.kind parts.now.types.now parts.now.operands.now parts.now.successors.now parts.now.regions) }
+    ensures { IsTrue result ↔ Condition (session_in ctx.now tables.now).state (edit_of_parts parts.now) }
 {
     all_below(parts.types, tables.types.len())
         && all_live(ctx, &tables.values, parts.operands)
@@ -155,7 +156,7 @@ pub(crate) fn make_room<D: Dialects>(
     ensures place { OnOk result (HasPlace tables.new (counts_of needs)) }
     ensures enough { OnOk result (HasAll ctx.now (counts_of needs)) }
     ensures counter { (result ≡ Err CoreError.CounterSpent) ↔ LacksNumbers (bare ctx.now) (counts_of needs) }
-    ensures slots { (result ≡ Err CoreError.SlotsSpent) ↔ (HasNumbers (bare ctx.now) (counts_of needs) × LacksSlots (bare ctx.now) (counts_of needs)) }
+    ensures slots { (result ≡ Err CoreError.SlotsSpent) ↔ LacksOnlySlots (bare ctx.now) (counts_of needs) }
 {
     ctx.covers(needs)?;
     tables.reserve(needs)?;
@@ -170,7 +171,7 @@ fn store_type<D: Dialects>(
 ) -> Result<usize, CoreError>
     requires numbers { HasNumbers (bare ctx.old) no_needs }
     requires slots { HasSlots (bare ctx.old) no_needs }
-    ensures { Step (behaviour_of D.Dialects D.TypeKey.eq) (session_of ctx.old (entries_of tables.old)) (PlainNewType key) (answer_of result) (session_of ctx.new (entries_of tables.new)) }
+    ensures { Step (behaviour_of D.Dialects D.TypeKey.eq) (session_in ctx.old tables.old) (PlainNewType key) (answer_of result) (session_in ctx.new tables.new) }
 {
     tables.reserve_type()?;
     let ty = ctx.instantiate_key(key)?;
@@ -208,9 +209,9 @@ fn make_op<D: Dialects>(
     tables: &mut Tables<D>,
     parts: &OpParts<'_>,
 ) -> Result<usize, CoreError>
-    requires sound { Sound (session_of ctx.old (entries_of tables.old)) }
-    requires condition { Condition (session_of ctx.old (entries_of tables.old)).state (PlainNewOp parts.now.kind parts.now.types.now parts.now.operands.now parts.now.successors.now parts.now.regions) }
-    ensures { Step (behaviour_of D.Dialects D.TypeKey.eq) (session_of ctx.old (entries_of tables.old)) (PlainNewOp parts.now.kind parts.now.types.now parts.now.operands.now parts.now.successors.now parts.now.regions) (answer_of result) (session_of ctx.new (entries_of tables.new)) }
+    requires sound { Sound (session_in ctx.old tables.old) }
+    requires condition { Condition (session_in ctx.old tables.old).state (edit_of_parts parts.now) }
+    ensures { Step (behaviour_of D.Dialects D.TypeKey.eq) (session_in ctx.old tables.old) (edit_of_parts parts.now) (answer_of result) (session_in ctx.new tables.new) }
 {
     let needs = Needs {
         ops: 1,
@@ -242,9 +243,9 @@ fn make_block<D: Dialects>(
     label: Option<Identifier>,
     types: &[usize],
 ) -> Result<usize, CoreError>
-    requires sound { Sound (session_of ctx.old (entries_of tables.old)) }
-    requires condition { Condition (session_of ctx.old (entries_of tables.old)).state (PlainNewBlock label types.now) }
-    ensures { Step (behaviour_of D.Dialects D.TypeKey.eq) (session_of ctx.old (entries_of tables.old)) (PlainNewBlock label types.now) (answer_of result) (session_of ctx.new (entries_of tables.new)) }
+    requires sound { Sound (session_in ctx.old tables.old) }
+    requires condition { Condition (session_in ctx.old tables.old).state (PlainNewBlock label types.now) }
+    ensures { Step (behaviour_of D.Dialects D.TypeKey.eq) (session_in ctx.old tables.old) (PlainNewBlock label types.now) (answer_of result) (session_in ctx.new tables.new) }
 {
     let needs = Needs {
         blocks: 1,
@@ -265,9 +266,9 @@ fn make_region<D: Dialects>(
     tables: &mut Tables<D>,
     op: Ptr<Operation<D>>,
 ) -> Result<usize, CoreError>
-    requires sound { Sound (session_of ctx.old (entries_of tables.old)) }
+    requires sound { Sound (session_in ctx.old tables.old) }
     requires live { IsLive (forest_of ctx.old) (an_op op.index) }
-    ensures { (n : ℕ) → slice_get (entries_of tables.old).ops n ≡ Some op.index → Step (behaviour_of D.Dialects D.TypeKey.eq) (session_of ctx.old (entries_of tables.old)) (PlainAddRegion n) (answer_of result) (session_of ctx.new (entries_of tables.new)) }
+    ensures { (n : ℕ) → slice_get (entries_of tables.old).ops n ≡ Some op.index → Step (behaviour_of D.Dialects D.TypeKey.eq) (session_in ctx.old tables.old) (PlainAddRegion n) (answer_of result) (session_in ctx.new tables.new) }
 {
     let needs = Needs {
         regions: 1,

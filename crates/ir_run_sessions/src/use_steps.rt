@@ -4,8 +4,7 @@
 
 ghost use Rattle.ir_model.specs.Edits.{InsertOperand as PlainInsertOperand, InsertSuccessor as PlainInsertSuccessor, PushOperand as PlainPushOperand, PushSuccessor as PlainPushSuccessor, RemoveOperand as PlainRemoveOperand, RemoveSuccessor as PlainRemoveSuccessor, ReplaceOperand as PlainReplaceOperand, ReplaceSuccessor as PlainReplaceSuccessor};
 ghost use Rattle.ir_model.specs.Sessions.{Step};
-ghost use Rattle.ir_run_tables.specs.State.{session_of};
-ghost use Rattle.ir_run_tables.specs.SessionTables.{entries_of};
+ghost use Rattle.ir_run_tables.specs.SessionTables.{session_in};
 ghost use Rattle.ir_core_records.specs.DialectAnswers.{behaviour_of};
 
 use crate::steps::{done, recall_needs_nothing};
@@ -22,7 +21,7 @@ pub fn push_operand<D: Dialects>(
     op: usize,
     value: usize,
 ) -> Answer
-    ensures { Step (behaviour_of D.Dialects D.TypeKey.eq) (session_of ctx.old (entries_of tables.now)) (PlainPushOperand op value) result (session_of ctx.new (entries_of tables.now)) }
+    ensures { Step (behaviour_of D.Dialects D.TypeKey.eq) (session_in ctx.old tables.now) (PlainPushOperand op value) result (session_in ctx.new tables.now) }
 {
     recall_needs_nothing(ctx);
     match find_op_and_value(ctx, tables, op, value) {
@@ -39,7 +38,7 @@ pub fn insert_operand<D: Dialects>(
     at: usize,
     value: usize,
 ) -> Answer
-    ensures { Step (behaviour_of D.Dialects D.TypeKey.eq) (session_of ctx.old (entries_of tables.now)) (PlainInsertOperand op at value) result (session_of ctx.new (entries_of tables.now)) }
+    ensures { Step (behaviour_of D.Dialects D.TypeKey.eq) (session_in ctx.old tables.now) (PlainInsertOperand op at value) result (session_in ctx.new tables.now) }
 {
     recall_needs_nothing(ctx);
     match find_op_and_value(ctx, tables, op, value) {
@@ -57,7 +56,7 @@ pub fn remove_operand<D: Dialects>(
     op: usize,
     at: usize,
 ) -> Answer
-    ensures { Step (behaviour_of D.Dialects D.TypeKey.eq) (session_of ctx.old (entries_of tables.now)) (PlainRemoveOperand op at) result (session_of ctx.new (entries_of tables.now)) }
+    ensures { Step (behaviour_of D.Dialects D.TypeKey.eq) (session_in ctx.old tables.now) (PlainRemoveOperand op at) result (session_in ctx.new tables.now) }
 {
     recall_needs_nothing(ctx);
     match find::<D, Ptr<Operation<D>>>(ctx, tables, op) {
@@ -77,7 +76,7 @@ pub fn replace_operand<D: Dialects>(
     at: usize,
     value: usize,
 ) -> Answer
-    ensures { Step (behaviour_of D.Dialects D.TypeKey.eq) (session_of ctx.old (entries_of tables.now)) (PlainReplaceOperand op at value) result (session_of ctx.new (entries_of tables.now)) }
+    ensures { Step (behaviour_of D.Dialects D.TypeKey.eq) (session_in ctx.old tables.now) (PlainReplaceOperand op at value) result (session_in ctx.new tables.now) }
 {
     recall_needs_nothing(ctx);
     match find_op_and_value(ctx, tables, op, value) {
@@ -95,7 +94,7 @@ pub fn push_successor<D: Dialects>(
     op: usize,
     block: usize,
 ) -> Answer
-    ensures { Step (behaviour_of D.Dialects D.TypeKey.eq) (session_of ctx.old (entries_of tables.now)) (PlainPushSuccessor op block) result (session_of ctx.new (entries_of tables.now)) }
+    ensures { Step (behaviour_of D.Dialects D.TypeKey.eq) (session_in ctx.old tables.now) (PlainPushSuccessor op block) result (session_in ctx.new tables.now) }
 {
     recall_needs_nothing(ctx);
     match find_both::<D, Ptr<Operation<D>>, Ptr<BasicBlock<D>>>(ctx, tables, op, block) {
@@ -112,7 +111,7 @@ pub fn insert_successor<D: Dialects>(
     at: usize,
     block: usize,
 ) -> Answer
-    ensures { Step (behaviour_of D.Dialects D.TypeKey.eq) (session_of ctx.old (entries_of tables.now)) (PlainInsertSuccessor op at block) result (session_of ctx.new (entries_of tables.now)) }
+    ensures { Step (behaviour_of D.Dialects D.TypeKey.eq) (session_in ctx.old tables.now) (PlainInsertSuccessor op at block) result (session_in ctx.new tables.now) }
 {
     recall_needs_nothing(ctx);
     match find_both::<D, Ptr<Operation<D>>, Ptr<BasicBlock<D>>>(ctx, tables, op, block) {
@@ -130,7 +129,7 @@ pub fn remove_successor<D: Dialects>(
     op: usize,
     at: usize,
 ) -> Answer
-    ensures { Step (behaviour_of D.Dialects D.TypeKey.eq) (session_of ctx.old (entries_of tables.now)) (PlainRemoveSuccessor op at) result (session_of ctx.new (entries_of tables.now)) }
+    ensures { Step (behaviour_of D.Dialects D.TypeKey.eq) (session_in ctx.old tables.now) (PlainRemoveSuccessor op at) result (session_in ctx.new tables.now) }
 {
     recall_needs_nothing(ctx);
     match find::<D, Ptr<Operation<D>>>(ctx, tables, op) {
@@ -150,7 +149,7 @@ pub fn replace_successor<D: Dialects>(
     at: usize,
     block: usize,
 ) -> Answer
-    ensures { Step (behaviour_of D.Dialects D.TypeKey.eq) (session_of ctx.old (entries_of tables.now)) (PlainReplaceSuccessor op at block) result (session_of ctx.new (entries_of tables.now)) }
+    ensures { Step (behaviour_of D.Dialects D.TypeKey.eq) (session_in ctx.old tables.now) (PlainReplaceSuccessor op at block) result (session_in ctx.new tables.now) }
 {
     recall_needs_nothing(ctx);
     match find_both::<D, Ptr<Operation<D>>, Ptr<BasicBlock<D>>>(ctx, tables, op, block) {

@@ -1,5 +1,5 @@
 -- What the tables of a session mean, and how what was made is entered into them.
-use Rattle.std.specs.Prelude.{ℕ, ◌+◌, ◌≤◌, [], ◌∷◌, ◌++◌, map, Result, Ok, Err, vec_len, vec_capacity}
+use Rattle.std.specs.Prelude.{◌≡◌, ℕ, List, Some, slice_get, ◌+◌, ◌≤◌, [], ◌∷◌, ◌++◌, map, Result, Ok, Err, vec_len, vec_capacity}
 use Rattle.ir_model.specs.declared.ids.ArenaIndex.{ArenaIndex}
 use Rattle.ir_model.specs.declared.answer.Answer.{Answer}
 use Rattle.ir_model.specs.declared.answer.Answer.TheVariants.{Done, Made, Refused}
@@ -8,11 +8,14 @@ use Rattle.ir_model.specs.declared.error.CoreError.{CoreError}
 use Rattle.ir_model.specs.declared.error.CoreError.TheVariants.{OutOfMemory, CounterSpent, SlotsSpent}
 use Rattle.ir_model.specs.ContextIds.{context_ids}
 use Rattle.ir_model.specs.Ids.{Counts}
-use Rattle.ir_model.specs.Forest.{Value, of_op, of_block}
+use Rattle.ir_model.specs.Forest.{Entity, Value, of_op, of_block}
+use Rattle.ir_model.specs.Sessions.{Session}
 use Rattle.ir_model.specs.Edits.{Tables as PlainTables, numbered}
 use Rattle.ir_core_records.specs.declared.record.Operation.{Operation}
 use Rattle.ir_core_records.specs.declared.record.BasicBlock.{BasicBlock}
-use Rattle.ir_core_records.specs.Meaning.{op_index, op_record, block_index, block_record, value_of}
+use Rattle.ir_core_records.specs.Meaning.{closed, op_index, op_record, block_index, block_record, value_of}
+use Rattle.ir_core_queries.specs.State.{State, forest_of, session_of}
+use Rattle.ir_run_tables.specs.Named.{NamesLive}
 use Rattle.ir_run_tables.specs.declared.session_tables.Tables.{Tables}
 
 -- how an edit is answered that made an entry with this number, or was refused for this
@@ -49,6 +52,26 @@ module _ {D A K B S X L : Type 0} where
     regions = map (λ p. p.index) t.regions.items;
     values = map (λ v. value_of v.index) t.values.items;
   }
+
+  -- the session that a context and its tables mean
+  abbrev pub session_in : State D A K B S X L → Tables D A K B S X L → Session (closed A K B S X L)
+  session_in s t = session_of s (entries_of t)
+
+  -- no two live entities have these numbers, each in the table of its kind
+  abbrev pub NoTwoLive : State D A K B S X L → Tables D A K B S X L → (ArenaIndex → Entity context_ids) → (PlainTables context_ids → List ArenaIndex) → ℕ → (ArenaIndex → Entity context_ids) → (PlainTables context_ids → List ArenaIndex) → ℕ → Type 0
+  NoTwoLive s t entity column n other others m = (i j : ArenaIndex) → NamesLive (forest_of s) entity (column (entries_of t)) n i → NamesLive (forest_of s) other (others (entries_of t)) m j → ⊥
+
+  -- no two live entities that have these numbers stand so to each other
+  abbrev pub NoPairLive : State D A K B S X L → Tables D A K B S X L → (ArenaIndex → Entity context_ids) → (PlainTables context_ids → List ArenaIndex) → ℕ → (ArenaIndex → Entity context_ids) → (PlainTables context_ids → List ArenaIndex) → ℕ → (Entity context_ids → Entity context_ids → Type 0) → Type 0
+  NoPairLive s t entity column n other others m Are = (i j : ArenaIndex) → NamesLive (forest_of s) entity (column (entries_of t)) n i → NamesLive (forest_of s) other (others (entries_of t)) m j → Are (entity i) (other j) → ⊥
+
+  -- whatever numbers the operation and the type have
+  abbrev pub ForOpAndType : Tables D A K B S X L → ArenaIndex → ℕ → (ℕ → ℕ → Type 0) → Type 0
+  ForOpAndType t op ty Is = (n m : ℕ) → slice_get (entries_of t).ops n ≡ Some op → slice_get (entries_of t).types m ≡ Some ty → Is n m
+
+  -- whatever numbers the block and the type have
+  abbrev pub ForBlockAndType : Tables D A K B S X L → ArenaIndex → ℕ → (ℕ → ℕ → Type 0) → Type 0
+  ForBlockAndType t block ty Is = (n m : ℕ) → slice_get (entries_of t).blocks n ≡ Some block → slice_get (entries_of t).types m ≡ Some ty → Is n m
 
   -- the tables can take so many operations, blocks, regions and values without growing
   pub record HasPlace (t : Tables D A K B S X L) (n : Counts) : Type 0 where

@@ -3,11 +3,12 @@
 ghost use Rattle.std.specs.Prelude.{◌↔◌, IfSome, IsNone, slice_get};
 ghost use Rattle.ir_model.specs.declared.ids.ArenaIndex.{ArenaIndex};
 ghost use Rattle.ir_model.specs.Edits.{The};
-ghost use Rattle.ir_model.specs.Forest.{a_region, an_op};
-ghost use Rattle.ir_model.specs.Nesting.{IsClosed, regions_of};
+ghost use Rattle.ir_model.specs.Forest.{an_op};
+ghost use Rattle.ir_model.specs.Nesting.{IsClosed};
 ghost use Rattle.ir_core_queries.specs.State.{forest_of};
 ghost use Rattle.ir_run_tables.specs.Named.{NamesLive};
 ghost use Rattle.ir_run_tables.specs.SessionTables.{entries_of};
+ghost use Rattle.ir_core_queries.specs.Definitions.{ClosedAt};
 
 use crate::entities::{EntityEntry, find};
 use crate::session_tables::Tables;
@@ -40,8 +41,8 @@ pub fn find_closed_region<D: Dialects>(
     at: usize,
 ) -> Option<Ptr<Operation<D>>>
     ensures named { IfSome result (λ op. NamesLive (forest_of ctx.now) an_op (entries_of tables.now).ops number op.index) }
-    ensures closed { IfSome result (λ op. The (slice_get (regions_of (forest_of ctx.now) op.index) at) (λ g. IsClosed (forest_of ctx.now) (a_region g))) }
-    ensures missing { IsNone result → (id : ArenaIndex) → NamesLive (forest_of ctx.now) an_op (entries_of tables.now).ops number id → The (slice_get (regions_of (forest_of ctx.now) id) at) (λ g. IsClosed (forest_of ctx.now) (a_region g)) → ⊥ }
+    ensures closed { IfSome result (λ op. ClosedAt (forest_of ctx.now) op.index at) }
+    ensures missing { IsNone result → (id : ArenaIndex) → NamesLive (forest_of ctx.now) an_op (entries_of tables.now).ops number id → ClosedAt (forest_of ctx.now) id at → ⊥ }
 {
     let op: Ptr<Operation<D>> = find(ctx, tables, number)?;
     let record = op.deref(ctx);

@@ -12,7 +12,7 @@ ghost use Rattle.ir_model.specs.Parent.{IsParent, IsUnlinked};
 ghost use Rattle.ir_core_queries.specs.State.{forest_of};
 ghost use Rattle.ir_core_queries.specs.Entities.{meant};
 ghost use Rattle.ir_run_tables.specs.Named.{NamesLive};
-ghost use Rattle.ir_run_tables.specs.SessionTables.{entries_of};
+ghost use Rattle.ir_run_tables.specs.SessionTables.{entries_of, NoPairLive};
 
 use crate::entities::{EntityEntry, find};
 use crate::session_tables::Tables;
@@ -46,7 +46,7 @@ pub fn find_into<D: Dialects, N: EntityEntry<D>, C: EntityEntry<D>>(
     ensures node { IfSome result (λ pair. NamesLive (forest_of ctx.now) N.entity_at (N.column (entries_of tables.now)) node (N.index_of pair.0)) }
     ensures container { IfSome result (λ pair. NamesLive (forest_of ctx.now) C.entity_at (C.column (entries_of tables.now)) container (C.index_of pair.1)) }
     ensures may_go { IfSome result (λ pair. MayGoInto (forest_of ctx.now) (N.entity_at (N.index_of pair.0)) (C.entity_at (C.index_of pair.1))) }
-    ensures missing { IsNone result → (i j : ArenaIndex) → NamesLive (forest_of ctx.now) N.entity_at (N.column (entries_of tables.now)) node i → NamesLive (forest_of ctx.now) C.entity_at (C.column (entries_of tables.now)) container j → MayGoInto (forest_of ctx.now) (N.entity_at i) (C.entity_at j) → ⊥ }
+    ensures missing { IsNone result → NoPairLive ctx.now tables.now N.entity_at N.column node C.entity_at C.column container (MayGoInto (forest_of ctx.now)) }
 {
     let node: N = find(ctx, tables, node)?;
     let container: C = find(ctx, tables, container)?;
@@ -67,7 +67,7 @@ pub fn find_beside<D: Dialects, N: EntityEntry<D>>(
     ensures node { IfSome result (λ pair. NamesLive (forest_of ctx.now) N.entity_at (N.column (entries_of tables.now)) node (N.index_of pair.0)) }
     ensures mark { IfSome result (λ pair. NamesLive (forest_of ctx.now) N.entity_at (N.column (entries_of tables.now)) mark (N.index_of pair.1)) }
     ensures may_go { IfSome result (λ pair. MayGoBeside (forest_of ctx.now) (N.entity_at (N.index_of pair.0)) (N.entity_at (N.index_of pair.1))) }
-    ensures missing { IsNone result → (i j : ArenaIndex) → NamesLive (forest_of ctx.now) N.entity_at (N.column (entries_of tables.now)) node i → NamesLive (forest_of ctx.now) N.entity_at (N.column (entries_of tables.now)) mark j → MayGoBeside (forest_of ctx.now) (N.entity_at i) (N.entity_at j) → ⊥ }
+    ensures missing { IsNone result → NoPairLive ctx.now tables.now N.entity_at N.column node N.entity_at N.column mark (MayGoBeside (forest_of ctx.now)) }
 {
     let node: N = find(ctx, tables, node)?;
     let mark: N = find(ctx, tables, mark)?;
@@ -88,7 +88,7 @@ pub fn find_joined<D: Dialects, C: EntityEntry<D>>(
     ensures donee { IfSome result (λ pair. NamesLive (forest_of ctx.now) C.entity_at (C.column (entries_of tables.now)) donee (C.index_of pair.0)) }
     ensures donor { IfSome result (λ pair. NamesLive (forest_of ctx.now) C.entity_at (C.column (entries_of tables.now)) donor (C.index_of pair.1)) }
     ensures may_join { IfSome result (λ pair. MayJoin (forest_of ctx.now) (C.entity_at (C.index_of pair.0)) (C.entity_at (C.index_of pair.1))) }
-    ensures missing { IsNone result → (i j : ArenaIndex) → NamesLive (forest_of ctx.now) C.entity_at (C.column (entries_of tables.now)) donee i → NamesLive (forest_of ctx.now) C.entity_at (C.column (entries_of tables.now)) donor j → MayJoin (forest_of ctx.now) (C.entity_at i) (C.entity_at j) → ⊥ }
+    ensures missing { IsNone result → NoPairLive ctx.now tables.now C.entity_at C.column donee C.entity_at C.column donor (MayJoin (forest_of ctx.now)) }
 {
     let donee: C = find(ctx, tables, donee)?;
     let donor: C = find(ctx, tables, donor)?;
@@ -109,7 +109,7 @@ pub fn find_outside<D: Dialects>(
     ensures region { IfSome result (λ pair. NamesLive (forest_of ctx.now) a_region (entries_of tables.now).regions region pair.0.index) }
     ensures op { IfSome result (λ pair. NamesLive (forest_of ctx.now) an_op (entries_of tables.now).ops op pair.1.index) }
     ensures outside { IfSome result (λ pair. ¬ Inside (forest_of ctx.now) (a_region pair.0.index) (an_op pair.1.index)) }
-    ensures missing { IsNone result → (i j : ArenaIndex) → NamesLive (forest_of ctx.now) a_region (entries_of tables.now).regions region i → NamesLive (forest_of ctx.now) an_op (entries_of tables.now).ops op j → ¬ Inside (forest_of ctx.now) (a_region i) (an_op j) → ⊥ }
+    ensures missing { IsNone result → NoPairLive ctx.now tables.now a_region (λ t. t.regions) region an_op (λ t. t.ops) op (λ r o. ¬ Inside (forest_of ctx.now) r o) }
 {
     let region: Ptr<Region> = find(ctx, tables, region)?;
     let op: Ptr<Operation<D>> = find(ctx, tables, op)?;

@@ -8,7 +8,7 @@ ghost use Rattle.ir_model.specs.Forest.{Value as PlainValue, a_block, an_op};
 ghost use Rattle.ir_core_records.specs.Meaning.{value_of};
 ghost use Rattle.ir_core_queries.specs.State.{forest_of};
 ghost use Rattle.ir_run_tables.specs.Named.{NamesLive, NamesLiveValue};
-ghost use Rattle.ir_run_tables.specs.SessionTables.{entries_of};
+ghost use Rattle.ir_run_tables.specs.SessionTables.{entries_of, NoTwoLive};
 
 use crate::entities::{EntityEntry, find};
 use crate::lookups::live_entry;
@@ -52,7 +52,7 @@ pub fn find_both<D: Dialects, N: EntityEntry<D>, M: EntityEntry<D>>(
 ) -> Option<(N, M)>
     ensures first { IfSome result (λ pair. NamesLive (forest_of ctx.now) N.entity_at (N.column (entries_of tables.now)) first (N.index_of pair.0)) }
     ensures second { IfSome result (λ pair. NamesLive (forest_of ctx.now) M.entity_at (M.column (entries_of tables.now)) second (M.index_of pair.1)) }
-    ensures missing { IsNone result → (i j : ArenaIndex) → NamesLive (forest_of ctx.now) N.entity_at (N.column (entries_of tables.now)) first i → NamesLive (forest_of ctx.now) M.entity_at (M.column (entries_of tables.now)) second j → ⊥ }
+    ensures missing { IsNone result → NoTwoLive ctx.now tables.now N.entity_at N.column first M.entity_at M.column second }
 {
     let first: N = find(ctx, tables, first)?;
     let second: M = find(ctx, tables, second)?;

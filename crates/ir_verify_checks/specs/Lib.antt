@@ -1,3 +1,4 @@
 pub mod Shown
 pub mod Told
 pub mod Parts
+pub mod Verified

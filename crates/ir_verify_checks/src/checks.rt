@@ -7,9 +7,7 @@ ghost use Rattle.ir_model.specs.Nesting.{In, IsLive};
 ghost use Rattle.ir_core_records.specs.declared.record.Definition.{Definition as PlainDefinition};
 ghost use Rattle.ir_core_records.specs.Meaning.{definition_of};
 ghost use Rattle.ir_view_parts.specs.State.{forest_of, types_of};
-ghost use Rattle.ir_verify_checks.specs.Parts.{Finds, FindsAt, NoFault, RunsOnAttributes, RunsOnOp, RunsOnTypes};
-ghost use Rattle.ir_verify_checks.specs.Shown.{checks_in};
-ghost use Rattle.ir_core_records.specs.DialectAnswers.{behaviour_of, kinds_of};
+ghost use Rattle.ir_verify_checks.specs.Verified.{ChecksOnAttributes, ChecksOnOp, ChecksOnTypes, FindsIn};
 
 use crate::error::VerifyErr;
 use crate::verifiers::Verifiers;
@@ -24,7 +22,7 @@ pub(crate) fn check_type<D: Dialects, V: Verifiers<D>>(
     ctx: &Context<D>,
     verifiers: &V,
 ) -> Result<(), VerifyErr>
-    ensures { FindsAt (behaviour_of D.Dialects D.TypeKey.eq) (forest_of ctx.now) (types_of ctx.now) (checks_in (kinds_of D.Dialects D.Saved.eq) (V.handed_in verifiers.now) ctx.now) (the_type key.now) result }
+    ensures { FindsIn D.Dialects D.TypeKey.eq D.Saved.eq (V.handed_in verifiers.now) ctx.now (the_type key.now) result }
 {
     for number in verifiers.type_verifiers(D::type_kind(key)) {
         verifiers.check_type_interface(*number, key, ctx)?;
@@ -38,7 +36,7 @@ pub(crate) fn check_own_type<D: Dialects, V: Verifiers<D>>(
     ctx: &Context<D>,
     verifiers: &V,
 ) -> Result<(), VerifyErr>
-    ensures { FindsAt (behaviour_of D.Dialects D.TypeKey.eq) (forest_of ctx.now) (types_of ctx.now) (checks_in (kinds_of D.Dialects D.Saved.eq) (V.handed_in verifiers.now) ctx.now) (the_typed key.now) result }
+    ensures { FindsIn D.Dialects D.TypeKey.eq D.Saved.eq (V.handed_in verifiers.now) ctx.now (the_typed key.now) result }
 {
     Ok(verifiers.check_type(key, ctx)?)
 }
@@ -49,7 +47,7 @@ pub(crate) fn check_attribute<D: Dialects, V: Verifiers<D>>(
     ctx: &Context<D>,
     verifiers: &V,
 ) -> Result<(), VerifyErr>
-    ensures { FindsAt (behaviour_of D.Dialects D.TypeKey.eq) (forest_of ctx.now) (types_of ctx.now) (checks_in (kinds_of D.Dialects D.Saved.eq) (V.handed_in verifiers.now) ctx.now) (the_attribute attr.now) result }
+    ensures { FindsIn D.Dialects D.TypeKey.eq D.Saved.eq (V.handed_in verifiers.now) ctx.now (the_attribute attr.now) result }
 {
     for number in verifiers.attr_verifiers(D::attr_kind(attr)) {
         verifiers.check_attr_interface(*number, attr, ctx)?;
@@ -64,7 +62,7 @@ pub(crate) fn check_operation<D: Dialects, V: Verifiers<D>>(
     verifiers: &V,
 ) -> Result<(), VerifyErr>
     requires { IsLive (forest_of ctx.now) (an_op op.index) }
-    ensures { Finds (checks_in (kinds_of D.Dialects D.Saved.eq) (V.handed_in verifiers.now) ctx.now) NoFault (RunsOnOp (behaviour_of D.Dialects D.TypeKey.eq) (forest_of ctx.now) (types_of ctx.now) (checks_in (kinds_of D.Dialects D.Saved.eq) (V.handed_in verifiers.now) ctx.now) op.index) result }
+    ensures { ChecksOnOp D.Dialects D.TypeKey.eq D.Saved.eq (V.handed_in verifiers.now) ctx.now op.index result }
 {
     let object = op.get_op_dyn(ctx);
     for number in verifiers.op_verifiers(object.kind()) {
@@ -79,7 +77,7 @@ pub(crate) fn check_attributes<D: Dialects, V: Verifiers<D>>(
     ctx: &Context<D>,
     verifiers: &V,
 ) -> Result<(), VerifyErr>
-    ensures { Finds (checks_in (kinds_of D.Dialects D.Saved.eq) (V.handed_in verifiers.now) ctx.now) NoFault (RunsOnAttributes (behaviour_of D.Dialects D.TypeKey.eq) (forest_of ctx.now) (types_of ctx.now) (checks_in (kinds_of D.Dialects D.Saved.eq) (V.handed_in verifiers.now) ctx.now) attributes.now) result }
+    ensures { ChecksOnAttributes D.Dialects D.TypeKey.eq D.Saved.eq (V.handed_in verifiers.now) ctx.now attributes.now result }
 {
     for (_, attr) in attributes.iter() {
         check_attribute(attr, ctx, verifiers)?;
@@ -94,7 +92,7 @@ pub(crate) fn check_types<D: Dialects, V: Verifiers<D>>(
     verifiers: &V,
 ) -> Result<(), VerifyErr>
     requires { (d : PlainDefinition) → In d definitions.now → d.ty < length (types_of ctx.now) }
-    ensures { Finds (checks_in (kinds_of D.Dialects D.Saved.eq) (V.handed_in verifiers.now) ctx.now) NoFault (RunsOnTypes (behaviour_of D.Dialects D.TypeKey.eq) (forest_of ctx.now) (types_of ctx.now) (checks_in (kinds_of D.Dialects D.Saved.eq) (V.handed_in verifiers.now) ctx.now) (map definition_of definitions.now)) result }
+    ensures { ChecksOnTypes D.Dialects D.TypeKey.eq D.Saved.eq (V.handed_in verifiers.now) ctx.now (map definition_of definitions.now) result }
 {
     for definition in definitions {
         check_type(TypeHandle::at(definition.ty).deref(ctx), ctx, verifiers)?;

@@ -4,10 +4,8 @@ ghost use Rattle.ir_model.specs.Faults.{the_entity};
 ghost use Rattle.ir_model.specs.Forest.{a_block, an_op};
 ghost use Rattle.ir_model.specs.Nesting.{IsLive};
 ghost use Rattle.ir_core_records.specs.Meaning.{entity_of};
-ghost use Rattle.ir_view_parts.specs.State.{forest_of, types_of};
-ghost use Rattle.ir_verify_checks.specs.Parts.{FaultAt, Finds, FindsAt, RunAt};
-ghost use Rattle.ir_verify_checks.specs.Shown.{checks_in};
-ghost use Rattle.ir_core_records.specs.DialectAnswers.{behaviour_of, kinds_of};
+ghost use Rattle.ir_view_parts.specs.State.{forest_of};
+ghost use Rattle.ir_verify_checks.specs.Verified.{FindsAlone, FindsIn};
 
 use crate::block_faults::verify_block;
 use crate::checks::{check_attributes, check_operation, check_types};
@@ -26,7 +24,7 @@ fn verify_operation_alone<D: Dialects, V: Verifiers<D>>(
     verifiers: &V,
 ) -> Result<(), VerifyErr>
     requires { IsLive (forest_of ctx.now) (an_op op.index) }
-    ensures { Finds (checks_in (kinds_of D.Dialects D.Saved.eq) (V.handed_in verifiers.now) ctx.now) (FaultAt (behaviour_of D.Dialects D.TypeKey.eq) (forest_of ctx.now) (types_of ctx.now) (an_op op.index)) (RunAt (behaviour_of D.Dialects D.TypeKey.eq) (forest_of ctx.now) (types_of ctx.now) (checks_in (kinds_of D.Dialects D.Saved.eq) (V.handed_in verifiers.now) ctx.now) (an_op op.index)) result }
+    ensures { FindsAlone D.Dialects D.TypeKey.eq D.Saved.eq (V.handed_in verifiers.now) ctx.now (an_op op.index) result }
 {
     ctx.recall_well_formed();
     verify_place(op, ctx)?;
@@ -43,7 +41,7 @@ fn verify_block_alone<D: Dialects, V: Verifiers<D>>(
     verifiers: &V,
 ) -> Result<(), VerifyErr>
     requires { IsLive (forest_of ctx.now) (a_block block.index) }
-    ensures { Finds (checks_in (kinds_of D.Dialects D.Saved.eq) (V.handed_in verifiers.now) ctx.now) (FaultAt (behaviour_of D.Dialects D.TypeKey.eq) (forest_of ctx.now) (types_of ctx.now) (a_block block.index)) (RunAt (behaviour_of D.Dialects D.TypeKey.eq) (forest_of ctx.now) (types_of ctx.now) (checks_in (kinds_of D.Dialects D.Saved.eq) (V.handed_in verifiers.now) ctx.now) (a_block block.index)) result }
+    ensures { FindsAlone D.Dialects D.TypeKey.eq D.Saved.eq (V.handed_in verifiers.now) ctx.now (a_block block.index) result }
 {
     ctx.recall_well_formed();
     verify_block(block, ctx)?;
@@ -59,7 +57,7 @@ fn verify_alone<D: Dialects, V: Verifiers<D>>(
     verifiers: &V,
 ) -> Result<(), VerifyErr>
     requires { IsLive (forest_of ctx.now) (entity_of entity) }
-    ensures { Finds (checks_in (kinds_of D.Dialects D.Saved.eq) (V.handed_in verifiers.now) ctx.now) (FaultAt (behaviour_of D.Dialects D.TypeKey.eq) (forest_of ctx.now) (types_of ctx.now) (entity_of entity)) (RunAt (behaviour_of D.Dialects D.TypeKey.eq) (forest_of ctx.now) (types_of ctx.now) (checks_in (kinds_of D.Dialects D.Saved.eq) (V.handed_in verifiers.now) ctx.now) (entity_of entity)) result }
+    ensures { FindsAlone D.Dialects D.TypeKey.eq D.Saved.eq (V.handed_in verifiers.now) ctx.now (entity_of entity) result }
 {
     match entity {
         EntityIndex::Op(op) => {
@@ -81,7 +79,7 @@ pub(crate) fn verify_inside<D: Dialects, V: Verifiers<D>>(
     verifiers: &V,
 ) -> Result<(), VerifyErr>
     requires { IsLive (forest_of ctx.now) (entity_of root) }
-    ensures { FindsAt (behaviour_of D.Dialects D.TypeKey.eq) (forest_of ctx.now) (types_of ctx.now) (checks_in (kinds_of D.Dialects D.Saved.eq) (V.handed_in verifiers.now) ctx.now) (the_entity (entity_of root)) result }
+    ensures { FindsIn D.Dialects D.TypeKey.eq D.Saved.eq (V.handed_in verifiers.now) ctx.now (the_entity (entity_of root)) result }
 {
     ctx.recall_well_formed();
     ctx.recall_holds_together();

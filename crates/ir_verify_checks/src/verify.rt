@@ -5,14 +5,10 @@ ghost use Rattle.ir_model.specs.Edits.{The};
 ghost use Rattle.ir_model.specs.Faults.{the_attribute, the_entity, the_type, the_value};
 ghost use Rattle.ir_model.specs.Forest.{a_block, a_region, a_value, an_op};
 ghost use Rattle.ir_model.specs.Nesting.{IsLive, IsLiveNamed};
-ghost use Rattle.ir_model.specs.VerifyAnswers.{AllIsWell, MayAnswer};
 ghost use Rattle.ir_core_records.specs.Meaning.{value_of};
 ghost use Rattle.ir_view_parts.specs.State.{forest_of, types_of};
 ghost use Rattle.ir_view_parts.specs.Wrapped.{operation_in};
-ghost use Rattle.ir_verify_checks.specs.Parts.{FindsAt};
-ghost use Rattle.ir_verify_checks.specs.Shown.{checks_in};
-ghost use Rattle.ir_verify_checks.specs.Told.{told};
-ghost use Rattle.ir_core_records.specs.DialectAnswers.{behaviour_of, kinds_of};
+ghost use Rattle.ir_verify_checks.specs.Verified.{AllIsWellIn, FindsIn, MayAnswerIn};
 
 use crate::checks::{check_attribute, check_type};
 use crate::error::VerifyErr;
@@ -34,8 +30,8 @@ pub fn verify_operation<D: Dialects, V: Verifiers<D>>(
     verifiers: &V,
 ) -> Result<(), VerifyErr>
     requires { IsLive (forest_of ctx.now) (an_op op.index) }
-    ensures well { OnOk result (AllIsWell (behaviour_of D.Dialects D.TypeKey.eq) (forest_of ctx.now) (types_of ctx.now) (checks_in (kinds_of D.Dialects D.Saved.eq) (V.handed_in verifiers.now) ctx.now) (the_entity (an_op op.index))) }
-    ensures fault { IfErr result (λ e. MayAnswer (behaviour_of D.Dialects D.TypeKey.eq) (forest_of ctx.now) (types_of ctx.now) (checks_in (kinds_of D.Dialects D.Saved.eq) (V.handed_in verifiers.now) ctx.now) (the_entity (an_op op.index)) (told e)) }
+    ensures well { OnOk result (AllIsWellIn D.Dialects D.TypeKey.eq D.Saved.eq (V.handed_in verifiers.now) ctx.now (the_entity (an_op op.index))) }
+    ensures fault { IfErr result (λ e. MayAnswerIn D.Dialects D.TypeKey.eq D.Saved.eq (V.handed_in verifiers.now) ctx.now (the_entity (an_op op.index)) e) }
 {
     verify_inside(EntityIndex::Op(op.index()), ctx, verifiers)
 }
@@ -50,8 +46,8 @@ pub fn verify_op<D: Dialects, V: Verifiers<D>>(
     verifiers: &V,
 ) -> Result<(), VerifyErr>
     requires { IsLive (forest_of ctx.now) (an_op (operation_in op)) }
-    ensures well { OnOk result (AllIsWell (behaviour_of D.Dialects D.TypeKey.eq) (forest_of ctx.now) (types_of ctx.now) (checks_in (kinds_of D.Dialects D.Saved.eq) (V.handed_in verifiers.now) ctx.now) (the_entity (an_op (operation_in op)))) }
-    ensures fault { IfErr result (λ e. MayAnswer (behaviour_of D.Dialects D.TypeKey.eq) (forest_of ctx.now) (types_of ctx.now) (checks_in (kinds_of D.Dialects D.Saved.eq) (V.handed_in verifiers.now) ctx.now) (the_entity (an_op (operation_in op))) (told e)) }
+    ensures well { OnOk result (AllIsWellIn D.Dialects D.TypeKey.eq D.Saved.eq (V.handed_in verifiers.now) ctx.now (the_entity (an_op (operation_in op)))) }
+    ensures fault { IfErr result (λ e. MayAnswerIn D.Dialects D.TypeKey.eq D.Saved.eq (V.handed_in verifiers.now) ctx.now (the_entity (an_op (operation_in op))) e) }
 {
     verify_operation(op.get_operation(), ctx, verifiers)
 }
@@ -65,8 +61,8 @@ pub fn verify_attr<D: Dialects, V: Verifiers<D>>(
     ctx: &Context<D>,
     verifiers: &V,
 ) -> Result<(), VerifyErr>
-    ensures well { OnOk result (AllIsWell (behaviour_of D.Dialects D.TypeKey.eq) (forest_of ctx.now) (types_of ctx.now) (checks_in (kinds_of D.Dialects D.Saved.eq) (V.handed_in verifiers.now) ctx.now) (the_attribute attr.now)) }
-    ensures fault { IfErr result (λ e. MayAnswer (behaviour_of D.Dialects D.TypeKey.eq) (forest_of ctx.now) (types_of ctx.now) (checks_in (kinds_of D.Dialects D.Saved.eq) (V.handed_in verifiers.now) ctx.now) (the_attribute attr.now) (told e)) }
+    ensures well { OnOk result (AllIsWellIn D.Dialects D.TypeKey.eq D.Saved.eq (V.handed_in verifiers.now) ctx.now (the_attribute attr.now)) }
+    ensures fault { IfErr result (λ e. MayAnswerIn D.Dialects D.TypeKey.eq D.Saved.eq (V.handed_in verifiers.now) ctx.now (the_attribute attr.now) e) }
 {
     check_attribute(attr, ctx, verifiers)
 }
@@ -80,8 +76,8 @@ pub fn verify_type<D: Dialects, V: Verifiers<D>>(
     ctx: &Context<D>,
     verifiers: &V,
 ) -> Result<(), VerifyErr>
-    ensures well { OnOk result (AllIsWell (behaviour_of D.Dialects D.TypeKey.eq) (forest_of ctx.now) (types_of ctx.now) (checks_in (kinds_of D.Dialects D.Saved.eq) (V.handed_in verifiers.now) ctx.now) (the_type key.now)) }
-    ensures fault { IfErr result (λ e. MayAnswer (behaviour_of D.Dialects D.TypeKey.eq) (forest_of ctx.now) (types_of ctx.now) (checks_in (kinds_of D.Dialects D.Saved.eq) (V.handed_in verifiers.now) ctx.now) (the_type key.now) (told e)) }
+    ensures well { OnOk result (AllIsWellIn D.Dialects D.TypeKey.eq D.Saved.eq (V.handed_in verifiers.now) ctx.now (the_type key.now)) }
+    ensures fault { IfErr result (λ e. MayAnswerIn D.Dialects D.TypeKey.eq D.Saved.eq (V.handed_in verifiers.now) ctx.now (the_type key.now) e) }
 {
     check_type(key, ctx, verifiers)
 }
@@ -93,7 +89,7 @@ fn verify_value<D: Dialects, V: Verifiers<D>>(
     verifiers: &V,
 ) -> Result<(), VerifyErr>
     requires { IsLiveNamed (forest_of ctx.now) (a_value (value_of value.index)) }
-    ensures { FindsAt (behaviour_of D.Dialects D.TypeKey.eq) (forest_of ctx.now) (types_of ctx.now) (checks_in (kinds_of D.Dialects D.Saved.eq) (V.handed_in verifiers.now) ctx.now) (the_value (value_of value.index)) result }
+    ensures { FindsIn D.Dialects D.TypeKey.eq D.Saved.eq (V.handed_in verifiers.now) ctx.now (the_value (value_of value.index)) result }
 {
     ctx.recall_well_formed();
     check_type(value.get_type(ctx).deref(ctx), ctx, verifiers)
@@ -117,8 +113,8 @@ pub trait Verify<D: Dialects> {
     /// A fault that stands there; `OutOfMemory` only where a fault that names a block stands, or a check that is run may answer it.
     fn verify<V: Verifiers<D>>(&self, ctx: &Context<D>, verifiers: &V) -> Result<(), VerifyErr>
         requires { IsThere ctx.now self.now }
-        ensures well { OnOk result ((root : Root (closed D.Attr D.TypeKey D.TypeBody D.Saved D.Aux D.Loc)) → IsRoot ctx.now self.now root → AllIsWell (behaviour_of D.Dialects D.TypeKey.eq) (forest_of ctx.now) (types_of ctx.now) (checks_in (kinds_of D.Dialects D.Saved.eq) (V.handed_in verifiers.now) ctx.now) root) }
-        ensures fault { IfErr result (λ e. (root : Root (closed D.Attr D.TypeKey D.TypeBody D.Saved D.Aux D.Loc)) → IsRoot ctx.now self.now root → MayAnswer (behaviour_of D.Dialects D.TypeKey.eq) (forest_of ctx.now) (types_of ctx.now) (checks_in (kinds_of D.Dialects D.Saved.eq) (V.handed_in verifiers.now) ctx.now) root (told e)) };
+        ensures well { OnOk result ((root : Root (closed D.Attr D.TypeKey D.TypeBody D.Saved D.Aux D.Loc)) → IsRoot ctx.now self.now root → AllIsWellIn D.Dialects D.TypeKey.eq D.Saved.eq (V.handed_in verifiers.now) ctx.now root) }
+        ensures fault { IfErr result (λ e. (root : Root (closed D.Attr D.TypeKey D.TypeBody D.Saved D.Aux D.Loc)) → IsRoot ctx.now self.now root → MayAnswerIn D.Dialects D.TypeKey.eq D.Saved.eq (V.handed_in verifiers.now) ctx.now root e) };
 }
 
 impl<D: Dialects> Verify<D> for Ptr<Operation<D>> {
