@@ -2,8 +2,10 @@
 use Rattle.std.specs.Prelude.{◌≡◌, ℕ, Bool, IsTrue, List, Some, length, slice_get}
 use Rattle.std.specs.Borrow.{Bor}
 use Rattle.std.specs.Fn.{Shared}
+use Rattle.ir_model.specs.declared.ids.ArenaIndex.{ArenaIndex}
 use Rattle.ir_model.specs.ContextIds.{context_ids}
-use Rattle.ir_model.specs.Forest.{Dialect, Forest, Named}
+use Rattle.ir_model.specs.Forest.{Dialect, Forest, Named, Value, a_value, the_block}
+use Rattle.ir_model.specs.Redirect.{redirect_uses, retarget_uses}
 use Rattle.ir_model.specs.Uses.{IsUse, Use}
 use Rattle.ir_core_records.specs.declared.record.UseIndex.{UseIndex}
 use Rattle.ir_core_records.specs.Meaning.{use_of}
@@ -25,3 +27,12 @@ pub record AreAnswers (may : Use context_ids → Bool → Type 0) (uses : List U
 pub record IsChosenBy {W : Dialect} (f : Forest context_ids W) (d : Named context_ids) (may : Use context_ids → Bool → Type 0) (set : Use context_ids → Bool) : Type 0 where
   pub inside : (u : Use context_ids) → IsTrue (set u) → IsUse f d u
   pub answered : (u : Use context_ids) → IsUse f d u → may u (set u)
+
+module _ {W : Dialect} where
+  -- of the uses of a value, those that a predicate chose name another one now, and nothing else has changed
+  abbrev pub RedirectsChosen : Forest context_ids W → Forest context_ids W → Value context_ids → Value context_ids → (Use context_ids → Bool → Type 0) → Type 0
+  RedirectsChosen old new from to may = (set : Use context_ids → Bool) × IsChosenBy old (a_value from) may set × (new ≡ redirect_uses old set to)
+
+  -- of the uses of a block, those that a predicate chose name another one now, and nothing else has changed
+  abbrev pub RetargetsChosen : Forest context_ids W → Forest context_ids W → ArenaIndex → ArenaIndex → (Use context_ids → Bool → Type 0) → Type 0
+  RetargetsChosen old new from to may = (set : Use context_ids → Bool) × IsChosenBy old (the_block from) may set × (new ≡ retarget_uses old set to)

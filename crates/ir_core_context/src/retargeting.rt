@@ -13,7 +13,7 @@ ghost use Rattle.ir_model.specs.Redirect.{retarget_uses};
 ghost use Rattle.ir_model.specs.Uses.{IsUse};
 ghost use Rattle.ir_core_records.specs.Table.{block_uses_at};
 ghost use Rattle.ir_core_replacing.specs.Chosen.{same_use};
-ghost use Rattle.ir_core_context.specs.Asked.{AreAnswers, IsChosenBy, MayAnswer};
+ghost use Rattle.ir_core_context.specs.Asked.{AreAnswers, MayAnswer, RetargetsChosen};
 ghost use Rattle.ir_core_context.specs.Calls.{EntitiesStayLive, SameButForest, StayLive};
 ghost use Rattle.ir_core_context.specs.State.{bare, forest_of};
 
@@ -83,7 +83,7 @@ pub trait Retarget<D: Dialects> {
         requires other_live { IsLive (forest_of ctx.old) (a_block (index_of other)) }
         requires linked { UsersLinked (forest_of ctx.old) (index_of self) }
         requires callable { (context : _) (block : _) → C.shows context.now ctx.old → IsPredecessor (forest_of ctx.old) (index_of self) (B.index_of block) → P.pre pred context block }
-        ensures forest { OnOk result ((set : PlainUse context_ids → Bool) × IsChosenBy (forest_of ctx.old) (the_block (index_of self)) (MayAnswer P.Fn (λ c. C.shows c ctx.old) (λ b u. In u.user (ops_of (forest_of ctx.old) (B.index_of b))) pred) set × (forest_of ctx.new ≡ retarget_uses (forest_of ctx.old) set (index_of other))) }
+        ensures forest { OnOk result (RetargetsChosen (forest_of ctx.old) (forest_of ctx.new) (index_of self) (index_of other) (MayAnswer P.Fn (λ c. C.shows c ctx.old) (λ b u. In u.user (ops_of (forest_of ctx.old) (B.index_of b))) pred)) }
         ensures rest { SameButForest (bare ctx.old) (bare ctx.new) }
         ensures stay_live { StayLive (forest_of ctx.old) (forest_of ctx.new) }
         ensures entities_stay_live { EntitiesStayLive (forest_of ctx.old) (forest_of ctx.new) }

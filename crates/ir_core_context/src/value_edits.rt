@@ -7,13 +7,13 @@ ghost use Rattle.ir_model.specs.Calls.{set_name as with_value_name, set_type as 
 ghost use Rattle.ir_model.specs.Changes.{redirect};
 ghost use Rattle.ir_model.specs.DefinitionLaws.{TakesUses};
 ghost use Rattle.ir_model.specs.Forest.{a_value};
-ghost use Rattle.ir_model.specs.Nesting.{In, IsLiveNamed};
+ghost use Rattle.ir_model.specs.Nesting.{IsLiveNamed};
 ghost use Rattle.ir_model.specs.Redirect.{redirect_uses};
 ghost use Rattle.ir_model.specs.Uses.{AreUses, IsUse};
 ghost use Rattle.ir_core_records.specs.Meaning.{use_of as use_in, value_of as value_in};
 ghost use Rattle.ir_core_records.specs.Table.{uses_at};
 ghost use Rattle.ir_core_replacing.specs.Chosen.{same_use};
-ghost use Rattle.ir_core_context.specs.Asked.{AreAnswers, IsChosenBy, MayAnswer};
+ghost use Rattle.ir_core_context.specs.Asked.{AreAnswers, MayAnswer, RedirectsChosen};
 ghost use Rattle.ir_core_context.specs.Calls.{EntitiesStayLive, SameButForest, StayLive};
 ghost use Rattle.ir_core_context.specs.State.{bare, forest_of, types_of, uses_of};
 
@@ -99,7 +99,7 @@ pub trait ValueEdits<D: Dialects> {
         requires live { IsLiveNamed (forest_of ctx.old) (a_value (value_of self)) }
         requires other_live { IsLiveNamed (forest_of ctx.old) (a_value (value_of other)) }
         requires callable { (context : _) (used : _) → C.shows context.now ctx.old → IsUse (forest_of ctx.old) (a_value (value_of self)) (use_in used.index) → P.pre pred context used }
-        ensures forest { OnOk result ((set : PlainUse context_ids → Bool) × IsChosenBy (forest_of ctx.old) (a_value (value_of self)) (MayAnswer P.Fn (λ c. C.shows c ctx.old) (λ h u. use_in h.index ≡ u) pred) set × (forest_of ctx.new ≡ redirect_uses (forest_of ctx.old) set (value_of other))) }
+        ensures forest { OnOk result (RedirectsChosen (forest_of ctx.old) (forest_of ctx.new) (value_of self) (value_of other) (MayAnswer P.Fn (λ c. C.shows c ctx.old) (λ h u. use_in h.index ≡ u) pred)) }
         ensures rest { SameButForest (bare ctx.old) (bare ctx.new) }
         ensures stay_live { StayLive (forest_of ctx.old) (forest_of ctx.new) }
         ensures entities_stay_live { EntitiesStayLive (forest_of ctx.old) (forest_of ctx.new) }

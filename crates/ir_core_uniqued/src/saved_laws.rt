@@ -1,10 +1,10 @@
 //! What holds of saved values, whatever their types.
 
 ghost use Rattle.std.specs.Prelude.{◌≡◌, ◌≢◌, ◌↔◌, true, false};
-ghost use Rattle.ir_model.specs.Saved.{saved_place, with_saved};
 ghost use Rattle.ir_model.specs.Sessions.{Beside};
 ghost use Rattle.ir_core_records.specs.Meaning.{closed};
 ghost use Rattle.ir_core_records.specs.DialectAnswers.{kinds_of};
+ghost use Rattle.ir_core_uniqued.specs.Places.{ShareAPlace};
 
 use ir_base_dialects::{Dialects, SavedValue};
 
@@ -15,5 +15,5 @@ pub fn kinds_are_never_equal<D: Dialects, T: SavedValue<D>, U: SavedValue<D>>()
 
 /// Two values that are saved one after the other have one place exactly where they are equal.
 pub fn equal_keys_for_equal_values<D: Dialects, T: SavedValue<D>>()
-    ensures { (beside : Beside (closed D.Attr D.TypeKey D.TypeBody D.Saved D.Aux D.Loc)) (a b : T) → (saved_place (kinds_of D.Dialects D.Saved.eq) beside (T.saved_of a) ≡ saved_place (kinds_of D.Dialects D.Saved.eq) (with_saved (kinds_of D.Dialects D.Saved.eq) beside (T.saved_of a)) (T.saved_of b)) ↔ (T.eq a b ≡ true) }
+    ensures { (beside : Beside (closed D.Attr D.TypeKey D.TypeBody D.Saved D.Aux D.Loc)) (a b : T) → ShareAPlace (kinds_of D.Dialects D.Saved.eq) beside (T.saved_of a) (T.saved_of b) ↔ (T.eq a b ≡ true) }
 {}

@@ -1,4 +1,5 @@
 pub mod Parts
+pub mod Edges
 pub mod Types
 pub mod Wrapped
 pub use Rattle.ir_core_queries.specs.State

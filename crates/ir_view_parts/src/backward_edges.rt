@@ -5,8 +5,7 @@
 ghost use Rattle.std.specs.Prelude.{◌≡◌, ◌<◌, ◌↔◌, All, Any, List, length, map, Some, IsTrue, IfOk, IfErr, slice_get};
 ghost use Rattle.std.specs.List.{AllZip};
 ghost use Rattle.ir_model.specs.declared.ids.ArenaIndex.{ArenaIndex as Index};
-ghost use Rattle.ir_model.specs.BlockGraph.{IsPredecessor, IsSuccessor, IsSuccessorOf};
-ghost use Rattle.ir_model.specs.DefinitionLaws.{OnlyTerminatorsBranch};
+ghost use Rattle.ir_model.specs.BlockGraph.{IsPredecessor, IsSuccessorOf};
 ghost use Rattle.ir_model.specs.Edits.{UsersLinked};
 ghost use Rattle.ir_model.specs.Forest.{a_block, an_op};
 ghost use Rattle.ir_model.specs.Nesting.{In, IsLinked, IsLive, ops_of};
@@ -14,6 +13,7 @@ ghost use Rattle.ir_model.specs.Parent.{FindsOne};
 ghost use Rattle.ir_model.specs.Predecessors.{ArePredecessorsBy, IsPredecessorAt};
 ghost use Rattle.ir_core_queries.specs.State.{block_uses_of, forest_of};
 ghost use Rattle.ir_core_records.specs.DialectAnswers.{behaviour_of};
+ghost use Rattle.ir_view_parts.specs.Edges.{MeetSuccessors};
 
 use crate::forward_edges::{names_block, tail};
 use ir_base_dialects::{ArenaIndex, CoreError, Dialects, Ptr};
@@ -103,7 +103,7 @@ pub trait BlockPredecessors<D: Dialects> {
         requires live { IsLive (forest_of ctx.now) (a_block (index_of self)) }
         requires linked { UsersLinked (forest_of ctx.now) (index_of self) }
         ensures exact { IfOk result (λ blocks. ArePredecessorsBy (forest_of ctx.now) (index_of self) (block_uses_of ctx.now (index_of self)) (map (λ p. p.index) blocks.items)) }
-        ensures edges { IfOk result (λ blocks. OnlyTerminatorsBranch (forest_of ctx.now) (behaviour_of D.Dialects D.TypeKey.eq) → (a : Index) → IsSuccessor (behaviour_of D.Dialects D.TypeKey.eq) (forest_of ctx.now) a (index_of self) ↔ In a (map (λ p. p.index) blocks.items)) }
+        ensures edges { IfOk result (λ blocks. MeetSuccessors (behaviour_of D.Dialects D.TypeKey.eq) (forest_of ctx.now) (index_of self) (map (λ p. p.index) blocks.items)) }
         ensures live { IfOk result (λ blocks. All (λ p. IsLive (forest_of ctx.now) (a_block p.index)) blocks.items) }
         ensures memory { IfErr result (λ e. e ≡ CoreError.OutOfMemory) };
 
