@@ -10,12 +10,12 @@ use Rattle.ir_model.specs.Arenas.{IsNew, IsWhole, room}
 use Rattle.ir_model.proofs.Slots.{IsTaken, taken_at, slot_at-next, find_past, put-next, put_in-set, put_in-push, item_under_cases}
 use Rattle.ir_base_arenas.specs.declared.arena.Slot.{Slot as Held}
 use Rattle.ir_base_arenas.specs.declared.arena.Slot.TheVariants.{Full, Free}
-use Rattle.ir_base_arenas.specs.ArenaSound.{shown, next_in, with_item, held_in, IsFreeChain, IsSound, IsLaid}
+use Rattle.ir_base_arenas.specs.ArenaSound.{slot_shown, next_in, with_item, held_in, IsFreeChain, SlotsAreSound, IsLaid}
 use Rattle.ir_base_arenas.proofs.ArenaSound.{reusable_is, offered, IsSound-rewrite, IsSound-reuse, IsSound-extend, offered_is_new, end_is_new, whole_is, room_is, vacate_listed, vacate_retired, unlisted_at, taken_counts}
 
 module _ {T : Type 0} where
-  pub shown-at : (slots : List (Held T)) (k : ℕ) → slot_in (map shown slots) k ≡ shown (held_in slots k)
-  shown-at slots k = get_or-map shown slots k (Free 0 0)
+  pub shown-at : (slots : List (Held T)) (k : ℕ) → slot_in (map slot_shown slots) k ≡ slot_shown (held_in slots k)
+  shown-at slots k = get_or-map slot_shown slots k (Free 0 0)
 
   -- a write of a slot that the chain doesn't have leaves the chain
   chained-set : (slots : List (Held T)) (first j : ℕ) (s : Held T) (places : List ℕ) → IsFreeChain slots first places → count_by (nat_eq j) places ≡ 0 → IsFreeChain (set slots j s) first places
@@ -28,12 +28,12 @@ module _ {T : Type 0} where
       ]
 
   -- what stands under an id is what its slot has under its version
-  pub find-shown : (slots : List (Held T)) (id : ArenaIndex) (k : ℕ) → id.slot ≡ k + 1 → find (map shown slots) id ≡ item_under (shown (held_in slots k)) id.version
+  pub find-shown : (slots : List (Held T)) (id : ArenaIndex) (k : ℕ) → id.slot ≡ k + 1 → find (map slot_shown slots) id ≡ item_under (slot_shown (held_in slots k)) id.version
   unfolding find
-  find-shown slots id k is = ap (λ s. item_under s id.version) (ap (slot_at (map shown slots)) is ∙ slot_at-next (map shown slots) k ∙ shown-at slots k)
+  find-shown slots id k is = ap (λ s. item_under s id.version) (ap (slot_at (map slot_shown slots)) is ∙ slot_at-next (map slot_shown slots) k ∙ shown-at slots k)
 
-  pub find-past : (slots : List (Held T)) (id : ArenaIndex) → length slots < id.slot → find (map shown slots) id ≡ None
-  find-past slots id past = find_past (map shown slots) id (omega (arith, past, length-map slots shown))
+  pub find-past : (slots : List (Held T)) (id : ArenaIndex) → length slots < id.slot → find (map slot_shown slots) id ≡ None
+  find-past slots id past = find_past (map slot_shown slots) id (omega (arith, past, length-map slots slot_shown))
 
   -- another record in a slot, if it has one
   pub laid-rewrite : {slots : List (Held T)} {first free len limit last : ℕ} (k : ℕ) (w : T) → IsLaid slots first free len limit last → k < length slots → IsLaid (set slots k (with_item (held_in slots k) w)) first free len limit last
@@ -41,48 +41,48 @@ module _ {T : Type 0} where
     where
       by_slot : (s : Held T) → held_in slots k ≡ s → IsLaid (set slots k (with_item s w)) first free len limit last
       by_slot (Full v x) is =
-          let here : slot_in (map shown slots) k ≡ record { version = v; item = Some x } = shown-at slots k ∙ ap shown is in
-          let inside : k < length (map shown slots) = omega (arith, within, length-map slots shown) in
-          let taken : IsSome (slot_in (map shown slots) k).item = rw here refl in
+          let here : slot_in (map slot_shown slots) k ≡ record { version = v; item = Some x } = shown-at slots k ∙ ap slot_shown is in
+          let inside : k < length (map slot_shown slots) = omega (arith, within, length-map slots slot_shown) in
+          let taken : IsSome (slot_in (map slot_shown slots) k).item = rw here refl in
           record {
             places = laid.places;
-            chained = chained-set slots first k (Full v w) laid.places laid.chained (unlisted_at (map shown slots) laid.places len limit last k laid.sound inside taken);
+            chained = chained-set slots first k (Full v w) laid.places laid.chained (unlisted_at (map slot_shown slots) laid.places len limit last k laid.sound inside taken);
             measured = laid.measured;
-            sound = rw (map-set shown slots k (Full v w)) (rw here at (IsSound-rewrite (map shown slots) laid.places len limit last k w laid.sound inside taken));
+            sound = rw (map-set slot_shown slots k (Full v w)) (rw here at (IsSound-rewrite (map slot_shown slots) laid.places len limit last k w laid.sound inside taken));
           }
       by_slot (Free v n) is = rw (← is, set-get_or slots k (Free 0 0)) laid
 
   -- the slot in the k-th place is the one that is handed out again next
   pub record IsNext (slots : List (Held T)) (k free len limit last n : ℕ) : Type 0 where
     pub within : k < length slots
-    pub fits : (shown (held_in slots k)).version + 2 ≤ last
+    pub fits : (slot_shown (held_in slots k)).version + 2 ≤ last
     pub some : 1 ≤ free
-    pub fresh : IsNew (record { slots = map shown slots; limit = limit; last_version = last; removals = n }) (record { slot = k + 1; version = (shown (held_in slots k)).version + 2 })
-    pub more : (w : T) → IsLaid (set slots k (Full ((shown (held_in slots k)).version + 2) w)) (next_in (held_in slots k)) (free - 1) (len + 1) limit last
+    pub fresh : IsNew (record { slots = map slot_shown slots; limit = limit; last_version = last; removals = n }) (record { slot = k + 1; version = (slot_shown (held_in slots k)).version + 2 })
+    pub more : (w : T) → IsLaid (set slots k (Full ((slot_shown (held_in slots k)).version + 2) w)) (next_in (held_in slots k)) (free - 1) (len + 1) limit last
 
   pub laid-next : {slots : List (Held T)} {first free len limit last : ℕ} (k n : ℕ) → IsLaid slots first free len limit last → first ≡ k + 1 → IsNext slots k free len limit last n
   laid-next {slots} {first} {free} {len} {limit} {last} k n laid is = by_places laid.places laid.chained laid.measured laid.sound
     where
-      at : (j : ℕ) (rest : List ℕ) → IsFreeChain slots (next_in (held_in slots j)) rest → free ≡ length (j ∷ rest) → IsSound (map shown slots) (j ∷ rest) len limit last → IsNext slots j free len limit last n
+      at : (j : ℕ) (rest : List ℕ) → IsFreeChain slots (next_in (held_in slots j)) rest → free ≡ length (j ∷ rest) → SlotsAreSound (map slot_shown slots) (j ∷ rest) len limit last → IsNext slots j free len limit last n
       at j rest chain measured sound =
-          let one = offered (map shown slots) rest len limit last j sound in
+          let one = offered (map slot_shown slots) rest len limit last j sound in
           let here = shown-at slots j in
-          let is = reusable_is last (slot_in (map shown slots) j) one.reusable in
-          let next = (shown (held_in slots j)).version + 2 in
+          let is = reusable_is last (slot_in (map slot_shown slots) j) one.reusable in
+          let next = (slot_shown (held_in slots j)).version + 2 in
           record {
-            within = omega (arith, one.within, length-map slots shown);
+            within = omega (arith, one.within, length-map slots slot_shown);
             fits = rw (← here) is.1;
             some = omega (arith, measured);
-            fresh = rw (← here) (offered_is_new (map shown slots) rest len limit last j n sound);
+            fresh = rw (← here) (offered_is_new (map slot_shown slots) rest len limit last j n sound);
             more = λ w. record {
               places = rest;
               chained = chained-set slots (next_in (held_in slots j)) j (Full next w) rest chain one.once;
               measured = omega (arith, measured);
-              sound = rw (map-set shown slots j (Full next w)) (IsSound-reuse (map shown slots) rest len limit last j next w (ap (λ s. s.version + 2) (sym here)) sound);
+              sound = rw (map-set slot_shown slots j (Full next w)) (IsSound-reuse (map slot_shown slots) rest len limit last j next w (ap (λ s. s.version + 2) (sym here)) sound);
             };
           }
 
-      by_places : (places : List ℕ) → IsFreeChain slots first places → free ≡ length places → IsSound (map shown slots) places len limit last → IsNext slots k free len limit last n
+      by_places : (places : List ℕ) → IsFreeChain slots first places → free ≡ length places → SlotsAreSound (map slot_shown slots) places len limit last → IsNext slots k free len limit last n
       by_places [] chain measured sound = absurd (omega (arith, chain, is))
       by_places (j ∷ rest) chain measured sound = subst (λ m. IsNext slots m free len limit last n) (omega (arith, chain.0, is)) (at j rest chain.1 measured sound)
 
@@ -102,47 +102,47 @@ module _ {T : Type 0} where
         places = [];
         chained = none;
         measured = free-none laid none;
-        sound = rw (map-append shown slots (Full 1 w ∷ [])) (IsSound-extend (map shown slots) laid.places [] len limit last w empty refl (omega (arith, below, length-map slots shown)) laid.sound);
+        sound = rw (map-append slot_shown slots (Full 1 w ∷ [])) (IsSound-extend (map slot_shown slots) laid.places [] len limit last w empty refl (omega (arith, below, length-map slots slot_shown)) laid.sound);
       }
 
-  pub last_is_new : {slots : List (Held T)} {first free len limit last : ℕ} (n : ℕ) → IsLaid slots first free len limit last → length slots < limit → IsNew (record { slots = map shown slots; limit = limit; last_version = last; removals = n }) (record { slot = length slots + 1; version = 1 })
+  pub last_is_new : {slots : List (Held T)} {first free len limit last : ℕ} (n : ℕ) → IsLaid slots first free len limit last → length slots < limit → IsNew (record { slots = map slot_shown slots; limit = limit; last_version = last; removals = n }) (record { slot = length slots + 1; version = 1 })
   last_is_new {slots} {first} {free} {len} {limit} {last} n laid below =
-      subst (λ m. IsNew (record { slots = map shown slots; limit = limit; last_version = last; removals = n }) (record { slot = m + 1; version = 1 })) (length-map slots shown)
-      (end_is_new (map shown slots) laid.places len limit last n laid.sound (omega (arith, below, length-map slots shown)))
+      subst (λ m. IsNew (record { slots = map slot_shown slots; limit = limit; last_version = last; removals = n }) (record { slot = m + 1; version = 1 })) (length-map slots slot_shown)
+      (end_is_new (map slot_shown slots) laid.places len limit last n laid.sound (omega (arith, below, length-map slots slot_shown)))
 
   -- the record under an id leaves, and its slot is the next to be handed out again, or is empty for good
-  pub laid-listed : {slots : List (Held T)} {first free len limit last : ℕ} (id : ArenaIndex) → IsLaid slots first free len limit last → IsTaken (map shown slots) id → nat_le (id.version + 2) last ≡ true → IsLaid (set slots (id.slot - 1) (Free id.version first)) id.slot (free + 1) (len - 1) limit last
+  pub laid-listed : {slots : List (Held T)} {first free len limit last : ℕ} (id : ArenaIndex) → IsLaid slots first free len limit last → IsTaken (map slot_shown slots) id → nat_le (id.version + 2) last ≡ true → IsLaid (set slots (id.slot - 1) (Free id.version first)) id.slot (free + 1) (len - 1) limit last
   laid-listed {slots} {first} {free} {len} {limit} {last} id laid live fits =
       let k = id.slot - 1 in
-      let length_is = length-map slots shown in
+      let length_is = length-map slots slot_shown in
       record {
         places = k ∷ laid.places;
         chained = (
           omega (arith, live.numbered),
           rw (get_or-set_same slots k (Free id.version first) (Free 0 0) (omega (arith, live.within, length_is)))
-              (chained-set slots first k (Free id.version first) laid.places laid.chained (unlisted_at (map shown slots) laid.places len limit last k laid.sound live.within live.some)),
+              (chained-set slots first k (Free id.version first) laid.places laid.chained (unlisted_at (map slot_shown slots) laid.places len limit last k laid.sound live.within live.some)),
         );
         measured = omega (arith, laid.measured);
-        sound = rw (map-set shown slots k (Free id.version first)) (vacate_listed (map shown slots) laid.places len limit last id laid.sound live fits);
+        sound = rw (map-set slot_shown slots k (Free id.version first)) (vacate_listed (map slot_shown slots) laid.places len limit last id laid.sound live fits);
       }
 
-  pub laid-retired : {slots : List (Held T)} {first free len limit last : ℕ} (id : ArenaIndex) → IsLaid slots first free len limit last → IsTaken (map shown slots) id → nat_le (id.version + 2) last ≡ false → IsLaid (set slots (id.slot - 1) (Free id.version first)) first free (len - 1) limit last
+  pub laid-retired : {slots : List (Held T)} {first free len limit last : ℕ} (id : ArenaIndex) → IsLaid slots first free len limit last → IsTaken (map slot_shown slots) id → nat_le (id.version + 2) last ≡ false → IsLaid (set slots (id.slot - 1) (Free id.version first)) first free (len - 1) limit last
   laid-retired {slots} {first} {free} {len} {limit} {last} id laid live fits =
       let k = id.slot - 1 in
       record {
         places = laid.places;
-        chained = chained-set slots first k (Free id.version first) laid.places laid.chained (unlisted_at (map shown slots) laid.places len limit last k laid.sound live.within live.some);
+        chained = chained-set slots first k (Free id.version first) laid.places laid.chained (unlisted_at (map slot_shown slots) laid.places len limit last k laid.sound live.within live.some);
         measured = laid.measured;
-        sound = rw (map-set shown slots k (Free id.version first)) (vacate_retired (map shown slots) laid.places len limit last id laid.sound live fits);
+        sound = rw (map-set slot_shown slots k (Free id.version first)) (vacate_retired (map slot_shown slots) laid.places len limit last id laid.sound live fits);
       }
 
-  pub laid-whole : {slots : List (Held T)} {first free len limit last : ℕ} (n : ℕ) → IsLaid slots first free len limit last → IsWhole (record { slots = map shown slots; limit = limit; last_version = last; removals = n })
-  laid-whole {slots} {first} {free} {len} {limit} {last} n laid = whole_is (map shown slots) laid.places len limit last n laid.sound
+  pub laid-whole : {slots : List (Held T)} {first free len limit last : ℕ} (n : ℕ) → IsLaid slots first free len limit last → IsWhole (record { slots = map slot_shown slots; limit = limit; last_version = last; removals = n })
+  laid-whole {slots} {first} {free} {len} {limit} {last} n laid = whole_is (map slot_shown slots) laid.places len limit last n laid.sound
 
   -- the room is what was never handed out and what is free
-  pub laid-room : {slots : List (Held T)} {first free len limit last : ℕ} (n : ℕ) → IsLaid slots first free len limit last → room (record { slots = map shown slots; limit = limit; last_version = last; removals = n }) ≡ (limit - length slots) + free
+  pub laid-room : {slots : List (Held T)} {first free len limit last : ℕ} (n : ℕ) → IsLaid slots first free len limit last → room (record { slots = map slot_shown slots; limit = limit; last_version = last; removals = n }) ≡ (limit - length slots) + free
   laid-room {slots} {first} {free} {len} {limit} {last} n laid =
-      omega (arith, room_is (map shown slots) laid.places len limit last n laid.sound, length-map slots shown, laid.measured)
+      omega (arith, room_is (map slot_shown slots) laid.places len limit last n laid.sound, length-map slots slot_shown, laid.measured)
 
   pub laid-empty : (limit last : ℕ) → limit < 4294967295 → 1 ≤ last → IsLaid {T = T} [] 0 0 0 limit last
   laid-empty limit last numbered starts = record {
@@ -152,39 +152,39 @@ module _ {T : Type 0} where
     sound = record { counted = refl; total = refl; listed = λ k below. absurd (omega (arith, below)); bounded = λ k past. refl; versions = λ k below. absurd (omega (arith, below)); within = omega arith; numbered = numbered; starts = starts };
   }
 
-  pub laid-some : {slots : List (Held T)} {first free len limit last : ℕ} (id : ArenaIndex) → IsLaid slots first free len limit last → IsTaken (map shown slots) id → 1 ≤ len
-  laid-some {slots} {first} {free} {len} {limit} {last} id laid live = taken_counts (map shown slots) laid.places len limit last (id.slot - 1) laid.sound live.within live.some
+  pub laid-some : {slots : List (Held T)} {first free len limit last : ℕ} (id : ArenaIndex) → IsLaid slots first free len limit last → IsTaken (map slot_shown slots) id → 1 ≤ len
+  laid-some {slots} {first} {free} {len} {limit} {last} id laid live = taken_counts (map slot_shown slots) laid.places len limit last (id.slot - 1) laid.sound live.within live.some
 
   -- one slot that is written is one that contracts see written
-  pub write-shown : (slots : List (Held T)) (k : ℕ) (s : Held T) → k < length slots → map shown (set slots k s) ≡ put (map shown slots) (k + 1) (shown s)
+  pub write-shown : (slots : List (Held T)) (k : ℕ) (s : Held T) → k < length slots → map slot_shown (set slots k s) ≡ put (map slot_shown slots) (k + 1) (slot_shown s)
   write-shown slots k s within =
-      map-set shown slots k s ∙ sym (put-next (map shown slots) k (shown s) ∙ put_in-set (map shown slots) k (shown s) (omega (arith, within, length-map slots shown)))
+      map-set slot_shown slots k s ∙ sym (put-next (map slot_shown slots) k (slot_shown s) ∙ put_in-set (map slot_shown slots) k (slot_shown s) (omega (arith, within, length-map slots slot_shown)))
 
-  pub push-shown : (slots : List (Held T)) (s : Held T) → map shown (slots ++ s ∷ []) ≡ put (map shown slots) (length slots + 1) (shown s)
+  pub push-shown : (slots : List (Held T)) (s : Held T) → map slot_shown (slots ++ s ∷ []) ≡ put (map slot_shown slots) (length slots + 1) (slot_shown s)
   push-shown slots s =
-      map-append shown slots (s ∷ []) ∙ sym (put_in-push (map shown slots) (shown s)) ∙ ap (λ k. put_in (map shown slots) k (shown s)) (length-map slots shown) ∙ sym (put-next (map shown slots) (length slots) (shown s))
+      map-append slot_shown slots (s ∷ []) ∙ sym (put_in-push (map slot_shown slots) (slot_shown s)) ∙ ap (λ k. put_in (map slot_shown slots) k (slot_shown s)) (length-map slots slot_shown) ∙ sym (put-next (map slot_shown slots) (length slots) (slot_shown s))
 
   -- the slot of a live id has its version and its record
-  pub taken-shown : (slots : List (Held T)) (id : ArenaIndex) (k : ℕ) (x : T) → id.slot ≡ k + 1 → k < length slots → item_under (shown (held_in slots k)) id.version ≡ Some x → IsTaken (map shown slots) id
-  taken-shown slots id k x is within has = taken_at (map shown slots) id (ap is_some (find-shown slots id k is ∙ has))
+  pub taken-shown : (slots : List (Held T)) (id : ArenaIndex) (k : ℕ) (x : T) → id.slot ≡ k + 1 → k < length slots → item_under (slot_shown (held_in slots k)) id.version ≡ Some x → IsTaken (map slot_shown slots) id
+  taken-shown slots id k x is within has = taken_at (map slot_shown slots) id (ap is_some (find-shown slots id k is ∙ has))
 
-  pub fill-shown : (slots : List (Held T)) (id : ArenaIndex) (k : ℕ) (x w : T) → id.slot ≡ k + 1 → k < length slots → item_under (shown (held_in slots k)) id.version ≡ Some x → map shown (set slots k (with_item (held_in slots k) w)) ≡ put (map shown slots) id.slot (record { version = id.version; item = Some w })
+  pub fill-shown : (slots : List (Held T)) (id : ArenaIndex) (k : ℕ) (x w : T) → id.slot ≡ k + 1 → k < length slots → item_under (slot_shown (held_in slots k)) id.version ≡ Some x → map slot_shown (set slots k (with_item (held_in slots k) w)) ≡ put (map slot_shown slots) id.slot (record { version = id.version; item = Some w })
   fill-shown slots id k x w is within has = by_slot (held_in slots k) refl has
     where
-      by_slot : (s : Held T) → held_in slots k ≡ s → item_under (shown s) id.version ≡ Some x → map shown (set slots k (with_item s w)) ≡ put (map shown slots) id.slot (record { version = id.version; item = Some w })
+      by_slot : (s : Held T) → held_in slots k ≡ s → item_under (slot_shown s) id.version ≡ Some x → map slot_shown (set slots k (with_item s w)) ≡ put (map slot_shown slots) id.slot (record { version = id.version; item = Some w })
       by_slot (Full v y) same found =
-          elim (item_under_cases (shown (Full v y)) id.version) [
-            | inl eq ↦ write-shown slots k (Full v w) within ∙ (λ i. put (map shown slots) (sym is i) (record { version = eq.0 i; item = Some w }))
+          elim (item_under_cases (slot_shown (Full v y)) id.version) [
+            | inl eq ↦ write-shown slots k (Full v w) within ∙ (λ i. put (map slot_shown slots) (sym is i) (record { version = eq.0 i; item = Some w }))
             | inr ne ↦ absurd (true≢false (sym (ap is_some found) ∙ ap is_some ne.1))
           ]
       by_slot (Free v n) same found =
-          elim (item_under_cases (shown {T = T} (Free v n)) id.version) [
+          elim (item_under_cases (slot_shown {T = T} (Free v n)) id.version) [
             | inl eq ↦ absurd (true≢false (sym (ap is_some found) ∙ ap is_some eq.1))
             | inr ne ↦ absurd (true≢false (sym (ap is_some found) ∙ ap is_some ne.1))
           ]
 
-  pub cut-shown : (slots : List (Held T)) (id : ArenaIndex) (k next : ℕ) → id.slot ≡ k + 1 → k < length slots → map shown (set slots k (Free id.version next)) ≡ put (map shown slots) id.slot (record { version = id.version; item = None })
-  cut-shown slots id k next is within = write-shown slots k (Free id.version next) within ∙ ap (λ n. put (map shown slots) n (record { version = id.version; item = None })) (sym is)
+  pub cut-shown : (slots : List (Held T)) (id : ArenaIndex) (k next : ℕ) → id.slot ≡ k + 1 → k < length slots → map slot_shown (set slots k (Free id.version next)) ≡ put (map slot_shown slots) id.slot (record { version = id.version; item = None })
+  cut-shown slots id k next is within = write-shown slots k (Free id.version next) within ∙ ap (λ n. put (map slot_shown slots) n (record { version = id.version; item = None })) (sym is)
 
 -- a test that is false at each number below b
 pub not_below : (a b : ℕ) → (a < b → false ≡ true) → b ≤ a

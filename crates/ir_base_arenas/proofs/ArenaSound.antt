@@ -9,7 +9,7 @@ use Rattle.std.proofs.lemmas.List.Sums.{sum_by-set, sum_by_push, sum_by-cons}
 use Rattle.ir_model.specs.declared.ids.ArenaIndex.{ArenaIndex}
 use Rattle.ir_model.specs.Slots.{Slot, is_taken, is_reusable, is_retired, never, slot_in, find, put}
 use Rattle.ir_model.specs.Arenas.{IsInRange, IsNextVersion, IsNew, IsWhole, Inserts, room}
-use Rattle.ir_base_arenas.specs.ArenaSound.{IsSound}
+use Rattle.ir_base_arenas.specs.ArenaSound.{SlotsAreSound}
 use Rattle.ir_model.proofs.Slots.{IsTaken, slot_at-next, at_past, find-put_same}
 
 -- the state of the free list after slot k has become s
@@ -50,7 +50,7 @@ module _ {T : Type 0} where
             | inr ne ↦ rw ne.0 (rw (lt-ltb last (v + 2) ne.1) refl)
           ]
 
-  pub IsSound-set : (slots : List (Slot T)) (free freed : List ℕ) (len later limit last k : ℕ) (s : Slot T) → IsSound slots free len limit last → k < length slots → later + t (slot_in slots k) ≡ len + t s → length freed + u last (slot_in slots k) ≡ length free + u last s → Relisted free freed k (u last s) → IsInRange last s.version → IsSound (set slots k s) freed later limit last
+  pub IsSound-set : (slots : List (Slot T)) (free freed : List ℕ) (len later limit last k : ℕ) (s : Slot T) → SlotsAreSound slots free len limit last → k < length slots → later + t (slot_in slots k) ≡ len + t s → length freed + u last (slot_in slots k) ≡ length free + u last s → Relisted free freed k (u last s) → IsInRange last s.version → SlotsAreSound (set slots k s) freed later limit last
   IsSound-set slots free freed len later limit last k s sound within counts frees relisted range =
       let taken = sum_by-set t slots k s never within in
       let retired = sum_by-set (r last) slots k s never within in
@@ -95,7 +95,7 @@ module _ {T : Type 0} where
   reusable_t : (last : ℕ) (s : Slot T) → u last s ≡ 1 → t s ≡ 0
   reusable_t last s one = omega (arith, one_of last s)
 
-  pub IsSound-rewrite : (slots : List (Slot T)) (free : List ℕ) (len limit last k : ℕ) (w : T) → IsSound slots free len limit last → k < length slots → IsSome (slot_in slots k).item → IsSound (set slots k (record { version = (slot_in slots k).version; item = Some w })) free len limit last
+  pub IsSound-rewrite : (slots : List (Slot T)) (free : List ℕ) (len limit last k : ℕ) (w : T) → SlotsAreSound slots free len limit last → k < length slots → IsSome (slot_in slots k).item → SlotsAreSound (set slots k (record { version = (slot_in slots k).version; item = Some w })) free len limit last
   IsSound-rewrite slots free len limit last k w sound within some =
       let old = slot_in slots k in
       let unlisted = sound.listed k within ∙ taken_u last old some in
@@ -103,7 +103,7 @@ module _ {T : Type 0} where
       (omega (arith, taken_t old some)) (omega (arith, taken_u last old some)) (same_list free k 0 unlisted) (sound.versions k within)
 
   -- a value leaves slot k, and the free list has become freed
-  pub IsSound-vacate : (slots : List (Slot T)) (free freed : List ℕ) (len limit last k v : ℕ) → IsSound slots free len limit last → k < length slots → IsSome (slot_in slots k).item → length freed ≡ length free + u last (record { version = v; item = None }) → Relisted free freed k (u last (record { version = v; item = None })) → IsInRange last v → IsSound (set slots k (record { version = v; item = None })) freed (len - 1) limit last
+  pub IsSound-vacate : (slots : List (Slot T)) (free freed : List ℕ) (len limit last k v : ℕ) → SlotsAreSound slots free len limit last → k < length slots → IsSome (slot_in slots k).item → length freed ≡ length free + u last (record { version = v; item = None }) → Relisted free freed k (u last (record { version = v; item = None })) → IsInRange last v → SlotsAreSound (set slots k (record { version = v; item = None })) freed (len - 1) limit last
   IsSound-vacate slots free freed len limit last k v sound within some longer relisted range =
       let old = slot_in slots k in
       let counted = sum_by-set t slots k never never within in
@@ -124,7 +124,7 @@ module _ {T : Type 0} where
     pub reusable : u last (slot_in slots k) ≡ 1
     pub once : count_by (nat_eq k) rest ≡ 0
 
-  pub offered : (slots : List (Slot T)) (rest : List ℕ) (len limit last k : ℕ) → IsSound slots (k ∷ rest) len limit last → IsOffered slots rest last k
+  pub offered : (slots : List (Slot T)) (rest : List ℕ) (len limit last k : ℕ) → SlotsAreSound slots (k ∷ rest) len limit last → IsOffered slots rest last k
   offered slots rest len limit last k sound =
       let here : count_by (nat_eq k) (k ∷ rest) ≡ count_by (nat_eq k) rest + 1 =
       sum_by-cons (λ j. cond (nat_eq k j) 1 0) k rest ∙ ap (λ b. cond b 1 0 + count_by (nat_eq k) rest) (eq-eqb k k refl) ∙ omega arith in
@@ -139,7 +139,7 @@ module _ {T : Type 0} where
       cases_lt : (a b : ℕ) → (a < b) ⊎ (b ≤ a)
       cases_lt a b = elim (leb_tells b a) [ inl eq ↦ inr eq.1 | inr ne ↦ inl ne.1 ]
 
-  pub IsSound-reuse : (slots : List (Slot T)) (rest : List ℕ) (len limit last k v : ℕ) (w : T) → v ≡ (slot_in slots k).version + 2 → IsSound slots (k ∷ rest) len limit last → IsSound (set slots k (record { version = v; item = Some w })) rest (len + 1) limit last
+  pub IsSound-reuse : (slots : List (Slot T)) (rest : List ℕ) (len limit last k v : ℕ) (w : T) → v ≡ (slot_in slots k).version + 2 → SlotsAreSound slots (k ∷ rest) len limit last → SlotsAreSound (set slots k (record { version = v; item = Some w })) rest (len + 1) limit last
   IsSound-reuse slots rest len limit last k v w next sound =
       let one = offered slots rest len limit last k sound in
       let old = slot_in slots k in
@@ -152,7 +152,7 @@ module _ {T : Type 0} where
       others j differs =
           sym (sum_by-cons (λ i. cond (nat_eq j i) 1 0) k rest ∙ ap (λ b. cond b 1 0 + count_by (nat_eq j) rest) (ne_eqb j k differs) ∙ omega arith)
 
-  pub IsSound-extend : (slots : List (Slot T)) (free freed : List ℕ) (len limit last : ℕ) (w : T) → free ≡ [] → freed ≡ [] → length slots < limit → IsSound slots free len limit last → IsSound (slots ++ record { version = 1; item = Some w } ∷ []) freed (len + 1) limit last
+  pub IsSound-extend : (slots : List (Slot T)) (free freed : List ℕ) (len limit last : ℕ) (w : T) → free ≡ [] → freed ≡ [] → length slots < limit → SlotsAreSound slots free len limit last → SlotsAreSound (slots ++ record { version = 1; item = Some w } ∷ []) freed (len + 1) limit last
   IsSound-extend slots free freed len limit last w none emptied below sound =
       let s : Slot T = record { version = 1; item = Some w } in
       let taken = sum_by_push t slots s in
@@ -187,7 +187,7 @@ module _ {T : Type 0} where
           ]
 
   -- the ids that are handed out are new
-  pub offered_is_new : (slots : List (Slot T)) (rest : List ℕ) (len limit last k n : ℕ) → IsSound slots (k ∷ rest) len limit last → IsNew (record { slots = slots; limit = limit; last_version = last; removals = n }) (record { slot = k + 1; version = (slot_in slots k).version + 2 })
+  pub offered_is_new : (slots : List (Slot T)) (rest : List ℕ) (len limit last k n : ℕ) → SlotsAreSound slots (k ∷ rest) len limit last → IsNew (record { slots = slots; limit = limit; last_version = last; removals = n }) (record { slot = k + 1; version = (slot_in slots k).version + 2 })
   offered_is_new slots rest len limit last k n sound =
       let one = offered slots rest len limit last k sound in
       let is = reusable_is last (slot_in slots k) one.reusable in
@@ -200,7 +200,7 @@ module _ {T : Type 0} where
         version = inr (omega (arith, one.within), rw at ((sound.versions k one.within).first), rw at refl);
       }
 
-  pub end_is_new : (slots : List (Slot T)) (free : List ℕ) (len limit last n : ℕ) → IsSound slots free len limit last → length slots < limit → IsNew (record { slots = slots; limit = limit; last_version = last; removals = n }) (record { slot = length slots + 1; version = 1 })
+  pub end_is_new : (slots : List (Slot T)) (free : List ℕ) (len limit last n : ℕ) → SlotsAreSound slots free len limit last → length slots < limit → IsNew (record { slots = slots; limit = limit; last_version = last; removals = n }) (record { slot = length slots + 1; version = 1 })
   end_is_new slots free len limit last n sound below =
       record {
         numbered = omega arith;
@@ -228,11 +228,11 @@ module _ {T : Type 0} where
       next (inl end) = omega (arith, end.0)
       next (inr reused) = omega (arith, reused.0)
 
-  pub whole_is : (slots : List (Slot T)) (free : List ℕ) (len limit last n : ℕ) → IsSound slots free len limit last → IsWhole (record { slots = slots; limit = limit; last_version = last; removals = n })
+  pub whole_is : (slots : List (Slot T)) (free : List ℕ) (len limit last n : ℕ) → SlotsAreSound slots free len limit last → IsWhole (record { slots = slots; limit = limit; last_version = last; removals = n })
   whole_is slots free len limit last n sound = record { within = sound.within; versions = sound.versions }
 
   -- the room is what was never handed out and what the free list has
-  pub room_is : (slots : List (Slot T)) (free : List ℕ) (len limit last n : ℕ) → IsSound slots free len limit last → room (record { slots = slots; limit = limit; last_version = last; removals = n }) ≡ (limit - length slots) + length free
+  pub room_is : (slots : List (Slot T)) (free : List ℕ) (len limit last n : ℕ) → SlotsAreSound slots free len limit last → room (record { slots = slots; limit = limit; last_version = last; removals = n }) ≡ (limit - length slots) + length free
   room_is slots free len limit last n sound =
       let counted = sound.counted in
       let total = sound.total in
@@ -240,17 +240,17 @@ module _ {T : Type 0} where
       omega arith
 
   -- a slot with a value counts, and the free list does not have it
-  pub taken_counts : (slots : List (Slot T)) (free : List ℕ) (len limit last k : ℕ) → IsSound slots free len limit last → k < length slots → IsSome (slot_in slots k).item → 1 ≤ len
+  pub taken_counts : (slots : List (Slot T)) (free : List ℕ) (len limit last k : ℕ) → SlotsAreSound slots free len limit last → k < length slots → IsSome (slot_in slots k).item → 1 ≤ len
   taken_counts slots free len limit last k sound within some =
       let counted = sum_by-set t slots k never never within in
       omega (arith, sound.counted, taken_t (slot_in slots k) some)
 
-  pub unlisted_at : (slots : List (Slot T)) (free : List ℕ) (len limit last k : ℕ) → IsSound slots free len limit last → k < length slots → IsSome (slot_in slots k).item → count_by (nat_eq k) free ≡ 0
+  pub unlisted_at : (slots : List (Slot T)) (free : List ℕ) (len limit last k : ℕ) → SlotsAreSound slots free len limit last → k < length slots → IsSome (slot_in slots k).item → count_by (nat_eq k) free ≡ 0
   unlisted_at slots free len limit last k sound within some =
       sound.listed k within ∙ taken_u last (slot_in slots k) some
 
   -- the record under an id leaves, and its slot goes on the free list
-  pub vacate_listed : (slots : List (Slot T)) (free : List ℕ) (len limit last : ℕ) (id : ArenaIndex) → IsSound slots free len limit last → IsTaken slots id → nat_le (id.version + 2) last ≡ true → IsSound (set slots (id.slot - 1) (record { version = id.version; item = None })) ((id.slot - 1) ∷ free) (len - 1) limit last
+  pub vacate_listed : (slots : List (Slot T)) (free : List ℕ) (len limit last : ℕ) (id : ArenaIndex) → SlotsAreSound slots free len limit last → IsTaken slots id → nat_le (id.version + 2) last ≡ true → SlotsAreSound (set slots (id.slot - 1) (record { version = id.version; item = None })) ((id.slot - 1) ∷ free) (len - 1) limit last
   vacate_listed slots free len limit last id sound live fits =
       let one : u last (record { version = id.version; item = None }) ≡ 1 = rw fits refl in
       IsSound-vacate slots free ((id.slot - 1) ∷ free) len limit last (id.slot - 1) id.version sound live.within live.some (omega arith)
@@ -258,7 +258,7 @@ module _ {T : Type 0} where
       (rw (sym live.version) (sound.versions (id.slot - 1) live.within))
 
   -- the record under an id leaves, and its slot is empty for good
-  pub vacate_retired : (slots : List (Slot T)) (free : List ℕ) (len limit last : ℕ) (id : ArenaIndex) → IsSound slots free len limit last → IsTaken slots id → nat_le (id.version + 2) last ≡ false → IsSound (set slots (id.slot - 1) (record { version = id.version; item = None })) free (len - 1) limit last
+  pub vacate_retired : (slots : List (Slot T)) (free : List ℕ) (len limit last : ℕ) (id : ArenaIndex) → SlotsAreSound slots free len limit last → IsTaken slots id → nat_le (id.version + 2) last ≡ false → SlotsAreSound (set slots (id.slot - 1) (record { version = id.version; item = None })) free (len - 1) limit last
   vacate_retired slots free len limit last id sound live fits =
       let none : u last (record { version = id.version; item = None }) ≡ 0 = rw fits refl in
       IsSound-vacate slots free free len limit last (id.slot - 1) id.version sound live.within live.some (omega arith)

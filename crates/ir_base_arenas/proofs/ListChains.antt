@@ -5,7 +5,7 @@ use Rattle.ir_model.specs.Ids.{Distinct}
 use Rattle.ir_model.specs.Nesting.{In}
 use Rattle.ir_model.proofs.Nests.{In-right, Absent-not_in, not_in-Absent}
 use Rattle.ir_model.proofs.IdCases.{id_same, id_differs}
-use Rattle.ir_base_arenas.specs.Lists.{Links, linked, Heap, change, with_next, with_prev, head_or, last_of, last_or, IsChain}
+use Rattle.ir_base_arenas.specs.Lists.{Links, linked, Heap, change, with_next, with_prev, head_or, last_from, last_or, IsChain}
 
 -- change
 pub change-other : {A : Type 0} (f : A → A) (i : ArenaIndex) (h : Heap A) (j : ArenaIndex) → (i ≡ j → ⊥) → change f (Some i) h j ≡ h j
@@ -23,7 +23,7 @@ pub head-None : (xs : List ArenaIndex) → None ≡ head_or None xs → xs ≡ [
 head-None [] e = refl
 head-None (x ∷ xs) e = cc
 
-pub last_of-append : (x : ArenaIndex) (xs : List ArenaIndex) (y : ArenaIndex) (ys : List ArenaIndex) → last_of x (xs ++ y ∷ ys) ≡ last_of y ys
+pub last_of-append : (x : ArenaIndex) (xs : List ArenaIndex) (y : ArenaIndex) (ys : List ArenaIndex) → last_from x (xs ++ y ∷ ys) ≡ last_from y ys
 last_of-append x [] y ys = refl
 last_of-append x (z ∷ zs) y ys = last_of-append z zs y ys
 
@@ -33,7 +33,7 @@ last_or-append d [] (y ∷ ys) = refl
 last_or-append d (x ∷ xs) (y ∷ ys) = ap Some (last_of-append x xs y ys)
 
 -- membership
-pub last_of-In : (x : ArenaIndex) (xs : List ArenaIndex) → In (last_of x xs) (x ∷ xs)
+pub last_of-In : (x : ArenaIndex) (xs : List ArenaIndex) → In (last_from x xs) (x ∷ xs)
 last_of-In x [] = inl refl
 last_of-In x (y ∷ ys) = inr (last_of-In y ys)
 
@@ -106,6 +106,6 @@ pub chain-set_next : (h : Heap Links) (c : ArenaIndex) (p : Option ArenaIndex) (
 chain-set_next h c p [] n m a k = tt
 chain-set_next h c p (x ∷ []) n m a k = (change-here (with_next m) x h (linked p n c) k.0, tt)
 chain-set_next h c p (x ∷ (y ∷ ys)) n m a k = (
-  change-other (with_next m) (last_of y ys) h x (λ e. not_in-Absent x (y ∷ ys) a.0 (subst (λ z. In z (y ∷ ys)) e (last_of-In y ys))) ∙ k.0,
+  change-other (with_next m) (last_from y ys) h x (λ e. not_in-Absent x (y ∷ ys) a.0 (subst (λ z. In z (y ∷ ys)) e (last_of-In y ys))) ∙ k.0,
   chain-set_next h c (Some x) (y ∷ ys) n m a.1 k.1,
 )

@@ -8,7 +8,7 @@ use Rattle.ir_model.specs.Slots.{Slot, is_taken, is_retired, had_version}
 use Rattle.ir_base_arenas.specs.Arena.{Arena, get, fill, cut, empty, IsLive, IsNew, is_passed, arena_len, room}
 use Rattle.ir_model.specs.Ids.{Distinct}
 use Rattle.ir_model.specs.Nesting.{In}
-use Rattle.ir_base_arenas.specs.Lists.{seen, Links, Ends, Heap, unlinked, no_ends, ends_of, AreLists, container_in, container_of, IsLinked, map_slot, map_records, SameBut, SameIds}
+use Rattle.ir_base_arenas.specs.Lists.{seen, Links, Ends, Heap, unlinked, no_ends, ends_of, AreLists, container_in, container_of, IsInList, map_slot, map_records, SameBut, SameIds}
 use Rattle.ir_model.proofs.Arenas.{get-empty, get-new, get-fill_new, get-fill_new_other, get-cut, get-cut_other}
 use Rattle.ir_model.proofs.IdCases.{id_cases}
 use Rattle.ir_base_arenas.proofs.ListArena.{slot_at-map}
@@ -34,7 +34,7 @@ container-is_in {h} {r} {lists} l c x = (λ e. found (h x) refl e, λ i. in-link
         let p = place l x c m e (sym (ap container_in e) ∙ k) in
         middle (lists c) p.before p.after p.splits
 
-pub linked-is_in : {h : Heap Links} {r : Heap Ends} {lists : ArenaIndex → List ArenaIndex} → AreLists h r lists → (x : ArenaIndex) → IsLinked h x ↔ ((c : ArenaIndex) × In x (lists c))
+pub linked-is_in : {h : Heap Links} {r : Heap Ends} {lists : ArenaIndex → List ArenaIndex} → AreLists h r lists → (x : ArenaIndex) → IsInList h x ↔ ((c : ArenaIndex) × In x (lists c))
 linked-is_in {h} {r} {lists} l x = (λ k. of_container (container_of h x) refl k, λ s. in-is_linked l s.0 x s.1)
   where
     of_container : (o : Option ArenaIndex) → container_of h x ≡ o → IsSome (container_of h x) → (c : ArenaIndex) × In x (lists c)
@@ -97,7 +97,7 @@ module _ {T : Type 0} (links : T → Links) (nodes : Arena T) (r : Heap Ends) (l
           let bad : None ≡ Some s.0 = sym none ∙ s.1 in
           cc
 
-  pub AreLists-cut_node : (id : ArenaIndex) → IsLive nodes id → (IsLinked (seen links nodes) id → ⊥) → AreLists (seen links (cut nodes id)) r lists
+  pub AreLists-cut_node : (id : ArenaIndex) → IsLive nodes id → (IsInList (seen links nodes) id → ⊥) → AreLists (seen links (cut nodes id)) r lists
   AreLists-cut_node id live free =
       AreLists-nodes (seen links nodes) (seen links (cut nodes id)) r lists l
       (λ c y i. same y (λ e. free (in-is_linked l c id (subst (λ z. In z (lists c)) (sym e) i))))

@@ -7,7 +7,7 @@ use Rattle.ir_model.specs.declared.ids.ArenaIndex.{ArenaIndex}
 use Rattle.ir_model.proofs.Nests.{In-left, In-right}
 use Rattle.ir_base_arenas.specs.Arena.{Arena, get, IsLive}
 use Rattle.ir_model.specs.Nesting.{In}
-use Rattle.ir_base_arenas.specs.Lists.{seen, Links, Ends, unlinked, linked, Heap, head_or, last_or, IsChain, AreLists, AreWellFormed, container_in, container_of, IsLinked}
+use Rattle.ir_base_arenas.specs.Lists.{seen, Links, Ends, unlinked, linked, Heap, head_or, last_or, IsChain, AreLists, AreWellFormed, container_in, container_of, IsInList}
 use Rattle.ir_base_arenas.proofs.ListChains.{chain-split, chain-at, In-split}
 use Rattle.ir_base_arenas.proofs.ListEdits.{head-In, last-In}
 
@@ -30,17 +30,17 @@ seen-from_live view s i l = seen-in view (get s i) l
 pub in-linked : {h : Heap Links} {r : Heap Ends} {lists : ArenaIndex → List ArenaIndex} → AreLists h r lists → (c x : ArenaIndex) → In x (lists c) → container_of h x ≡ Some c
 in-linked {h} {r} {lists} a c x i = let s = chain-at h c None (lists c) None x (a.chains c) i in ap container_in s.1 ∙ s.2
 
-pub in-is_linked : {h : Heap Links} {r : Heap Ends} {lists : ArenaIndex → List ArenaIndex} → AreLists h r lists → (c x : ArenaIndex) → In x (lists c) → IsLinked h x
+pub in-is_linked : {h : Heap Links} {r : Heap Ends} {lists : ArenaIndex → List ArenaIndex} → AreLists h r lists → (c x : ArenaIndex) → In x (lists c) → IsInList h x
 in-is_linked {h} a c x i = ap is_some (in-linked a c x i)
 
 -- a live node that is not linked has empty links
-pub unlinked-links : {h : Heap Links} {r : Heap Ends} {lists : ArenaIndex → List ArenaIndex} → AreLists h r lists → (x : ArenaIndex) (m : Links) → h x ≡ Some m → (IsLinked h x → ⊥) → h x ≡ Some unlinked
+pub unlinked-links : {h : Heap Links} {r : Heap Ends} {lists : ArenaIndex → List ArenaIndex} → AreLists h r lists → (x : ArenaIndex) (m : Links) → h x ≡ Some m → (IsInList h x → ⊥) → h x ≡ Some unlinked
 unlinked-links l x m e out = elim (l.covers x m e) [
   | inl u ↦ e ∙ ap Some u
   | inr s ↦ absurd (out (in-is_linked l s.0 x s.1))
 ]
 
-pub unlinked-node : {T : Type 0} (links : T → Links) (nodes : Arena T) (r : Heap Ends) (x : ArenaIndex) → AreWellFormed (seen links nodes) r → IsLive nodes x → (IsLinked (seen links nodes) x → ⊥) → seen links nodes x ≡ Some unlinked
+pub unlinked-node : {T : Type 0} (links : T → Links) (nodes : Arena T) (r : Heap Ends) (x : ArenaIndex) → AreWellFormed (seen links nodes) r → IsLive nodes x → (IsInList (seen links nodes) x → ⊥) → seen links nodes x ≡ Some unlinked
 unlinked-node links nodes r x w live out = let s = seen-from_live links nodes x live in unlinked-links w.1 x s.0 s.1 out
 
 -- where a linked node stands
@@ -88,7 +88,7 @@ module _ {h : Heap Links} {r : Heap Ends} {lists : ArenaIndex → List ArenaInde
   last-live c a b y e is = let t = chain-at h c None (lists c) None y (l.chains c) (rw e (In-left y a b (last-In a y is))) in (t.0, t.1)
 
 -- a linked node stands in the list of its container
-pub linked-place : {h : Heap Links} {r : Heap Ends} {lists : ArenaIndex → List ArenaIndex} → AreLists h r lists → (x : ArenaIndex) → IsLinked h x → (c : ArenaIndex) × Place h r lists x c
+pub linked-place : {h : Heap Links} {r : Heap Ends} {lists : ArenaIndex → List ArenaIndex} → AreLists h r lists → (x : ArenaIndex) → IsInList h x → (c : ArenaIndex) × Place h r lists x c
 linked-place {h} {r} {lists} l x k = of_links (h x) refl k
   where
     of_container : (m : Links) → h x ≡ Some m → (o : Option ArenaIndex) → m.container ≡ o → IsSome o → (c : ArenaIndex) × Place h r lists x c

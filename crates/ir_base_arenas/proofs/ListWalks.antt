@@ -10,8 +10,8 @@ use Rattle.ir_model.specs.Nesting.{In}
 use Rattle.ir_model.proofs.Nests.{not_in-Absent}
 use Rattle.ir_model.proofs.Redirected.{Distinct-front}
 use Rattle.ir_model.proofs.TwoRuns.{id_tells}
-use Rattle.ir_base_arenas.specs.Lists.{seen, Links, Ends, Heap, IsChain, linked, head_or, last_or, last_of, AreLists}
-use Rattle.ir_base_arenas.specs.Walks.{next_in, head_in, walk_to, piece, list_of, IsPiece}
+use Rattle.ir_base_arenas.specs.Lists.{seen, Links, Ends, Heap, IsChain, linked, head_or, last_or, last_from, AreLists}
+use Rattle.ir_base_arenas.specs.Walks.{next_linked, head_in, walk_to, piece, list_in, IsPiece}
 use Rattle.ir_model.proofs.IdCases.{id_same, id_differs}
 use Rattle.ir_base_arenas.proofs.ListArena.{live-fit}
 use Rattle.ir_base_arenas.proofs.ListChains.{head-None, last_of-In, chain-apart, chain-at, chain-split, apart-both}
@@ -22,17 +22,17 @@ walk-all zero h c p [] k f = refl
 walk-all zero h c p (x ∷ xs) k f = absurd (omega arith)
 walk-all (suc n) h c p [] k f = refl
 walk-all (suc n) h c p (x ∷ xs) k f =
-    ap (λ ys. x ∷ ys) (ap (λ o. walk_to n h (next_in o) None) k.0 ∙ walk-all n h c (Some x) xs k.1 (omega arith))
+    ap (λ ys. x ∷ ys) (ap (λ o. walk_to n h (next_linked o) None) k.0 ∙ walk-all n h c (Some x) xs k.1 (omega arith))
 
 pub walk-piece : (fuel : ℕ) (h : Heap Links) (c : ArenaIndex) (p n : Option ArenaIndex) (xs : List ArenaIndex) → IsChain h c p xs n → Distinct xs → length xs ≤ fuel → walk_to fuel h (head_or None xs) (last_or None xs) ≡ xs
 walk-piece zero h c p n [] k a f = refl
 walk-piece zero h c p n (x ∷ xs) k a f = absurd (omega arith)
 walk-piece (suc m) h c p n [] k a f = refl
-walk-piece (suc m) h c p n (x ∷ []) k a f = ap (λ b. x ∷ cond b [] (walk_to m h (next_in (h x)) (Some x))) (id_same x)
+walk-piece (suc m) h c p n (x ∷ []) k a f = ap (λ b. x ∷ cond b [] (walk_to m h (next_linked (h x)) (Some x))) (id_same x)
 walk-piece (suc m) h c p n (x ∷ (y ∷ ys)) k a f =
-    let other : same_id (last_of y ys) x ≡ false = id_differs (last_of y ys) x (λ e. not_in-Absent x (y ∷ ys) a.0 (subst (λ z. In z (y ∷ ys)) e (last_of-In y ys))) in
-    ap (λ b. x ∷ cond b [] (walk_to m h (next_in (h x)) (Some (last_of y ys)))) other
-    ∙ ap (λ zs. x ∷ zs) (ap (λ o. walk_to m h (next_in o) (Some (last_of y ys))) k.0 ∙ walk-piece m h c (Some x) n (y ∷ ys) k.1 a.1 (omega arith))
+    let other : same_id (last_from y ys) x ≡ false = id_differs (last_from y ys) x (λ e. not_in-Absent x (y ∷ ys) a.0 (subst (λ z. In z (y ∷ ys)) e (last_of-In y ys))) in
+    ap (λ b. x ∷ cond b [] (walk_to m h (next_linked (h x)) (Some (last_from y ys)))) other
+    ∙ ap (λ zs. x ∷ zs) (ap (λ o. walk_to m h (next_linked o) (Some (last_from y ys))) k.0 ∙ walk-piece m h c (Some x) n (y ∷ ys) k.1 a.1 (omega arith))
 
 pub walk-nothing : (room : ℕ) (h : Heap Links) (last : Option ArenaIndex) → walk_to room h None last ≡ []
 walk-nothing zero h last = refl
@@ -122,7 +122,7 @@ back-nodes h room x c before after next back [] k a f b w =
     record { links = linked before after c; here = k.0; rest = []; items = w; at_end = λ _. refl; further = λ ne. absurd (ne b) }
 back-nodes h room x c before after next back (z ∷ zs) k a f b w =
     let s = chain-split h c before (z ∷ zs) (x ∷ []) after k in
-    let piece : IsPiece h room next (Some (last_of z zs)) = record {
+    let piece : IsPiece h room next (Some (last_from z zs)) = record {
       container = c;
       before = before;
       after = Some x;
@@ -134,7 +134,7 @@ back-nodes h room x c before after next back (z ∷ zs) k a f b w =
       ends = refl;
     } in
     record {
-      links = linked (Some (last_of z zs)) after c;
+      links = linked (Some (last_from z zs)) after c;
       here = s.1.0;
       rest = z ∷ zs;
       items = w;
@@ -146,7 +146,7 @@ front : ArenaIndex → List ArenaIndex → List ArenaIndex
 front x [] = []
 front x (y ∷ ys) = x ∷ front y ys
 
-front-last : (x : ArenaIndex) (xs : List ArenaIndex) → x ∷ xs ≡ front x xs ++ last_of x xs ∷ []
+front-last : (x : ArenaIndex) (xs : List ArenaIndex) → x ∷ xs ≡ front x xs ++ last_from x xs ∷ []
 unfolding front
 front-last x [] = refl
 front-last x (y ∷ ys) = ap (λ zs. x ∷ zs) (front-last y ys)
@@ -181,7 +181,7 @@ piece-all links nodes c p xs k = walk-all (length nodes.slots) (seen links nodes
 
 -- the lists are a function of the state
 pub list_of-is : {T C : Type 0} (links : T → Links) (ends : C → Ends) (nodes : Arena T) (containers : Arena C) (lists : ArenaIndex → List ArenaIndex)
-    → AreLists (seen links nodes) (seen ends containers) lists → (c : ArenaIndex) → list_of links ends nodes containers c ≡ lists c
+    → AreLists (seen links nodes) (seen ends containers) lists → (c : ArenaIndex) → list_in links ends nodes containers c ≡ lists c
 list_of-is links ends nodes containers lists l = lists-walk (length nodes.slots) (seen links nodes) (seen ends containers) lists l (λ c. chain-fits links nodes c None (lists c) (l.chains c))
 
 abbrev pub list-piece : {T : Type 0} (links : T → Links) (nodes : Arena T) (r : Heap Ends) (lists : ArenaIndex → List ArenaIndex) (c : ArenaIndex) (head tail : Option ArenaIndex)

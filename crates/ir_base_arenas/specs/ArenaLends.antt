@@ -11,5 +11,5 @@ module _ (T : RattleType) (s : MutBor (Arena T.Denot)) (id : ArenaIndex) where
   lends_get r = LendsIf (the_row T) T s r (fill s.now id) s.now
 
   -- once the borrow r ends, the last value written through r stands under the id
-  abbrev pub lends_value : MutBor T.Denot → Fml
-  lends_value r = Lends (the_row T) T s r (fill s.now id)
+  abbrev pub lends_record : MutBor T.Denot → Fml
+  lends_record r = Lends (the_row T) T s r (fill s.now id)

@@ -7,9 +7,9 @@ use Rattle.ir_base_arenas.specs.declared.arena.Slot.TheVariants.{Full, Free}
 
 module _ {T : Type 0} where
   -- the slot as contracts see it
-  abbrev pub shown : Held T → Slot T
-  shown (Full version item) = record { version = version; item = Some item }
-  shown (Free version next) = record { version = version; item = None }
+  abbrev pub slot_shown : Held T → Slot T
+  slot_shown (Full version item) = record { version = version; item = Some item }
+  slot_shown (Free version next) = record { version = version; item = None }
 
   -- the number that a free slot keeps
   abbrev pub next_in : Held T → ℕ
@@ -31,7 +31,7 @@ module _ {T : Type 0} where
   IsFreeChain slots first (k ∷ rest) = (first ≡ k + 1) × IsFreeChain slots (next_in (held_in slots k)) rest
 
   -- the free list has the place of each slot that can be handed out again, once
-  pub record IsSound (slots : List (Slot T)) (free : List ℕ) (len limit last : ℕ) : Type 0 where
+  pub record SlotsAreSound (slots : List (Slot T)) (free : List ℕ) (len limit last : ℕ) : Type 0 where
     pub counted : len ≡ count_by is_taken slots
     pub total : len + count_by (is_retired last) slots + length free ≡ length slots
     pub listed : (k : ℕ) → k < length slots → count_by (nat_eq k) free ≡ cond (is_reusable last (slot_in slots k)) 1 0
@@ -46,4 +46,4 @@ module _ {T : Type 0} where
     pub places : List ℕ
     pub chained : IsFreeChain slots first places
     pub measured : free ≡ length places
-    pub sound : IsSound (map shown slots) places len limit last
+    pub sound : SlotsAreSound (map slot_shown slots) places len limit last

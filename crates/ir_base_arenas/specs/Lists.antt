@@ -83,14 +83,14 @@ head_or d [] = d
 head_or d (x ∷ xs) = Some x
 
 -- the last of a list that starts with x
-abbrev pub last_of : ArenaIndex → List ArenaIndex → ArenaIndex
-last_of x [] = x
-last_of x (y ∷ ys) = last_of y ys
+abbrev pub last_from : ArenaIndex → List ArenaIndex → ArenaIndex
+last_from x [] = x
+last_from x (y ∷ ys) = last_from y ys
 
 -- the last of the list, or d where it is empty
 abbrev pub last_or : Option ArenaIndex → List ArenaIndex → Option ArenaIndex
 last_or d [] = d
-last_or d (x ∷ xs) = Some (last_of x xs)
+last_or d (x ∷ xs) = Some (last_from x xs)
 
 -- the ends of a list
 abbrev pub ends_of : List ArenaIndex → Ends
@@ -127,8 +127,8 @@ abbrev pub container_of : Heap Links → ArenaIndex → Option ArenaIndex
 container_of nodes x = container_in (nodes x)
 
 -- the node under this id is in a list
-abbrev pub IsLinked : Heap Links → ArenaIndex → Type 0
-IsLinked nodes x = IsSome (container_of nodes x)
+abbrev pub IsInList : Heap Links → ArenaIndex → Type 0
+IsInList nodes x = IsSome (container_of nodes x)
 
 -- the slot with its record changed by f
 abbrev pub map_slot : {T : Type 0} → (T → T) → Slot T → Slot T

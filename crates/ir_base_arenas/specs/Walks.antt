@@ -6,9 +6,9 @@ use Rattle.ir_model.specs.Ids.{Distinct}
 use Rattle.ir_base_arenas.specs.Lists.{Links, Ends, Heap, seen, is_at, IsChain, head_or, last_or, rehome}
 
 -- the next node that these links name
-abbrev pub next_in : Option Links → Option ArenaIndex
-next_in None = None
-next_in (Some l) = l.next
+abbrev pub next_linked : Option Links → Option ArenaIndex
+next_linked None = None
+next_linked (Some l) = l.next
 
 -- the first node that these ends name
 abbrev pub head_in : Option Ends → Option ArenaIndex
@@ -19,15 +19,15 @@ head_in (Some e) = e.head
 abbrev pub walk_to : ℕ → Heap Links → Option ArenaIndex → Option ArenaIndex → List ArenaIndex
 walk_to zero h first last = []
 walk_to (suc n) h None last = []
-walk_to (suc n) h (Some x) last = x ∷ cond (is_at last x) [] (walk_to n h (next_in (h x)) last)
+walk_to (suc n) h (Some x) last = x ∷ cond (is_at last x) [] (walk_to n h (next_linked (h x)) last)
 
 -- the nodes of an arena from `first` on, up to `last`
 abbrev pub piece : {T : Type 0} → (T → Links) → Arena T → Option ArenaIndex → Option ArenaIndex → List ArenaIndex
 piece links nodes first last = walk_to (length nodes.slots) (seen links nodes) first last
 
 -- the list of a container
-abbrev pub list_of : {T C : Type 0} → (T → Links) → (C → Ends) → Arena T → Arena C → ArenaIndex → List ArenaIndex
-list_of links ends nodes containers c = piece links nodes (head_in (seen ends containers c)) None
+abbrev pub list_in : {T C : Type 0} → (T → Links) → (C → Ends) → Arena T → Arena C → ArenaIndex → List ArenaIndex
+list_in links ends nodes containers c = piece links nodes (head_in (seen ends containers c)) None
 
 -- a piece of one list stands from `next` to `back`
 pub record IsPiece (h : Heap Links) (room : ℕ) (next back : Option ArenaIndex) : Type 0 where

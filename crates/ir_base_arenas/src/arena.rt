@@ -31,11 +31,11 @@ const _: () = prove!(size_of::<Slot<[u32; 3]>>() == size_of::<[u32; 3]>() + 8);
 
 impl<T> Slot<T> {
     ghost use Rattle.ir_base_arenas.specs.contracts.arena.Slot.{the_row};
-    ghost use Rattle.ir_base_arenas.specs.ArenaSound.{shown, next_in, with_item};
+    ghost use Rattle.ir_base_arenas.specs.ArenaSound.{slot_shown, next_in, with_item};
 
     // The version that was handed out last.
     fn version(&self) -> u32
-        ensures { result ≡ (shown self.now).version }
+        ensures { result ≡ (slot_shown self.now).version }
     {
         match self {
             Slot::Full { version, .. } => *version,
@@ -55,7 +55,7 @@ impl<T> Slot<T> {
 
     // The record under a version.
     fn item(&self, under: u32) -> Option<&T>
-        ensures { option_copied result ≡ item_under (shown self.now) under }
+        ensures { option_copied result ≡ item_under (slot_shown self.now) under }
     {
         match self {
             Slot::Full { version, item } => { if *version == under { Some(item) } else { None } }
@@ -66,7 +66,7 @@ impl<T> Slot<T> {
     // The record under a version, for writing.
     fn item_mut(&mut self, under: u32) -> Option<&mut T>
         ensures* lends { sem 𝓛 (LendsIf (the_row T.row) T.row self.entry result (with_item self.old) self.old) }
-        ensures value { option_copied_mut result ≡ item_under (shown self.old) under }
+        ensures value { option_copied_mut result ≡ item_under (slot_shown self.old) under }
     {
         if self.version() != under {
             return None;
@@ -79,7 +79,7 @@ impl<T> Slot<T> {
 
     // Takes the record under a version out. The slot then names the free slot after it.
     fn vacate(&mut self, under: u32, next: u32) -> Option<T>
-        ensures value { result ≡ item_under (shown self.old) under }
+        ensures value { result ≡ item_under (slot_shown self.old) under }
         ensures left { self.new ≡ (if is_some result then Slot.Free under next else self.old) }
     {
         if self.item(under).is_none() {
@@ -123,9 +123,9 @@ impl<T> Model for Arena<T> {
 
     ghost coded = { arena_code T.code };
 
-    ghost use Rattle.ir_base_arenas.specs.ArenaSound.{shown, IsLaid};
+    ghost use Rattle.ir_base_arenas.specs.ArenaSound.{slot_shown, IsLaid};
 
-    ghost view = { λ a. record { slots = map shown a.slots.items; limit = a.limit; last_version = a.last_version; removals = a.removals.count } };
+    ghost view = { λ a. record { slots = map slot_shown a.slots.items; limit = a.limit; last_version = a.last_version; removals = a.removals.count } };
 
     ghost invariant = { λ a. IsLaid a.slots.items a.first_free a.free a.len a.limit a.last_version };
 }
@@ -138,7 +138,7 @@ fn has_next(version: u32, last_version: u32) -> bool
 }
 
 impl<T> Arena<T> {
-    ghost use Rattle.ir_base_arenas.specs.ArenaLends.{lends_get, lends_value};
+    ghost use Rattle.ir_base_arenas.specs.ArenaLends.{lends_get, lends_record};
 
     /// An empty arena of at most this many slots, in which no id has a version past `last_version`. It allocates nothing.
     pub fn new(alloc: Global, slots: u32, last_version: u32) -> Self
@@ -223,7 +223,7 @@ impl<T> Arena<T> {
     /// The record under a live `ptr`, for writing.
     pub fn at_mut(&mut self, ptr: Ptr<T>) -> &mut T
         requires { IsLive self.old ptr.index }
-        ensures* writes_back { sem 𝓛 (lends_value T.row self.entry ptr.index result) }
+        ensures* writes_back { sem 𝓛 (lends_record T.row self.entry ptr.index result) }
         ensures value { get self.old ptr.index ≡ Some result.now }
     {
         match self.get_mut(ptr) {

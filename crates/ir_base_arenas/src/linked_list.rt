@@ -5,7 +5,7 @@
 ghost use Rattle.std.specs.Prelude.{◌≡◌, ◌≢◌, ◌≤◌, ◌++◌, ◌∷◌, ◌↔◌, [], List, Option, Some, None, IfSome, IsTrue};
 ghost use Rattle.ir_model.specs.declared.ids.ArenaIndex.{ArenaIndex};
 ghost use Rattle.ir_base_arenas.specs.Arena.{get, IsLive};
-ghost use Rattle.ir_base_arenas.specs.Lists.{Links, Ends, unlinked, no_ends, linked, seen, change, with_next, with_prev, with_head, with_tail, unless, rehome, head_or, IsChain, AreLists, AreWellFormed, with_list, IsLinked, SameBut};
+ghost use Rattle.ir_base_arenas.specs.Lists.{Links, Ends, unlinked, no_ends, linked, seen, change, with_next, with_prev, with_head, with_tail, unless, rehome, head_or, IsChain, AreLists, AreWellFormed, with_list, IsInList, SameBut};
 ghost use Rattle.ir_base_arenas.specs.Walks.{IsListFrom};
 
 use crate::arena_laws::live_ids_have_slots;
@@ -189,7 +189,7 @@ pub fn insert_at_front<T: LinkedList, C: ContainsLinkedList<T>>(
 )
     requires well_formed { AreWellFormed (seen T.links nodes.old) (seen C.ends containers.old) }
     requires node_live { IsLive nodes.old node.index }
-    requires node_unlinked { ¬ IsLinked (seen T.links nodes.old) node.index }
+    requires node_unlinked { ¬ IsInList (seen T.links nodes.old) node.index }
     requires container_live { IsLive containers.old container.index }
     ensures lists { (lists : ArenaIndex → List ArenaIndex)
         → AreLists (seen T.links nodes.old) (seen C.ends containers.old) lists
@@ -215,7 +215,7 @@ pub fn insert_at_back<T: LinkedList, C: ContainsLinkedList<T>>(
 )
     requires well_formed { AreWellFormed (seen T.links nodes.old) (seen C.ends containers.old) }
     requires node_live { IsLive nodes.old node.index }
-    requires node_unlinked { ¬ IsLinked (seen T.links nodes.old) node.index }
+    requires node_unlinked { ¬ IsInList (seen T.links nodes.old) node.index }
     requires container_live { IsLive containers.old container.index }
     ensures lists { (lists : ArenaIndex → List ArenaIndex)
         → AreLists (seen T.links nodes.old) (seen C.ends containers.old) lists
@@ -241,8 +241,8 @@ pub fn insert_after<T: LinkedList, C: ContainsLinkedList<T>>(
 )
     requires well_formed { AreWellFormed (seen T.links nodes.old) (seen C.ends containers.old) }
     requires node_live { IsLive nodes.old node.index }
-    requires node_unlinked { ¬ IsLinked (seen T.links nodes.old) node.index }
-    requires mark_linked { IsLinked (seen T.links nodes.old) mark.index }
+    requires node_unlinked { ¬ IsInList (seen T.links nodes.old) node.index }
+    requires mark_linked { IsInList (seen T.links nodes.old) mark.index }
     ensures lists { (lists : ArenaIndex → List ArenaIndex) (c : ArenaIndex) (a b : List ArenaIndex)
         → AreLists (seen T.links nodes.old) (seen C.ends containers.old) lists
         → lists c ≡ a ++ mark.index ∷ b
@@ -270,8 +270,8 @@ pub fn insert_before<T: LinkedList, C: ContainsLinkedList<T>>(
 )
     requires well_formed { AreWellFormed (seen T.links nodes.old) (seen C.ends containers.old) }
     requires node_live { IsLive nodes.old node.index }
-    requires node_unlinked { ¬ IsLinked (seen T.links nodes.old) node.index }
-    requires mark_linked { IsLinked (seen T.links nodes.old) mark.index }
+    requires node_unlinked { ¬ IsInList (seen T.links nodes.old) node.index }
+    requires mark_linked { IsInList (seen T.links nodes.old) mark.index }
     ensures lists { (lists : ArenaIndex → List ArenaIndex) (c : ArenaIndex) (a b : List ArenaIndex)
         → AreLists (seen T.links nodes.old) (seen C.ends containers.old) lists
         → lists c ≡ a ++ mark.index ∷ b
@@ -297,7 +297,7 @@ pub fn unlink<T: LinkedList, C: ContainsLinkedList<T>>(
     node: Ptr<T>,
 )
     requires well_formed { AreWellFormed (seen T.links nodes.old) (seen C.ends containers.old) }
-    requires node_linked { IsLinked (seen T.links nodes.old) node.index }
+    requires node_linked { IsInList (seen T.links nodes.old) node.index }
     ensures lists { (lists : ArenaIndex → List ArenaIndex) (c : ArenaIndex) (a b : List ArenaIndex)
         → AreLists (seen T.links nodes.old) (seen C.ends containers.old) lists
         → lists c ≡ a ++ node.index ∷ b
@@ -389,7 +389,7 @@ pub fn append_linked_list<T: LinkedList, C: ContainsLinkedList<T>>(
 
 /// Whether the node is in a list. It is not where the handle is dead. It stands for pliron's `is_linked`.
 pub fn is_linked<T: LinkedList>(nodes: &Arena<T>, node: Ptr<T>) -> bool
-    ensures { IsTrue result ↔ IsLinked (seen T.links nodes.now) node.index }
+    ensures { IsTrue result ↔ IsInList (seen T.links nodes.now) node.index }
 {
     match nodes.get(node) {
         Some(record) => record.get_container().get().is_some(),

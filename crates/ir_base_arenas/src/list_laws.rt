@@ -5,8 +5,8 @@ ghost use Rattle.ir_model.specs.declared.ids.ArenaIndex.{ArenaIndex};
 ghost use Rattle.ir_base_arenas.specs.Arena.{Arena as Records, get, fill, cut, empty, IsLive, IsNew};
 ghost use Rattle.ir_model.specs.Ids.{Distinct};
 ghost use Rattle.ir_model.specs.Nesting.{In};
-ghost use Rattle.ir_base_arenas.specs.Lists.{Links, Ends, unlinked, linked, no_ends, seen, head_or, last_or, ends_of, AreLists, container_of, IsLinked, SameBut, SameIds};
-ghost use Rattle.ir_base_arenas.specs.Walks.{list_of};
+ghost use Rattle.ir_base_arenas.specs.Lists.{Links, Ends, unlinked, linked, no_ends, seen, head_or, last_or, ends_of, AreLists, container_of, IsInList, SameBut, SameIds};
+ghost use Rattle.ir_base_arenas.specs.Walks.{list_in};
 
 use crate::linked_list::{ContainsLinkedList, LinkedList};
 
@@ -20,7 +20,7 @@ pub fn empty_arenas<T: LinkedList, C: ContainsLinkedList<T>>()
 pub fn lists_are_one<T: LinkedList, C: ContainsLinkedList<T>>()
     ensures { (nodes : Records T) (containers : Records C) (lists : ArenaIndex → List ArenaIndex)
         → AreLists (seen T.links nodes) (seen C.ends containers) lists → (c : ArenaIndex)
-        → lists c ≡ list_of T.links C.ends nodes containers c }
+        → lists c ≡ list_in T.links C.ends nodes containers c }
 {}
 
 /// A node's container is the one in whose list it stands, it is linked where it stands in a list, no node stands twice, and what stands in a list is live.
@@ -30,7 +30,7 @@ pub fn lists_hold_nodes<T: LinkedList, C: ContainsLinkedList<T>>()
         → (container_of (seen T.links nodes) x ≡ Some c) ↔ In x (lists c) }
     ensures linked { (nodes : Records T) (containers : Records C) (lists : ArenaIndex → List ArenaIndex)
         → AreLists (seen T.links nodes) (seen C.ends containers) lists → (x : ArenaIndex)
-        → IsLinked (seen T.links nodes) x ↔ ((c : ArenaIndex) × In x (lists c)) }
+        → IsInList (seen T.links nodes) x ↔ ((c : ArenaIndex) × In x (lists c)) }
     ensures apart { (nodes : Records T) (containers : Records C) (lists : ArenaIndex → List ArenaIndex)
         → AreLists (seen T.links nodes) (seen C.ends containers) lists → (c : ArenaIndex)
         → Distinct (lists c) }
@@ -49,7 +49,7 @@ pub fn links_are_neighbours<T: LinkedList, C: ContainsLinkedList<T>>()
         → seen T.links nodes x ≡ Some (linked (last_or None a) (head_or None b) c) }
     ensures unlinked { (nodes : Records T) (containers : Records C) (lists : ArenaIndex → List ArenaIndex)
         → AreLists (seen T.links nodes) (seen C.ends containers) lists → (x : ArenaIndex)
-        → IsLive nodes x → ¬ IsLinked (seen T.links nodes) x
+        → IsLive nodes x → ¬ IsInList (seen T.links nodes) x
         → seen T.links nodes x ≡ Some unlinked }
     ensures ends { (nodes : Records T) (containers : Records C) (lists : ArenaIndex → List ArenaIndex)
         → AreLists (seen T.links nodes) (seen C.ends containers) lists → (c : ArenaIndex) (e : Ends)
@@ -68,7 +68,7 @@ pub fn node_changes_keep_lists<T: LinkedList, C: ContainsLinkedList<T>>()
         → AreLists (seen T.links (fill nodes id node)) (seen C.ends containers) lists }
     ensures removed { (nodes : Records T) (containers : Records C) (lists : ArenaIndex → List ArenaIndex)
         → AreLists (seen T.links nodes) (seen C.ends containers) lists → (id : ArenaIndex)
-        → IsLive nodes id → ¬ IsLinked (seen T.links nodes) id
+        → IsLive nodes id → ¬ IsInList (seen T.links nodes) id
         → AreLists (seen T.links (cut nodes id)) (seen C.ends containers) lists }
     ensures written { (nodes : Records T) (containers : Records C) (lists : ArenaIndex → List ArenaIndex)
         → AreLists (seen T.links nodes) (seen C.ends containers) lists

@@ -11,7 +11,7 @@ use Rattle.std.proofs.lemmas.Option.{get_or_from_slice_get, same_Some, slice_get
 use Rattle.indexmap.specs.IndexMap.{IndexMap, get, insert_entry, set_value_at}
 use Rattle.ir_base_dialects.specs.Stores.{has_key}
 use Rattle.ir_model.specs.VerifierLists.{first_places, joined, deduplicated}
-use Rattle.ir_base_dialects.specs.VerifierGroups.{with_each, with_owner, with_entry, plain}
+use Rattle.ir_base_dialects.specs.VerifierGroups.{with_each, with_owner, with_entry, plain_entry}
 use Rattle.ir_base_dialects.proofs.StoreLemmas.{has_key-get, keys_of-push, goes_last}
 use Rattle.ir_model.specs.Edits.{place_of, with_key}
 
@@ -81,10 +81,10 @@ with_each-more kept items i lt = ap (with_each nat_eq kept) (take_more items i 0
 
 -- one more group as a vector
 pub plain-more : {Y : Type 0} (groups : List (ℕ × List ℕ)) (i owner : ℕ) (list : List ℕ) (lists new : List (ℕ × Vec ℕ Y)) (v : Vec ℕ Y)
-    → map plain lists ≡ take i groups → Some (owner, list) ≡ slice_get groups i → v.items ≡ list → new ≡ lists ++ (owner, v) ∷ [] → map plain new ≡ take (i + 1) groups
+    → map plain_entry lists ≡ take i groups → Some (owner, list) ≡ slice_get groups i → v.items ≡ list → new ≡ lists ++ (owner, v) ∷ [] → map plain_entry new ≡ take (i + 1) groups
 plain-more groups i owner list lists new v so_far at same pushed =
-    ap (map plain) pushed
-    ∙ map-append plain lists ((owner, v) ∷ [])
+    ap (map plain_entry) pushed
+    ∙ map-append plain_entry lists ((owner, v) ∷ [])
     ∙ ap (λ l. l ++ (owner, v.items) ∷ []) so_far
     ∙ ap (λ l. take i groups ++ (owner, l) ∷ []) same
     ∙ ap (λ e. take i groups ++ e ∷ []) (sym (get_or_from_slice_get groups i (owner, list) (owner, list) (sym at)))
@@ -275,11 +275,11 @@ deduplicated-push es owner verifiers =
 
 -- the same, of one entry more of those handed in
 pub deduplicated-more : {Y : Type 0} (es : List (ℕ × Vec ℕ Y)) (i : ℕ) (e : ℕ × Vec ℕ Y) (groups new : List (ℕ × List ℕ)) → i < length es → e ≡ get_or es i e
-    → groups ≡ deduplicated (map plain (take i es)) → new ≡ with_entry groups e.0 e.1.items → new ≡ deduplicated (map plain (take (i + 1) es))
+    → groups ≡ deduplicated (map plain_entry (take i es)) → new ≡ with_entry groups e.0 e.1.items → new ≡ deduplicated (map plain_entry (take (i + 1) es))
 deduplicated-more es i e groups new lt item so_far added =
     added
     ∙ ap (λ g. with_entry g e.0 e.1.items) so_far
-    ∙ deduplicated-push (map plain (take i es)) e.0 e.1.items
-    ∙ ap deduplicated (sym (map-append plain (take i es) (e ∷ [])))
-    ∙ ap (λ f. deduplicated (map plain (take i es ++ f ∷ []))) item
-    ∙ ap (λ l. deduplicated (map plain l)) (sym (take_more es i e lt))
+    ∙ deduplicated-push (map plain_entry (take i es)) e.0 e.1.items
+    ∙ ap deduplicated (sym (map-append plain_entry (take i es) (e ∷ [])))
+    ∙ ap (λ f. deduplicated (map plain_entry (take i es ++ f ∷ []))) item
+    ∙ ap (λ l. deduplicated (map plain_entry l)) (sym (take_more es i e lt))

@@ -16,7 +16,7 @@ use Rattle.std.proofs.lemmas.Cmp.{tied_itself}
 use Rattle.std.proofs.lemmas.List.Sums.{fold-append}
 use Rattle.std.proofs.lemmas.Map.Keys.{IsDistinct-head, IsDistinct-tail}
 use Rattle.ir_model.specs.Stores.{attribute_at}
-use Rattle.ir_base_dialects.specs.Attributes.{same_key, key_order, is_above, is_below, by_key, dict_input, IsKeyAbove, IsNext}
+use Rattle.ir_base_dialects.specs.Attributes.{same_key, key_order, is_above, is_below, by_key, dict_input, IsKeyAbove, IsNextPair}
 use Rattle.ir_base_dialects.proofs.CopyLemmas.{pairs-more, key_new}
 use Rattle.ir_base_dialects.proofs.KeyLemmas.{same_key-is}
 use Rattle.ir_base_dialects.specs.AttributeLaws.{find-map, find-by_key, key_total, same_text}
@@ -88,7 +88,7 @@ module _ {A : Type 0} (a : Option (List ℕ)) (xs : List (List ℕ × A)) (k : L
       by (inr here) = inr (same_key-is q k here)
 
   -- a pair that isn't above the bound, or isn't below the least so far, leaves the least
-  pub next-kept : (n : Option (List ℕ × A)) → IsNext a xs n → (is_above a k && is_below k n) ≡ false → IsNext a (xs ++ (k, v) ∷ []) n
+  pub next-kept : (n : Option (List ℕ × A)) → IsNextPair a xs n → (is_above a k && is_below k n) ≡ false → IsNextPair a (xs ++ (k, v) ∷ []) n
   next-kept None h skip = λ q above. by q above (key-cases q above)
     where
       by : (q : List ℕ) → IsKeyAbove a (xs ++ (k, v) ∷ []) q → IsKeyAbove a xs q ⊎ (q ≡ k) → ⊥
@@ -101,7 +101,7 @@ module _ {A : Type 0} (a : Option (List ℕ)) (xs : List (List ℕ × A)) (k : L
       by q above (inr e) = ap (λ x. is_lt (key_order x p.0)) e ∙ sym (ap (λ b. b && is_lt (key_order k p.0)) (ap (is_above a) (sym e) ∙ above.1)) ∙ skip
 
   -- and else it is the least, where its key is new
-  pub next-new : (n : Option (List ℕ × A)) → IsNext a xs n → attribute_at xs k ≡ None → (is_above a k && is_below k n) ≡ true → IsNext a (xs ++ (k, v) ∷ []) (Some (k, v))
+  pub next-new : (n : Option (List ℕ × A)) → IsNextPair a xs n → attribute_at xs k ≡ None → (is_above a k && is_below k n) ≡ true → IsNextPair a (xs ++ (k, v) ∷ []) (Some (k, v))
   next-new n h new takes =
       (push-none (same_key k) xs (k, v) new ∙ ap (λ b. cond b (Some v) None) (nat_list_eq_equiv.refl k), left (is_above a k) (is_below k n) takes, λ q above. by n h (right (is_above a k) (is_below k n) takes) q (key-cases q above))
     where
@@ -113,20 +113,20 @@ module _ {A : Type 0} (a : Option (List ℕ)) (xs : List (List ℕ × A)) (k : L
       right true y g = g
       right false y g = absurd (true≢false (sym g))
 
-      by : (m : Option (List ℕ × A)) → IsNext a xs m → is_below k m ≡ true → (q : List ℕ) → IsKeyAbove a xs q ⊎ (q ≡ k) → is_lt (key_order q k) ≡ false
+      by : (m : Option (List ℕ × A)) → IsNextPair a xs m → is_below k m ≡ true → (q : List ℕ) → IsKeyAbove a xs q ⊎ (q ≡ k) → is_lt (key_order q k) ≡ false
       by m f below q (inr e) = ap (λ x. is_lt (key_order x k)) e ∙ ap is_lt (tied_itself key_total k)
       by None f below q (inl there) = absurd (f q there)
       by (Some p) f below q (inl there) = not_less q k p.0 (f.2 q there) below
 
 -- a turn of the search for the least: the pair at i is taken, or left
-module _ {A : Type 0} (es : List (List ℕ × A)) (unique : IsDistinct same_key (keys_of es)) (i : ℕ) (k : List ℕ) (v : A) (at : Some (k, v) ≡ slice_get es i) (a : Option (List ℕ)) (n : Option (List ℕ × A)) (so_far : IsNext a (take i es) n) where
-  pub next-takes : is_above a k ≡ true → is_below k n ≡ true → IsNext a (take (i + 1) es) (Some (k, v))
+module _ {A : Type 0} (es : List (List ℕ × A)) (unique : IsDistinct same_key (keys_of es)) (i : ℕ) (k : List ℕ) (v : A) (at : Some (k, v) ≡ slice_get es i) (a : Option (List ℕ)) (n : Option (List ℕ × A)) (so_far : IsNextPair a (take i es) n) where
+  pub next-takes : is_above a k ≡ true → is_below k n ≡ true → IsNextPair a (take (i + 1) es) (Some (k, v))
   next-takes above below =
-      subst (λ l. IsNext a l (Some (k, v))) (sym (pairs-more (λ _. false) true es unique i k v at))
+      subst (λ l. IsNextPair a l (Some (k, v))) (sym (pairs-more (λ _. false) true es unique i k v at))
       (next-new a (take i es) k v n so_far (key_new (λ _. false) true es unique i k v at) (ap (λ b. b && is_below k n) above ∙ below))
 
-  pub next-leaves : (is_above a k && is_below k n) ≡ false → IsNext a (take (i + 1) es) n
-  next-leaves skip = subst (λ l. IsNext a l n) (sym (pairs-more (λ _. false) true es unique i k v at)) (next-kept a (take i es) k v n so_far skip)
+  pub next-leaves : (is_above a k && is_below k n) ≡ false → IsNextPair a (take (i + 1) es) n
+  next-leaves skip = subst (λ l. IsNextPair a l n) (sym (pairs-more (λ _. false) true es unique i k v at)) (next-kept a (take i es) k v n so_far skip)
 
 -- lists of which the keys rise
 module _ {X : Type 0} where
@@ -233,19 +233,19 @@ module _ {A : Type 0} (input : A → HashWrites) where
   abbrev pub still : Option (List ℕ) → List (List ℕ × A) → HashWrites
   still a es = flat_map (λ p. fed.str p.0 ++ p.1) (rest a (by_key input es))
 
-  pub still-next : (a : Option (List ℕ)) (es : List (List ℕ × A)) (k : List ℕ) (v : A) → IsNext a es (Some (k, v)) → rest a (by_key input es) ≡ (k, input v) ∷ rest (Some k) (by_key input es)
+  pub still-next : (a : Option (List ℕ)) (es : List (List ℕ × A)) (k : List ℕ) (v : A) → IsNextPair a es (Some (k, v)) → rest a (by_key input es) ≡ (k, input v) ∷ rest (Some k) (by_key input es)
   still-next a es k v h =
       rest-next a k (input v) h.1 (by_key input es) (sorted-by_key es) (find-by_key input es k ∙ ap (option_map input) h.0) (λ q f above. h.2 q (found-pair es q f, above))
 
-  pub still-less : (a : Option (List ℕ)) (es : List (List ℕ × A)) (k : List ℕ) (v : A) → IsNext a es (Some (k, v)) → length (rest (Some k) (by_key input es)) < length (rest a (by_key input es))
+  pub still-less : (a : Option (List ℕ)) (es : List (List ℕ × A)) (k : List ℕ) (v : A) → IsNextPair a es (Some (k, v)) → length (rest (Some k) (by_key input es)) < length (rest a (by_key input es))
   still-less a es k v h = omega (arith, ap length (still-next a es k v h))
 
-  pub still-end : (a : Option (List ℕ)) (es : List (List ℕ × A)) → IsNext a es None → still a es ≡ []
+  pub still-end : (a : Option (List ℕ)) (es : List (List ℕ × A)) → IsNextPair a es None → still a es ≡ []
   still-end a es h = ap (flat_map (λ p. fed.str p.0 ++ p.1)) (rest-end a (by_key input es) (λ q f above. h q (found-pair es q f, above)))
 
   module _ {S : Type 0} (write : S → List ℕ → S) where
     -- a turn feeds the next pair
-    pub fed-next : (a : Option (List ℕ)) (es : List (List ℕ × A)) (k : List ℕ) (v : A) → IsNext a es (Some (k, v)) → (s t u : S) → t ≡ fold write s (fed.str k) → u ≡ fold write t (input v)
+    pub fed-next : (a : Option (List ℕ)) (es : List (List ℕ × A)) (k : List ℕ) (v : A) → IsNextPair a es (Some (k, v)) → (s t u : S) → t ≡ fold write s (fed.str k) → u ≡ fold write t (input v)
         → fold write u (still (Some k) es) ≡ fold write s (still a es)
     fed-next a es k v h s t u p q =
         sym (ap (λ l. fold write s (flat_map (λ d. fed.str d.0 ++ d.1) l)) (still-next a es k v h)
@@ -260,5 +260,5 @@ module _ {A : Type 0} (input : A → HashWrites) where
         ∙ sym (fold-append write s (fed.usize (length (by_key input es))) (flat_map (λ q. fed.str q.0 ++ q.1) (by_key input es)))
 
     -- and at the end nothing is
-    pub fed-end : (a : Option (List ℕ)) (es : List (List ℕ × A)) → IsNext a es None → (s : S) → fold write s (still a es) ≡ s
+    pub fed-end : (a : Option (List ℕ)) (es : List (List ℕ × A)) → IsNextPair a es None → (s : S) → fold write s (still a es) ≡ s
     fed-end a es h s = ap (fold write s) (still-end a es h)

@@ -63,9 +63,9 @@ module _ {A : Type 0} where
   IsKeyAbove after pairs key = (is_some (attribute_at pairs key) ≡ true) × (is_above after key ≡ true)
 
   -- no key is above the bound, or this pair has the least of those that are
-  abbrev pub IsNext : Option (List ℕ) → List (List ℕ × A) → Option (List ℕ × A) → Type 0
-  IsNext after pairs None = (key : List ℕ) → IsKeyAbove after pairs key → ⊥
-  IsNext after pairs (Some p) = (attribute_at pairs p.0 ≡ Some p.1) × (is_above after p.0 ≡ true) × ((key : List ℕ) → IsKeyAbove after pairs key → is_lt (key_order key p.0) ≡ false)
+  abbrev pub IsNextPair : Option (List ℕ) → List (List ℕ × A) → Option (List ℕ × A) → Type 0
+  IsNextPair after pairs None = (key : List ℕ) → IsKeyAbove after pairs key → ⊥
+  IsNextPair after pairs (Some p) = (attribute_at pairs p.0 ≡ Some p.1) × (is_above after p.0 ≡ true) × ((key : List ℕ) → IsKeyAbove after pairs key → is_lt (key_order key p.0) ≡ false)
 
   -- the key is below that of the pair, where there is one
   abbrev pub is_below : List ℕ → Option (List ℕ × A) → Bool

@@ -17,5 +17,5 @@ with_entry [] owner verifiers = (owner, with_each nat_eq [] verifiers) ∷ []
 with_entry (g ∷ gs) owner verifiers = if nat_eq g.0 owner then (g.0, with_each nat_eq g.1 verifiers) ∷ gs else g ∷ with_entry gs owner verifiers
 
 -- an entry whose list is a vector, with the list of its items
-abbrev pub plain : {Y : Type 0} → ℕ × Vec ℕ Y → ℕ × List ℕ
-plain entry = (entry.0, entry.1.items)
+abbrev pub plain_entry : {Y : Type 0} → ℕ × Vec ℕ Y → ℕ × List ℕ
+plain_entry entry = (entry.0, entry.1.items)

@@ -8,7 +8,7 @@ ghost use Rattle.std.specs.Map.Iter.{ShowsInOrder, deref_pair};
 ghost use Rattle.ir_model.specs.declared.error.CoreError.TheVariants.{OutOfMemory};
 ghost use Rattle.ir_base_dialects.specs.declared.interfaces.TheConstants.{OUTLINED_ATTRIBUTE};
 ghost use Rattle.ir_model.specs.Stores.{attribute_at, set_attribute, without_attribute, HasDistinctKeys};
-ghost use Rattle.ir_base_dialects.specs.Attributes.{same_key, passing, is_outlined, kept_pairs, same_pairs, AreCopies, dict_input, IsNext, is_above, is_below};
+ghost use Rattle.ir_base_dialects.specs.Attributes.{same_key, passing, is_outlined, kept_pairs, same_pairs, AreCopies, dict_input, IsNextPair, is_above, is_below};
 ghost use Rattle.ir_base_dialects.specs.AttributeLaws.{same_pairs-laws, same_pairs-equivalence, by_key-equal};
 
 use crate::attribute::{Attribute, attr_impls, attr_should_outline};
@@ -228,7 +228,7 @@ impl<D: Dialects> AttributeDict<D> {
 
     // The pair with the least key above this one, or of all where there is none.
     fn next_pair(&self, after: Option<&Identifier>) -> Option<(&Identifier, &D::Attr)>
-        ensures next { IsNext (option_copied after.entry) self.now (option_map deref_pair result) }
+        ensures next { IsNextPair (option_copied after.entry) self.now (option_map deref_pair result) }
     {
         let pairs = self.pairs();
         let mut next = None;

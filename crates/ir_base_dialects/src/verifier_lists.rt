@@ -4,7 +4,7 @@ ghost use Rattle.std.specs.Cmp.Lexicographic.{pointwise};
 ghost use Rattle.ir_model.specs.declared.error.CoreError.TheVariants.{OutOfMemory};
 ghost use Rattle.std.specs.Map.{keys_of};
 ghost use Rattle.ir_model.specs.VerifierLists.{deduplicated, DifferBelow, IsFirstRepeat};
-ghost use Rattle.ir_base_dialects.specs.VerifierGroups.{with_each, with_owner, with_entry, plain};
+ghost use Rattle.ir_base_dialects.specs.VerifierGroups.{with_each, with_owner, with_entry, plain_entry};
 ghost use Rattle.ir_model.specs.Edits.{place_of};
 
 use crate::storage_uniquer::UniqueStore;
@@ -115,7 +115,7 @@ fn vectors_of(
     alloc: Global,
     groups: &IndexMap<u32, UniqueStore<u32>>,
 ) -> Result<Vec<(u32, Vec<u32>)>, CoreError>
-    ensures lists { IfOk result (λ lists. map plain lists.items ≡ groups.now.entries) }
+    ensures lists { IfOk result (λ lists. map plain_entry lists.items ≡ groups.now.entries) }
     ensures error { IfErr result (λ error. error ≡ OutOfMemory) }
 {
     let mut lists = Vec::with_capacity(alloc, groups.len())?;
@@ -135,7 +135,7 @@ pub fn collect_deduped_interface_verifiers(
     alloc: Global,
     entries: &[(u32, Vec<u32>)],
 ) -> Result<Vec<(u32, Vec<u32>)>, CoreError>
-    ensures collected { IfOk result (λ lists. map plain lists.items ≡ deduplicated (map plain entries.now)) }
+    ensures collected { IfOk result (λ lists. map plain_entry lists.items ≡ deduplicated (map plain_entry entries.now)) }
     ensures error { IfErr result (λ error. error ≡ OutOfMemory) }
 {
     let mut groups = IndexMap::new(alloc);

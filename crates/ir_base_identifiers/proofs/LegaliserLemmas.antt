@@ -17,7 +17,7 @@ use Rattle.std.specs.FinMap as finite
 use Rattle.ir_model.specs.declared.error.CoreError.{CoreError}
 use Rattle.ir_model.specs.declared.error.CoreError.TheVariants.{OutOfMemory, CounterSpent, SlotsSpent}
 use Rattle.ir_model.specs.Identifier.{can_start, can_continue, IsIdentifier}
-use Rattle.ir_model.specs.Legaliser.{Given, name_of, give, kept, replaced, numbered, IsFree, Chooses, GivesNew, Gives, HasNoName}
+use Rattle.ir_model.specs.Legaliser.{Given, name_of, give, kept, replaced, numbered_text, IsFree, Chooses, GivesNew, Gives, HasNoName}
 use Rattle.ir_base_identifiers.specs.Spent.{SpentOnlyWhere}
 use Rattle.ir_base_identifiers.specs.LegaliserTables.{source_at, AreInverse, ArePaired, given_by}
 use Rattle.ir_base_identifiers.proofs.IdentifierLemmas.{is_identifier-append, decimal-can_continue}
@@ -148,8 +148,8 @@ pub replaced-IsIdentifier : (cs : List ℕ) → IsIdentifier (replaced cs)
 replaced-IsIdentifier [] = refl
 replaced-IsIdentifier (c ∷ cs) = rw (stand_in-can_start c) (stand_ins-can_continue cs)
 
--- a numbered identifier is one
-pub numbered-IsIdentifier : (text : List ℕ) (n : ℕ) → IsIdentifier text → n < 2 ^ 64 → IsIdentifier (numbered text n)
+-- a numbered_text identifier is one
+pub numbered-IsIdentifier : (text : List ℕ) (n : ℕ) → IsIdentifier text → n < 2 ^ 64 → IsIdentifier (numbered_text text n)
 numbered-IsIdentifier text n valid fits = is_identifier-append text (95 ∷ decimal n) valid (decimal-can_continue n fits)
 
 -- a known source is given its name

@@ -6,7 +6,7 @@ ghost use Rattle.std.specs.Char.{is_ascii_alphabetic, is_ascii_alphanumeric};
 ghost use Rattle.std.specs.Str.{chars, bytes_eq};
 ghost use Rattle.std.specs.Map.{update};
 ghost use Rattle.std.specs.HashMap.{get_by_text};
-ghost use Rattle.ir_model.specs.Legaliser.{nothing_given, name_of, give, base, kept, numbered, replaced, IsFree, Chooses, Gives, HasNoName, IsSpent};
+ghost use Rattle.ir_model.specs.Legaliser.{nothing_given, name_of, give, base, kept, numbered_text, replaced, IsFree, Chooses, Gives, HasNoName, IsSpent};
 ghost use Rattle.ir_base_identifiers.specs.Spent.{SpentOnlyWhere};
 ghost use Rattle.ir_base_identifiers.specs.LegaliserTables.{source_at};
 
@@ -156,7 +156,7 @@ fn choose(
         return Ok((base, counter));
     }
     for number in counter..usize::MAX {
-        let name = numbered(alloc, &base, number)?;
+        let name = numbered_text(alloc, &base, number)?;
         if !sources.contains_key(&name) {
             return Ok((name, number + 1));
         }
@@ -165,8 +165,8 @@ fn choose(
 }
 
 // The base, `_` and the number in decimal.
-fn numbered(alloc: Global, base: &Identifier, number: usize) -> Result<Identifier, CoreError>
-    ensures text { IfOk result (λ name. name ≡ numbered base.now number) }
+fn numbered_text(alloc: Global, base: &Identifier, number: usize) -> Result<Identifier, CoreError>
+    ensures text { IfOk result (λ name. name ≡ numbered_text base.now number) }
     ensures refused { IsOkUnless result CoreError.OutOfMemory }
 {
     let text = format!(in alloc; "{}_{number}", base.as_str())?;

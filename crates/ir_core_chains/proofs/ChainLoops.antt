@@ -12,7 +12,7 @@ use Rattle.ir_core_records.specs.declared.record.UseIndex.{UseIndex}
 use Rattle.ir_core_records.specs.declared.record.UsePlace.{UsePlace}
 use Rattle.ir_core_records.specs.Links.{LinkedBut, NoHole, IsFreshUse}
 use Rattle.ir_core_chains.specs.Chain.{IsUseChain, Rewrites, unchanged}
-use Rattle.ir_core_records.specs.Chains.{name_of, names_in, names_from}
+use Rattle.ir_core_records.specs.Chains.{number_and_name, names_in, names_from}
 use Rattle.ir_core_chains.specs.ListReads.{slice_get-push_cases}
 use Rattle.ir_core_chains.specs.ChainEdits.{rewrites-trans, rewrites-live, rewrites-has}
 
@@ -42,16 +42,16 @@ map-take_more f xs k d within =
 
 module _ {N : Type 0} where
   -- the place that a name is of
-  named_at : (xs : List (UsePlace N)) (i : ℕ) (y : ℕ × N) → slice_get (names_in xs) i ≡ Some y → (b : UsePlace N) × (slice_get xs i ≡ Some b) × (name_of b ≡ y)
+  named_at : (xs : List (UsePlace N)) (i : ℕ) (y : ℕ × N) → slice_get (names_in xs) i ≡ Some y → (b : UsePlace N) × (slice_get xs i ≡ Some b) × (number_and_name b ≡ y)
   named_at [] i y h = absurd (cc)
-  named_at (x ∷ xs) zero y h = (x, refl, same_Some (name_of x) y h)
+  named_at (x ∷ xs) zero y h = (x, refl, same_Some (number_and_name x) y h)
   named_at (x ∷ xs) (suc i) y h = named_at xs i y h
 
-  name_at : (xs : List (UsePlace N)) (i : ℕ) (a : UsePlace N) → slice_get xs i ≡ Some a → slice_get (names_in xs) i ≡ Some (name_of a)
-  name_at xs i a at = slice_get-map name_of xs i ∙ ap (option_map name_of) at
+  name_at : (xs : List (UsePlace N)) (i : ℕ) (a : UsePlace N) → slice_get xs i ≡ Some a → slice_get (names_in xs) i ≡ Some (number_and_name a)
+  name_at xs i a at = slice_get-map number_and_name xs i ∙ ap (option_map number_and_name) at
 
   count_by_names : (xs : List (UsePlace N)) (ys : List (ℕ × N)) → names_in xs ≡ ys → length xs ≡ length ys
-  count_by_names xs ys e = sym (length-map xs name_of) ∙ ap length e
+  count_by_names xs ys e = sym (length-map xs number_and_name) ∙ ap length e
 
   pub names_from-push : (n : ℕ) (vs : List N) (v : N) → names_from n (vs ++ v ∷ []) ≡ names_from n vs ++ (n + length vs, v) ∷ []
   names_from-push n [] v = let e : n ≡ n + 0 = omega arith in ap (λ (k : ℕ). (k, v) ∷ []) e
@@ -62,7 +62,7 @@ module _ {N : Type 0} where
   -- fewer places after the last was taken out
   pub popped_count : (xs ys : List (UsePlace N)) → names_in ys ≡ remove (names_in xs) (length xs - 1) → 0 < length xs → length ys < length xs
   popped_count xs ys e some =
-      let size : length (names_in xs) ≡ length xs = length-map xs name_of in
+      let size : length (names_in xs) ≡ length xs = length-map xs number_and_name in
       let after = count_by_names ys (remove (names_in xs) (length xs - 1)) e in
       let less = length-remove_last (names_in xs) (length xs - 1) (omega (arith, size, some)) in
       omega (arith, size, after, less)
@@ -73,17 +73,17 @@ module _ {N : Type 0} where
   fresh_after ps qs o n v here others m differs fresh p i a at same =
       elim (id_cases p o) [
         | inl q ↦
-            let now : slice_get (names_in (ps o) ++ (n, v) ∷ []) i ≡ Some (name_of a) =
+            let now : slice_get (names_in (ps o) ++ (n, v) ∷ []) i ≡ Some (number_and_name a) =
             ap (λ (ys : List (ℕ × N)). slice_get ys i) (sym here) ∙ ap (λ (j : ArenaIndex). slice_get (names_in (qs j)) i) (sym q) ∙ name_at (qs p) i a at in
-            elim (slice_get-push_cases (names_in (ps o)) (n, v) i (name_of a) now) [
+            elim (slice_get-push_cases (names_in (ps o)) (n, v) i (number_and_name a) now) [
               | inl h ↦ was o h
               | inr h ↦ differs (ap (λ (y : ℕ × N). y.0) h.1 ∙ same)
             ]
         | inr ne ↦ was p (ap (λ (ys : List (ℕ × N)). slice_get ys i) (sym (others p ne)) ∙ name_at (qs p) i a at)
       ]
     where
-      was : (j : ArenaIndex) → slice_get (names_in (ps j)) i ≡ Some (name_of a) → ⊥
-      was j h = let b = named_at (ps j) i (name_of a) h in fresh j i b.0 b.1 (ap (λ (y : ℕ × N). y.0) b.2 ∙ same)
+      was : (j : ArenaIndex) → slice_get (names_in (ps j)) i ≡ Some (number_and_name a) → ⊥
+      was j h = let b = named_at (ps j) i (number_and_name a) h in fresh j i b.0 b.1 (ap (λ (y : ℕ × N). y.0) b.2 ∙ same)
 
 module _ {S N : Type 0} (Live : S → ArenaIndex → Type 0) (ps : S → ArenaIndex → List (UsePlace N)) (put_ps : S → ArenaIndex → List (UsePlace N) → S) (us : S → N → List UseIndex) (put_us : S → N → List UseIndex → S) where
   -- places of one operation were put in or taken out, with their uses, and nothing else has changed

@@ -15,10 +15,10 @@ use Rattle.ir_core_records.specs.declared.record.Operation.{Operation}
 use Rattle.ir_core_records.specs.declared.record.BasicBlock.{BasicBlock}
 use Rattle.ir_core_records.specs.declared.records.Records.{Records}
 use Rattle.ir_core_records.specs.Chains.{chains_of}
-use Rattle.ir_core_records.specs.DefinitionEdits.{rewritten, unused, uses-insert, uses-remove, uses-rewritten, with_name, with_type}
+use Rattle.ir_core_records.specs.DefinitionEdits.{rewritten, unused_definition, uses-insert, uses-remove, uses-rewritten, with_name, typed_as}
 use Rattle.ir_core_records.specs.Lists.{in_record, uses_with, HasNumber, HaveDistinctNumbers}
 use Rattle.ir_core_records.specs.Mapped.{map-insert, map-remove, slice_get-insert_at}
-use Rattle.ir_core_records.specs.Meaning.{closed, definer_of, definition_of, forest_of}
+use Rattle.ir_core_records.specs.Meaning.{closed, definer_of, definition_of, forest_in}
 use Rattle.ir_core_records.specs.Table.{definitions_at, IsValue}
 use Rattle.ir_base_arenas.specs.Arena.{get}
 use Rattle.ir_core_chains.specs.Definers.{IsDefiner, with_definitions}
@@ -62,59 +62,59 @@ module _ {D A K B S X L : Type 0} (t : Records D A K B S X L) where
     there = definitions_at t d
 
     -- one was put in, where there was memory
-    module _ (b : Bool) (i n ty : ℕ) (none : ¬ (HasNumber there n)) (ys : List Definition) (is : ys ≡ cond b (insert there i (unused n ty)) there) where
+    module _ (b : Bool) (i n ty : ℕ) (none : ¬ (HasNumber there n)) (ys : List Definition) (is : ys ≡ cond b (insert there i (unused_definition n ty)) there) where
       pub inserted-chains : chains_of (with_definitions t d ys) ≡ chains_of t
       inserted-chains = chains-written t d ys live (λ m. ap (λ (rs : List Definition). uses_with rs m) is ∙ by b m)
         where
-          by : (c : Bool) (m : ℕ) → uses_with (cond c (insert there i (unused n ty)) there) m ≡ uses_with there m
+          by : (c : Bool) (m : ℕ) → uses_with (cond c (insert there i (unused_definition n ty)) there) m ≡ uses_with there m
           by true m = uses-insert there i n ty m none
           by false m = refl
 
-      inserted : b ≡ true → ys ≡ insert there i (unused n ty)
-      inserted e = is ∙ ap (λ (c : Bool). cond c (insert there i (unused n ty)) there) e
+      inserted : b ≡ true → ys ≡ insert there i (unused_definition n ty)
+      inserted e = is ∙ ap (λ (c : Bool). cond c (insert there i (unused_definition n ty)) there) e
 
-      pub inserted-forest : b ≡ true → forest_of (with_definitions t d ys) ≡ on_definitions (forest_of t) (definer_of d) (λ xs. insert xs i (definition (n, ty)))
-      inserted-forest e = forest-written t d ys (λ xs. insert xs i (definition (n, ty))) (ap (map definition_of) (inserted e) ∙ map-insert definition_of there i (unused n ty))
+      pub inserted-forest : b ≡ true → forest_in (with_definitions t d ys) ≡ on_definitions (forest_in t) (definer_of d) (λ xs. insert xs i (definition (n, ty)))
+      inserted-forest e = forest-written t d ys (λ xs. insert xs i (definition (n, ty))) (ap (map definition_of) (inserted e) ∙ map-insert definition_of there i (unused_definition n ty))
 
-      pub pushed-forest : i ≡ length there → b ≡ true → forest_of (with_definitions t d ys) ≡ on_definitions (forest_of t) (definer_of d) (λ xs. xs ++ definition (n, ty) ∷ [])
+      pub pushed-forest : i ≡ length there → b ≡ true → forest_in (with_definitions t d ys) ≡ on_definitions (forest_in t) (definer_of d) (λ xs. xs ++ definition (n, ty) ∷ [])
       pushed-forest end e =
           forest-written t d ys (λ xs. xs ++ definition (n, ty) ∷ [])
-          (ap (map definition_of) (inserted e ∙ ap (λ (k : ℕ). insert there k (unused n ty)) end ∙ insert-last there (unused n ty)) ∙ map-append definition_of there (unused n ty ∷ []))
+          (ap (map definition_of) (inserted e ∙ ap (λ (k : ℕ). insert there k (unused_definition n ty)) end ∙ insert-last there (unused_definition n ty)) ∙ map-append definition_of there (unused_definition n ty ∷ []))
 
       pub inserted-value : i ≤ length there → b ≡ true → IsValue (with_definitions t d ys) (record { definer = d; number = n })
       inserted-value within e =
-          subst (λ (rs : List Definition). HasNumber rs n) (sym (definitions-here t d ys live ∙ inserted e)) (i, unused n ty, slice_get-insert_at there i (unused n ty) within, refl)
+          subst (λ (rs : List Definition). HasNumber rs n) (sym (definitions-here t d ys live ∙ inserted e)) (i, unused_definition n ty, slice_get-insert_at there i (unused_definition n ty) within, refl)
 
       pub inserted-same : b ≡ false → with_definitions t d ys ≡ t
-      inserted-same e = ap (with_definitions t d) (is ∙ ap (λ (c : Bool). cond c (insert there i (unused n ty)) there) e) ∙ self-written t d
+      inserted-same e = ap (with_definitions t d) (is ∙ ap (λ (c : Bool). cond c (insert there i (unused_definition n ty)) there) e) ∙ self-written t d
 
     -- one without uses was taken out
     module _ (i : ℕ) (r : Definition) (distinct : HaveDistinctNumbers there) (at : slice_get there i ≡ Some r) (none : uses_with there r.number ≡ []) (ys : List Definition) (is : ys ≡ remove there i) where
       pub removed-chains : chains_of (with_definitions t d ys) ≡ chains_of t
       removed-chains = chains-written t d ys live (λ m. ap (λ (rs : List Definition). uses_with rs m) is ∙ uses-remove there i r m distinct at none)
 
-    pub removed-forest : (i : ℕ) (ys : List Definition) → ys ≡ remove there i → forest_of (with_definitions t d ys) ≡ on_definitions (forest_of t) (definer_of d) (λ xs. remove xs i)
+    pub removed-forest : (i : ℕ) (ys : List Definition) → ys ≡ remove there i → forest_in (with_definitions t d ys) ≡ on_definitions (forest_in t) (definer_of d) (λ xs. remove xs i)
     removed-forest i ys is = forest-written t d ys (λ xs. remove xs i) (ap (map definition_of) is ∙ map-remove definition_of there i)
 
-    pub popped-forest : (i : ℕ) (ys : List Definition) → ys ≡ remove there i → i ≡ length there - 1 → forest_of (with_definitions t d ys) ≡ on_definitions (forest_of t) (definer_of d) (λ xs. remove xs (length xs - 1))
+    pub popped-forest : (i : ℕ) (ys : List Definition) → ys ≡ remove there i → i ≡ length there - 1 → forest_in (with_definitions t d ys) ≡ on_definitions (forest_in t) (definer_of d) (λ xs. remove xs (length xs - 1))
     popped-forest i ys is last =
         forest-written t d ys (λ xs. remove xs (length xs - 1))
         (ap (map definition_of) is ∙ map-remove definition_of there i ∙ ap (remove (map definition_of there)) (last ∙ ap (λ (k : ℕ). k - 1) (sym (length-map there definition_of))))
 
     -- one has another type
-    module _ (n ty : ℕ) (ys : List Definition) (is : ys ≡ map (rewritten n (with_type ty)) there) where
+    module _ (n ty : ℕ) (ys : List Definition) (is : ys ≡ map (rewritten n (typed_as ty)) there) where
       pub retyped-chains : chains_of (with_definitions t d ys) ≡ chains_of t
-      retyped-chains = chains-written t d ys live (λ m. ap (λ (rs : List Definition). uses_with rs m) is ∙ uses-rewritten n (with_type ty) (λ r. refl) (λ r. refl) there m)
+      retyped-chains = chains-written t d ys live (λ m. ap (λ (rs : List Definition). uses_with rs m) is ∙ uses-rewritten n (typed_as ty) (λ r. refl) (λ r. refl) there m)
 
-      pub retyped-forest : forest_of (with_definitions t d ys) ≡ on_definitions (forest_of t) (definer_of d) (map (λ x. cond (x.number == n) (record x { ty = ty }) x))
-      retyped-forest = forest-written t d ys (map (λ x. cond (x.number == n) (record x { ty = ty }) x)) (ap (map definition_of) is ∙ rewritten-meaning n (with_type ty) (λ x. record x { ty = ty }) (λ r. refl) there)
+      pub retyped-forest : forest_in (with_definitions t d ys) ≡ on_definitions (forest_in t) (definer_of d) (map (λ x. cond (x.number == n) (record x { ty = ty }) x))
+      retyped-forest = forest-written t d ys (map (λ x. cond (x.number == n) (record x { ty = ty }) x)) (ap (map definition_of) is ∙ rewritten-meaning n (typed_as ty) (λ x. record x { ty = ty }) (λ r. refl) there)
 
     -- one has another name
     module _ (n : ℕ) (name : Option (Box (List ℕ))) (ys : List Definition) (is : ys ≡ map (rewritten n (with_name name)) there) where
       pub renamed-chains : chains_of (with_definitions t d ys) ≡ chains_of t
       renamed-chains = chains-written t d ys live (λ m. ap (λ (rs : List Definition). uses_with rs m) is ∙ uses-rewritten n (with_name name) (λ r. refl) (λ r. refl) there m)
 
-      pub renamed-forest : forest_of (with_definitions t d ys) ≡ on_definitions (forest_of t) (definer_of d) (map (λ x. cond (x.number == n) (record x { name = option_map (λ b. b.value) name }) x))
+      pub renamed-forest : forest_in (with_definitions t d ys) ≡ on_definitions (forest_in t) (definer_of d) (map (λ x. cond (x.number == n) (record x { name = option_map (λ b. b.value) name }) x))
       renamed-forest =
           forest-written t d ys (map (λ x. cond (x.number == n) (record x { name = option_map (λ b. b.value) name }) x))
           (ap (map definition_of) is ∙ rewritten-meaning n (with_name name) (λ x. record x { name = option_map (λ b. b.value) name }) (λ r. refl) there)

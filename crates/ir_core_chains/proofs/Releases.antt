@@ -8,8 +8,8 @@ use Rattle.ir_model.specs.declared.ids.ArenaIndex.{ArenaIndex}
 use Rattle.ir_core_records.specs.declared.record.UseIndex.{UseIndex}
 use Rattle.ir_core_records.specs.declared.record.UsePlace.{UsePlace}
 use Rattle.ir_core_records.specs.Lists.{put_place, HaveDistinctUses}
-use Rattle.ir_core_records.specs.Links.{LinkedBut, NoHole, IsFreshUse, HasPlace}
-use Rattle.ir_core_records.specs.Chains.{name_of, names_in}
+use Rattle.ir_core_records.specs.Links.{LinkedBut, NoHole, IsFreshUse, IsPlaced}
+use Rattle.ir_core_records.specs.Chains.{number_and_name, names_in}
 use Rattle.ir_core_records.specs.Mapped.{map-insert, map-remove, slice_get-insert_at}
 use Rattle.ir_core_records.specs.Numbered.{put_place-set}
 use Rattle.ir_core_records.specs.Distinct.{distinct_by_place}
@@ -25,11 +25,11 @@ put_place-names [] n k = refl
 put_place-names (x ∷ xs) n k =
     elim (cases_eq x.number n) [
       | inl q ↦ let hit : x.number == n ≡ true = eq-eqb x.number n q in rw hit refl
-      | inr q ↦ let miss : x.number == n ≡ false = ne_eqb x.number n q in rw miss (ap (λ ms. name_of x ∷ ms) (put_place-names xs n k))
+      | inr q ↦ let miss : x.number == n ≡ false = ne_eqb x.number n q in rw miss (ap (λ ms. number_and_name x ∷ ms) (put_place-names xs n k))
     ]
 
-names-set : {N : Type 0} (xs : List (UsePlace N)) (i : ℕ) (a : UsePlace N) → i < length xs → names_in (set xs i a) ≡ insert (remove (names_in xs) i) i (name_of a)
-names-set xs i a within = ap names_in (set-insert xs i a within) ∙ map-insert name_of (remove xs i) i a ∙ ap (λ ns. insert ns i (name_of a)) (map-remove name_of xs i)
+names-set : {N : Type 0} (xs : List (UsePlace N)) (i : ℕ) (a : UsePlace N) → i < length xs → names_in (set xs i a) ≡ insert (remove (names_in xs) i) i (number_and_name a)
+names-set xs i a within = ap names_in (set-insert xs i a within) ∙ map-insert number_and_name (remove xs i) i a ∙ ap (λ ns. insert ns i (number_and_name a)) (map-remove number_and_name xs i)
 
 module _ {S N : Type 0} {Live : S → ArenaIndex → Type 0} {ps : S → ArenaIndex → List (UsePlace N)} {put_ps : S → ArenaIndex → List (UsePlace N) → S} {Has : S → N → Type 0} {us : S → N → List UseIndex} {put_us : S → N → List UseIndex → S} (C : IsUseChain Live ps put_ps Has us put_us) where
   abbrev Linked : S → Type 0
@@ -78,9 +78,9 @@ module _ {S N : Type 0} {Live : S → ArenaIndex → Type 0} {ps : S → ArenaIn
           let more = swap_remove-within (us t v) k k x u h in
           links.backward v (length (us t v) - 1) u was_last (λ e. absurd (omega (arith, e.1, more)))
 
-      pub taken_place : HasPlace (ps s) u
+      pub taken_place : IsPlaced (ps s) u
       taken_place =
-          subst (λ (os : ArenaIndex → List (UsePlace N)). HasPlace os u) (sym places_same)
+          subst (λ (os : ArenaIndex → List (UsePlace N)). IsPlaced os u) (sym places_same)
           (last_place.0, record { number = u.number; names = v; place = length (us t v) - 1 }, last_place.1, refl)
 
       pub taken_user : Live s u.user
@@ -132,7 +132,7 @@ module _ {S N : Type 0} {Live : S → ArenaIndex → Type 0} {ps : S → ArenaIn
     removed_within = subst (λ (ws : N → List UseIndex). a.place < length (ws a.names)) (sym uses_same) (place_within C t o i a links at)
 
     pub removed_names : names_in (ps r o) ≡ remove (names_in (ps t o)) i
-    removed_names = ap (λ (q : S). names_in (ps q o)) gone ∙ ap names_in (C.place_lists.here t o (remove (ps t o) i) live) ∙ map-remove name_of (ps t o) i
+    removed_names = ap (λ (q : S). names_in (ps q o)) gone ∙ ap names_in (C.place_lists.here t o (remove (ps t o) i) live) ∙ map-remove number_and_name (ps t o) i
 
     pub removed_others : (p : ArenaIndex) → ¬ (p ≡ o) → names_in (ps r p) ≡ names_in (ps t p)
     removed_others p ne = ap (λ (q : S). names_in (ps q p)) gone ∙ ap names_in (C.place_lists.others t o (remove (ps t o) i) live p ne)
@@ -185,8 +185,8 @@ module _ {S N : Type 0} {Live : S → ArenaIndex → Type 0} {ps : S → ArenaIn
           let here : slice_get (ps r o) i ≡ Some b = ap (λ (xs : List (UsePlace N)). slice_get xs i) inserted_places.here ∙ slice_get-insert_at (ps t o) i b within in
           attach C.tell (ps r) (us t) (us r) o i b M here end (put_uses r (insert (ps s o) i b) (insert (ps s o) i b) put refl)
 
-      pub inserted_names : names_in (ps r o) ≡ insert (names_in (ps t o)) i (name_of b)
-      inserted_names = ap names_in inserted_places.here ∙ map-insert name_of (ps t o) i b
+      pub inserted_names : names_in (ps r o) ≡ insert (names_in (ps t o)) i (number_and_name b)
+      inserted_names = ap names_in inserted_places.here ∙ map-insert number_and_name (ps t o) i b
 
       pub inserted_others : (p : ArenaIndex) → ¬ (p ≡ o) → names_in (ps r p) ≡ names_in (ps t p)
       inserted_others p ne = ap names_in (inserted_places.others p ne)
@@ -219,7 +219,7 @@ module _ {S N : Type 0} {Live : S → ArenaIndex → Type 0} {ps : S → ArenaIn
           let u : UseIndex = record { user = o; number = a.number } in
           slice_get_within (us r a.names) a.place u (use_stays C.tell (us t) (us r) b.names mine swapped_uses a.names a.place u (place_use C t o i a links at_t))
 
-      pub swapped_names : names_in (ps r o) ≡ insert (remove (names_in (ps t o)) i) i (name_of b)
+      pub swapped_names : names_in (ps r o) ≡ insert (remove (names_in (ps t o)) i) i (number_and_name b)
       swapped_names = ap names_in swapped_places.here ∙ names-set (ps t o) i b (slice_get_within (ps t o) i a at_t)
 
       pub swapped_others : (p : ArenaIndex) → ¬ (p ≡ o) → names_in (ps r p) ≡ names_in (ps t p)

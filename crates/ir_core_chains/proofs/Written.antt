@@ -18,7 +18,7 @@ use Rattle.ir_core_records.specs.declared.records.Records.{Records}
 use Rattle.ir_core_records.specs.Chains.{chains_of}
 use Rattle.ir_core_records.specs.Frames.{KeepsTree}
 use Rattle.ir_core_records.specs.Lists.{in_record, edited, uses_with}
-use Rattle.ir_core_records.specs.Meaning.{closed, definer_of, definition_of, op_record, block_record, op_records, region_records, forest_of}
+use Rattle.ir_core_records.specs.Meaning.{closed, definer_of, definition_of, op_record, block_record, op_records, region_records, forest_in}
 use Rattle.ir_core_records.specs.Table.{operands_at, successors_at, definitions_at, block_uses_at}
 use Rattle.ir_core_records.specs.Tree.{Tree, tree_of, ops_in, blocks_in}
 use Rattle.ir_core_records.specs.Edited.{get-edited, get-edited_other, edited-kept, edited-self}
@@ -100,7 +100,7 @@ module _ {D A K B S X L : Type 0} (t : Records D A K B S X L) where
 
   -- where they mean g of what those there meant, the forest has g of those there
   pub forest-written : (d : Definer) (rs : List Definition) (g : List (PlainDefinition context_ids (closed A K B S X L)) → List (PlainDefinition context_ids (closed A K B S X L)))
-      → map definition_of rs ≡ g (map definition_of (definitions_at t d)) → forest_of (with_definitions t d rs) ≡ on_definitions (forest_of t) (definer_of d) g
+      → map definition_of rs ≡ g (map definition_of (definitions_at t d)) → forest_in (with_definitions t d rs) ≡ on_definitions (forest_in t) (definer_of d) g
   forest-written (Op o) rs g means = λ i. record {
     ops = λ p. meant-edited (λ _ op. op_record op) (λ op. record op { results = rs }) (on_results g) t.ops o
         (λ x e. λ j. record (op_record x) { results = (means ∙ ap (λ (y : Option (Operation D A K B S X L)). g (map definition_of (in_record (λ (op : Operation D A K B S X L). op.results) [] y))) e) j }) p i;

@@ -8,7 +8,7 @@ use Rattle.ir_core_records.specs.declared.record.UseIndex.{UseIndex}
 use Rattle.ir_core_records.specs.declared.record.UsePlace.{UsePlace}
 use Rattle.ir_core_records.specs.Links.{LinkedBut, NoHole, IsFreshUse}
 use Rattle.ir_core_chains.specs.Chain.{IsUseChain, Rewrites, unchanged, by_places, by_uses}
-use Rattle.ir_core_records.specs.Chains.{name_of, names_in}
+use Rattle.ir_core_records.specs.Chains.{number_and_name, names_in}
 use Rattle.ir_core_chains.specs.ListReads.{slice_get-push_at, swap_remove-last}
 use Rattle.ir_core_chains.specs.LinkLemmas.{OperandsChange, UsesChange, grow, attach}
 
@@ -75,8 +75,8 @@ module _ {S N : Type 0} {Live : S → ArenaIndex → Type 0} {ps : S → ArenaIn
         let here : slice_get (ps s o) (length (ps t o)) ≡ Some a = ap (λ (xs : List (UsePlace N)). slice_get xs (length (ps t o))) pushed_places.here ∙ slice_get-push_at (ps t o) a in
         subst Linked (sym both) (attach C.tell (ps s) (us t) (us s) o (length (ps t o)) a M here end pushed_uses)
 
-    pub pushed_names : names_in (ps r o) ≡ names_in (ps t o) ++ name_of a ∷ []
-    pushed_names = ap (λ (q : S). names_in (ps q o)) both ∙ ap names_in pushed_places.here ∙ map-append name_of (ps t o) (a ∷ [])
+    pub pushed_names : names_in (ps r o) ≡ names_in (ps t o) ++ number_and_name a ∷ []
+    pushed_names = ap (λ (q : S). names_in (ps q o)) both ∙ ap names_in pushed_places.here ∙ map-append number_and_name (ps t o) (a ∷ [])
 
     pub pushed_others : (p : ArenaIndex) → ¬ (p ≡ o) → names_in (ps r p) ≡ names_in (ps t p)
     pushed_others p ne = ap (λ (q : S). names_in (ps q p)) both ∙ ap names_in (pushed_places.others p ne)
@@ -109,7 +109,7 @@ module _ {S N : Type 0} {Live : S → ArenaIndex → Type 0} {ps : S → ArenaIn
       ∙ C.use_lists.self t a.names
 
   pub same_count : (xs ys : List (UsePlace N)) → names_in xs ≡ names_in ys → length xs ≡ length ys
-  same_count xs ys e = sym (length-map xs name_of) ∙ ap length e ∙ length-map ys name_of
+  same_count xs ys e = sym (length-map xs number_and_name) ∙ ap length e ∙ length-map ys number_and_name
 
   -- nothing was written where the state is the same
   pub rewrites-same : (t s : S) → s ≡ t → Rewrites put_ps put_us t s

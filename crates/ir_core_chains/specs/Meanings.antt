@@ -24,12 +24,12 @@ use Rattle.ir_core_records.specs.declared.records.Records.{Records}
 use Rattle.ir_core_records.specs.Lists.{in_record, put_uses}
 use Rattle.ir_core_chains.specs.Chain.{Rewrites}
 use Rattle.ir_core_records.specs.Mapped.{map-insert, map-remove}
-use Rattle.ir_core_records.specs.Chains.{name_of, names_in, names_from}
+use Rattle.ir_core_records.specs.Chains.{number_and_name, names_in, names_from}
 use Rattle.ir_core_records.specs.Table.{with_operands, with_successors, with_block_uses, with_uses_by, with_uses}
 use Rattle.ir_core_records.specs.Tree.{Tree, tree_of, ops_in, blocks_in}
 use Rattle.ir_core_records.specs.Frames.{KeepsTree}
 use Rattle.ir_core_records.specs.Meant.{map-map}
-use Rattle.ir_core_records.specs.Meaning.{closed, value_of, operands_from, successors_from, definition_of, op_record, block_record, op_records, block_records, region_records, forest_of}
+use Rattle.ir_core_records.specs.Meaning.{closed, value_of, operands_from, successors_from, definition_of, op_record, block_record, op_records, block_records, region_records, forest_in}
 use Rattle.ir_core_chains.specs.Edits.{edited-kept}
 use Rattle.ir_core_chains.specs.TableLaws.{chain-values, chain-blocks}
 use Rattle.ir_core_chains.specs.ChainEdits.{rewrites-keep}
@@ -53,11 +53,11 @@ successors-named n (b ∷ bs) = ap (λ (os : List (Successor context_ids)). reco
 -- lists of places mean what their names mean
 module _ {N P : Type 0} (of_name : ℕ × N → P) where
   abbrev meant : List (UsePlace N) → List P
-  meant xs = map (λ (a : UsePlace N). of_name (name_of a)) xs
+  meant xs = map (λ (a : UsePlace N). of_name (number_and_name a)) xs
 
   by_names : (xs : List (UsePlace N)) → map of_name (names_in xs) ≡ meant xs
   by_names [] = refl
-  by_names (x ∷ xs) = ap (λ ys. of_name (name_of x) ∷ ys) (by_names xs)
+  by_names (x ∷ xs) = ap (λ ys. of_name (number_and_name x) ∷ ys) (by_names xs)
 
   meant-names : (xs : List (UsePlace N)) (ys : List (ℕ × N)) → names_in xs ≡ ys → meant xs ≡ map of_name ys
   meant-names xs ys e = sym (by_names xs) ∙ ap (map of_name) e
@@ -73,7 +73,7 @@ module _ {N P : Type 0} (of_name : ℕ × N → P) where
       meant-names ys (remove (names_in xs) (length xs - 1)) e
       ∙ map-remove of_name (names_in xs) (length xs - 1)
       ∙ ap (λ ps. remove ps (length xs - 1)) (by_names xs)
-      ∙ ap (λ n. remove (meant xs) (n - 1)) (sym (length-map xs (λ (a : UsePlace N). of_name (name_of a))))
+      ∙ ap (λ n. remove (meant xs) (n - 1)) (sym (length-map xs (λ (a : UsePlace N). of_name (number_and_name a))))
 
   meant-removed : (i : ℕ) (xs ys : List (UsePlace N)) → names_in ys ≡ remove (names_in xs) i → meant ys ≡ remove (meant xs) i
   meant-removed i xs ys e = meant-names ys (remove (names_in xs) i) e ∙ map-remove of_name (names_in xs) i ∙ ap (λ ps. remove ps i) (by_names xs)
@@ -147,7 +147,7 @@ module _ {D A K B S X L N P : Type 0} {of_name : ℕ × N → P} {places : Opera
             | inr q ↦ away t s w p (meant-same of_name (at t p) (at s p) (others p q)) ∙ ap (λ (b : Bool). cond b (option_map (on g) (op_records t p)) (op_records t p)) (sym (id_differs p o q))
           ]
 
-  forest-by_ops : (t s : Records D A K B S X L) (ops : ArenaIndex → Option (OpRecord context_ids (closed A K B S X L))) → Writes t s → op_records s ≡ ops → forest_of s ≡ record (forest_of t) { ops = ops }
+  forest-by_ops : (t s : Records D A K B S X L) (ops : ArenaIndex → Option (OpRecord context_ids (closed A K B S X L))) → Writes t s → op_records s ≡ ops → forest_in s ≡ record (forest_in t) { ops = ops }
   forest-by_ops t s ops w e = λ i. record { ops = e i; blocks = same_blocks i; regions = same_regions i }
     where
       keeps : KeepsTree t s
@@ -161,7 +161,7 @@ module _ {D A K B S X L N P : Type 0} {of_name : ℕ × N → P} {places : Opera
           ap (λ (tr : Tree). λ (g : ArenaIndex). option_map (λ (_ : Region). blocks_in tr g) (get s.regions g)) keeps.tree
           ∙ ap (λ (rs : Arena Region). λ (g : ArenaIndex). option_map (λ (_ : Region). blocks_in (tree_of t) g) (get rs g)) keeps.regions
 
-  forest-changed : (g : List P → List P) (t s : Records D A K B S X L) (o : ArenaIndex) → Writes t s → meant of_name (at s o) ≡ g (meant of_name (at t o)) → ((p : ArenaIndex) → ¬ (p ≡ o) → names_in (at s p) ≡ names_in (at t p)) → forest_of s ≡ on_op (forest_of t) o (on g)
+  forest-changed : (g : List P → List P) (t s : Records D A K B S X L) (o : ArenaIndex) → Writes t s → meant of_name (at s o) ≡ g (meant of_name (at t o)) → ((p : ArenaIndex) → ¬ (p ≡ o) → names_in (at s p) ≡ names_in (at t p)) → forest_in s ≡ on_op (forest_in t) o (on g)
   forest-changed g t s o w here others = forest-by_ops t s (rewrite same_id o (on g) (op_records t)) w (records-changed g t s o w here others)
 
   meant-mapped : (f : ℕ × N → ℕ × N) (g : P → P) → ((n : ℕ × N) → of_name (f n) ≡ g (of_name n)) → (xs ys : List (UsePlace N)) → names_in ys ≡ map f (names_in xs) → meant of_name ys ≡ map g (meant of_name xs)
@@ -174,36 +174,36 @@ module _ {D A K B S X L N P : Type 0} {of_name : ℕ × N → P} {places : Opera
 
   -- where the names of each operation's places are mapped, so is what they mean
   pub forest-mapped : (f : ArenaIndex → ℕ × N → ℕ × N) (g : ArenaIndex → P → P) → ((o : ArenaIndex) (n : ℕ × N) → of_name (f o n) ≡ g o (of_name n)) → (t s : Records D A K B S X L) → Writes t s → ((o : ArenaIndex) → names_in (at s o) ≡ map (f o) (names_in (at t o)))
-      → forest_of s ≡ record (forest_of t) { ops = λ o. option_map (on (map (g o))) (op_records t o) }
+      → forest_in s ≡ record (forest_in t) { ops = λ o. option_map (on (map (g o))) (op_records t o) }
   forest-mapped f g mean t s w names = forest-by_ops t s (λ o. option_map (on (map (g o))) (op_records t o)) w (λ i o. each o i)
     where
       each : (o : ArenaIndex) → op_records s o ≡ option_map (on (map (g o))) (op_records t o)
       each o = now t s w o ∙ ap (λ (ps : List P). option_map (put ps) (bare_at t o)) (meant-mapped (f o) (g o) (mean o) (at t o) (at s o) (names o)) ∙ as_changed (map (g o)) (get t.ops o)
 
   -- one more, one less, none, and these
-  pub forest-pushed : (t s : Records D A K B S X L) (o : ArenaIndex) (n : ℕ × N) → Writes t s → names_in (at s o) ≡ names_in (at t o) ++ n ∷ [] → ((p : ArenaIndex) → ¬ (p ≡ o) → names_in (at s p) ≡ names_in (at t p)) → forest_of s ≡ on_op (forest_of t) o (on (λ xs. xs ++ of_name n ∷ []))
+  pub forest-pushed : (t s : Records D A K B S X L) (o : ArenaIndex) (n : ℕ × N) → Writes t s → names_in (at s o) ≡ names_in (at t o) ++ n ∷ [] → ((p : ArenaIndex) → ¬ (p ≡ o) → names_in (at s p) ≡ names_in (at t p)) → forest_in s ≡ on_op (forest_in t) o (on (λ xs. xs ++ of_name n ∷ []))
   forest-pushed t s o n w here others = forest-changed (λ xs. xs ++ of_name n ∷ []) t s o w (meant-pushed of_name (at t o) (at s o) n here) others
 
-  pub forest-popped : (t s : Records D A K B S X L) (o : ArenaIndex) → Writes t s → names_in (at s o) ≡ remove (names_in (at t o)) (length (at t o) - 1) → ((p : ArenaIndex) → ¬ (p ≡ o) → names_in (at s p) ≡ names_in (at t p)) → forest_of s ≡ on_op (forest_of t) o (on (λ xs. remove xs (length xs - 1)))
+  pub forest-popped : (t s : Records D A K B S X L) (o : ArenaIndex) → Writes t s → names_in (at s o) ≡ remove (names_in (at t o)) (length (at t o) - 1) → ((p : ArenaIndex) → ¬ (p ≡ o) → names_in (at s p) ≡ names_in (at t p)) → forest_in s ≡ on_op (forest_in t) o (on (λ xs. remove xs (length xs - 1)))
   forest-popped t s o w here others = forest-changed (λ xs. remove xs (length xs - 1)) t s o w (meant-popped of_name (at t o) (at s o) here) others
 
-  pub forest-removed : (i : ℕ) (t s : Records D A K B S X L) (o : ArenaIndex) → Writes t s → names_in (at s o) ≡ remove (names_in (at t o)) i → ((p : ArenaIndex) → ¬ (p ≡ o) → names_in (at s p) ≡ names_in (at t p)) → forest_of s ≡ on_op (forest_of t) o (on (λ xs. remove xs i))
+  pub forest-removed : (i : ℕ) (t s : Records D A K B S X L) (o : ArenaIndex) → Writes t s → names_in (at s o) ≡ remove (names_in (at t o)) i → ((p : ArenaIndex) → ¬ (p ≡ o) → names_in (at s p) ≡ names_in (at t p)) → forest_in s ≡ on_op (forest_in t) o (on (λ xs. remove xs i))
   forest-removed i t s o w here others = forest-changed (λ xs. remove xs i) t s o w (meant-removed of_name i (at t o) (at s o) here) others
 
-  pub forest-inserted : (i : ℕ) (t s : Records D A K B S X L) (o : ArenaIndex) (n : ℕ × N) → Writes t s → names_in (at s o) ≡ insert (names_in (at t o)) i n → ((p : ArenaIndex) → ¬ (p ≡ o) → names_in (at s p) ≡ names_in (at t p)) → forest_of s ≡ on_op (forest_of t) o (on (λ xs. insert xs i (of_name n)))
+  pub forest-inserted : (i : ℕ) (t s : Records D A K B S X L) (o : ArenaIndex) (n : ℕ × N) → Writes t s → names_in (at s o) ≡ insert (names_in (at t o)) i n → ((p : ArenaIndex) → ¬ (p ≡ o) → names_in (at s p) ≡ names_in (at t p)) → forest_in s ≡ on_op (forest_in t) o (on (λ xs. insert xs i (of_name n)))
   forest-inserted i t s o n w here others = forest-changed (λ xs. insert xs i (of_name n)) t s o w (meant-inserted of_name i (at t o) (at s o) n here) others
 
-  pub forest-replaced : (i : ℕ) (t s : Records D A K B S X L) (o : ArenaIndex) (n : ℕ × N) → Writes t s → names_in (at s o) ≡ insert (remove (names_in (at t o)) i) i n → ((p : ArenaIndex) → ¬ (p ≡ o) → names_in (at s p) ≡ names_in (at t p)) → forest_of s ≡ on_op (forest_of t) o (on (λ xs. insert (remove xs i) i (of_name n)))
+  pub forest-replaced : (i : ℕ) (t s : Records D A K B S X L) (o : ArenaIndex) (n : ℕ × N) → Writes t s → names_in (at s o) ≡ insert (remove (names_in (at t o)) i) i n → ((p : ArenaIndex) → ¬ (p ≡ o) → names_in (at s p) ≡ names_in (at t p)) → forest_in s ≡ on_op (forest_in t) o (on (λ xs. insert (remove xs i) i (of_name n)))
   forest-replaced i t s o n w here others = forest-changed (λ xs. insert (remove xs i) i (of_name n)) t s o w (meant-replaced of_name i (at t o) (at s o) n here) others
 
-  pub forest-cleared : (t s : Records D A K B S X L) (o : ArenaIndex) → Writes t s → at s o ≡ [] → ((p : ArenaIndex) → ¬ (p ≡ o) → names_in (at s p) ≡ names_in (at t p)) → forest_of s ≡ on_op (forest_of t) o (on (λ _. []))
+  pub forest-cleared : (t s : Records D A K B S X L) (o : ArenaIndex) → Writes t s → at s o ≡ [] → ((p : ArenaIndex) → ¬ (p ≡ o) → names_in (at s p) ≡ names_in (at t p)) → forest_in s ≡ on_op (forest_in t) o (on (λ _. []))
   forest-cleared t s o w here others = forest-changed (λ _. []) t s o w (ap (meant of_name) here) others
 
-  pub forest-linked : (t s : Records D A K B S X L) (o : ArenaIndex) (names : List (ℕ × N)) (ps : List P) → map of_name names ≡ ps → Writes t s → names_in (at s o) ≡ names → ((p : ArenaIndex) → ¬ (p ≡ o) → names_in (at s p) ≡ names_in (at t p)) → forest_of s ≡ on_op (forest_of t) o (on (λ _. ps))
+  pub forest-linked : (t s : Records D A K B S X L) (o : ArenaIndex) (names : List (ℕ × N)) (ps : List P) → map of_name names ≡ ps → Writes t s → names_in (at s o) ≡ names → ((p : ArenaIndex) → ¬ (p ≡ o) → names_in (at s p) ≡ names_in (at t p)) → forest_in s ≡ on_op (forest_in t) o (on (λ _. ps))
   forest-linked t s o names ps mean w here others = forest-changed (λ _. ps) t s o w (meant-names of_name (at s o) names here ∙ mean) others
 
   -- all places name what they named
-  pub forest-undone : (t s : Records D A K B S X L) (o : ArenaIndex) → Writes t s → at t o ≡ [] → at s o ≡ [] → ((p : ArenaIndex) → ¬ (p ≡ o) → names_in (at s p) ≡ names_in (at t p)) → forest_of s ≡ forest_of t
+  pub forest-undone : (t s : Records D A K B S X L) (o : ArenaIndex) → Writes t s → at t o ≡ [] → at s o ≡ [] → ((p : ArenaIndex) → ¬ (p ≡ o) → names_in (at s p) ≡ names_in (at t p)) → forest_in s ≡ forest_in t
   forest-undone t s o w before after others = forest-by_ops t s (op_records t) w (λ i p. away t s w p (same p) i)
     where
       same : (p : ArenaIndex) → meant of_name (at s p) ≡ meant of_name (at t p)

@@ -15,7 +15,7 @@ use Rattle.ir_core_records.specs.declared.record.BasicBlock.{BasicBlock}
 use Rattle.ir_core_records.specs.declared.records.Records.{Records}
 use Rattle.ir_core_records.specs.Lists.{in_record, uses_with, put_uses, HasNumber}
 use Rattle.ir_core_chains.specs.Chain.{AreKept, IsUseChain}
-use Rattle.ir_core_records.specs.Table.{IsOp, IsBlock, IsValue, operands_at, successors_at, block_uses_at, definitions_at, uses_at, with_operands, with_successors, with_block_uses, with_uses_by, with_uses}
+use Rattle.ir_core_records.specs.Table.{IsOp, IsLiveBlock, IsValue, operands_at, successors_at, block_uses_at, definitions_at, uses_at, with_operands, with_successors, with_block_uses, with_uses_by, with_uses}
 use Rattle.ir_core_chains.specs.Edits.{edited-kept, edited-live, field-kept, numbered-kept, lifted, rekeyed}
 
 definer_cases : (d e : Definer) → (d ≡ e) ⊎ (¬ (d ≡ e))
@@ -53,7 +53,7 @@ module _ {D A K B S X L : Type 0} where
       lifted (λ (r : Records D A K B S X L). r.ops) (λ r a. record r { ops = a }) (λ r s. refl) (λ r. refl) (λ r s q. refl)
       (field-kept (λ (op : Operation D A K B S X L). op.successors) (λ xs op. record op { successors = xs }) (λ l x. refl) (λ x. refl) (λ l m x. refl))
 
-  kept-block_uses : AreKept (IsBlock {D = D} {A = A} {K = K} {B = B} {S = S} {X = X} {L = L}) block_uses_at with_block_uses
+  kept-block_uses : AreKept (IsLiveBlock {D = D} {A = A} {K = K} {B = B} {S = S} {X = X} {L = L}) block_uses_at with_block_uses
   kept-block_uses =
       rekeyed (λ (b : BlockIndex). b.index) same_block
       (lifted (λ (r : Records D A K B S X L). r.blocks) (λ r a. record r { blocks = a }) (λ r s. refl) (λ r. refl) (λ r s q. refl)
@@ -144,7 +144,7 @@ module _ {D A K B S X L : Type 0} where
   }
 
   -- successors and the uses of blocks: they lie in two arenas
-  pub chain-blocks : IsUseChain (IsOp {D = D} {A = A} {K = K} {B = B} {S = S} {X = X} {L = L}) successors_at with_successors IsBlock block_uses_at with_block_uses
+  pub chain-blocks : IsUseChain (IsOp {D = D} {A = A} {K = K} {B = B} {S = S} {X = X} {L = L}) successors_at with_successors IsLiveBlock block_uses_at with_block_uses
   chain-blocks = record {
     place_lists = kept-successors;
     use_lists = kept-block_uses;

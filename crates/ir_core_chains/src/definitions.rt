@@ -7,7 +7,7 @@ ghost use Rattle.ir_model.specs.Changes.{definition};
 ghost use Rattle.ir_core_records.specs.declared.record.Definition.{Definition};
 ghost use Rattle.ir_core_records.specs.Chains.{chains_of, AreLinked};
 ghost use Rattle.ir_core_records.specs.Frames.{KeepsTree};
-ghost use Rattle.ir_core_records.specs.Meaning.{forest_of, definer_of, value_of};
+ghost use Rattle.ir_core_records.specs.Meaning.{forest_in, definer_of, value_of};
 ghost use Rattle.ir_core_records.specs.Table.{definitions_at, uses_at, IsValue};
 ghost use Rattle.ir_core_chains.specs.Definers.{IsDefiner};
 ghost use Rattle.ir_core_chains.specs.Lends.{lends_definitions};
@@ -46,7 +46,7 @@ pub fn insert_definition<D: Dialects>(
     ensures chains { chains_of records.new ≡ chains_of records.old }
     ensures linked { AreLinked (chains_of records.old) → AreLinked (chains_of records.new) }
     ensures keeps { KeepsTree records.old records.new }
-    ensures forest { OnOk result (forest_of records.new ≡ on_definitions (forest_of records.old) (definer_of definer) (λ xs. insert xs index (definition (number, ty.place)))) }
+    ensures forest { OnOk result (forest_in records.new ≡ on_definitions (forest_in records.old) (definer_of definer) (λ xs. insert xs index (definition (number, ty.place)))) }
     ensures value { OnOk result (IsValue records.new (record { definer = definer; number = number })) }
     ensures err { OnErr result (records.new ≡ records.old) }
 {
@@ -70,7 +70,7 @@ pub fn push_definition<D: Dialects>(
     ensures chains { chains_of records.new ≡ chains_of records.old }
     ensures linked { AreLinked (chains_of records.old) → AreLinked (chains_of records.new) }
     ensures keeps { KeepsTree records.old records.new }
-    ensures forest { OnOk result (forest_of records.new ≡ on_definitions (forest_of records.old) (definer_of definer) (λ xs. xs ++ definition (number, ty.place) ∷ [])) }
+    ensures forest { OnOk result (forest_in records.new ≡ on_definitions (forest_in records.old) (definer_of definer) (λ xs. xs ++ definition (number, ty.place) ∷ [])) }
     ensures value { OnOk result (IsValue records.new (record { definer = definer; number = number })) }
     ensures err { OnErr result (records.new ≡ records.old) }
 {
@@ -88,7 +88,7 @@ pub fn remove_definition<D: Dialects>(records: &mut Records<D>, definer: Definer
     ensures chains { chains_of records.new ≡ chains_of records.old }
     ensures linked { AreLinked (chains_of records.old) → AreLinked (chains_of records.new) }
     ensures keeps { KeepsTree records.old records.new }
-    ensures forest { forest_of records.new ≡ on_definitions (forest_of records.old) (definer_of definer) (λ xs. remove xs index) }
+    ensures forest { forest_in records.new ≡ on_definitions (forest_in records.old) (definer_of definer) (λ xs. remove xs index) }
 {
     definitions_mut(records, definer).remove(index);
 }
@@ -101,7 +101,7 @@ pub fn pop_definition<D: Dialects>(records: &mut Records<D>, definer: Definer)
     ensures chains { chains_of records.new ≡ chains_of records.old }
     ensures linked { AreLinked (chains_of records.old) → AreLinked (chains_of records.new) }
     ensures keeps { KeepsTree records.old records.new }
-    ensures forest { forest_of records.new ≡ on_definitions (forest_of records.old) (definer_of definer) (λ xs. remove xs (length xs - 1)) }
+    ensures forest { forest_in records.new ≡ on_definitions (forest_in records.old) (definer_of definer) (λ xs. remove xs (length xs - 1)) }
 {
     let definitions = definitions_mut(records, definer);
     let last = definitions.len() - 1;
@@ -114,7 +114,7 @@ pub fn set_type<D: Dialects>(records: &mut Records<D>, value: ValueIndex, ty: Ty
     ensures chains { chains_of records.new ≡ chains_of records.old }
     ensures linked { AreLinked (chains_of records.old) → AreLinked (chains_of records.new) }
     ensures keeps { KeepsTree records.old records.new }
-    ensures forest { forest_of records.new ≡ with_value_type (forest_of records.old) (value_of value) ty.place }
+    ensures forest { forest_in records.new ≡ with_value_type (forest_in records.old) (value_of value) ty.place }
 {
     definitions_mut(records, value.definer).set_type(value.number, ty);
 }
@@ -129,7 +129,7 @@ pub fn set_name<D: Dialects>(
     ensures chains { chains_of records.new ≡ chains_of records.old }
     ensures linked { AreLinked (chains_of records.old) → AreLinked (chains_of records.new) }
     ensures keeps { KeepsTree records.old records.new }
-    ensures forest { forest_of records.new ≡ with_value_name (forest_of records.old) (value_of value) (option_map (λ b. b.value) name) }
+    ensures forest { forest_in records.new ≡ with_value_name (forest_in records.old) (value_of value) (option_map (λ b. b.value) name) }
 {
     definitions_mut(records, value.definer).set_name(value.number, name);
 }

@@ -8,7 +8,7 @@ ghost use Rattle.ir_core_records.specs.declared.record.UseIndex.{UseIndex as Pla
 ghost use Rattle.ir_core_records.specs.declared.record.UsePlace.{UsePlace as PlainPlace};
 ghost use Rattle.ir_core_records.specs.declared.records.Records.{Records as Plain};
 ghost use Rattle.ir_core_records.specs.Lists.{put_place, HaveDistinctUses};
-ghost use Rattle.ir_core_records.specs.Links.{HasPlace};
+ghost use Rattle.ir_core_records.specs.Links.{IsPlaced};
 ghost use Rattle.ir_core_chains.specs.Chain.{IsUseChain};
 ghost use Rattle.ir_core_records.specs.Table.{IsOp};
 
@@ -145,7 +145,7 @@ pub trait Named<D: Dialects>: Copy + Drop {
     fn set_place(records: &mut Records<D>, moved: UseIndex, near: usize, index: usize)
         requires live { IsLive records.old.ops moved.user }
         requires distinct { HaveDistinctUses (places_at records.old moved.user) }
-        requires has { HasPlace (places_at records.old) moved }
+        requires has { IsPlaced (places_at records.old) moved }
         ensures { records.new ≡ with_places records.old moved.user (put_place (places_at records.old moved.user) moved.number index) };
 
     // Puts a use at the end of those of what is live, and tells where it stands. Its own place stands near an index.
@@ -309,14 +309,14 @@ impl<D: Dialects> Named<D> for ValueIndex {
 }
 
 impl<D: Dialects> Named<D> for BlockIndex {
-    ghost use Rattle.ir_core_records.specs.Table.{successors_at, with_successors, IsBlock, block_uses_at, with_block_uses};
+    ghost use Rattle.ir_core_records.specs.Table.{successors_at, with_successors, IsLiveBlock, block_uses_at, with_block_uses};
     ghost use Rattle.ir_core_chains.specs.TableLaws.{chain-blocks};
 
     ghost places_at = { successors_at };
 
     ghost with_places = { with_successors };
 
-    ghost IsNamed = { IsBlock };
+    ghost IsNamed = { IsLiveBlock };
 
     ghost uses_at = { block_uses_at };
 

@@ -4,9 +4,9 @@ ghost use Rattle.std.specs.Prelude.{◌≡◌, ℕ, ◌+◌, ◌-◌, ◌^◌, �
 ghost use Rattle.std.specs.Option.{option_map};
 ghost use Rattle.ir_base_arenas.specs.Arena.{IsLive};
 ghost use Rattle.ir_model.specs.Changes.{on_op, on_operands, on_successors};
-ghost use Rattle.ir_core_records.specs.Meaning.{forest_of, value_of, operands_from, successors_from};
+ghost use Rattle.ir_core_records.specs.Meaning.{forest_in, value_of, operands_from, successors_from};
 ghost use Rattle.ir_core_records.specs.Links.{IsFreshUse};
-ghost use Rattle.ir_core_records.specs.Table.{operands_at, successors_at, IsValue, IsBlock};
+ghost use Rattle.ir_core_records.specs.Table.{operands_at, successors_at, IsValue, IsLiveBlock};
 ghost use Rattle.ir_core_records.specs.Chains.{chains_of, AreLinked};
 ghost use Rattle.ir_core_records.specs.Frames.{KeepsTree};
 
@@ -32,7 +32,7 @@ pub fn push_operand<D: Dialects>(
     requires fresh { IsFreshUse (operands_at records.old) number }
     ensures linked { AreLinked (chains_of records.new) }
     ensures keeps { KeepsTree records.old records.new }
-    ensures forest { OnOk result (forest_of records.new ≡ on_op (forest_of records.old) user (on_operands (λ xs. xs ++ record { use_number = number; value = value_of value } ∷ []))) }
+    ensures forest { OnOk result (forest_in records.new ≡ on_op (forest_in records.old) user (on_operands (λ xs. xs ++ record { use_number = number; value = value_of value } ∷ []))) }
     ensures err { OnErr result (records.new ≡ records.old) }
 {
     let end = ValueIndex::place_count(records, user);
@@ -47,7 +47,7 @@ pub fn pop_operand<D: Dialects>(records: &mut Records<D>, user: ArenaIndex) -> V
     ensures value { option_map (λ a. a.names) (slice_get (operands_at records.old user) (length (operands_at records.old user) - 1)) ≡ Some result }
     ensures linked { AreLinked (chains_of records.new) }
     ensures keeps { KeepsTree records.old records.new }
-    ensures forest { forest_of records.new ≡ on_op (forest_of records.old) user (on_operands (λ xs. remove xs (length xs - 1))) }
+    ensures forest { forest_in records.new ≡ on_op (forest_in records.old) user (on_operands (λ xs. remove xs (length xs - 1))) }
 {
     chains::pop_linked::<D, ValueIndex>(records, user)
 }
@@ -64,11 +64,11 @@ pub fn push_successor<D: Dialects>(
 ) -> Result<(), AllocError>
     requires linked { AreLinked (chains_of records.old) }
     requires live { IsLive records.old.ops user }
-    requires named { IsBlock records.old block }
+    requires named { IsLiveBlock records.old block }
     requires fresh { IsFreshUse (successors_at records.old) number }
     ensures linked { AreLinked (chains_of records.new) }
     ensures keeps { KeepsTree records.old records.new }
-    ensures forest { OnOk result (forest_of records.new ≡ on_op (forest_of records.old) user (on_successors (λ xs. xs ++ record { use_number = number; block = block.index } ∷ []))) }
+    ensures forest { OnOk result (forest_in records.new ≡ on_op (forest_in records.old) user (on_successors (λ xs. xs ++ record { use_number = number; block = block.index } ∷ []))) }
     ensures err { OnErr result (records.new ≡ records.old) }
 {
     let end = BlockIndex::place_count(records, user);
@@ -83,7 +83,7 @@ pub fn pop_successor<D: Dialects>(records: &mut Records<D>, user: ArenaIndex) ->
     ensures value { option_map (λ a. a.names) (slice_get (successors_at records.old user) (length (successors_at records.old user) - 1)) ≡ Some result }
     ensures linked { AreLinked (chains_of records.new) }
     ensures keeps { KeepsTree records.old records.new }
-    ensures forest { forest_of records.new ≡ on_op (forest_of records.old) user (on_successors (λ xs. remove xs (length xs - 1))) }
+    ensures forest { forest_in records.new ≡ on_op (forest_in records.old) user (on_successors (λ xs. remove xs (length xs - 1))) }
 {
     chains::pop_linked::<D, BlockIndex>(records, user)
 }
@@ -106,8 +106,8 @@ pub fn link_operands<D: Dialects, V: Names<ValueIndex>>(
     requires numbers { first + length values.now < 2 ^ 64 }
     ensures linked { AreLinked (chains_of records.new) }
     ensures keeps { KeepsTree records.old records.new }
-    ensures forest { OnOk result (forest_of records.new ≡ on_op (forest_of records.old) user (on_operands (λ _. operands_from first (map (λ v. V.named v) values.now)))) }
-    ensures same { OnErr result (forest_of records.new ≡ forest_of records.old) }
+    ensures forest { OnOk result (forest_in records.new ≡ on_op (forest_in records.old) user (on_operands (λ _. operands_from first (map (λ v. V.named v) values.now)))) }
+    ensures same { OnErr result (forest_in records.new ≡ forest_in records.old) }
 {
     chains::link_all::<D, ValueIndex, V>(records, user, first, values)
 }
@@ -118,7 +118,7 @@ pub fn unlink_operands<D: Dialects>(records: &mut Records<D>, user: ArenaIndex)
     requires live { IsLive records.old.ops user }
     ensures linked { AreLinked (chains_of records.new) }
     ensures keeps { KeepsTree records.old records.new }
-    ensures forest { forest_of records.new ≡ on_op (forest_of records.old) user (on_operands (λ _. [])) }
+    ensures forest { forest_in records.new ≡ on_op (forest_in records.old) user (on_operands (λ _. [])) }
 {
     chains::unlink_all::<D, ValueIndex>(records, user);
 }
@@ -136,13 +136,13 @@ pub fn link_successors<D: Dialects, V: Names<BlockIndex>>(
     requires linked { AreLinked (chains_of records.old) }
     requires live { IsLive records.old.ops user }
     requires bare { successors_at records.old user ≡ [] }
-    requires named { All (λ v. IsBlock records.old (V.named v)) blocks.now }
+    requires named { All (λ v. IsLiveBlock records.old (V.named v)) blocks.now }
     requires fresh { (n : ℕ) → first ≤ n → IsFreshUse (successors_at records.old) n }
     requires numbers { first + length blocks.now < 2 ^ 64 }
     ensures linked { AreLinked (chains_of records.new) }
     ensures keeps { KeepsTree records.old records.new }
-    ensures forest { OnOk result (forest_of records.new ≡ on_op (forest_of records.old) user (on_successors (λ _. successors_from first (map (λ v. V.named v) blocks.now)))) }
-    ensures same { OnErr result (forest_of records.new ≡ forest_of records.old) }
+    ensures forest { OnOk result (forest_in records.new ≡ on_op (forest_in records.old) user (on_successors (λ _. successors_from first (map (λ v. V.named v) blocks.now)))) }
+    ensures same { OnErr result (forest_in records.new ≡ forest_in records.old) }
 {
     chains::link_all::<D, BlockIndex, V>(records, user, first, blocks)
 }
@@ -153,7 +153,7 @@ pub fn unlink_successors<D: Dialects>(records: &mut Records<D>, user: ArenaIndex
     requires live { IsLive records.old.ops user }
     ensures linked { AreLinked (chains_of records.new) }
     ensures keeps { KeepsTree records.old records.new }
-    ensures forest { forest_of records.new ≡ on_op (forest_of records.old) user (on_successors (λ _. [])) }
+    ensures forest { forest_in records.new ≡ on_op (forest_in records.old) user (on_successors (λ _. [])) }
 {
     chains::unlink_all::<D, BlockIndex>(records, user);
 }

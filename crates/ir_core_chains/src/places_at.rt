@@ -4,9 +4,9 @@ ghost use Rattle.std.specs.Prelude.{◌≡◌, ◌<◌, ◌≤◌, length, inser
 ghost use Rattle.std.specs.Option.{option_map};
 ghost use Rattle.ir_base_arenas.specs.Arena.{IsLive};
 ghost use Rattle.ir_model.specs.Changes.{on_op, on_operands, on_successors};
-ghost use Rattle.ir_core_records.specs.Meaning.{forest_of, value_of};
+ghost use Rattle.ir_core_records.specs.Meaning.{forest_in, value_of};
 ghost use Rattle.ir_core_records.specs.Links.{IsFreshUse};
-ghost use Rattle.ir_core_records.specs.Table.{operands_at, successors_at, IsValue, IsBlock};
+ghost use Rattle.ir_core_records.specs.Table.{operands_at, successors_at, IsValue, IsLiveBlock};
 ghost use Rattle.ir_core_records.specs.Chains.{chains_of, AreLinked};
 ghost use Rattle.ir_core_records.specs.Frames.{KeepsTree};
 
@@ -33,7 +33,7 @@ pub fn insert_operand<D: Dialects>(
     requires fresh { IsFreshUse (operands_at records.old) number }
     ensures linked { AreLinked (chains_of records.new) }
     ensures keeps { KeepsTree records.old records.new }
-    ensures forest { OnOk result (forest_of records.new ≡ on_op (forest_of records.old) user (on_operands (λ xs. insert xs index (record { use_number = number; value = value_of value })))) }
+    ensures forest { OnOk result (forest_in records.new ≡ on_op (forest_in records.old) user (on_operands (λ xs. insert xs index (record { use_number = number; value = value_of value })))) }
     ensures err { OnErr result (records.new ≡ records.old) }
 {
     chains_at::insert_linked::<D, ValueIndex>(records, user, index, number, value)
@@ -51,7 +51,7 @@ pub fn remove_operand<D: Dialects>(
     ensures value { option_map (λ a. a.names) (slice_get (operands_at records.old user) index) ≡ Some result }
     ensures linked { AreLinked (chains_of records.new) }
     ensures keeps { KeepsTree records.old records.new }
-    ensures forest { forest_of records.new ≡ on_op (forest_of records.old) user (on_operands (λ xs. remove xs index)) }
+    ensures forest { forest_in records.new ≡ on_op (forest_in records.old) user (on_operands (λ xs. remove xs index)) }
 {
     chains_at::remove_linked::<D, ValueIndex>(records, user, index)
 }
@@ -74,7 +74,7 @@ pub fn replace_operand<D: Dialects>(
     requires fresh { IsFreshUse (operands_at records.old) number }
     ensures linked { AreLinked (chains_of records.new) }
     ensures keeps { KeepsTree records.old records.new }
-    ensures forest { OnOk result (forest_of records.new ≡ on_op (forest_of records.old) user (on_operands (λ xs. insert (remove xs index) index (record { use_number = number; value = value_of value })))) }
+    ensures forest { OnOk result (forest_in records.new ≡ on_op (forest_in records.old) user (on_operands (λ xs. insert (remove xs index) index (record { use_number = number; value = value_of value })))) }
     ensures err { OnErr result (records.new ≡ records.old) }
 {
     chains_at::replace_linked::<D, ValueIndex>(records, user, index, number, value)
@@ -94,11 +94,11 @@ pub fn insert_successor<D: Dialects>(
     requires linked { AreLinked (chains_of records.old) }
     requires live { IsLive records.old.ops user }
     requires within { index ≤ length (successors_at records.old user) }
-    requires named { IsBlock records.old block }
+    requires named { IsLiveBlock records.old block }
     requires fresh { IsFreshUse (successors_at records.old) number }
     ensures linked { AreLinked (chains_of records.new) }
     ensures keeps { KeepsTree records.old records.new }
-    ensures forest { OnOk result (forest_of records.new ≡ on_op (forest_of records.old) user (on_successors (λ xs. insert xs index (record { use_number = number; block = block.index })))) }
+    ensures forest { OnOk result (forest_in records.new ≡ on_op (forest_in records.old) user (on_successors (λ xs. insert xs index (record { use_number = number; block = block.index })))) }
     ensures err { OnErr result (records.new ≡ records.old) }
 {
     chains_at::insert_linked::<D, BlockIndex>(records, user, index, number, block)
@@ -116,7 +116,7 @@ pub fn remove_successor<D: Dialects>(
     ensures value { option_map (λ a. a.names) (slice_get (successors_at records.old user) index) ≡ Some result }
     ensures linked { AreLinked (chains_of records.new) }
     ensures keeps { KeepsTree records.old records.new }
-    ensures forest { forest_of records.new ≡ on_op (forest_of records.old) user (on_successors (λ xs. remove xs index)) }
+    ensures forest { forest_in records.new ≡ on_op (forest_in records.old) user (on_successors (λ xs. remove xs index)) }
 {
     chains_at::remove_linked::<D, BlockIndex>(records, user, index)
 }
@@ -135,11 +135,11 @@ pub fn replace_successor<D: Dialects>(
     requires linked { AreLinked (chains_of records.old) }
     requires live { IsLive records.old.ops user }
     requires within { index < length (successors_at records.old user) }
-    requires named { IsBlock records.old block }
+    requires named { IsLiveBlock records.old block }
     requires fresh { IsFreshUse (successors_at records.old) number }
     ensures linked { AreLinked (chains_of records.new) }
     ensures keeps { KeepsTree records.old records.new }
-    ensures forest { OnOk result (forest_of records.new ≡ on_op (forest_of records.old) user (on_successors (λ xs. insert (remove xs index) index (record { use_number = number; block = block.index })))) }
+    ensures forest { OnOk result (forest_in records.new ≡ on_op (forest_in records.old) user (on_successors (λ xs. insert (remove xs index) index (record { use_number = number; block = block.index })))) }
     ensures err { OnErr result (records.new ≡ records.old) }
 {
     chains_at::replace_linked::<D, BlockIndex>(records, user, index, number, block)

@@ -6,9 +6,9 @@ use Rattle.ir_model.specs.declared.ids.Limits.{Limits}
 use Rattle.ir_core_data.specs.declared.side_data.SideData.{SideData}
 use Rattle.ir_core_context.specs.Calls.{SameButSide}
 use Rattle.ir_core_context.specs.Sound.{IsSound, Keeps}
-use Rattle.ir_core_context.specs.State.{State, bare}
+use Rattle.ir_core_context.specs.State.{ContextState, bare}
 
-module _ {D A K B S X L : Type 0} (s : State D A K B S X L) (side : SideData D A K B S X L) where
+module _ {D A K B S X L : Type 0} (s : ContextState D A K B S X L) (side : SideData D A K B S X L) where
   -- it is sound
   pub aside-sound : IsSound s → Keeps s.limits side.aux → IsSound (record s { side = side })
   aside-sound sound keeps = record {

@@ -10,19 +10,19 @@ use Rattle.ir_core_records.specs.declared.record.Definition.{Definition}
 use Rattle.ir_core_records.specs.declared.records.Records.{Records}
 use Rattle.ir_core_records.specs.Growth.{Grows}
 use Rattle.ir_core_records.specs.Lists.{definitions_from}
-use Rattle.ir_core_records.specs.Meaning.{block_record, definition_of, forest_of as forest_in}
+use Rattle.ir_core_records.specs.Meaning.{block_record, definition_of, forest_in}
 use Rattle.ir_core_records.specs.Tree.{ops_in, tree_of}
 use Rattle.ir_core_context.specs.Calls.{EntitiesStayLive, HasAll, MakesBlock, StayLive, block_needs}
 use Rattle.ir_core_context.specs.Creation.{Extends, HoldTogether}
 use Rattle.ir_core_context.specs.Sound.{IsSound}
-use Rattle.ir_core_context.specs.State.{State, bare, forest_of, types_of}
+use Rattle.ir_core_context.specs.State.{ContextState, bare, forest_of, types_of}
 use Rattle.ir_core_context.proofs.Growths.{Grows-none}
 use Rattle.ir_core_context.proofs.Handed.{made}
 use Rattle.ir_core_context.proofs.Made.{block-made, block-sound}
 use Rattle.ir_core_context.proofs.StayLive.{block-entities-stay, block-stays}
 use Rattle.ir_core_context.proofs.StoredTypes.{length-stored}
 
-module _ {D A K B S X L : Type 0} (s : State D A K B S X L) (t : Records D A K B S X L) (unknown : L) (b : ArenaIndex) (label : Option Text) (arguments : List Definition)
+module _ {D A K B S X L : Type 0} (s : ContextState D A K B S X L) (t : Records D A K B S X L) (unknown : L) (b : ArenaIndex) (label : Option Text) (arguments : List Definition)
     (grows : Grows s.records.blocks t.blocks (b ∷ [])) (is : forest_in t ≡ new_block (forest_of s) b unknown label (map definition_of arguments)) where
   dead : (forest_of s).blocks b ≡ None
   dead = ap (option_map (block_record (ops_in (tree_of s.records) b))) (grows.dead b (inl refl))
@@ -55,7 +55,7 @@ module _ {D A K B S X L : Type 0} (s : State D A K B S X L) (t : Records D A K B
     uses_fit : s.next_use + 0 ≤ s.limits.uses
     uses_fit = omega (arith, sound.counted.use_limit)
 
-    abbrev after : State D A K B S X L
+    abbrev after : ContextState D A K B S X L
     after = record { records = t; types = s.types; next_value = s.next_value + length ts; next_use = s.next_use; side = s.side; limits = s.limits }
 
     is_after : made s sound t together [] (b ∷ []) [] extends (length ts) 0 room.values uses_fit ≡ after
@@ -66,5 +66,5 @@ module _ {D A K B S X L : Type 0} (s : State D A K B S X L) (t : Records D A K B
 
     pub created-block-made : MakesBlock unknown (bare s) (bare after) b label (map (λ (y : TypeHandle). y.place) ts)
     created-block-made =
-        subst (λ (z : State D A K B S X L). MakesBlock unknown (bare s) (bare z) b label (map (λ (y : TypeHandle). y.place) ts)) is_after
+        subst (λ (z : ContextState D A K B S X L). MakesBlock unknown (bare s) (bare z) b label (map (λ (y : TypeHandle). y.place) ts)) is_after
         (block-made s sound t together unknown b label ts extends forest dead all_known room.values uses_fit)

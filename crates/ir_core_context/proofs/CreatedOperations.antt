@@ -19,11 +19,11 @@ use Rattle.ir_core_records.specs.declared.record.Definition.{Definition}
 use Rattle.ir_core_records.specs.declared.record.ValueIndex.{ValueIndex}
 use Rattle.ir_core_records.specs.declared.records.Records.{Records}
 use Rattle.ir_core_records.specs.Lists.{definitions_from}
-use Rattle.ir_core_records.specs.Meaning.{closed, definition_of, forest_of as forest_in, operands_from, successors_from, value_of}
+use Rattle.ir_core_records.specs.Meaning.{closed, definition_of, forest_in, operands_from, successors_from, value_of}
 use Rattle.ir_core_context.specs.Calls.{EntitiesStayLive, HasAll, HasCounts, MakesOperation, StayLive, op_needs}
 use Rattle.ir_core_context.specs.Creation.{Extends, HoldTogether}
 use Rattle.ir_core_context.specs.Sound.{IsSound}
-use Rattle.ir_core_context.specs.State.{State, bare, forest_of, types_of}
+use Rattle.ir_core_context.specs.State.{ContextState, bare, forest_of, types_of}
 use Rattle.ir_core_context.proofs.GivenRecords.{dead-op, dead-region}
 use Rattle.ir_core_context.proofs.Made.{op-made, op-sound}
 use Rattle.ir_core_context.proofs.NewOperations.{new-entities-live, new-found, new-names-live}
@@ -41,7 +41,7 @@ module _ {D A K B S X L : Type 0} (s t : Records D A K B S X L) (loc : L) (u : A
   pub created-entities-live : EntitiesStayLive (forest_in s) (forest_in t)
   created-entities-live = new-entities-live (forest_in s) (forest_in t) u loc kind results operands successors made.0 made.2 dead_op
 
-module _ {D A K B S X L V P : Type 0} (s : State D A K B S X L) (sound : IsSound s) (t : Records D A K B S X L) (together : HoldTogether t)
+module _ {D A K B S X L V P : Type 0} (s : ContextState D A K B S X L) (sound : IsSound s) (t : Records D A K B S X L) (together : HoldTogether t)
     (unknown : L) (u : ArenaIndex) (kind : ℕ) (ts : List TypeHandle) (results : List Definition) (numbered : results ≡ definitions_from s.next_value ts)
     (index : V → ValueIndex) (target : P → ArenaIndex) (vs : List V) (bs : List P) (n : ℕ)
     (known : All (λ (y : TypeHandle). y.place < length (types_of s)) ts)
@@ -90,7 +90,7 @@ module _ {D A K B S X L V P : Type 0} (s : State D A K B S X L) (sound : IsSound
   uses_fit = omega (arith, all, room.uses)
 
   -- the context after it
-  abbrev after : ℕ → State D A K B S X L
+  abbrev after : ℕ → ContextState D A K B S X L
   after uses = record { records = t; types = s.types; next_value = s.next_value + length ts; next_use = s.next_use + uses; side = s.side; limits = s.limits }
 
   pub created-sound : IsSound (after (length vs + length bs))

@@ -7,18 +7,18 @@ use Rattle.ir_base_arenas.specs.Arena.{Arena}
 use Rattle.ir_base_arenas.specs.Lists.{SameIds}
 use Rattle.ir_core_records.specs.declared.records.Records.{Records}
 use Rattle.ir_core_records.specs.Growth.{Grows, SkipsIds}
-use Rattle.ir_core_records.specs.Meaning.{forest_of as forest_in}
+use Rattle.ir_core_records.specs.Meaning.{forest_in}
 use Rattle.ir_core_context.specs.Calls.{EntitiesStayLive, MakesRegion, SkipsAtMost, StayLive, region_needs}
-use Rattle.ir_core_context.specs.Creation.{Extends, HoldTogether, Skips}
+use Rattle.ir_core_context.specs.Creation.{Extends, HoldTogether, SkipsUpTo}
 use Rattle.ir_core_context.specs.Sound.{IsSound}
-use Rattle.ir_core_context.specs.State.{State, bare, forest_of}
+use Rattle.ir_core_context.specs.State.{ContextState, bare, forest_of}
 use Rattle.ir_core_context.proofs.GivenRecords.{dead-region}
 use Rattle.ir_core_context.proofs.Growths.{Grows-ids, Grows-none, Skips-of}
 use Rattle.ir_core_context.proofs.Handed.{made, skipped-skips, skipped-sound}
 use Rattle.ir_core_context.proofs.Made.{region-made, region-sound}
 use Rattle.ir_core_context.proofs.StayLive.{region-entities-stay, region-stays}
 
-module _ {D A K B S X L E : Type 0} (s : State D A K B S X L) (t : Records D A K B S X L) (o : ArenaIndex) where
+module _ {D A K B S X L E : Type 0} (s : ContextState D A K B S X L) (t : Records D A K B S X L) (o : ArenaIndex) where
   pub created-region-stays : (result : Result ArenaIndex E) → IfOk result (λ r. forest_in t ≡ add_region (forest_of s) o r) → OnOk result (StayLive (forest_of s) (forest_in t))
   created-region-stays (Ok r) forest = subst (StayLive (forest_of s)) (sym forest) (region-stays (forest_of s) o r)
   created-region-stays (Err e) forest = tt
@@ -27,9 +27,9 @@ module _ {D A K B S X L E : Type 0} (s : State D A K B S X L) (t : Records D A K
   created-region-entities-stay (Ok r) forest = subst (EntitiesStayLive (forest_of s)) (sym forest) (region-entities-stay (forest_of s) o r)
   created-region-entities-stay (Err e) forest = tt
 
-module _ {D A K B S X L : Type 0} (s : State D A K B S X L) (sound : IsSound s) (t : Records D A K B S X L) (together : HoldTogether t)
+module _ {D A K B S X L : Type 0} (s : ContextState D A K B S X L) (sound : IsSound s) (t : Records D A K B S X L) (together : HoldTogether t)
     (op_ids : SameIds s.records.ops t.ops) (blocks : t.blocks ≡ s.records.blocks) (o : ArenaIndex) (live : IsSome ((forest_of s).ops o)) where
-  abbrev after : State D A K B S X L
+  abbrev after : ContextState D A K B S X L
   after = record s { records = t }
 
   same_ops : Grows s.records.ops t.ops []
@@ -64,10 +64,10 @@ module _ {D A K B S X L : Type 0} (s : State D A K B S X L) (sound : IsSound s) 
     one-sound = let q = there ((forest_of s).ops o) live in subst IsSound is_after (region-sound s sound t together o r q.0 extends forest q.1 dead values_fit uses_fit)
 
     one-made : MakesRegion (bare s) (bare after) o r
-    one-made = let q = there ((forest_of s).ops o) live in subst (λ (z : State D A K B S X L). MakesRegion (bare s) (bare z) o r) is_after (region-made s sound t together o r q.0 extends forest q.1 dead values_fit uses_fit)
+    one-made = let q = there ((forest_of s).ops o) live in subst (λ (z : ContextState D A K B S X L). MakesRegion (bare s) (bare z) o r) is_after (region-made s sound t together o r q.0 extends forest q.1 dead values_fit uses_fit)
 
   module _ (same : forest_in t ≡ forest_of s) (skipped : SkipsIds s.records.regions t.regions 1) where
-    skips : Skips s.records t 0 0 1
+    skips : SkipsUpTo s.records t 0 0 1
     skips = record { ops = Skips-of s.records.ops t.ops [] 0 same_ops (omega arith); blocks = Skips-of s.records.blocks t.blocks [] 0 same_blocks (omega arith); regions = skipped }
 
     none-sound : IsSound after

@@ -3,7 +3,7 @@ use Rattle.std.proofs.Common.{◌≡◌, ◌∷◌, ◌++◌, ℕ, ◌⊎◌, Bo
 use Rattle.ir_model.specs.declared.ids.ArenaIndex.{ArenaIndex}
 use Rattle.ir_model.specs.ContextIds.{context_ids, same_id}
 use Rattle.ir_model.specs.Forest.{Forest, a_block, a_region, an_op}
-use Rattle.ir_model.specs.Nesting.{In, Inside, IsLive, IsLiveNamed, WellFormed, blocks_of, numbers_of, ops_of, uses_of}
+use Rattle.ir_model.specs.Nesting.{In, Inside, IsLive, IsLiveNamed, WellFormed, blocks_of, numbers_of, ops_of, use_numbers_of}
 use Rattle.ir_model.specs.Changes.{append_blocks, append_ops, in_blocks, in_regions, move_region, on_block, on_ops, on_region, without}
 use Rattle.ir_model.specs.Edits.{MayGoBeside, MayGoInto, MayJoin}
 use Rattle.ir_model.proofs.Entries.{AddsOne}
@@ -12,28 +12,28 @@ use Rattle.ir_base_arenas.specs.Arena.{Arena}
 use Rattle.ir_base_arenas.specs.Lists.{SameIds}
 use Rattle.ir_core_records.specs.declared.records.Records.{Records}
 use Rattle.ir_core_records.specs.Chains.{AreLinked}
-use Rattle.ir_core_records.specs.Meaning.{closed, forest_of as forest_in}
+use Rattle.ir_core_records.specs.Meaning.{closed, forest_in}
 use Rattle.ir_core_records.specs.Nested.{AreNested}
 use Rattle.ir_core_records.specs.Tree.{tree_of}
 use Rattle.ir_core_nesting.specs.Edits.{KeepsChains}
 use Rattle.ir_core_context.specs.Calls.{EntitiesStayLive, SameButForest, StayLive}
 use Rattle.ir_core_context.specs.Sound.{IsSound, Keeps}
-use Rattle.ir_core_context.specs.State.{State, bare, forest_of, passed_of}
+use Rattle.ir_core_context.specs.State.{ContextState, bare, forest_of, passed_of}
 use Rattle.ir_core_context.proofs.EditedLists.{KeepsLists, block-beside, block-into, block-out, blocks-joined, named-still, op-beside, op-into, op-out, ops-joined, region-moved, unchanged}
 
 module _ {D A K B S X L : Type 0} where
   -- the context is sound, all but its forest is as before, and what was live is live
-  pub record Edited (s : State D A K B S X L) (t : Records D A K B S X L) : Type 0 where
+  pub record Edited (s : ContextState D A K B S X L) (t : Records D A K B S X L) : Type 0 where
     pub sound : IsSound (record s { records = t })
     pub rest : SameButForest (bare s) (bare (record s { records = t }))
     pub stay_live : StayLive (forest_of s) (forest_in t)
     pub entities_stay_live : EntitiesStayLive (forest_of s) (forest_in t)
 
   -- an arena with the same ids keeps to the limits
-  pub keeps-same : {T : Type 0} (s : State D A K B S X L) (a b : Arena T) → SameIds a b → Keeps s.limits a → Keeps s.limits b
+  pub keeps-same : {T : Type 0} (s : ContextState D A K B S X L) (a b : Arena T) → SameIds a b → Keeps s.limits a → Keeps s.limits b
   keeps-same s a b same keeps = record { limit = same.limit ∙ keeps.limit; last_version = same.last_version ∙ keeps.last_version }
 
-  module _ {s : State D A K B S X L} {t : Records D A K B S X L} (sound : IsSound s) (keeps : KeepsChains s.records t) (nested : AreNested (tree_of t)) where
+  module _ {s : ContextState D A K B S X L} {t : Records D A K B S X L} (sound : IsSound s) (keeps : KeepsChains s.records t) (nested : AreNested (tree_of t)) where
     edited : (g : Forest context_ids (closed A K B S X L)) → forest_in t ≡ g → KeepsLists (forest_of s) g (length s.types) → Edited s t
     edited g is lists = record {
       sound = record {
@@ -43,7 +43,7 @@ module _ {D A K B S X L : Type 0} where
         formed = subst (λ f. WellFormed f (length s.types)) (sym is) lists.kept.forest;
         counted = record {
           values = λ d n h. sound.counted.values d n (lists.kept.values (record { definer = d; number = n }) (subst (λ f. In n (numbers_of f d)) is h));
-          uses = λ o n h. elim (lists.kept.uses o n (subst (λ f. In n (uses_of f o)) is h)) [ inl k ↦ sound.counted.uses o n k | inr k ↦ absurd k ];
+          uses = λ o n h. elim (lists.kept.uses o n (subst (λ f. In n (use_numbers_of f o)) is h)) [ inl k ↦ sound.counted.uses o n k | inr k ↦ absurd k ];
           value_limit = sound.counted.value_limit;
           use_limit = sound.counted.use_limit;
           limits = sound.counted.limits;

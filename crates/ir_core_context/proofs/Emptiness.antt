@@ -6,13 +6,13 @@ use Rattle.ir_base_arenas.specs.Arena.{arena_len, get}
 use Rattle.ir_core_records.specs.Meaning.{op_record, block_record}
 use Rattle.ir_core_records.specs.Tree.{tree_of, ops_in, blocks_in}
 use Rattle.ir_core_context.specs.Calls.{NoEntity}
-use Rattle.ir_core_context.specs.State.{State, forest_of}
+use Rattle.ir_core_context.specs.State.{ContextState, forest_of}
 
 unmap : {T U : Type 0} (f : T → U) (m : Option T) → option_map f m ≡ None → m ≡ None
 unmap f None e = refl
 unmap f (Some x) e = cc
 
-module _ {D A K B S X L : Type 0} (s : State D A K B S X L) where
+module _ {D A K B S X L : Type 0} (s : ContextState D A K B S X L) where
   pub some-entity : (0 < arena_len s.records.ops) ⊎ (0 < arena_len s.records.blocks) → NoEntity (forest_of s) → ⊥
   some-entity (inl some) none = let e : arena_len s.records.ops ≡ 0 = (len-none s.records.ops).1 (λ i. unmap op_record _ (none.ops i)) in omega (arith, some, e)
   some-entity (inr some) none = let e : arena_len s.records.blocks ≡ 0 = (len-none s.records.blocks).1 (λ i. unmap (block_record (ops_in (tree_of s.records) i)) _ (none.blocks i)) in omega (arith, some, e)

@@ -4,7 +4,7 @@ use Rattle.ir_model.specs.declared.ids.ArenaIndex.{ArenaIndex}
 use Rattle.ir_model.specs.declared.ids.Limits.{Limits}
 use Rattle.ir_model.specs.Ids.{Ids, Distinct}
 use Rattle.ir_model.specs.Forest.{Dialect, Forest, Entity, an_op, a_block, a_region, Definer, of_op, of_block}
-use Rattle.ir_model.specs.Nesting.{In, WellFormed, children, numbers_of, uses_of, names_of, types_of}
+use Rattle.ir_model.specs.Nesting.{In, WellFormed, children, numbers_of, use_numbers_of, names_of, definition_types_of}
 use Rattle.ir_model.specs.Sessions.{IsNewSession}
 use Rattle.ir_base_arenas.specs.Arena.{get, empty}
 use Rattle.ir_model.proofs.Arenas.{get-empty, passed-empty}
@@ -25,7 +25,7 @@ use Rattle.ir_core_context.specs.Calls.{nothing_beside}
 use Rattle.ir_core_context.specs.Sound.{AreLimits, IsSound}
 use Rattle.std.specs.Prelude.{slice_get}
 use Rattle.std.proofs.lemmas.Bool.{le-ltb}
-use Rattle.ir_core_context.specs.State.{State, bare, forest_of}
+use Rattle.ir_core_context.specs.State.{ContextState, bare, forest_of}
 
 module _ {N : Ids} {W : Dialect} (f : Forest N W) (ops : (o : N.Op) → f.ops o ≡ None) (blocks : (b : N.Block) → f.blocks b ≡ None) (regions : (r : N.Region) → f.regions r ≡ None) where
   childless : (y : Entity N) → children f y ≡ []
@@ -37,11 +37,11 @@ module _ {N : Ids} {W : Dialect} (f : Forest N W) (ops : (o : N.Op) → f.ops o 
   numberless (of_op o) = rw (ops o) refl
   numberless (of_block b) = rw (blocks b) refl
 
-  typeless : (d : Definer N) → types_of f d ≡ []
+  typeless : (d : Definer N) → definition_types_of f d ≡ []
   typeless (of_op o) = rw (ops o) refl
   typeless (of_block b) = rw (blocks b) refl
 
-  pub useless : (o : N.Op) → uses_of f o ≡ []
+  pub useless : (o : N.Op) → use_numbers_of f o ≡ []
   useless o = rw (ops o) refl
 
   nameless : (o : N.Op) → names_of f o ≡ []
@@ -89,7 +89,7 @@ listed-nothing nodes containers no_node no_container = record {
 }
 
 module _ (D A K B S X L : Type 0) (l : Limits) where
-  abbrev pub nothing : State D A K B S X L
+  abbrev pub nothing : ContextState D A K B S X L
   nothing = record {
     records = record { ops = empty l.slots l.last_version; blocks = empty l.slots l.last_version; regions = empty l.slots l.last_version };
     types = [];

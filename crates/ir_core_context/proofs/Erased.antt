@@ -15,18 +15,18 @@ use Rattle.ir_base_arenas.specs.Arena.{Arena}
 use Rattle.ir_core_records.specs.declared.records.Records.{Records}
 use Rattle.ir_core_records.specs.Chains.{AreLinked, chains_of}
 use Rattle.ir_core_records.specs.Frames.{KeepsTree}
-use Rattle.ir_core_records.specs.Meaning.{forest_of as forest_in}
+use Rattle.ir_core_records.specs.Meaning.{forest_in}
 use Rattle.ir_core_records.specs.Nested.{AreNested}
 use Rattle.ir_core_records.specs.Table.{KnowOwn}
 use Rattle.ir_core_records.specs.Tree.{tree_of}
 use Rattle.ir_core_erasing.specs.Erasing.{HandsOutNone, SamePassed}
 use Rattle.ir_core_context.specs.Calls.{EntitiesStayLive, SameButForest, StayLive}
 use Rattle.ir_core_context.specs.Sound.{IsSound, Keeps}
-use Rattle.ir_core_context.specs.State.{State, bare, forest_of, passed_of}
+use Rattle.ir_core_context.specs.State.{ContextState, bare, forest_of, passed_of}
 use Rattle.ir_core_context.proofs.Edited.{Edited}
 use Rattle.ir_core_context.proofs.PlacedUses.{kept-edited}
 
-module _ {D A K B S X L : Type 0} (s : State D A K B S X L) (sound : IsSound s) (t : Records D A K B S X L) (ids : HandsOutNone s.records t) where
+module _ {D A K B S X L : Type 0} (s : ContextState D A K B S X L) (sound : IsSound s) (t : Records D A K B S X L) (ids : HandsOutNone s.records t) where
   keeps-passed : {T : Type 0} (a b : Arena T) → SamePassed a b → Keeps s.limits a → Keeps s.limits b
   keeps-passed a b same keeps = record { limit = same.limit ∙ keeps.limit; last_version = same.last_version ∙ keeps.last_version }
 
@@ -89,7 +89,7 @@ module _ {W : Dialect} (f g : Forest context_ids W) (e : Entity context_ids) (dr
   dropped-entities-live (a_block b) h = subst (λ (m : ArenaIndex → Option (BlockRecord context_ids W)). IsSome (m b)) (sym drops.blocks) h
   dropped-entities-live (a_region r) h = subst (λ (m : ArenaIndex → Option (List ArenaIndex)). IsSome (m r)) (sym drops.regions) h
 
-module _ {D A K B S X L : Type 0} {s : State D A K B S X L} {t : Records D A K B S X L} (sound : IsSound s) where
+module _ {D A K B S X L : Type 0} {s : ContextState D A K B S X L} {t : Records D A K B S X L} (sound : IsSound s) where
   -- uses were dropped
   pub uses-dropped : (e : Entity context_ids) → KeepsTree s.records t → AreLinked (chains_of t) → DropsUses (forest_of s) e (forest_in t) → Edited s t
   uses-dropped e keeps linked drops =

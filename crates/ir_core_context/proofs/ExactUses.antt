@@ -13,7 +13,7 @@ use Rattle.ir_core_records.specs.Table.{block_uses_at, operands_at, successors_a
 use Rattle.ir_core_records.specs.KeptUses.{kept-exact, kept-once}
 use Rattle.ir_core_records.specs.Meant.{operands-meant, successors-meant, value-same}
 use Rattle.ir_core_context.specs.Named.{operand_like, successor_like}
-use Rattle.ir_core_context.specs.State.{State, block_uses_of, forest_of, uses_of}
+use Rattle.ir_core_context.specs.State.{ContextState, block_uses_of, forest_of, uses_of}
 
 operand-same : (m n : ℕ) (v w : ValueIndex) → operand_like m v ≡ operand_like n w → (m ≡ n) × (v ≡ w)
 operand-same m n v w e = (ap (λ (p : Operand context_ids). p.use_number) e, value-same v w (ap (λ (p : Operand context_ids). p.value) e))
@@ -23,7 +23,7 @@ successor-same m n b c e =
     let p : b.index ≡ c.index = ap (λ (q : Successor context_ids). q.block) e in
     (ap (λ (q : Successor context_ids). q.use_number) e, λ i. record { index = p i })
 
-module _ {D A K B S X L : Type 0} (s : State D A K B S X L) (linked : AreLinked (chains_of s.records)) where
+module _ {D A K B S X L : Type 0} (s : ContextState D A K B S X L) (linked : AreLinked (chains_of s.records)) where
   -- the kept list of a value has exactly its uses, each once
   pub uses-exact : (v : ValueIndex) → AreUses (forest_of s) (a_value (value_of v)) (uses_of s v)
   uses-exact v = record {

@@ -4,7 +4,7 @@ use Rattle.std.specs.Option.{option_map}
 use Rattle.ir_model.specs.declared.ids.ArenaIndex.{ArenaIndex}
 use Rattle.ir_model.specs.ContextIds.{context_ids, same_id}
 use Rattle.ir_model.specs.Forest.{Dialect, Definer, of_op, of_block, Definition, Forest, Named, OpRecord, Operand, Successor, a_value, the_block}
-use Rattle.ir_model.specs.Nesting.{In, IsLiveNamed, definitions_of, list_of, operands_of, successors_of, uses_of}
+use Rattle.ir_model.specs.Nesting.{In, IsLiveNamed, definitions_of, list_of, operands_of, successors_of, use_numbers_of}
 use Rattle.ir_model.specs.Changes.{on_regions}
 use Rattle.ir_model.proofs.Keeps.{rewrite_at}
 use Rattle.ir_model.proofs.TwoRuns.{id_tells}

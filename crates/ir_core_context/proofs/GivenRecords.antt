@@ -6,7 +6,7 @@ use Rattle.ir_model.specs.Forest.{Forest}
 use Rattle.ir_model.specs.Nesting.{In}
 use Rattle.ir_base_arenas.specs.Arena.{get, IsLive}
 use Rattle.ir_core_records.specs.declared.records.Records.{Records}
-use Rattle.ir_core_records.specs.Meaning.{forest_of as forest_in, op_record}
+use Rattle.ir_core_records.specs.Meaning.{forest_in, op_record}
 use Rattle.ir_core_records.specs.Tree.{blocks_in, tree_of}
 use Rattle.ir_core_context.specs.Creation.{IsGiven}
 use Rattle.ir_core_context.proofs.Making.{given_at}

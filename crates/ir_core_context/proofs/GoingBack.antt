@@ -13,10 +13,10 @@ use Rattle.ir_model.proofs.MayGoBack.{may_go_back}
 use Rattle.ir_model.proofs.Relinks.{block_after, block_front, op_after, op_front}
 use Rattle.ir_model.proofs.TwoRuns.{lawful}
 use Rattle.ir_core_records.specs.declared.records.Records.{Records}
-use Rattle.ir_core_records.specs.Meaning.{closed, forest_of as forest_in}
+use Rattle.ir_core_records.specs.Meaning.{closed, forest_in}
 use Rattle.ir_core_context.specs.GoingBack.{BlockGoesBack, BlockMayGoBack, OpGoesBack, OpMayGoBack}
 use Rattle.ir_core_context.specs.Sound.{IsSound}
-use Rattle.ir_core_context.specs.State.{State, forest_of, types_of}
+use Rattle.ir_core_context.specs.State.{ContextState, forest_of, types_of}
 use Rattle.ir_core_context.proofs.StoredTypes.{length-stored}
 
 abbrev no_fresh : Fresh context_ids
@@ -78,7 +78,7 @@ module _ {W : Dialect} (B : Behaviour W) (f : Forest context_ids W) (store : Lis
     block-goes-back = record { after = block_after lawful f (length store) formed b; front = block_front lawful f (length store) formed b }
 
 -- the same of a context, whose records mean the forest without it in the lists
-module _ {D A K B S X L : Type 0} {s : State D A K B S X L} (answers : Behaviour (closed A K B S X L)) (sound : IsSound s) where
+module _ {D A K B S X L : Type 0} {s : ContextState D A K B S X L} (answers : Behaviour (closed A K B S X L)) (sound : IsSound s) where
   formed : WellFormed (forest_of s) (length (types_of s))
   formed = subst (WellFormed (forest_of s)) (sym (length-stored A K B S X L s.types)) sound.formed
 

@@ -8,17 +8,17 @@ use Rattle.ir_model.specs.declared.ids.Limits.{Limits}
 use Rattle.ir_model.specs.ContextIds.{context_ids}
 use Rattle.ir_model.specs.Ids.{Fresh, Counts}
 use Rattle.ir_model.specs.Forest.{Definer, Dialect}
-use Rattle.ir_model.specs.Nesting.{In, WellFormed, numbers_of, uses_of}
+use Rattle.ir_model.specs.Nesting.{In, WellFormed, numbers_of, use_numbers_of}
 use Rattle.ir_model.specs.Sessions.{IsNewId, Session, live_op, live_block, live_region}
 use Rattle.ir_base_arenas.specs.Arena.{Arena, get, IsLive, is_passed}
 use Rattle.ir_core_records.specs.declared.records.Records.{Records}
 use Rattle.ir_core_records.specs.Growth.{Grows, SkipsIds}
-use Rattle.ir_core_records.specs.Meaning.{op_record, block_record, forest_of as forest_in}
+use Rattle.ir_core_records.specs.Meaning.{op_record, block_record, forest_in}
 use Rattle.ir_core_records.specs.Tree.{tree_of, ops_in, blocks_in}
 use Rattle.ir_core_context.specs.Calls.{HandsOut, SkipsAtMost}
-use Rattle.ir_core_context.specs.Creation.{Extends, HoldTogether, Skips}
+use Rattle.ir_core_context.specs.Creation.{Extends, HoldTogether, SkipsUpTo}
 use Rattle.ir_core_context.specs.Sound.{IsSound, Keeps}
-use Rattle.ir_core_context.specs.State.{State, bare, forest_of}
+use Rattle.ir_core_context.specs.State.{ContextState, bare, forest_of}
 use Rattle.ir_core_context.proofs.Numbers.{In-range, range-distinct, passed-range, new-range}
 
 -- an id stays new under fewer live ids
@@ -44,10 +44,10 @@ new-meant f limits a b made keeps grows i h =
 none-more : {U : Type 0} (passed : U → Bool) (i : U) → IsTrue (passed i) ↔ (IsTrue (passed i) ⊎ In i [])
 none-more passed i = (λ h. inl h, λ h. elim h [ inl p ↦ p | inr k ↦ absurd k ])
 
-module _ {D A K B S X L : Type 0} (s : State D A K B S X L) (sound : IsSound s) (t : Records D A K B S X L) (together : HoldTogether t) where
+module _ {D A K B S X L : Type 0} (s : ContextState D A K B S X L) (sound : IsSound s) (t : Records D A K B S X L) (together : HoldTogether t) where
   -- nothing was made, and so many ids were skipped
-  module _ (same : forest_in t ≡ forest_of s) (ops blocks regions : ℕ) (skips : Skips s.records t ops blocks regions) where
-    abbrev pub skipped : State D A K B S X L
+  module _ (same : forest_in t ≡ forest_of s) (ops blocks regions : ℕ) (skips : SkipsUpTo s.records t ops blocks regions) where
+    abbrev pub skipped : ContextState D A K B S X L
     skipped = record s { records = t }
 
     pub skipped-sound : IsSound skipped
@@ -58,7 +58,7 @@ module _ {D A K B S X L : Type 0} (s : State D A K B S X L) (sound : IsSound s) 
       formed = subst (λ f. WellFormed f (length s.types)) (sym same) sound.formed;
       counted = record {
         values = λ d m h. sound.counted.values d m (subst (λ f. In m (numbers_of f d)) same h);
-        uses = λ o m h. sound.counted.uses o m (subst (λ f. In m (uses_of f o)) same h);
+        uses = λ o m h. sound.counted.uses o m (subst (λ f. In m (use_numbers_of f o)) same h);
         value_limit = sound.counted.value_limit;
         use_limit = sound.counted.use_limit;
         limits = sound.counted.limits;
@@ -96,7 +96,7 @@ module _ {D A K B S X L : Type 0} (s : State D A K B S X L) (sound : IsSound s) 
   -- these ids and the next numbers were handed out
   module _ (ops blocks regions : List ArenaIndex) (extends : Extends s.records t ops blocks regions) (values uses : ℕ)
       (values_fit : s.next_value + values ≤ s.limits.values) (uses_fit : s.next_use + uses ≤ s.limits.uses) where
-    abbrev pub made : State D A K B S X L
+    abbrev pub made : ContextState D A K B S X L
     made = record { records = t; types = s.types; next_value = s.next_value + values; next_use = s.next_use + uses; side = s.side; limits = s.limits }
 
     abbrev pub made_ids : Fresh context_ids
@@ -104,7 +104,7 @@ module _ {D A K B S X L : Type 0} (s : State D A K B S X L) (sound : IsSound s) 
 
     pub made-sound : WellFormed (forest_in t) (length s.types)
         → ((d : Definer context_ids) (m : ℕ) → In m (numbers_of (forest_in t) d) → In m (range_with_len s.next_value values) ⊎ In m (numbers_of (forest_of s) d))
-        → ((o : ArenaIndex) (m : ℕ) → In m (uses_of (forest_in t) o) → In m (range_with_len s.next_use uses) ⊎ In m (uses_of (forest_of s) o))
+        → ((o : ArenaIndex) (m : ℕ) → In m (use_numbers_of (forest_in t) o) → In m (range_with_len s.next_use uses) ⊎ In m (use_numbers_of (forest_of s) o))
         → IsSound made
     made-sound formed numbers_case uses_case = record {
       linked = together.linked;

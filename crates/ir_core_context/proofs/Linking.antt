@@ -6,7 +6,7 @@ use Rattle.std.proofs.lemmas.List.{append-nil}
 use Rattle.ir_model.specs.declared.ids.ArenaIndex.{ArenaIndex}
 use Rattle.ir_model.specs.ContextIds.{context_ids, same_id}
 use Rattle.ir_model.specs.Forest.{Forest, OpRecord, Operand, Successor, a_value, the_block}
-use Rattle.ir_model.specs.Nesting.{In, IsLiveNamed, list_of, operands_of, successors_of, uses_of}
+use Rattle.ir_model.specs.Nesting.{In, IsLiveNamed, list_of, operands_of, successors_of, use_numbers_of}
 use Rattle.ir_model.specs.Changes.{on_op, on_operands, on_successors, rewrite}
 use Rattle.ir_model.proofs.Back.{slice_get-in}
 use Rattle.ir_model.proofs.Keeps.{rewrite_at}
@@ -20,12 +20,12 @@ use Rattle.ir_core_records.specs.declared.records.Records.{Records}
 use Rattle.ir_core_records.specs.Chains.{AreLinked, chains_of}
 use Rattle.ir_core_records.specs.Frames.{KeepsTree}
 use Rattle.ir_core_records.specs.Links.{IsFreshUse}
-use Rattle.ir_core_records.specs.Meaning.{block_record, closed, forest_of as forest_in, operand_of, operands_from, successor_of, value_of}
+use Rattle.ir_core_records.specs.Meaning.{block_record, closed, forest_in, operand_of, operands_from, successor_of, value_of}
 use Rattle.ir_core_records.specs.Nested.{AreNested}
-use Rattle.ir_core_records.specs.Table.{IsBlock, IsValue, operands_at, successors_at}
+use Rattle.ir_core_records.specs.Table.{IsLiveBlock, IsValue, operands_at, successors_at}
 use Rattle.ir_core_records.specs.Tree.{tree_of, ops_in}
 use Rattle.ir_core_context.specs.Creation.{AreFresh, HoldTogether}
-use Rattle.ir_core_context.specs.State.{State}
+use Rattle.ir_core_context.specs.State.{ContextState}
 use Rattle.ir_core_context.proofs.MadeParts.{operand-numbers}
 use Rattle.ir_core_context.proofs.Making.{rewrite-none, rewrite-twice}
 use Rattle.ir_core_context.proofs.Numbers.{In-range}

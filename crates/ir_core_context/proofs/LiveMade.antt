@@ -7,10 +7,10 @@ use Rattle.ir_core_records.specs.Meaning.{block_record, op_record}
 use Rattle.ir_core_records.specs.Tree.{blocks_in, ops_in, tree_of}
 use Rattle.ir_core_context.specs.Calls.{LiveWasMade}
 use Rattle.ir_core_context.specs.Sound.{IsSound}
-use Rattle.ir_core_context.specs.State.{State, bare}
+use Rattle.ir_core_context.specs.State.{ContextState, bare}
 use Rattle.ir_core_context.proofs.Handed.{some-map}
 
-module _ {D A K B S X L : Type 0} (s : State D A K B S X L) (sound : IsSound s) (ops : IsWhole s.records.ops) (blocks : IsWhole s.records.blocks) (regions : IsWhole s.records.regions) where
+module _ {D A K B S X L : Type 0} (s : ContextState D A K B S X L) (sound : IsSound s) (ops : IsWhole s.records.ops) (blocks : IsWhole s.records.blocks) (regions : IsWhole s.records.regions) where
   pub live-made : LiveWasMade (bare s)
   live-made = record {
     ops = λ i h. live-passed s.records.ops i ops (some-map op_record (get s.records.ops i) h);

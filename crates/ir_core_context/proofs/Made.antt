@@ -5,7 +5,7 @@ use Rattle.std.proofs.lemmas.List.{length-map}
 use Rattle.ir_model.specs.declared.ids.ArenaIndex.{ArenaIndex}
 use Rattle.ir_model.specs.ContextIds.{context_ids}
 use Rattle.ir_model.specs.Forest.{Definer, of_op, of_block, Definition as PlainDefinition, Forest, OpRecord, Operand, Successor, Text, a_value, the_block}
-use Rattle.ir_model.specs.Nesting.{In, IsLiveNamed, WellFormed, numbers_of, regions_of, uses_of}
+use Rattle.ir_model.specs.Nesting.{In, IsLiveNamed, WellFormed, numbers_of, regions_of, use_numbers_of}
 use Rattle.ir_model.specs.Changes.{add_region, definition, new_block, new_op, operand, successor}
 use Rattle.ir_model.proofs.KeepsDefinitions.{KeptOrMade, defines_block, made_kept}
 use Rattle.ir_model.proofs.KeepsRegions.{AddRegion-kept}
@@ -17,16 +17,16 @@ use Rattle.ir_core_records.specs.declared.record.BlockIndex.{BlockIndex}
 use Rattle.ir_core_records.specs.declared.record.ValueIndex.{ValueIndex}
 use Rattle.ir_core_records.specs.declared.records.Records.{Records}
 use Rattle.ir_core_records.specs.Lists.{definitions_from}
-use Rattle.ir_core_records.specs.Meaning.{closed, definition_of, forest_of as forest_in, operands_from, successors_from, value_of}
+use Rattle.ir_core_records.specs.Meaning.{closed, definition_of, forest_in, operands_from, successors_from, value_of}
 use Rattle.ir_core_context.specs.Calls.{MakesBlock, MakesOperation, MakesRegion}
 use Rattle.ir_core_context.specs.Creation.{Extends, HoldTogether}
 use Rattle.ir_core_context.specs.Sound.{IsSound}
-use Rattle.ir_core_context.specs.State.{State, bare, forest_of, types_of}
+use Rattle.ir_core_context.specs.State.{ContextState, bare, forest_of, types_of}
 use Rattle.ir_core_context.proofs.Handed.{made, made-hands-out, made-sound}
 use Rattle.ir_core_context.proofs.MadeParts.{all-In, definition-numbers, definition-types, definitions-numbered, drop-range, names-live, operands-numbered, place-numbers, successors-numbered, take-range}
 use Rattle.ir_core_context.proofs.Numbers.{In-range, range-distinct}
 
-module _ {D A K B S X L : Type 0} (s : State D A K B S X L) (sound : IsSound s) (t : Records D A K B S X L) (together : HoldTogether t) where
+module _ {D A K B S X L : Type 0} (s : ContextState D A K B S X L) (sound : IsSound s) (t : Records D A K B S X L) (together : HoldTogether t) where
   abbrev f : Forest context_ids (closed A K B S X L)
   f = forest_of s
 
@@ -56,9 +56,9 @@ module _ {D A K B S X L : Type 0} (s : State D A K B S X L) (sound : IsSound s) 
           | inr e ↦ inr (subst (λ (xs : List (PlainDefinition context_ids (closed A K B S X L))). In m (map (λ (x : PlainDefinition context_ids (closed A K B S X L)). x.number) xs)) e k)
         ]
 
-    uses_cases : (o : ArenaIndex) (m : ℕ) → In m (uses_of (forest_in t) o) → In m (range_with_len s.next_use (length vs + length bs)) ⊎ In m (uses_of f o)
+    uses_cases : (o : ArenaIndex) (m : ℕ) → In m (use_numbers_of (forest_in t) o) → In m (range_with_len s.next_use (length vs + length bs)) ⊎ In m (use_numbers_of f o)
     uses_cases o m h =
-        let k : In m (uses_of (new_op f u unknown kind results operands successors rs) o) = subst (λ g. In m (uses_of g o)) forest h in
+        let k : In m (use_numbers_of (new_op f u unknown kind results operands successors rs) o) = subst (λ g. In m (use_numbers_of g o)) forest h in
         elim (uses_case lawful f (length s.types) sound.formed u unknown kind results operands successors rs dead dead_regions o) [
           | inl e ↦ inl (subst (In m) (place-numbers s.next_use vs bs) (subst (In m) e.1 k))
           | inr e ↦ inr (subst (In m) e.0 k)
@@ -123,8 +123,8 @@ module _ {D A K B S X L : Type 0} (s : State D A K B S X L) (sound : IsSound s) 
       | inr k ↦ inl (subst (In m) (definition-numbers A K B S X L s.next_value ts) k.1)
     ]
 
-    block_uses : (o : ArenaIndex) (m : ℕ) → In m (uses_of (forest_in t) o) → In m (range_with_len s.next_use 0) ⊎ In m (uses_of f o)
-    block_uses o m h = inr (subst (λ g. In m (uses_of g o)) forest h)
+    block_uses : (o : ArenaIndex) (m : ℕ) → In m (use_numbers_of (forest_in t) o) → In m (range_with_len s.next_use 0) ⊎ In m (use_numbers_of f o)
+    block_uses o m h = inr (subst (λ g. In m (use_numbers_of g o)) forest h)
 
     pub block-sound : IsSound (made s sound t together [] (b ∷ []) [] extends (length ts) 0 values_fit uses_fit)
     block-sound = made-sound s sound t together [] (b ∷ []) [] extends (length ts) 0 values_fit uses_fit (subst (λ g. WellFormed g (length s.types)) (sym forest) kept.forest) block_numbers block_uses
@@ -151,8 +151,8 @@ module _ {D A K B S X L : Type 0} (s : State D A K B S X L) (sound : IsSound s) 
     region_numbers : (d : Definer context_ids) (m : ℕ) → In m (numbers_of (forest_in t) d) → In m (range_with_len s.next_value 0) ⊎ In m (numbers_of f d)
     region_numbers d m h = inr (region_kept.values (record { definer = d; number = m }) (subst (λ g. In m (numbers_of g d)) forest h))
 
-    region_uses : (p : ArenaIndex) (m : ℕ) → In m (uses_of (forest_in t) p) → In m (range_with_len s.next_use 0) ⊎ In m (uses_of f p)
-    region_uses p m h = elim (region_kept.uses p m (subst (λ g. In m (uses_of g p)) forest h)) [ inl k ↦ inr k | inr k ↦ absurd k ]
+    region_uses : (p : ArenaIndex) (m : ℕ) → In m (use_numbers_of (forest_in t) p) → In m (range_with_len s.next_use 0) ⊎ In m (use_numbers_of f p)
+    region_uses p m h = elim (region_kept.uses p m (subst (λ g. In m (use_numbers_of g p)) forest h)) [ inl k ↦ inr k | inr k ↦ absurd k ]
 
     pub region-sound : IsSound (made s sound t together [] [] (r ∷ []) extends 0 0 values_fit uses_fit)
     region-sound = made-sound s sound t together [] [] (r ∷ []) extends 0 0 values_fit uses_fit (subst (λ g. WellFormed g (length s.types)) (sym forest) region_kept.forest) region_numbers region_uses

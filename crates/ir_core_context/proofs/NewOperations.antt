@@ -14,12 +14,12 @@ use Rattle.ir_core_records.specs.declared.record.UseIndex.{UseIndex}
 use Rattle.ir_core_records.specs.declared.record.ValueIndex.{ValueIndex}
 use Rattle.ir_core_records.specs.declared.records.Records.{Records}
 use Rattle.ir_core_records.specs.Chains.{AreLinked, chains_of}
-use Rattle.ir_core_records.specs.Meaning.{closed, forest_of as forest_in, use_of}
+use Rattle.ir_core_records.specs.Meaning.{closed, forest_in, use_of}
 use Rattle.ir_core_records.specs.Table.{uses_at}
 use Rattle.ir_core_context.specs.Calls.{EntitiesStayLive, StayLive}
 use Rattle.ir_core_context.specs.Creation.{AreFresh}
 use Rattle.ir_core_data.specs.Side.{nothing as no_side}
-use Rattle.ir_core_context.specs.State.{State}
+use Rattle.ir_core_context.specs.State.{ContextState}
 use Rattle.ir_core_context.specs.Named.{use-live}
 use Rattle.ir_core_context.proofs.ExactUses.{uses-exact}
 
@@ -113,7 +113,7 @@ module _ {W : Dialect} (f g : Forest context_ids W) (o : ArenaIndex) (loc : W.Lo
 -- the kept uses of the results of such an operation
 module _ {D A K B S X L : Type 0} (f : Forest context_ids (closed A K B S X L)) (t : Records D A K B S X L) (o : ArenaIndex) (loc : L) (kind : ℕ) (results : List (Definition context_ids (closed A K B S X L)))
     (is : forest_in t ≡ new_op f o loc kind results [] [] []) (dead : f.ops o ≡ None) where
-  abbrev alone : State D A K B S X L
+  abbrev alone : ContextState D A K B S X L
   alone = record { records = t; types = []; next_value = 0; next_use = 0; side = no_side 0 0; limits = record { values = 0; uses = 0; slots = 0; last_version = 0 } }
 
   abbrev result : ℕ → ValueIndex

@@ -17,9 +17,9 @@ use Rattle.ir_core_records.specs.Tree.{blocks_in, op_regions, region_parent as p
 use Rattle.ir_core_records.specs.Found.{record-there}
 use Rattle.ir_core_context.specs.Calls.{IsRegion}
 use Rattle.ir_core_context.specs.Sound.{IsSound}
-use Rattle.ir_core_context.specs.State.{State, forest_of}
+use Rattle.ir_core_context.specs.State.{ContextState, forest_of}
 
-module _ {D A K B S X L : Type 0} (s : State D A K B S X L) (sound : IsSound s) where
+module _ {D A K B S X L : Type 0} (s : ContextState D A K B S X L) (sound : IsSound s) where
   -- the regions of an operation, as the links and the forest have them
   regions-meant : (o : ArenaIndex) → regions_of (forest_of s) o ≡ list_of (λ gs. gs) ((tree_of s.records).regions_of o)
   regions-meant o = by (get s.records.ops o)

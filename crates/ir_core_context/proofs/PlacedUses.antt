@@ -6,7 +6,7 @@ use Rattle.ir_model.specs.declared.ids.ArenaIndex.{ArenaIndex}
 use Rattle.ir_model.specs.ContextIds.{context_ids, same_id}
 use Rattle.ir_model.specs.Edits.{one_use}
 use Rattle.ir_model.specs.Forest.{Dialect, Definer, of_op, of_block, Definition, Forest, OpRecord, Operand, Successor, Value, a_block, a_region, a_value, an_op, the_block}
-use Rattle.ir_model.specs.Nesting.{In, IsLive, IsLiveNamed, WellFormed, definitions_of, list_of, numbers_of, uses_of}
+use Rattle.ir_model.specs.Nesting.{In, IsLive, IsLiveNamed, WellFormed, definitions_of, list_of, numbers_of, use_numbers_of}
 use Rattle.ir_model.specs.Changes.{on_op, on_operands, on_successors, operand, successor}
 use Rattle.ir_model.proofs.Found.{there}
 use Rattle.ir_model.proofs.Keeps.{is_some-map, rewrite_at}
@@ -20,12 +20,12 @@ use Rattle.ir_core_records.specs.Frames.{KeepsTree}
 use Rattle.ir_core_records.specs.Growth.{Grows}
 use Rattle.ir_core_records.specs.Links.{IsFreshUse}
 use Rattle.ir_core_records.specs.Table.{operands_at, successors_at}
-use Rattle.ir_core_records.specs.Meaning.{closed, forest_of as forest_in}
+use Rattle.ir_core_records.specs.Meaning.{closed, forest_in}
 use Rattle.ir_core_context.specs.Calls.{EntitiesStayLive, HandsOut, HasAll, SameButForest, StayLive}
 use Rattle.ir_core_context.specs.Creation.{AreFresh, Extends, HoldTogether}
 use Rattle.ir_core_context.specs.Places.{MakesUse}
 use Rattle.ir_core_context.specs.Sound.{IsSound, Keeps}
-use Rattle.ir_core_context.specs.State.{State, bare, forest_of, passed_of}
+use Rattle.ir_core_context.specs.State.{ContextState, bare, forest_of, passed_of}
 use Rattle.ir_core_context.proofs.Edited.{Edited, keeps-same}
 use Rattle.ir_core_context.proofs.Growths.{Grows-ids, Grows-none}
 use Rattle.ir_core_context.proofs.Handed.{made, made-hands-out, made-sound}
@@ -65,9 +65,9 @@ module _ {W : Dialect} (f : Forest context_ids W) (o : ArenaIndex) (edit : OpRec
   entities-live (a_block b) h = h
   entities-live (a_region g) h = h
 
-module _ {D A K B S X L : Type 0} (s : State D A K B S X L) (t : Records D A K B S X L) where
+module _ {D A K B S X L : Type 0} (s : ContextState D A K B S X L) (t : Records D A K B S X L) where
   -- a context in which an edit under the next use number was done
-  abbrev pub with_use : State D A K B S X L
+  abbrev pub with_use : ContextState D A K B S X L
   with_use = record s { records = t; next_use = s.next_use + 1 }
 
   -- it is sound, the number was handed out, and what was live is live
@@ -77,7 +77,7 @@ module _ {D A K B S X L : Type 0} (s : State D A K B S X L) (t : Records D A K B
     pub stay_live : StayLive (forest_of s) (forest_in t)
     pub entities_stay_live : EntitiesStayLive (forest_of s) (forest_in t)
 
-module _ {D A K B S X L : Type 0} {s : State D A K B S X L} {t : Records D A K B S X L} (sound : IsSound s) (keeps : KeepsTree s.records t) (linked : AreLinked (chains_of t)) where
+module _ {D A K B S X L : Type 0} {s : ContextState D A K B S X L} {t : Records D A K B S X L} (sound : IsSound s) (keeps : KeepsTree s.records t) (linked : AreLinked (chains_of t)) where
   pub together : HoldTogether t
   together = together-kept s.records t (record { linked = sound.linked; nested = sound.nested; own = sound.own }) keeps linked
 
@@ -104,17 +104,17 @@ module _ {D A K B S X L : Type 0} {s : State D A K B S X L} {t : Records D A K B
       sound = subst IsSound is_after (made-sound s sound t together [] [] [] extends 0 1 values_fit room.uses
           (subst (λ f. WellFormed f (length s.types)) (sym is) kept.forest)
           (λ d m h. inr (kept.values (record { definer = d; number = m }) (subst (λ f. In m (numbers_of f d)) is h)))
-          (λ o m h. elim (kept.uses o m (subst (λ f. In m (uses_of f o)) is h)) [ inl k ↦ inr k | inr k ↦ inl k ]));
+          (λ o m h. elim (kept.uses o m (subst (λ f. In m (use_numbers_of f o)) is h)) [ inl k ↦ inr k | inr k ↦ inl k ]));
       made = record {
         number = s.next_use;
-        handed = subst (λ (z : State D A K B S X L). HandsOut (bare s) (bare z) one_use (record { ops = []; blocks = []; regions = []; numbers = []; uses = s.next_use ∷ [] })) is_after (made-hands-out s sound t together [] [] [] extends 0 1 values_fit room.uses);
+        handed = subst (λ (z : ContextState D A K B S X L). HandsOut (bare s) (bare z) one_use (record { ops = []; blocks = []; regions = []; numbers = []; uses = s.next_use ∷ [] })) is_after (made-hands-out s sound t together [] [] [] extends 0 1 values_fit room.uses);
         forest = is;
       };
       stay_live = subst (StayLive (forest_of s)) (sym is) stay;
       entities_stay_live = subst (EntitiesStayLive (forest_of s)) (sym is) entities_stay;
     }
 
-    unused : (p : ArenaIndex) → In s.next_use (uses_of (forest_of s) p) → ⊥
+    unused : (p : ArenaIndex) → In s.next_use (use_numbers_of (forest_of s) p) → ⊥
     unused p h = let below = sound.counted.uses p s.next_use h in absurd (omega (arith, below))
 
     module _ (o : ArenaIndex) (live : IsLive (forest_of s) (an_op o)) where
@@ -145,7 +145,7 @@ module _ {D A K B S X L : Type 0} {s : State D A K B S X L} {t : Records D A K B
     formed = subst (λ f. WellFormed f (length s.types)) (sym is) kept.forest;
     counted = record {
       values = λ d n h. sound.counted.values d n (kept.values (record { definer = d; number = n }) (subst (λ f. In n (numbers_of f d)) is h));
-      uses = λ p n h. elim (kept.uses p n (subst (λ f. In n (uses_of f p)) is h)) [ inl k ↦ sound.counted.uses p n k | inr k ↦ absurd k ];
+      uses = λ p n h. elim (kept.uses p n (subst (λ f. In n (use_numbers_of f p)) is h)) [ inl k ↦ sound.counted.uses p n k | inr k ↦ absurd k ];
       value_limit = sound.counted.value_limit;
       use_limit = sound.counted.use_limit;
       limits = sound.counted.limits;
@@ -179,7 +179,7 @@ module _ {D A K B S X L : Type 0} {s : State D A K B S X L} {t : Records D A K B
   unplaced o edit same kept is = kept-edited (on_op (forest_of s) o edit) is kept (names-live (forest_of s) o edit same) (entities-live (forest_of s) o edit same)
 
 -- the next number is new
-module _ {D A K B S X L : Type 0} {s : State D A K B S X L} (sound : IsSound s) where
+module _ {D A K B S X L : Type 0} {s : ContextState D A K B S X L} (sound : IsSound s) where
   next-fresh : AreFresh (forest_of s) s.next_use
   next-fresh = record { below = sound.counted.uses }
 

@@ -7,7 +7,7 @@ use Rattle.ir_model.specs.Calls.{on_definitions}
 use Rattle.ir_model.specs.Changes.{definition}
 use Rattle.ir_model.specs.Edits.{StoredType, one_number}
 use Rattle.ir_model.specs.Forest.{Definer, Definition, Forest, definer_entity}
-use Rattle.ir_model.specs.Nesting.{In, IsLive, WellFormed, definitions_of, numbers_of, uses_of}
+use Rattle.ir_model.specs.Nesting.{In, IsLive, WellFormed, definitions_of, numbers_of, use_numbers_of}
 use Rattle.ir_model.proofs.Back.{slice_get-in}
 use Rattle.ir_model.proofs.Entries.{AddsOne, AddsOne-map, AddsOne-still}
 use Rattle.ir_model.proofs.KeepsDefinitions.{added_kept}
@@ -17,20 +17,20 @@ use Rattle.ir_core_records.specs.declared.record.Definition.{Definition as Kept}
 use Rattle.ir_core_records.specs.declared.records.Records.{Records}
 use Rattle.ir_core_records.specs.Chains.{AreLinked, chains_of}
 use Rattle.ir_core_records.specs.Frames.{KeepsTree}
-use Rattle.ir_core_records.specs.Meaning.{closed, definer_of, definition_of, forest_of as forest_in}
+use Rattle.ir_core_records.specs.Meaning.{closed, definer_of, definition_of, forest_in}
 use Rattle.ir_core_records.specs.Meant.{definitions-meant, numbers-meant}
 use Rattle.ir_core_records.specs.Table.{IsValue, definitions_at}
 use Rattle.ir_core_context.specs.Calls.{EntitiesStayLive, HandsOut, HasAll, StayLive}
 use Rattle.ir_core_context.specs.Definitions.{MakesValue}
 use Rattle.ir_core_context.specs.Sound.{IsSound}
-use Rattle.ir_core_context.specs.State.{State, bare, forest_of, types_of}
+use Rattle.ir_core_context.specs.State.{ContextState, bare, forest_of, types_of}
 use Rattle.ir_core_context.proofs.Definitions.{defines, names-live}
 use Rattle.ir_core_context.proofs.Handed.{made, made-hands-out, made-sound}
 use Rattle.ir_core_context.proofs.PlacedUses.{extends, together}
 
-module _ {D A K B S X L : Type 0} (s : State D A K B S X L) (t : Records D A K B S X L) where
+module _ {D A K B S X L : Type 0} (s : ContextState D A K B S X L) (t : Records D A K B S X L) where
   -- a context in which an edit under the next value number was done
-  abbrev pub with_value : State D A K B S X L
+  abbrev pub with_value : ContextState D A K B S X L
   with_value = record s { records = t; next_value = s.next_value + 1 }
 
   -- it is sound, the number was handed out, and what was live is live
@@ -43,10 +43,10 @@ module _ {D A K B S X L : Type 0} (s : State D A K B S X L) (t : Records D A K B
 abbrev typed : {A K B S X L : Type 0} → K × B → StoredType (closed A K B S X L)
 typed t = record { key = t.0; body = t.1 }
 
-pub types-count : {D A K B S X L : Type 0} (s : State D A K B S X L) → length (types_of s) ≡ length s.types
+pub types-count : {D A K B S X L : Type 0} (s : ContextState D A K B S X L) → length (types_of s) ≡ length s.types
 types-count {A = A} {K = K} {B = B} {S = S} {X = X} {L = L} s = length-map s.types (typed {A = A} {S = S} {X = X} {L = L})
 
-module _ {D A K B S X L : Type 0} {s : State D A K B S X L} {t : Records D A K B S X L} (sound : IsSound s) (keeps : KeepsTree s.records t) (linked : AreLinked (chains_of t)) (room : HasAll s one_number) where
+module _ {D A K B S X L : Type 0} {s : ContextState D A K B S X L} {t : Records D A K B S X L} (sound : IsSound s) (keeps : KeepsTree s.records t) (linked : AreLinked (chains_of t)) (room : HasAll s one_number) where
   uses_fit : s.next_use + 0 ≤ s.limits.uses
   uses_fit = omega (arith, sound.counted.use_limit)
 
@@ -73,10 +73,10 @@ module _ {D A K B S X L : Type 0} {s : State D A K B S X L} {t : Records D A K B
         sound = subst IsSound is_after (made-sound s sound t (together sound keeps linked) [] [] [] (extends sound keeps linked) 1 0 room.values uses_fit
             (subst (λ g. WellFormed g (length s.types)) (sym at) kept.forest)
             (λ e m h. elim (kept.values (record { definer = e; number = m }) (subst (λ g. In m (numbers_of g e)) at h)) [ inl k ↦ inr k | inr k ↦ inl k.1 ])
-            (λ o m h. inr (kept.uses o m (subst (λ g. In m (uses_of g o)) at h))));
+            (λ o m h. inr (kept.uses o m (subst (λ g. In m (use_numbers_of g o)) at h))));
         made = record {
           number = s.next_value;
-          handed = subst (λ (z : State D A K B S X L). HandsOut (bare s) (bare z) one_number (record { ops = []; blocks = []; regions = []; numbers = s.next_value ∷ []; uses = [] })) is_after (made-hands-out s sound t (together sound keeps linked) [] [] [] (extends sound keeps linked) 1 0 room.values uses_fit);
+          handed = subst (λ (z : ContextState D A K B S X L). HandsOut (bare s) (bare z) one_number (record { ops = []; blocks = []; regions = []; numbers = s.next_value ∷ []; uses = [] })) is_after (made-hands-out s sound t (together sound keeps linked) [] [] [] (extends sound keeps linked) 1 0 room.values uses_fit);
           forest = is;
         };
         stay_live = subst (StayLive f) (sym at) (names-live f (on_definitions f d edit) d xs (edit xs) defined (λ n h. AddsOne-still n (AddsOne-map (λ (z : Definition context_ids (closed A K B S X L)). z.number) (adds xs)) h));
@@ -84,7 +84,7 @@ module _ {D A K B S X L : Type 0} {s : State D A K B S X L} {t : Records D A K B
       }
 
 -- the next number is new
-pub next-value : {D A K B S X L : Type 0} {s : State D A K B S X L} → IsSound s → (d : Defines) → IsValue s.records (record { definer = d; number = s.next_value }) → ⊥
+pub next-value : {D A K B S X L : Type 0} {s : ContextState D A K B S X L} → IsSound s → (d : Defines) → IsValue s.records (record { definer = d; number = s.next_value }) → ⊥
 next-value {s = s} sound d h =
     let here = In-map (λ (r : Kept). r.number) h.1 (definitions_at s.records d) (slice_get-in (definitions_at s.records d) h.0 h.1 h.2) in
     let named = subst (In s.next_value) (sym (numbers-meant s.records d)) (subst (λ (n : ℕ). In n (map (λ (r : Kept). r.number) (definitions_at s.records d))) h.3 here) in

@@ -8,7 +8,7 @@ use Rattle.ir_model.specs.Calls.{SameStructure, set_name, set_type}
 use Rattle.ir_model.specs.Changes.{on_operands, on_successors, redirect, redirected, retarget, retargeted}
 use Rattle.ir_model.specs.DefinitionLaws.{TakesUses}
 use Rattle.ir_model.specs.Forest.{Dialect, Definer, of_op, of_block, Definition, Forest, OpRecord, Operand, Successor, Text, Value, a_block, a_region, a_value, an_op, the_block}
-use Rattle.ir_model.specs.Nesting.{In, IsLiveNamed, WellFormed, definitions_of, uses_of}
+use Rattle.ir_model.specs.Nesting.{In, IsLiveNamed, WellFormed, definitions_of, use_numbers_of}
 use Rattle.ir_model.specs.Redirect.{redirect_uses, retarget_uses}
 use Rattle.ir_model.specs.Uses.{IsUse, Use}
 use Rattle.ir_model.proofs.Calls.{alone_name, alone_type}
@@ -27,14 +27,14 @@ use Rattle.ir_core_records.specs.declared.records.Records.{Records}
 use Rattle.ir_core_records.specs.Chains.{AreLinked, chains_of}
 use Rattle.ir_core_records.specs.Found.{place-In}
 use Rattle.ir_core_records.specs.Frames.{KeepsTree}
-use Rattle.ir_core_records.specs.Links.{HasPlace}
-use Rattle.ir_core_records.specs.Meaning.{closed, forest_of as forest_in, operand_of, successor_of, use_of, value_of}
+use Rattle.ir_core_records.specs.Links.{IsPlaced}
+use Rattle.ir_core_records.specs.Meaning.{closed, forest_in, operand_of, successor_of, use_of, value_of}
 use Rattle.ir_core_records.specs.Meant.{operands-meant, successors-meant, value-same}
 use Rattle.ir_core_records.specs.Table.{operands_at, successors_at}
 use Rattle.ir_core_replacing.specs.Renamed.{IsPlaceOf}
 use Rattle.ir_core_context.specs.Calls.{EntitiesStayLive, StayLive}
 use Rattle.ir_core_context.specs.Sound.{IsSound}
-use Rattle.ir_core_context.specs.State.{State, forest_of, types_of}
+use Rattle.ir_core_context.specs.State.{ContextState, forest_of, types_of}
 use Rattle.ir_core_context.proofs.Edited.{Edited}
 use Rattle.ir_core_context.proofs.PlacedUses.{kept-edited}
 use Rattle.ir_core_context.proofs.PlacedValues.{types-count}
@@ -57,7 +57,7 @@ module _ {W : Dialect} (f : Forest context_ids W) (edit : ArenaIndex → OpRecor
   entities-live (a_block b) h = h
   entities-live (a_region g) h = h
 
-  after-kept : (keys : ℕ) → WellFormed after keys → ((o : ArenaIndex) → uses_of after o ≡ uses_of f o) → Kept f after keys []
+  after-kept : (keys : ℕ) → WellFormed after keys → ((o : ArenaIndex) → use_numbers_of after o ≡ use_numbers_of f o) → Kept f after keys []
   after-kept keys formed uses = record {
     forest = formed;
     values = λ v h. subst (λ (xs : List (Definition context_ids W)). In v.number (map (λ (x : Definition context_ids W). x.number) xs)) (definitions-stay v.definer) h;
@@ -77,7 +77,7 @@ module _ {W : Dialect} (f g : Forest context_ids W) (same : SameStructure f g) w
   same-names (a_value v) h = subst (In v.number) (sym (same.numbers v.definer)) h
   same-names (the_block b) h = (same.live (a_block b)).1 h
 
-module _ {D A K B S X L : Type 0} {s : State D A K B S X L} {t : Records D A K B S X L} (sound : IsSound s) (keeps : KeepsTree s.records t) (linked : AreLinked (chains_of t)) where
+module _ {D A K B S X L : Type 0} {s : ContextState D A K B S X L} {t : Records D A K B S X L} (sound : IsSound s) (keeps : KeepsTree s.records t) (linked : AreLinked (chains_of t)) where
   abbrev f : Forest context_ids (closed A K B S X L)
   f = forest_of s
 
@@ -150,10 +150,10 @@ module _ {D A K B S X L : Type 0} (t : Records D A K B S X L) (u : UseIndex) whe
       (at.0, (p.0, p.1, sym (ap (λ (x : Successor context_ids). x.use_number) at.2)), ap (λ (x : Successor context_ids). x.block) at.2)
 
   -- a use has a place
-  pub use-placed : (v : Value context_ids) → IsUse (forest_in t) (a_value v) (use_of u) → HasPlace (operands_at t) u
+  pub use-placed : (v : Value context_ids) → IsUse (forest_in t) (a_value v) (use_of u) → IsPlaced (operands_at t) u
   use-placed v h = let p = place-of-use v h in (p.1.0, p.0, p.1.1, p.1.2)
 
-  pub block-use-placed : (b : ArenaIndex) → IsUse (forest_in t) (the_block b) (use_of u) → HasPlace (successors_at t) u
+  pub block-use-placed : (b : ArenaIndex) → IsUse (forest_in t) (the_block b) (use_of u) → IsPlaced (successors_at t) u
   block-use-placed b h = let p = place-of-block-use b h in (p.1.0, p.0, p.1.1, p.1.2)
 
   -- what holds of the place of a use where it names this holds where the use is one of this

@@ -18,13 +18,13 @@ use Rattle.ir_core_records.specs.declared.records.Records.{Records}
 use Rattle.ir_core_records.specs.Chains.{AreLinked, chains_of}
 use Rattle.ir_core_chains.specs.Edits.{edited-by, edited-kept}
 use Rattle.ir_core_records.specs.Lists.{edited}
-use Rattle.ir_core_records.specs.Meaning.{forest_of as forest_in}
+use Rattle.ir_core_records.specs.Meaning.{forest_in}
 use Rattle.ir_core_records.specs.Nested.{AreNested}
 use Rattle.ir_core_records.specs.Table.{KnowOwn}
 use Rattle.ir_core_records.specs.Tree.{tree_of}
 use Rattle.ir_core_context.specs.Calls.{EntitiesStayLive, StayLive}
 use Rattle.ir_core_context.specs.Sound.{IsSound, Keeps}
-use Rattle.ir_core_context.specs.State.{State, forest_of}
+use Rattle.ir_core_context.specs.State.{ContextState, forest_of}
 
 module _ {T : Type 0} (change : T → T) (a : Arena T) (id : ArenaIndex) where
   ids_by : ((i : ArenaIndex) → is_some (get (edited change a id) i) ≡ is_some (get a i)) → SameIds a (edited change a id)
@@ -106,7 +106,7 @@ module _ {W : Dialect} (f g : Forest context_ids W) (same : SameStructure f g) w
   pub structure-entities-stay : EntitiesStayLive f g
   structure-entities-stay e h = (same.live e).1 h
 
-module _ {D A K B S X L : Type 0} (s : State D A K B S X L) (sound : IsSound s) (t : Records D A K B S X L)
+module _ {D A K B S X L : Type 0} (s : ContextState D A K B S X L) (sound : IsSound s) (t : Records D A K B S X L)
     (chains : chains_of t ≡ chains_of s.records) (tree : tree_of t ≡ tree_of s.records) (own : KnowOwn t)
     (ops : SameIds s.records.ops t.ops) (blocks : SameIds s.records.blocks t.blocks) (regions : SameIds s.records.regions t.regions)
     (structure : SameStructure (forest_of s) (forest_in t)) (formed : WellFormed (forest_in t) (length s.types)) where

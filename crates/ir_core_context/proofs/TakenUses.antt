@@ -21,12 +21,12 @@ use Rattle.ir_core_records.specs.declared.records.Records.{Records}
 use Rattle.ir_core_records.specs.Chains.{AreLinked, chains_of}
 use Rattle.ir_core_records.specs.Found.{some_behind}
 use Rattle.ir_core_records.specs.Frames.{KeepsTree}
-use Rattle.ir_core_records.specs.Meaning.{closed, forest_of as forest_in, operand_of, successor_of, value_of}
+use Rattle.ir_core_records.specs.Meaning.{closed, forest_in, operand_of, successor_of, value_of}
 use Rattle.ir_core_records.specs.Meant.{operands-meant, successors-meant}
 use Rattle.ir_core_records.specs.Table.{operands_at, successors_at}
 use Rattle.ir_core_context.specs.Named.{block-use-live, use-live}
 use Rattle.ir_core_context.specs.Sound.{IsSound}
-use Rattle.ir_core_context.specs.State.{State, forest_of}
+use Rattle.ir_core_context.specs.State.{ContextState, forest_of}
 use Rattle.ir_core_context.proofs.Edited.{Edited}
 use Rattle.ir_core_context.proofs.PlacedUses.{names-live, unplaced}
 
@@ -53,7 +53,7 @@ module _ {D A K B S X L : Type 0} (t : Records D A K B S X L) (o : ArenaIndex) w
       ∙ ap (option_map (λ (p : Successor context_ids). p.block)) (slice_get-map successor_of (successors_at t o) at ∙ ap (option_map successor_of) found.1)
       ∙ ap (λ (c : BlockIndex). Some c.index) found.2
 
-module _ {D A K B S X L : Type 0} {s : State D A K B S X L} {t : Records D A K B S X L} (sound : IsSound s) (keeps : KeepsTree s.records t) (linked : AreLinked (chains_of t)) (o : ArenaIndex) where
+module _ {D A K B S X L : Type 0} {s : ContextState D A K B S X L} {t : Records D A K B S X L} (sound : IsSound s) (keeps : KeepsTree s.records t) (linked : AreLinked (chains_of t)) (o : ArenaIndex) where
   -- what an operand or a successor names is live
   operand-live : (at : ℕ) (v : Value context_ids) → option_map (λ (p : Operand context_ids). p.value) (slice_get (operands_of (forest_of s) o) at) ≡ Some v → IsLiveNamed (forest_of s) (a_value v)
   operand-live at v is =

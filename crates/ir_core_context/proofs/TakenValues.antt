@@ -15,20 +15,20 @@ use Rattle.ir_core_records.specs.declared.record.ValueIndex.{ValueIndex}
 use Rattle.ir_core_records.specs.declared.records.Records.{Records}
 use Rattle.ir_core_records.specs.Chains.{AreLinked, chains_of}
 use Rattle.ir_core_records.specs.Frames.{KeepsTree}
-use Rattle.ir_core_records.specs.Meaning.{closed, definer_of, forest_of as forest_in, use_of, value_of}
+use Rattle.ir_core_records.specs.Meaning.{closed, definer_of, forest_in, use_of, value_of}
 use Rattle.ir_core_records.specs.Meant.{numbers-meant}
 use Rattle.ir_core_records.specs.Table.{definitions_at, uses_at}
 use Rattle.ir_core_context.specs.Calls.{EntitiesStayLive, SameButForest}
 use Rattle.ir_core_context.specs.Definitions.{StayLiveBut, UnusedAt, ValueAt, last_place}
 use Rattle.ir_core_context.specs.Named.{use-names}
 use Rattle.ir_core_context.specs.Sound.{IsSound}
-use Rattle.ir_core_context.specs.State.{State, bare, forest_of}
+use Rattle.ir_core_context.specs.State.{ContextState, bare, forest_of}
 use Rattle.ir_core_context.proofs.Definitions.{removed-entities-live, removed-kept, removed-live}
 use Rattle.ir_core_context.proofs.ExactUses.{uses-exact}
 use Rattle.ir_core_context.proofs.PlacedUses.{kept-rest, kept-sound}
 use Rattle.ir_core_context.proofs.PlacedValues.{value-count}
 
-module _ {D A K B S X L : Type 0} (s : State D A K B S X L) (linked : AreLinked (chains_of s.records)) where
+module _ {D A K B S X L : Type 0} (s : ContextState D A K B S X L) (linked : AreLinked (chains_of s.records)) where
   -- a value that nothing names has no kept uses
   no-uses : (v : ValueIndex) → Unused (forest_of s) (a_value (value_of v)) → uses_at s.records v ≡ []
   no-uses v unused = by (uses_at s.records v) refl
@@ -52,7 +52,7 @@ module _ {D A K B S X L : Type 0} (s : State D A K B S X L) (linked : AreLinked 
       → uses_at s.records (record { definer = d; number = r.number }) ≡ []
   unused-last d unused = unused-at d (length (definitions_at s.records d) - 1) (subst (λ n. UnusedAt (forest_of s) (definer_of d) (n - 1)) (value-count s.records d) unused)
 
-module _ {D A K B S X L : Type 0} (s : State D A K B S X L) (t : Records D A K B S X L) where
+module _ {D A K B S X L : Type 0} (s : ContextState D A K B S X L) (t : Records D A K B S X L) where
   -- the context is sound, all but its forest is as before, and all that was live is live but the value at this place
   pub record Taken (d : Definer context_ids) (at : ℕ) : Type 0 where
     pub sound : IsSound (record s { records = t })
@@ -60,7 +60,7 @@ module _ {D A K B S X L : Type 0} (s : State D A K B S X L) (t : Records D A K B
     pub stay_live : ValueAt (forest_of s) d at (StayLiveBut (forest_of s) (forest_in t))
     pub entities_stay_live : EntitiesStayLive (forest_of s) (forest_in t)
 
-module _ {D A K B S X L : Type 0} {s : State D A K B S X L} {t : Records D A K B S X L} (sound : IsSound s) (keeps : KeepsTree s.records t) (linked : AreLinked (chains_of t)) where
+module _ {D A K B S X L : Type 0} {s : ContextState D A K B S X L} {t : Records D A K B S X L} (sound : IsSound s) (keeps : KeepsTree s.records t) (linked : AreLinked (chains_of t)) where
   -- a result or argument that nothing names was taken out
   pub value-taken : (d : Definer context_ids) (place : List (Definition context_ids (closed A K B S X L)) → ℕ) → IsLive (forest_of s) (definer_entity context_ids d) → UnusedAt (forest_of s) d (place (definitions_of (forest_of s) d))
       → forest_in t ≡ on_definitions (forest_of s) d (λ xs. remove xs (place xs)) → Taken s t d (place (definitions_of (forest_of s) d))

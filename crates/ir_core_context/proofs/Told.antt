@@ -7,7 +7,7 @@ use Rattle.ir_model.specs.Ids.{Counts}
 use Rattle.ir_model.specs.Forest.{Dialect}
 use Rattle.ir_model.specs.Sessions.{Session, HasNumbers, LacksNumbers, LacksSlots}
 use Rattle.ir_core_context.specs.Calls.{Left, region_needs}
-use Rattle.ir_core_context.specs.State.{State, bare}
+use Rattle.ir_core_context.specs.State.{ContextState, bare}
 use Rattle.ir_core_context.proofs.RoomLemmas.{Left-below}
 use Rattle.ir_core_context.proofs.Rooms.{lacks-left, left-has, no_counter, no_slots}
 
@@ -57,7 +57,7 @@ module _ {W : Dialect} (s : Session W) where
   }
 
 -- a region needs no numbers
-module _ {D A K B S X L : Type 0} (s : State D A K B S X L) (values : s.next_value ≤ s.limits.values) (uses : s.next_use ≤ s.limits.uses) where
+module _ {D A K B S X L : Type 0} (s : ContextState D A K B S X L) (values : s.next_value ≤ s.limits.values) (uses : s.next_use ≤ s.limits.uses) where
   values_left : Left s.limits.values (λ m. IsTrue (nat_lt m s.next_value)) (s.limits.values - s.next_value)
   values_left = Left-below s.next_value s.limits.values values
 

@@ -19,17 +19,17 @@ use Rattle.ir_core_records.specs.declared.records.Records.{Records}
 use Rattle.ir_core_records.specs.Chains.{chains_of}
 use Rattle.ir_core_chains.specs.Edits.{edited-kept, edited-lent, get-edited, get-edited_other, slots-edited}
 use Rattle.ir_core_records.specs.Lists.{edited, in_record, uses_with}
-use Rattle.ir_core_records.specs.Meaning.{block_record, closed, forest_of as forest_in, op_records}
+use Rattle.ir_core_records.specs.Meaning.{block_record, closed, forest_in, op_records}
 use Rattle.ir_core_records.specs.Table.{KnowOwn, definitions_at, operands_at, successors_at}
 use Rattle.ir_core_records.specs.Tree.{blocks_in, block_ends, block_links, op_links, op_regions, ops_in, region_ends, region_parent, tree_of}
 use Rattle.ir_core_context.specs.Lending.{WritesBlock, with_block_rest, written_block}
 use Rattle.ir_core_context.specs.Calls.{SameButForest}
 use Rattle.ir_core_context.specs.Sound.{IsSound}
-use Rattle.ir_core_context.specs.State.{State, bare, forest_of}
+use Rattle.ir_core_context.specs.State.{ContextState, bare, forest_of}
 use Rattle.ir_core_context.proofs.Rewritten.{edited-ids, not_there, once, own-edited, rewritten-sound, same-ids, structure-entities-stay, structure-stays, structure-then, twice}
 
 module _ {D A K B S X L : Type 0} where
-  module _ (s : State D A K B S X L) (b : ArenaIndex) (rest : BasicBlockMut D A K B S X L) where
+  module _ (s : ContextState D A K B S X L) (b : ArenaIndex) (rest : BasicBlockMut D A K B S X L) where
     abbrev f : Forest context_ids (closed A K B S X L)
     f = forest_of s
 
@@ -132,7 +132,7 @@ module _ {D A K B S X L : Type 0} where
       limits = refl;
     }
 
-  pub writes-block : (s : State D A K B S X L) (b : ArenaIndex) → WritesBlock s b
+  pub writes-block : (s : ContextState D A K B S X L) (b : ArenaIndex) → WritesBlock s b
   writes-block s b = record {
     forest = λ rest. block-forest s b rest;
     same = λ rest. block-same s b rest;
@@ -142,11 +142,11 @@ module _ {D A K B S X L : Type 0} where
   }
 
   -- what was lent of a live block: what stood there, and whatever is written of it
-  module _ (s : State D A K B S X L) (b : ArenaIndex) (x : BasicBlock D A K B S X L) (at : get s.records.blocks b ≡ Some x) where
+  module _ (s : ContextState D A K B S X L) (b : ArenaIndex) (x : BasicBlock D A K B S X L) (at : get s.records.blocks b ≡ Some x) where
     pub block-lent : (rest : BasicBlockMut D A K B S X L) → record s { records = record s.records { blocks = fill s.records.blocks b (record x { rest = rest }) } } ≡ with_block_rest s b rest
     block-lent rest i = record s { records = record s.records { blocks = edited-lent (λ (y : BasicBlock D A K B S X L). record y { rest = rest }) s.records.blocks b b x refl at i } }
 
-    pub block-lent-now : (now : State D A K B S X L) → s ≡ now → (rest : BasicBlockMut D A K B S X L) → record s { records = record s.records { blocks = fill s.records.blocks b (record x { rest = rest }) } } ≡ with_block_rest now b rest
+    pub block-lent-now : (now : ContextState D A K B S X L) → s ≡ now → (rest : BasicBlockMut D A K B S X L) → record s { records = record s.records { blocks = fill s.records.blocks b (record x { rest = rest }) } } ≡ with_block_rest now b rest
     block-lent-now now is rest = block-lent rest ∙ ap (λ z. with_block_rest z b rest) is
 
     pub block-lent-sound : IsSound s → (rest : BasicBlockMut D A K B S X L) → IsSound (record s { records = record s.records { blocks = fill s.records.blocks b (record x { rest = rest }) } })
@@ -169,5 +169,5 @@ module _ {D A K B S X L : Type 0} where
     block-lent-live = ap is_some is_there
 
   -- and where none is live
-  pub block-missing : (s : State D A K B S X L) (b : ArenaIndex) → get s.records.blocks b ≡ None → IsLive (forest_of s) (a_block b) → ⊥
+  pub block-missing : (s : ContextState D A K B S X L) (b : ArenaIndex) → get s.records.blocks b ≡ None → IsLive (forest_of s) (a_block b) → ⊥
   block-missing s b at live = absurd (let none : false ≡ true = sym (ap (λ (m : Option (BasicBlock D A K B S X L)). is_some (option_map (block_record (ops_in (tree_of s.records) b)) m)) at) ∙ live in cc)

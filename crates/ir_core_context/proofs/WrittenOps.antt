@@ -19,17 +19,17 @@ use Rattle.ir_core_records.specs.declared.records.Records.{Records}
 use Rattle.ir_core_records.specs.Chains.{chains_of}
 use Rattle.ir_core_chains.specs.Edits.{edited-kept, edited-lent, get-edited, get-edited_other, slots-edited}
 use Rattle.ir_core_records.specs.Lists.{edited, in_record, uses_with}
-use Rattle.ir_core_records.specs.Meaning.{block_record, closed, forest_of as forest_in, op_record}
+use Rattle.ir_core_records.specs.Meaning.{block_record, closed, forest_in, op_record}
 use Rattle.ir_core_records.specs.Table.{KnowOwn, block_uses_at, definitions_at}
 use Rattle.ir_core_records.specs.Tree.{blocks_in, block_ends, block_links, op_links, op_regions, ops_in, region_ends, region_parent, tree_of}
 use Rattle.ir_core_context.specs.Lending.{WritesOp, with_op_rest, written_op}
 use Rattle.ir_core_context.specs.Calls.{SameButForest}
 use Rattle.ir_core_context.specs.Sound.{IsSound}
-use Rattle.ir_core_context.specs.State.{State, bare, forest_of}
+use Rattle.ir_core_context.specs.State.{ContextState, bare, forest_of}
 use Rattle.ir_core_context.proofs.Rewritten.{edited-ids, not_there, own-edited, rewritten-sound, same-ids, structure-entities-stay, structure-stays, structure-then, twice}
 
 module _ {D A K B S X L : Type 0} where
-  module _ (s : State D A K B S X L) (o : ArenaIndex) (rest : OperationMut D A K B S X L) where
+  module _ (s : ContextState D A K B S X L) (o : ArenaIndex) (rest : OperationMut D A K B S X L) where
     abbrev f : Forest context_ids (closed A K B S X L)
     f = forest_of s
 
@@ -112,7 +112,7 @@ module _ {D A K B S X L : Type 0} where
       limits = refl;
     }
 
-  pub writes-op : (s : State D A K B S X L) (o : ArenaIndex) → WritesOp s o
+  pub writes-op : (s : ContextState D A K B S X L) (o : ArenaIndex) → WritesOp s o
   writes-op s o = record {
     forest = λ rest. op-forest s o rest;
     same = λ rest. op-same s o rest;
@@ -122,11 +122,11 @@ module _ {D A K B S X L : Type 0} where
   }
 
   -- what was lent of a live operation: what stood there, and whatever is written of it
-  module _ (s : State D A K B S X L) (o : ArenaIndex) (x : Operation D A K B S X L) (at : get s.records.ops o ≡ Some x) where
+  module _ (s : ContextState D A K B S X L) (o : ArenaIndex) (x : Operation D A K B S X L) (at : get s.records.ops o ≡ Some x) where
     pub op-lent : (rest : OperationMut D A K B S X L) → record s { records = record s.records { ops = fill s.records.ops o (record x { rest = rest }) } } ≡ with_op_rest s o rest
     op-lent rest i = record s { records = record s.records { ops = edited-lent (λ (op : Operation D A K B S X L). record op { rest = rest }) s.records.ops o o x refl at i } }
 
-    pub op-lent-now : (now : State D A K B S X L) → s ≡ now → (rest : OperationMut D A K B S X L) → record s { records = record s.records { ops = fill s.records.ops o (record x { rest = rest }) } } ≡ with_op_rest now o rest
+    pub op-lent-now : (now : ContextState D A K B S X L) → s ≡ now → (rest : OperationMut D A K B S X L) → record s { records = record s.records { ops = fill s.records.ops o (record x { rest = rest }) } } ≡ with_op_rest now o rest
     op-lent-now now is rest = op-lent rest ∙ ap (λ z. with_op_rest z o rest) is
 
     pub op-lent-sound : IsSound s → (rest : OperationMut D A K B S X L) → IsSound (record s { records = record s.records { ops = fill s.records.ops o (record x { rest = rest }) } })
@@ -142,5 +142,5 @@ module _ {D A K B S X L : Type 0} where
     op-lent-live = ap (λ (m : Option (Operation D A K B S X L)). is_some (option_map op_record m)) at
 
   -- and where none is live
-  pub op-missing : (s : State D A K B S X L) (o : ArenaIndex) → get s.records.ops o ≡ None → IsLive (forest_of s) (an_op o) → ⊥
+  pub op-missing : (s : ContextState D A K B S X L) (o : ArenaIndex) → get s.records.ops o ≡ None → IsLive (forest_of s) (an_op o) → ⊥
   op-missing s o at live = absurd (let none : false ≡ true = sym (ap (λ (m : Option (Operation D A K B S X L)). is_some (option_map op_record m)) at) ∙ live in cc)

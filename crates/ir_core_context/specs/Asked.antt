@@ -11,7 +11,7 @@ use Rattle.ir_core_records.specs.declared.record.UseIndex.{UseIndex}
 use Rattle.ir_core_records.specs.Meaning.{use_of}
 
 -- the answer is one that f may give for what it is handed for the use, in a context that is shown
-pub record MayAnswer {F C H : Type 0} (g : Shared F (Bor C × (H × Unit {0})) Bool) (shown : C → Type 0) (is_for : H → Use context_ids → Type 0) (f : F) (u : Use context_ids) (answer : Bool) : Type 0 where
+pub record MaySay {F C H : Type 0} (g : Shared F (Bor C × (H × Unit {0})) Bool) (shown : C → Type 0) (is_for : H → Use context_ids → Type 0) (f : F) (u : Use context_ids) (answer : Bool) : Type 0 where
   pub context : Bor C
   pub handle : H
   pub is_shown : shown context.now

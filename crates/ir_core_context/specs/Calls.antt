@@ -6,11 +6,11 @@ use Rattle.ir_model.specs.declared.ids.ArenaIndex.{ArenaIndex}
 use Rattle.ir_model.specs.ContextIds.{context_ids}
 use Rattle.ir_model.specs.Ids.{Fresh, Counts, counts, FreshDistinct}
 use Rattle.ir_model.specs.Forest.{Dialect, Behaviour, Definer as DefinedBy, Forest, Named, Text, Value, Entity, a_block, a_region, a_value, an_op}
-use Rattle.ir_model.specs.Nesting.{In, IsLive, IsLiveNamed, numbers_of, ops_of, regions_of, uses_of}
+use Rattle.ir_model.specs.Nesting.{In, IsLive, IsLiveNamed, numbers_of, ops_of, regions_of, use_numbers_of}
 use Rattle.ir_model.specs.AuxData.{live_aux}
 use Rattle.ir_model.specs.Edits.{StoredType, no_needs}
 use Rattle.ir_model.specs.Changes.{definition, operand, successor, new_op, new_block, add_region}
-use Rattle.ir_model.specs.Sessions.{Beside, Session, Number, TakesSlot, AreNew, Passes, Within, live_op, live_block, live_region, HasNumbers, LacksSlots}
+use Rattle.ir_model.specs.Sessions.{Beside, Session, Number, TakesSlot, AreNew, Passes, NoMore, live_op, live_block, live_region, HasNumbers, LacksSlots}
 use Rattle.ir_base_arenas.specs.declared.room.Room.{Room}
 use Rattle.ir_base_arenas.specs.Arena.{room}
 use Rattle.ir_core_records.specs.declared.record.Operation.{Operation}
@@ -22,7 +22,7 @@ use Rattle.ir_core_records.specs.declared.record.ValueIndex.{ValueIndex}
 use Rattle.ir_core_records.specs.Meaning.{closed, op_index, op_record, block_index, block_record, use_of, value_of}
 use Rattle.ir_core_records.specs.Values.{IsLiveUse, IsLiveBlockUse}
 use Rattle.ir_core_context.specs.declared.needs.Needs.{Needs}
-use Rattle.ir_core_context.specs.State.{State}
+use Rattle.ir_core_context.specs.State.{ContextState}
 
 -- how many ids and numbers are needed
 abbrev pub counts_of : Needs → Counts
@@ -80,7 +80,7 @@ module _ {W : Dialect} where
     pub blocks : (i : ArenaIndex) → live_block s.state i → IsTrue (s.passed.blocks i)
     pub regions : (i : ArenaIndex) → live_region s.state i → IsTrue (s.passed.regions i)
     pub values : (d : DefinedBy context_ids) (n : ℕ) → In n (numbers_of s.state.forest d) → IsTrue (s.passed.numbers n)
-    pub uses : (o : ArenaIndex) (n : ℕ) → In n (uses_of s.state.forest o) → IsTrue (s.passed.uses n)
+    pub uses : (o : ArenaIndex) (n : ℕ) → In n (use_numbers_of s.state.forest o) → IsTrue (s.passed.uses n)
 
   -- all but the stored types is as before
   pub record SameButTypes (old new : Session W) : Type 0 where
@@ -168,7 +168,7 @@ module _ {W : Dialect} where
     pub beside : new.beside ≡ old.beside
     pub limits : new.limits ≡ old.limits
     pub skipped : Fresh context_ids
-    pub within : Within (counts context_ids skipped) most
+    pub within : NoMore (counts context_ids skipped) most
     pub were_new : AreNew old skipped
     pub passed : Passes old.passed skipped new.passed
 
@@ -206,7 +206,7 @@ module _ {D A K B S X L : Type 0} where
     pub types : (t k : ℕ) → option_map (λ d. d.ty) (slice_get (block_record (ops_of f index) b).arguments k) ≡ Some t → t < known
 
   -- so many numbers and slots are left
-  pub record HasAll (s : State D A K B S X L) (n : Counts) : Type 0 where
+  pub record HasAll (s : ContextState D A K B S X L) (n : Counts) : Type 0 where
     pub values : s.next_value + n.numbers ≤ s.limits.values
     pub uses : s.next_use + n.uses ≤ s.limits.uses
     pub ops : n.ops ≤ room s.records.ops

@@ -5,11 +5,11 @@ use Rattle.ir_model.specs.declared.ids.ArenaIndex.{ArenaIndex}
 use Rattle.ir_model.specs.ContextIds.{context_ids, same_id}
 use Rattle.ir_model.specs.Forest.{Definition, Dialect, Forest}
 use Rattle.ir_model.specs.Ids.{Distinct}
-use Rattle.ir_model.specs.Nesting.{In, regions_of, uses_of}
+use Rattle.ir_model.specs.Nesting.{In, regions_of, use_numbers_of}
 use Rattle.ir_model.specs.Changes.{new_op, on_op, on_operands, on_regions, on_successors, rewrite}
 use Rattle.ir_core_records.specs.Chains.{chains_of, AreLinked}
 use Rattle.ir_core_records.specs.Growth.{Grows, SkipsIds}
-use Rattle.ir_core_records.specs.Meaning.{closed, forest_of, operands_from, successors_from}
+use Rattle.ir_core_records.specs.Meaning.{closed, forest_in, operands_from, successors_from}
 use Rattle.ir_core_records.specs.Nested.{AreNested}
 use Rattle.ir_core_records.specs.Table.{KnowOwn}
 use Rattle.ir_core_records.specs.Tree.{tree_of}
@@ -53,18 +53,18 @@ module _ {D A K B S X L : Type 0} where
 
   -- the operation was given so many new regions, and names these values and blocks
   abbrev pub Completes : Records D A K B S X L → Records D A K B S X L → ArenaIndex → ℕ → List ValueIndex → ℕ → List BlockIndex → ℕ → Type 0
-  Completes old new op first values next blocks count = (rs : List ArenaIndex) × (length rs ≡ count) × (forest_of new ≡ with_places (with_regions (forest_of old) op rs) op first values next blocks) × Extends old new [] [] rs
+  Completes old new op first values next blocks count = (rs : List ArenaIndex) × (length rs ≡ count) × (forest_in new ≡ with_places (with_regions (forest_in old) op rs) op first values next blocks) × Extends old new [] [] rs
 
   -- the operation is new, with these results, so many new regions, and operands and successors that name these values and blocks
   abbrev pub InsertsWhole : L → Records D A K B S X L → Records D A K B S X L → ArenaIndex → ℕ → List (Definition context_ids (closed A K B S X L)) → ℕ → List ValueIndex → ℕ → List BlockIndex → ℕ → Type 0
-  InsertsWhole unknown old new op kind results first values next blocks count = (rs : List ArenaIndex) × (length rs ≡ count) × (forest_of new ≡ new_op (forest_of old) op unknown kind results (operands_from first values) (successors_from next blocks) rs) × Extends old new (op ∷ []) [] rs
+  InsertsWhole unknown old new op kind results first values next blocks count = (rs : List ArenaIndex) × (length rs ≡ count) × (forest_in new ≡ new_op (forest_in old) op unknown kind results (operands_from first values) (successors_from next blocks) rs) × Extends old new (op ∷ []) [] rs
 
   -- at most so many ids of each kind were skipped
-  pub record Skips (old new : Records D A K B S X L) (most_ops most_blocks most_regions : ℕ) : Type 0 where
+  pub record SkipsUpTo (old new : Records D A K B S X L) (most_ops most_blocks most_regions : ℕ) : Type 0 where
     pub ops : SkipsIds old.ops new.ops most_ops
     pub blocks : SkipsIds old.blocks new.blocks most_blocks
     pub regions : SkipsIds old.regions new.regions most_regions
 
 -- no place of an operation has this use number or a greater one
 pub record AreFresh {W : Dialect} (f : Forest context_ids W) (first : ℕ) : Type 0 where
-  pub below : (o : ArenaIndex) (n : ℕ) → In n (uses_of f o) → n < first
+  pub below : (o : ArenaIndex) (n : ℕ) → In n (use_numbers_of f o) → n < first

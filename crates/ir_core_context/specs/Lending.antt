@@ -19,15 +19,15 @@ use Rattle.ir_core_records.specs.Meaning.{closed}
 use Rattle.ir_core_context.specs.contracts.context.Context.{the_row}
 use Rattle.ir_core_context.specs.declared.error.DanglingPtrDerefError.{DanglingPtrDerefError}
 use Rattle.ir_core_context.specs.Calls.{EntitiesStayLive, SameButForest, StayLive}
-use Rattle.ir_core_context.specs.State.{State, bare, forest_of}
+use Rattle.ir_core_context.specs.State.{ContextState, bare, forest_of}
 
 module _ {D A K B S X L : Type 0} where
   -- the context with this written of the operation
-  abbrev pub with_op_rest : State D A K B S X L → ArenaIndex → OperationMut D A K B S X L → State D A K B S X L
+  abbrev pub with_op_rest : ContextState D A K B S X L → ArenaIndex → OperationMut D A K B S X L → ContextState D A K B S X L
   with_op_rest s o rest = record s { records = record s.records { ops = edited (λ op. record op { rest = rest }) s.records.ops o } }
 
   -- the context with this written of the block
-  abbrev pub with_block_rest : State D A K B S X L → ArenaIndex → BasicBlockMut D A K B S X L → State D A K B S X L
+  abbrev pub with_block_rest : ContextState D A K B S X L → ArenaIndex → BasicBlockMut D A K B S X L → ContextState D A K B S X L
   with_block_rest s b rest = record s { records = record s.records { blocks = edited (λ x. record x { rest = rest }) s.records.blocks b } }
 
   -- the forest where the operation has these attributes and this location
@@ -39,7 +39,7 @@ module _ {D A K B S X L : Type 0} where
   written_block f b rest = set_attributes (set_loc (set_label f b rest.label) (of_block b) rest.loc) (of_block b) rest.attributes
 
   -- whatever is written of the operation is read there, and nothing else has changed
-  pub record WritesOp (s : State D A K B S X L) (o : ArenaIndex) : Type 0 where
+  pub record WritesOp (s : ContextState D A K B S X L) (o : ArenaIndex) : Type 0 where
     pub forest : (rest : OperationMut D A K B S X L) → forest_of (with_op_rest s o rest) ≡ written_op (forest_of s) o rest
     pub same : (rest : OperationMut D A K B S X L) → SameButForest (bare s) (bare (with_op_rest s o rest))
     pub ids : (rest : OperationMut D A K B S X L) → SameIds s.records.ops (with_op_rest s o rest).records.ops
@@ -47,7 +47,7 @@ module _ {D A K B S X L : Type 0} where
     pub entities_stay_live : (rest : OperationMut D A K B S X L) → EntitiesStayLive (forest_of s) (forest_of (with_op_rest s o rest))
 
   -- whatever is written of the block is read there, and nothing else has changed
-  pub record WritesBlock (s : State D A K B S X L) (b : ArenaIndex) : Type 0 where
+  pub record WritesBlock (s : ContextState D A K B S X L) (b : ArenaIndex) : Type 0 where
     pub forest : (rest : BasicBlockMut D A K B S X L) → forest_of (with_block_rest s b rest) ≡ written_block (forest_of s) b rest
     pub same : (rest : BasicBlockMut D A K B S X L) → SameButForest (bare s) (bare (with_block_rest s b rest))
     pub ids : (rest : BasicBlockMut D A K B S X L) → SameIds s.records.blocks (with_block_rest s b rest).records.blocks
@@ -66,17 +66,17 @@ module _ (D Attr Key Body Saved Aux Loc : RattleType) (tables : dialects.Ghosts 
   block_rest_row = block_row D Attr Key Body Saved Aux Loc tables (record { eq = attr.eq }) (record { hash_input = attr.hash_input }) (record { eq = key.eq }) (record { hash_input = key.hash_input }) body (record { eq = saved.eq }) (record { hash_input = saved.hash_input }) loc
 
   -- once the borrow r ends, the operation has what was written last through r
-  abbrev pub lends_op : MutBor (State D.Denot Attr.Denot Key.Denot Body.Denot Saved.Denot Aux.Denot Loc.Denot) → ArenaIndex → MutBor (OperationMut D.Denot Attr.Denot Key.Denot Body.Denot Saved.Denot Aux.Denot Loc.Denot) → Fml
+  abbrev pub lends_op : MutBor (ContextState D.Denot Attr.Denot Key.Denot Body.Denot Saved.Denot Aux.Denot Loc.Denot) → ArenaIndex → MutBor (OperationMut D.Denot Attr.Denot Key.Denot Body.Denot Saved.Denot Aux.Denot Loc.Denot) → Fml
   lends_op s o r = Lends context_row op_rest_row s r (with_op_rest s.now o)
 
   -- once the borrow r ends, the operation has what was written last through r; at `Err` the context stays as it is
-  abbrev pub lends_live_op : MutBor (State D.Denot Attr.Denot Key.Denot Body.Denot Saved.Denot Aux.Denot Loc.Denot) → ArenaIndex → Result (MutBor (OperationMut D.Denot Attr.Denot Key.Denot Body.Denot Saved.Denot Aux.Denot Loc.Denot)) DanglingPtrDerefError → Fml
+  abbrev pub lends_live_op : MutBor (ContextState D.Denot Attr.Denot Key.Denot Body.Denot Saved.Denot Aux.Denot Loc.Denot) → ArenaIndex → Result (MutBor (OperationMut D.Denot Attr.Denot Key.Denot Body.Denot Saved.Denot Aux.Denot Loc.Denot)) DanglingPtrDerefError → Fml
   lends_live_op s o r = LendsIfOk context_row op_rest_row s r (with_op_rest s.now o) s.now
 
   -- once the borrow r ends, the block has what was written last through r
-  abbrev pub lends_block : MutBor (State D.Denot Attr.Denot Key.Denot Body.Denot Saved.Denot Aux.Denot Loc.Denot) → ArenaIndex → MutBor (BasicBlockMut D.Denot Attr.Denot Key.Denot Body.Denot Saved.Denot Aux.Denot Loc.Denot) → Fml
+  abbrev pub lends_block : MutBor (ContextState D.Denot Attr.Denot Key.Denot Body.Denot Saved.Denot Aux.Denot Loc.Denot) → ArenaIndex → MutBor (BasicBlockMut D.Denot Attr.Denot Key.Denot Body.Denot Saved.Denot Aux.Denot Loc.Denot) → Fml
   lends_block s b r = Lends context_row block_rest_row s r (with_block_rest s.now b)
 
   -- once the borrow r ends, the block has what was written last through r; at `Err` the context stays as it is
-  abbrev pub lends_live_block : MutBor (State D.Denot Attr.Denot Key.Denot Body.Denot Saved.Denot Aux.Denot Loc.Denot) → ArenaIndex → Result (MutBor (BasicBlockMut D.Denot Attr.Denot Key.Denot Body.Denot Saved.Denot Aux.Denot Loc.Denot)) DanglingPtrDerefError → Fml
+  abbrev pub lends_live_block : MutBor (ContextState D.Denot Attr.Denot Key.Denot Body.Denot Saved.Denot Aux.Denot Loc.Denot) → ArenaIndex → Result (MutBor (BasicBlockMut D.Denot Attr.Denot Key.Denot Body.Denot Saved.Denot Aux.Denot Loc.Denot)) DanglingPtrDerefError → Fml
   lends_live_block s b r = LendsIfOk context_row block_rest_row s r (with_block_rest s.now b) s.now

@@ -12,7 +12,7 @@ use Rattle.ir_core_records.specs.declared.record.BlockIndex.{BlockIndex}
 use Rattle.ir_core_records.specs.declared.record.Definition.{Definition}
 use Rattle.ir_core_records.specs.declared.records.Records.{Records}
 use Rattle.ir_core_records.specs.Found.{place-In}
-use Rattle.ir_core_records.specs.Meaning.{forest_of, value_of}
+use Rattle.ir_core_records.specs.Meaning.{forest_in, value_of}
 use Rattle.ir_core_records.specs.Meant.{numbers-meant}
 use Rattle.ir_core_records.specs.Table.{IsValue, definitions_at}
 
@@ -24,7 +24,7 @@ abbrev pub successor_like : ℕ → BlockIndex → Successor context_ids
 successor_like n b = record { use_number = n; block = b.index }
 
 -- a live value is a result or an argument of what defines it
-pub live-value : {D A K B S X L : Type 0} (t : Records D A K B S X L) (v : ValueIndex) → IsLiveNamed (forest_of t) (a_value (value_of v)) → IsValue t v
+pub live-value : {D A K B S X L : Type 0} (t : Records D A K B S X L) (v : ValueIndex) → IsLiveNamed (forest_in t) (a_value (value_of v)) → IsValue t v
 live-value t v h =
     let at = In-map_back (λ (r : Definition). r.number) v.number (definitions_at t v.definer) (subst (In v.number) (numbers-meant t v.definer) h) in
     let p = place-In (definitions_at t v.definer) at.0 at.1 in

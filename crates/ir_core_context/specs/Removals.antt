@@ -4,8 +4,8 @@ use Rattle.ir_model.specs.ContextIds.{context_ids}
 use Rattle.ir_model.specs.Forest.{Entity}
 use Rattle.ir_model.specs.Subtree.{IsSubtreeSize}
 use Rattle.ir_core_erasing.specs.Erasing.{removals}
-use Rattle.ir_core_context.specs.State.{State, forest_of}
+use Rattle.ir_core_context.specs.State.{ContextState, forest_of}
 
 -- each entity of the subtree is removed once, and nothing else is
-abbrev pub RemovesEachOnce : {D A K B S X L : Type 0} → State D A K B S X L → State D A K B S X L → Entity context_ids → Type 0
+abbrev pub RemovesEachOnce : {D A K B S X L : Type 0} → ContextState D A K B S X L → ContextState D A K B S X L → Entity context_ids → Type 0
 RemovesEachOnce old new e = (n : ℕ) × IsSubtreeSize (forest_of old) e n × (removals new.records ≡ removals old.records + n)

@@ -4,13 +4,13 @@ use Rattle.ir_model.specs.declared.ids.ArenaIndex.{ArenaIndex}
 use Rattle.ir_model.specs.declared.ids.Limits.{Limits}
 use Rattle.ir_model.specs.ContextIds.{context_ids}
 use Rattle.ir_model.specs.Forest.{Definer}
-use Rattle.ir_model.specs.Nesting.{In, WellFormed, numbers_of, uses_of}
+use Rattle.ir_model.specs.Nesting.{In, WellFormed, numbers_of, use_numbers_of}
 use Rattle.ir_core_records.specs.Chains.{AreLinked, chains_of}
 use Rattle.ir_core_records.specs.Nested.{AreNested}
 use Rattle.ir_core_records.specs.Table.{KnowOwn}
 use Rattle.ir_core_records.specs.Tree.{tree_of}
 pub use Rattle.ir_core_data.specs.Side.{Keeps}
-use Rattle.ir_core_context.specs.State.{State, forest_of}
+use Rattle.ir_core_context.specs.State.{ContextState, forest_of}
 
 -- the limits are in range
 pub record AreLimits (l : Limits) : Type 0 where
@@ -19,9 +19,9 @@ pub record AreLimits (l : Limits) : Type 0 where
 
 module _ {D A K B S X L : Type 0} where
   -- each number in use was handed out, and no limit is passed
-  pub record IsCounted (s : State D A K B S X L) : Type 0 where
+  pub record KeepsCounts (s : ContextState D A K B S X L) : Type 0 where
     pub values : (d : Definer context_ids) (n : ℕ) → In n (numbers_of (forest_of s) d) → n < s.next_value
-    pub uses : (o : ArenaIndex) (n : ℕ) → In n (uses_of (forest_of s) o) → n < s.next_use
+    pub uses : (o : ArenaIndex) (n : ℕ) → In n (use_numbers_of (forest_of s) o) → n < s.next_use
     pub value_limit : s.next_value ≤ s.limits.values
     pub use_limit : s.next_use ≤ s.limits.uses
     pub limits : AreLimits s.limits
@@ -30,7 +30,7 @@ module _ {D A K B S X L : Type 0} where
     pub region_slots : Keeps s.limits s.records.regions
     pub aux_slots : Keeps s.limits s.side.aux
 
-  pub record IsSound (s : State D A K B S X L) : Type 0 where
+  pub record IsSound (s : ContextState D A K B S X L) : Type 0 where
     -- uses and places name each other
     pub linked : AreLinked (chains_of s.records)
     -- links, ends and parents are those of lists
@@ -38,4 +38,4 @@ module _ {D A K B S X L : Type 0} where
     -- operations and blocks know their own places
     pub own : KnowOwn s.records
     pub formed : WellFormed (forest_of s) (length s.types)
-    pub counted : IsCounted s
+    pub counted : KeepsCounts s

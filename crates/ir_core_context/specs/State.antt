@@ -12,12 +12,12 @@ use Rattle.ir_core_records.specs.declared.record.ValueIndex.{ValueIndex}
 use Rattle.ir_core_records.specs.declared.record.BlockIndex.{BlockIndex}
 use Rattle.ir_core_records.specs.declared.records.Records.{Records}
 use Rattle.ir_core_records.specs.Table.{uses_at, block_uses_at}
-use Rattle.ir_core_records.specs.Meaning.{closed, use_of, forest_of as forest_in}
+use Rattle.ir_core_records.specs.Meaning.{closed, use_of, forest_in}
 use Rattle.ir_core_data.specs.declared.side_data.SideData.{SideData}
 use Rattle.ir_core_data.specs.Side.{beside_in}
 
 -- the records, the store of types, the next numbers, what is kept beside, and the limits
-pub record State (D A K B S X L : Type 0) : Type 0 where
+pub record ContextState (D A K B S X L : Type 0) : Type 0 where
   pub records : Records D A K B S X L
   pub types : List (K × B)
   pub next_value : ℕ
@@ -30,15 +30,15 @@ no_tables = record { types = []; ops = []; blocks = []; regions = []; values = [
 
 module _ {D A K B S X L : Type 0} where
   -- the forest that the context means
-  abbrev pub forest_of : State D A K B S X L → Forest context_ids (closed A K B S X L)
+  abbrev pub forest_of : ContextState D A K B S X L → Forest context_ids (closed A K B S X L)
   forest_of s = forest_in s.records
 
   -- the types in order, each with its body
-  abbrev pub types_of : State D A K B S X L → List (StoredType (closed A K B S X L))
+  abbrev pub types_of : ContextState D A K B S X L → List (StoredType (closed A K B S X L))
   types_of s = map (λ t. record { key = t.0; body = t.1 }) s.types
 
   -- what the context has handed out
-  abbrev pub passed_of : State D A K B S X L → Passed
+  abbrev pub passed_of : ContextState D A K B S X L → Passed
   passed_of s = record {
     ops = is_passed s.records.ops;
     blocks = is_passed s.records.blocks;
@@ -48,11 +48,11 @@ module _ {D A K B S X L : Type 0} where
   }
 
   -- saved data, and auxiliary data with its names
-  abbrev pub beside_of : State D A K B S X L → Beside (closed A K B S X L)
+  abbrev pub beside_of : ContextState D A K B S X L → Beside (closed A K B S X L)
   beside_of s = beside_in s.side
 
   -- the context with the tables of a session
-  abbrev pub session_of : State D A K B S X L → Tables context_ids → Session (closed A K B S X L)
+  abbrev pub session_of : ContextState D A K B S X L → Tables context_ids → Session (closed A K B S X L)
   session_of s tables = record {
     state = record { forest = forest_of s; store = types_of s; tables = tables };
     beside = beside_of s;
@@ -61,13 +61,13 @@ module _ {D A K B S X L : Type 0} where
   }
 
   -- the context alone, as a session that knows nothing yet
-  abbrev pub bare : State D A K B S X L → Session (closed A K B S X L)
+  abbrev pub bare : ContextState D A K B S X L → Session (closed A K B S X L)
   bare s = session_of s no_tables
 
   -- the kept list of the uses of a value
-  abbrev pub uses_of : State D A K B S X L → ValueIndex → List (Use context_ids)
+  abbrev pub uses_of : ContextState D A K B S X L → ValueIndex → List (Use context_ids)
   uses_of s v = map use_of (uses_at s.records v)
 
   -- the kept list of the uses of a block as a successor
-  abbrev pub block_uses_of : State D A K B S X L → ArenaIndex → List (Use context_ids)
+  abbrev pub block_uses_of : ContextState D A K B S X L → ArenaIndex → List (Use context_ids)
   block_uses_of s b = map use_of (block_uses_at s.records (record { index = b }))

@@ -6,7 +6,7 @@ ghost use Rattle.std.specs.Prelude.{◌≡◌, IfErr, IfOk};
 ghost use Rattle.ir_model.specs.Forest.{an_op};
 ghost use Rattle.ir_model.specs.Nesting.{In, IsLinked, ops_of};
 ghost use Rattle.ir_core_records.specs.Meaning.{use_of};
-ghost use Rattle.ir_core_context.specs.Asked.{AreAnswers, MayAnswer};
+ghost use Rattle.ir_core_context.specs.Asked.{AreAnswers, MaySay};
 ghost use Rattle.ir_core_context.specs.State.{forest_of};
 
 use crate::context::Context;
@@ -16,10 +16,10 @@ use ir_core_records::{BasicBlock, EntityIndex, KeptUse, Use, Value};
 
 /// What stands for a context where a closure is handed one. Callers have no need of it: they write closures over `&Context<D>`.
 pub trait Shown<D: Dialects> {
-    ghost use Rattle.ir_core_context.specs.State.{State};
+    ghost use Rattle.ir_core_context.specs.State.{ContextState};
 
     // Whether it is the context that means this.
-    ghost shows: { Self → State D D.Attr D.TypeKey D.TypeBody D.Saved D.Aux D.Loc → Type 0 };
+    ghost shows: { Self → ContextState D D.Attr D.TypeKey D.TypeBody D.Saved D.Aux D.Loc → Type 0 };
 
     /// The context, as it is shown.
     fn of(ctx: &Context<D>) -> &Self
@@ -60,7 +60,7 @@ pub(crate) fn answers<D: Dialects, C: Shown<D>, P: Fn(&C, Use<Value<D>>) -> bool
     pred: &P,
 ) -> Result<Vec<bool>, CoreError>
     requires callable { (context : _) (used : _) → C.shows context.now ctx.now → In used.index kept.now → P.pre pred.now context used }
-    ensures answers { IfOk result (λ answers. AreAnswers (MayAnswer P.Fn (λ c. C.shows c ctx.now) (λ h u. use_of h.index ≡ u) pred.now) kept.now answers.items) }
+    ensures answers { IfOk result (λ answers. AreAnswers (MaySay P.Fn (λ c. C.shows c ctx.now) (λ h u. use_of h.index ≡ u) pred.now) kept.now answers.items) }
     ensures memory { IfErr result (λ e. e ≡ CoreError.OutOfMemory) }
 {
     let mut answers = Vec::with_capacity(ctx.alloc(), kept.len())?;
@@ -94,7 +94,7 @@ pub(crate) fn answers_for_blocks<D: Dialects, C: Shown<D>, B: ShownBlock<D>, P: 
 ) -> Result<Vec<bool>, CoreError>
     requires linked { (used : _) → In used kept.now → IsLinked (forest_of ctx.now) (an_op used.user) }
     requires callable { (context : _) (block : _) (used : _) → C.shows context.now ctx.now → In used kept.now → In used.user (ops_of (forest_of ctx.now) (B.index_of block)) → P.pre pred.now context block }
-    ensures answers { IfOk result (λ answers. AreAnswers (MayAnswer P.Fn (λ c. C.shows c ctx.now) (λ b u. In u.user (ops_of (forest_of ctx.now) (B.index_of b))) pred.now) kept.now answers.items) }
+    ensures answers { IfOk result (λ answers. AreAnswers (MaySay P.Fn (λ c. C.shows c ctx.now) (λ b u. In u.user (ops_of (forest_of ctx.now) (B.index_of b))) pred.now) kept.now answers.items) }
     ensures memory { IfErr result (λ e. e ≡ CoreError.OutOfMemory) }
 {
     let mut answers = Vec::with_capacity(ctx.alloc(), kept.len())?;

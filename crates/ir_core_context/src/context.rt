@@ -40,10 +40,10 @@ pub struct Context<D: Dialects> {
 }
 
 impl<D: Dialects> Model for Context<D> {
-    ghost use Rattle.ir_core_context.specs.State.{State};
+    ghost use Rattle.ir_core_context.specs.State.{ContextState};
     ghost use Rattle.ir_core_context.specs.Sound.{IsSound};
 
-    ghost Value = { State D D.Attr D.TypeKey D.TypeBody D.Saved D.Aux D.Loc };
+    ghost Value = { ContextState D D.Attr D.TypeKey D.TypeBody D.Saved D.Aux D.Loc };
 
     ghost view = { λ c. record { records = c.records; types = c.types; next_value = c.next_value; next_use = c.next_use; side = c.side; limits = c.limits } };
 

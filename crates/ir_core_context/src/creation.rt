@@ -9,9 +9,9 @@ ghost use Rattle.ir_model.specs.Forest.{Forest, a_value, an_op, the_block};
 ghost use Rattle.ir_model.specs.Nesting.{IsLive as IsLiveEntity, IsLiveNamed, WellFormed, operands_of, regions_of, successors_of};
 ghost use Rattle.ir_base_arenas.specs.Arena.{room, IsLive};
 ghost use Rattle.ir_core_records.specs.Frames.{KeepsTree};
-ghost use Rattle.ir_core_records.specs.Meaning.{closed, definition_of, forest_of as forest_in, value_of};
+ghost use Rattle.ir_core_records.specs.Meaning.{closed, definition_of, forest_in, value_of};
 ghost use Rattle.ir_core_context.specs.Calls.{EntitiesStayLive, HasAll, MakesBlock, MakesOperation, MakesRegion, SkipsAtMost, StayLive, block_needs, region_needs, needs_of};
-ghost use Rattle.ir_core_context.specs.Creation.{AreFresh, Extends, HoldTogether, IsGiven, Skips, with_places, Completes, InsertsWhole};
+ghost use Rattle.ir_core_context.specs.Creation.{AreFresh, Extends, HoldTogether, IsGiven, SkipsUpTo, with_places, Completes, InsertsWhole};
 ghost use Rattle.ir_core_context.specs.State.{bare, forest_of, types_of};
 
 use crate::context::Context;
@@ -72,7 +72,7 @@ fn add_regions<D: Dialects>(
     ensures live { IsLive records.new.ops op }
     ensures given { OnOk result ((rs : List ArenaIndex) × IsGiven (forest_in records.old) op rs count (forest_in records.new) × Extends records.old records.new [] [] rs) }
     ensures same { OnErr result (forest_in records.new ≡ forest_in records.old) }
-    ensures skipped { OnErr result (Skips records.old records.new 0 0 count) }
+    ensures skipped { OnErr result (SkipsUpTo records.old records.new 0 0 count) }
 {
     for made in 0..count {
         if add_region(records, op).is_err() {
@@ -139,7 +139,7 @@ fn complete<D: Dialects>(
     ensures live { IsLive records.new.ops op }
     ensures made { OnOk result (Completes records.old records.new op first_use (map (λ v. v.index) parts.now.operands.now) (first_use + length parts.now.operands.now) (map (λ b. record { index = b.index }) parts.now.successors.now) parts.now.num_regions) }
     ensures same { OnErr result (forest_in records.new ≡ forest_in records.old) }
-    ensures skipped { OnErr result (Skips records.old records.new 0 0 parts.now.num_regions) }
+    ensures skipped { OnErr result (SkipsUpTo records.old records.new 0 0 parts.now.num_regions) }
 {
     add_regions(records, op, parts.num_regions)?;
     if link_places(records, op, first_use, parts).is_err() {
@@ -172,7 +172,7 @@ fn insert_whole<D: Dialects>(
     ensures together { HoldTogether records.new }
     ensures made { IfOk result (λ op. InsertsWhole D.unknown records.old records.new op parts.now.kind (map definition_of results) first_use (map (λ v. v.index) parts.now.operands.now) (first_use + length parts.now.operands.now) (map (λ b. record { index = b.index }) parts.now.successors.now) parts.now.num_regions) }
     ensures same { OnErr result (forest_in records.new ≡ forest_in records.old) }
-    ensures skipped { OnErr result (Skips records.old records.new 1 0 parts.now.num_regions) }
+    ensures skipped { OnErr result (SkipsUpTo records.old records.new 1 0 parts.now.num_regions) }
 {
     let op = insert_operation(records, alloc, parts.kind, results)?;
     if complete(records, op, first_use, parts).is_err() {

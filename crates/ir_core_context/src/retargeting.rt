@@ -13,7 +13,7 @@ ghost use Rattle.ir_model.specs.Redirect.{retarget_uses};
 ghost use Rattle.ir_model.specs.Uses.{IsUse};
 ghost use Rattle.ir_core_records.specs.Table.{block_uses_at};
 ghost use Rattle.ir_core_replacing.specs.Chosen.{same_use};
-ghost use Rattle.ir_core_context.specs.Asked.{AreAnswers, MayAnswer, RetargetsChosen};
+ghost use Rattle.ir_core_context.specs.Asked.{AreAnswers, MaySay, RetargetsChosen};
 ghost use Rattle.ir_core_context.specs.Calls.{EntitiesStayLive, SameButForest, StayLive};
 ghost use Rattle.ir_core_context.specs.State.{bare, forest_of};
 
@@ -32,7 +32,7 @@ fn answers_for_preds<D: Dialects, C: Shown<D>, B: ShownBlock<D>, P: Fn(&C, B) ->
     requires live { IsLive (forest_of ctx.now) (a_block block.index) }
     requires linked { UsersLinked (forest_of ctx.now) block.index }
     requires callable { (context : _) (pred_block : _) → C.shows context.now ctx.now → IsPredecessor (forest_of ctx.now) block.index (B.index_of pred_block) → P.pre pred.now context pred_block }
-    ensures answers { IfOk result (λ answers. AreAnswers (MayAnswer P.Fn (λ c. C.shows c ctx.now) (λ b u. In u.user (ops_of (forest_of ctx.now) (B.index_of b))) pred.now) (block_uses_at ctx.now.records block) answers.items) }
+    ensures answers { IfOk result (λ answers. AreAnswers (MaySay P.Fn (λ c. C.shows c ctx.now) (λ b u. In u.user (ops_of (forest_of ctx.now) (B.index_of b))) pred.now) (block_uses_at ctx.now.records block) answers.items) }
     ensures memory { IfErr result (λ e. e ≡ CoreError.OutOfMemory) }
 {
     ctx.recall_uses_exact();
@@ -83,7 +83,7 @@ pub trait Retarget<D: Dialects> {
         requires other_live { IsLive (forest_of ctx.old) (a_block (index_of other)) }
         requires linked { UsersLinked (forest_of ctx.old) (index_of self) }
         requires callable { (context : _) (block : _) → C.shows context.now ctx.old → IsPredecessor (forest_of ctx.old) (index_of self) (B.index_of block) → P.pre pred context block }
-        ensures forest { OnOk result (RetargetsChosen (forest_of ctx.old) (forest_of ctx.new) (index_of self) (index_of other) (MayAnswer P.Fn (λ c. C.shows c ctx.old) (λ b u. In u.user (ops_of (forest_of ctx.old) (B.index_of b))) pred)) }
+        ensures forest { OnOk result (RetargetsChosen (forest_of ctx.old) (forest_of ctx.new) (index_of self) (index_of other) (MaySay P.Fn (λ c. C.shows c ctx.old) (λ b u. In u.user (ops_of (forest_of ctx.old) (B.index_of b))) pred)) }
         ensures rest { SameButForest (bare ctx.old) (bare ctx.new) }
         ensures stay_live { StayLive (forest_of ctx.old) (forest_of ctx.new) }
         ensures entities_stay_live { EntitiesStayLive (forest_of ctx.old) (forest_of ctx.new) }

@@ -13,7 +13,7 @@ ghost use Rattle.ir_model.specs.Uses.{AreUses, IsUse};
 ghost use Rattle.ir_core_records.specs.Meaning.{use_of as use_in, value_of as value_in};
 ghost use Rattle.ir_core_records.specs.Table.{uses_at};
 ghost use Rattle.ir_core_replacing.specs.Chosen.{same_use};
-ghost use Rattle.ir_core_context.specs.Asked.{AreAnswers, MayAnswer, RedirectsChosen};
+ghost use Rattle.ir_core_context.specs.Asked.{AreAnswers, MaySay, RedirectsChosen};
 ghost use Rattle.ir_core_context.specs.Calls.{EntitiesStayLive, SameButForest, StayLive};
 ghost use Rattle.ir_core_context.specs.State.{bare, forest_of, types_of, uses_of};
 
@@ -32,7 +32,7 @@ fn answers_for_uses<D: Dialects, C: Shown<D>, P: Fn(&C, Use<Value<D>>) -> bool>(
 ) -> Result<Vec<bool>, CoreError>
     requires live { IsLiveNamed (forest_of ctx.now) (a_value (value_in value)) }
     requires callable { (context : _) (used : _) → C.shows context.now ctx.now → IsUse (forest_of ctx.now) (a_value (value_in value)) (use_in used.index) → P.pre pred.now context used }
-    ensures answers { IfOk result (λ answers. AreAnswers (MayAnswer P.Fn (λ c. C.shows c ctx.now) (λ h u. use_in h.index ≡ u) pred.now) (uses_at ctx.now.records value) answers.items) }
+    ensures answers { IfOk result (λ answers. AreAnswers (MaySay P.Fn (λ c. C.shows c ctx.now) (λ h u. use_in h.index ≡ u) pred.now) (uses_at ctx.now.records value) answers.items) }
     ensures exact { AreUses (forest_of ctx.now) (a_value (value_in value)) (uses_of ctx.now value) }
     ensures memory { IfErr result (λ e. e ≡ CoreError.OutOfMemory) }
 {
@@ -99,7 +99,7 @@ pub trait ValueEdits<D: Dialects> {
         requires live { IsLiveNamed (forest_of ctx.old) (a_value (value_of self)) }
         requires other_live { IsLiveNamed (forest_of ctx.old) (a_value (value_of other)) }
         requires callable { (context : _) (used : _) → C.shows context.now ctx.old → IsUse (forest_of ctx.old) (a_value (value_of self)) (use_in used.index) → P.pre pred context used }
-        ensures forest { OnOk result (RedirectsChosen (forest_of ctx.old) (forest_of ctx.new) (value_of self) (value_of other) (MayAnswer P.Fn (λ c. C.shows c ctx.old) (λ h u. use_in h.index ≡ u) pred)) }
+        ensures forest { OnOk result (RedirectsChosen (forest_of ctx.old) (forest_of ctx.new) (value_of self) (value_of other) (MaySay P.Fn (λ c. C.shows c ctx.old) (λ h u. use_in h.index ≡ u) pred)) }
         ensures rest { SameButForest (bare ctx.old) (bare ctx.new) }
         ensures stay_live { StayLive (forest_of ctx.old) (forest_of ctx.new) }
         ensures entities_stay_live { EntitiesStayLive (forest_of ctx.old) (forest_of ctx.new) }

@@ -7,14 +7,14 @@ use Rattle.std.specs.Cmp.Lexicographic.{nat_list_eq_equiv}
 use Rattle.std.specs.Map.{lookup}
 use Rattle.ir_model.specs.Changes.{put}
 use Rattle.ir_core_data.specs.declared.aux_index.AuxDataIndex.{AuxDataIndex}
-use Rattle.ir_core_data.specs.Names.{Names, index_at}
+use Rattle.ir_core_data.specs.Names.{NameTable, index_at}
 
 put_in : (i : AuxDataIndex) (b : Bool) (m : Option AuxDataIndex) → option_map (λ found. found.index) (cond b (Some i) m) ≡ cond b (Some i.index) (option_map (λ found. found.index) m)
 put_in i true m = refl
 put_in i false m = refl
 
 -- where one name was given an index, it leads there, and the others lead where they led
-pub names-put : (old new : Names) (name : List ℕ) (i : AuxDataIndex)
+pub names-put : (old new : NameTable) (name : List ℕ) (i : AuxDataIndex)
     → ((q : List ℕ) → lookup (bytes_eq q) new ≡ cond (bytes_eq name q) (Some i) (lookup (bytes_eq q) old)) → index_at new ≡ put bytes_eq name i.index (index_at old)
 names-put old new name i puts =
     fun_ext (λ q.

@@ -13,5 +13,5 @@ module _ (D Attr Key Body Saved Aux Loc : RattleType) (saved : HashMembers Saved
   side_row = the_row D Attr Key Body Saved Aux Loc (record { eq = saved.eq }) (record { hash_input = saved.hash_input })
 
   -- once the borrow r ends, the data under the index has what was written last through r; at `None` all stays as it is
-  abbrev pub lends_aux : MutBor (SideData D.Denot Attr.Denot Key.Denot Body.Denot Saved.Denot Aux.Denot Loc.Denot) → ArenaIndex → Option (MutBor Aux.Denot) → Fml
-  lends_aux s i r = LendsIf side_row Aux s r (with_written s.now i) s.now
+  abbrev pub side_lends_aux : MutBor (SideData D.Denot Attr.Denot Key.Denot Body.Denot Saved.Denot Aux.Denot Loc.Denot) → ArenaIndex → Option (MutBor Aux.Denot) → Fml
+  side_lends_aux s i r = LendsIf side_row Aux s r (with_written s.now i) s.now

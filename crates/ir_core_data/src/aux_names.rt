@@ -1,4 +1,4 @@
-//! Names of auxiliary data.
+//! NameTable of auxiliary data.
 //!
 //! A name leads to an index, whether or not there is still data under it.
 
@@ -22,9 +22,9 @@ pub struct AuxNames {
 }
 
 impl Model for AuxNames {
-    ghost use Rattle.ir_core_data.specs.Names.{Names};
+    ghost use Rattle.ir_core_data.specs.Names.{NameTable};
 
-    ghost Value = { Names };
+    ghost Value = { NameTable };
 
     ghost view = { λ n. n.indices.entries };
 }

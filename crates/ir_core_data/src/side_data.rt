@@ -29,7 +29,7 @@ pub struct SideData<D: Dialects> {
 
 impl<D: Dialects> SideData<D> {
     ghost use Rattle.ir_core_data.specs.Side.{Keeps, beside_in, nothing, with_written};
-    ghost use Rattle.ir_core_data.specs.SideLends.{lends_aux};
+    ghost use Rattle.ir_core_data.specs.SideLends.{side_lends_aux};
 
     /// No data and no names, with at most this many slots for auxiliary data, none of which has a version past `last_version`. It allocates nothing.
     pub fn new(alloc: Global, slots: u32, last_version: u32) -> Self
@@ -88,7 +88,7 @@ impl<D: Dialects> SideData<D> {
 
     /// The data under an index, for writing.
     pub fn get_aux_mut(&mut self, index: AuxDataIndex) -> Option<&mut D::Aux>
-        ensures* writes_back { sem 𝓛 (lends_aux D.row D.Attr.row D.TypeKey.row D.TypeBody.row D.Saved.row D.Aux.row D.Loc.row D.Saved.Hash self.entry index.index result) }
+        ensures* writes_back { sem 𝓛 (side_lends_aux D.row D.Attr.row D.TypeKey.row D.TypeBody.row D.Saved.row D.Aux.row D.Loc.row D.Saved.Hash self.entry index.index result) }
         ensures value { option_copied_mut result ≡ (beside_in self.old).aux index.index }
         ensures written { IsSome result → (value : D.Aux) → beside_in (with_written self.old index.index value) ≡ write_aux (beside_in self.old) index.index value }
     {

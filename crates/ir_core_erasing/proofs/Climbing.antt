@@ -5,7 +5,7 @@ use Rattle.ir_model.specs.Forest.{Dialect, Entity, Forest}
 use Rattle.ir_model.specs.Nesting.{below, Inside, Nested}
 use Rattle.ir_model.specs.Parent.{IsParent}
 use Rattle.ir_core_records.specs.declared.records.Records.{Records}
-use Rattle.ir_core_records.specs.Meaning.{forest_of}
+use Rattle.ir_core_records.specs.Meaning.{forest_in}
 use Rattle.ir_core_records.specs.Nested.{AreNested}
 use Rattle.ir_core_records.specs.Tree.{tree_of}
 use Rattle.ir_core_nesting.specs.Climbs.{Reaches, depth, DepthsFollow}
@@ -24,6 +24,6 @@ module _ {W : Dialect} (f : Forest context_ids W) (nested : Nested f) (root x : 
   )
 
 -- the parent stands less deep
-pub climb-less : {D A K B S X L : Type 0} → DepthsFollow D A K B S X L → (t : Records D A K B S X L) → AreNested (tree_of t) → Nested (forest_of t) → (x : Entity context_ids) (o : Option (Entity context_ids)) → IsParent (forest_of t) x o → depth t o < depth t (Some x)
+pub climb-less : {D A K B S X L : Type 0} → DepthsFollow D A K B S X L → (t : Records D A K B S X L) → AreNested (tree_of t) → Nested (forest_in t) → (x : Entity context_ids) (o : Option (Entity context_ids)) → IsParent (forest_in t) x o → depth t o < depth t (Some x)
 climb-less follow t nested formed x None is = omega arith
 climb-less follow t nested formed x (Some y) is = let more = follow t x y nested formed is in omega (arith, more)

@@ -17,7 +17,7 @@ use Rattle.ir_core_records.specs.declared.record.Region.{Region}
 use Rattle.ir_core_records.specs.declared.records.Records.{Records}
 use Rattle.ir_core_records.specs.Chains.{AreLinked, chains_of}
 use Rattle.ir_core_records.specs.Frames.{KeepsTree}
-use Rattle.ir_core_records.specs.Meaning.{forest_of, op_record, block_record}
+use Rattle.ir_core_records.specs.Meaning.{forest_in, op_record, block_record}
 use Rattle.ir_core_records.specs.Nested.{AreNested}
 use Rattle.ir_core_records.specs.Tree.{Tree, tree_of, ops_in, blocks_in}
 use Rattle.ir_core_nesting.specs.Climbs.{climb, kept_parent, size}
@@ -86,7 +86,7 @@ module _ {D A K B S X L : Type 0} where
     own = λ k. g.own (f.own k);
   }
 
-  children-are : (t : Records D A K B S X L) → AreNested (tree_of t) → (e : Entity context_ids) → children (forest_of t) e ≡ tree_children (tree_of t) e
+  children-are : (t : Records D A K B S X L) → AreNested (tree_of t) → (e : Entity context_ids) → children (forest_in t) e ≡ tree_children (tree_of t) e
   children-are t nested (an_op o) = ap (map a_region) (regions_of-is t nested o)
   children-are t nested (a_block b) = ap (map an_op) (ops_of-is t nested b)
   children-are t nested (a_region g) = ap (map a_block) (blocks_of-is t nested g)
@@ -95,7 +95,7 @@ module _ {D A K B S X L : Type 0} where
     pub still-nested : AreNested (tree_of new)
     still-nested = subst AreNested (sym keeps.tree) nested
 
-    pub children-same : children (forest_of new) ≡ children (forest_of old)
+    pub children-same : children (forest_in new) ≡ children (forest_in old)
     children-same = fun_ext (λ e. children-are new still-nested e ∙ ap (λ t. tree_children t e) keeps.tree ∙ sym (children-are old nested e))
 
     size-same : size new ≡ size old
@@ -105,16 +105,16 @@ module _ {D A K B S X L : Type 0} where
     pub subtree-same : (e : Entity context_ids) → subtree new e ≡ subtree old e
     subtree-same e = λ i. post (suc (suc (size-same i)) - length (climb (suc (size-same i)) (kept_parent (keeps.tree i)) (Some e))) (children-same i) e
 
-    pub live-same : (x : Entity context_ids) → IsLive (forest_of old) x → IsLive (forest_of new) x
+    pub live-same : (x : Entity context_ids) → IsLive (forest_in old) x → IsLive (forest_in new) x
     live-same (an_op o) h = some-map op_record (get new.ops o) ∙ (keeps.op_ids.live o).1 (sym (some-map op_record (get old.ops o)) ∙ h)
     live-same (a_block b) h = some-map (block_record (ops_in (tree_of new) b)) (get new.blocks b) ∙ (keeps.block_ids.live b).1 (sym (some-map (block_record (ops_in (tree_of old) b)) (get old.blocks b)) ∙ h)
     live-same (a_region g) h = some-map (λ (_ : Region). blocks_in (tree_of new) g) (get new.regions g) ∙ ap (λ (a : Arena Region). is_some (get a g)) keeps.regions ∙ sym (some-map (λ (_ : Region). blocks_in (tree_of old) g) (get old.regions g)) ∙ h
 
-    region-was : (g : ArenaIndex) → IsSome ((forest_of new).regions g) → IsSome ((forest_of old).regions g)
+    region-was : (g : ArenaIndex) → IsSome ((forest_in new).regions g) → IsSome ((forest_in old).regions g)
     region-was g h = some-map (λ (_ : Region). blocks_in (tree_of old) g) (get old.regions g) ∙ sym (ap (λ (a : Arena Region). is_some (get a g)) keeps.regions) ∙ sym (some-map (λ (_ : Region). blocks_in (tree_of new) g) (get new.regions g)) ∙ h
 
     -- the forest is nested as it was
-    pub formed-same : Nested (forest_of old) → Nested (forest_of new)
+    pub formed-same : Nested (forest_in old) → Nested (forest_in new)
     formed-same formed = record {
       one_list = subst (λ (cs : Entity context_ids → List (Entity context_ids)). (x y z : Entity context_ids) → In x (cs y) → In x (cs z) → y ≡ z) (sym children-same) formed.one_list;
       once = subst (λ (cs : Entity context_ids → List (Entity context_ids)). (y : Entity context_ids) → Distinct (cs y)) (sym children-same) formed.once;
@@ -126,15 +126,15 @@ module _ {D A K B S X L : Type 0} where
 
   -- a loop that drops the uses inside the root has come to o
   pub record Dropping (first now : Records D A K B S X L) (root : Entity context_ids) (o : Option (Entity context_ids)) : Type 0 where
-    pub passing : Passing (subtree first root) (λ before. DropsListed (forest_of first) before (forest_of now)) o
+    pub passing : Passing (subtree first root) (λ before. DropsListed (forest_in first) before (forest_in now)) o
     pub keeps : KeepsTree first now
     pub linked : AreLinked (chains_of now)
 
-module _ {D A K B S X L : Type 0} (first now : Records D A K B S X L) (nested : AreNested (tree_of first)) (formed : Nested (forest_of first)) (root here : Entity context_ids)
-    (lists : ListsSubtree (forest_of first) root (subtree first root)) (live : IsLive (forest_of first) root) (w : Dropping first now root (Some here)) where
+module _ {D A K B S X L : Type 0} (first now : Records D A K B S X L) (nested : AreNested (tree_of first)) (formed : Nested (forest_in first)) (root here : Entity context_ids)
+    (lists : ListsSubtree (forest_in first) root (subtree first root)) (live : IsLive (forest_in first) root) (w : Dropping first now root (Some here)) where
   -- what the loop has come to is live
-  pub here-live : IsLive (forest_of now) here
-  here-live = live-same first now nested w.keeps here (inside-live (forest_of first) formed root here live ((lists.exact here).0 (passing-in (subtree first root) (λ before. DropsListed (forest_of first) before (forest_of now)) here w.passing)))
+  pub here-live : IsLive (forest_in now) here
+  here-live = live-same first now nested w.keeps here (inside-live (forest_in first) formed root here live ((lists.exact here).0 (passing-in (subtree first root) (λ before. DropsListed (forest_in first) before (forest_in now)) here w.passing)))
 
   module _ (next : Records D A K B S X L) (keeps : KeepsTree now next) where
     pub all-kept : KeepsTree first next
@@ -144,18 +144,18 @@ module _ {D A K B S X L : Type 0} (first now : Records D A K B S X L) (nested : 
       still-told : (before behind : List (Entity context_ids)) → subtree first root ≡ before ++ here ∷ behind → o ≡ first_of behind
       still-told before behind e = told before behind (subtree-same first next nested all-kept root ∙ e)
 
-      pub dropping-step : AreLinked (chains_of next) → forest_of next ≡ without_uses (forest_of now) here → Dropping first next root o
+      pub dropping-step : AreLinked (chains_of next) → forest_in next ≡ without_uses (forest_in now) here → Dropping first next root o
       dropping-step linked is = record {
-        passing = passing-step (subtree first root) (λ before. DropsListed (forest_of first) before (forest_of now)) here w.passing o still-told
-            (λ before. DropsListed (forest_of first) before (forest_of next))
-            (λ before d. drops-entity (forest_of first) (forest_of now) (forest_of next) before here is d);
+        passing = passing-step (subtree first root) (λ before. DropsListed (forest_in first) before (forest_in now)) here w.passing o still-told
+            (λ before. DropsListed (forest_in first) before (forest_in next))
+            (λ before d. drops-entity (forest_in first) (forest_in now) (forest_in next) before here is d);
         keeps = all-kept;
         linked = linked;
       }
 
       pub dropping-smaller : remaining (subtree first root) o < remaining (subtree first root) (Some here)
-      dropping-smaller = passing-smaller (subtree first root) (λ before. DropsListed (forest_of first) before (forest_of now)) here w.passing o still-told lists.once
+      dropping-smaller = passing-smaller (subtree first root) (λ before. DropsListed (forest_in first) before (forest_in now)) here w.passing o still-told lists.once
 
 -- at the end all uses inside the root are dropped
-pub dropping-end : {D A K B S X L : Type 0} (first now : Records D A K B S X L) (root : Entity context_ids) → ListsSubtree (forest_of first) root (subtree first root) → Dropping first now root None → DropsUses (forest_of first) root (forest_of now)
-dropping-end first now root lists w = drops-all (forest_of first) (forest_of now) root (subtree first root) lists (passing-end (subtree first root) (λ before. DropsListed (forest_of first) before (forest_of now)) w.passing)
+pub dropping-end : {D A K B S X L : Type 0} (first now : Records D A K B S X L) (root : Entity context_ids) → ListsSubtree (forest_in first) root (subtree first root) → Dropping first now root None → DropsUses (forest_in first) root (forest_in now)
+dropping-end first now root lists w = drops-all (forest_in first) (forest_in now) root (subtree first root) lists (passing-end (subtree first root) (λ before. DropsListed (forest_in first) before (forest_in now)) w.passing)

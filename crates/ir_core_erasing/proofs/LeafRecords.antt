@@ -11,7 +11,7 @@ use Rattle.ir_base_arenas.specs.Arena.{Arena, arena_len, cut, IsLive}
 use Rattle.ir_base_arenas.specs.Lists.{SameIds}
 use Rattle.ir_core_records.specs.declared.records.Records.{Records}
 use Rattle.ir_core_records.specs.Chains.{chains_of}
-use Rattle.ir_core_records.specs.Meaning.{closed, forest_of}
+use Rattle.ir_core_records.specs.Meaning.{closed, forest_in}
 use Rattle.ir_core_records.specs.Nested.{AreNested}
 use Rattle.ir_core_records.specs.Table.{KnowOwn}
 use Rattle.ir_core_records.specs.Tree.{tree_of}
@@ -80,10 +80,10 @@ module _ {D A K B S X L : Type 0} where
     regions = passed-trans a.regions b.regions c.regions f.regions g.regions;
   }
 
-  module _ (old new : Records D A K B S X L) (e : Entity context_ids) (after : Forest context_ids (closed A K B S X L)) (removed : Removes (forest_of old) e after) (is : forest_of new ≡ after)
+  module _ (old new : Records D A K B S X L) (e : Entity context_ids) (after : Forest context_ids (closed A K B S X L)) (removed : Removes (forest_in old) e after) (is : forest_in new ≡ after)
       (nested : AreNested (tree_of new)) (chains : chains_of new ≡ chains_of old) (own : KnowOwn old → KnowOwn new) where
-    gone : Removes (forest_of old) e (forest_of new)
-    gone = subst (Removes (forest_of old) e) (sym is) removed
+    gone : Removes (forest_in old) e (forest_in new)
+    gone = subst (Removes (forest_in old) e) (sym is) removed
 
     pub op-leaf : Loses old.ops new.ops → Stays old.blocks new.blocks → Stays old.regions new.regions → RemovesLeaf old e new
     op-leaf ops blocks regions = record {

@@ -5,20 +5,20 @@ use Rattle.std.proofs.lemmas.List.{append_assoc, append-nil}
 use Rattle.ir_model.specs.Ids.{Distinct}
 use Rattle.ir_model.specs.Nesting.{In, Within, itself, below}
 use Rattle.ir_model.proofs.Nests.{In-append, In-left, In-right, Distinct-append, not_in-Absent, Within-trans}
-use Rattle.ir_core_erasing.specs.Walks.{joined, post, StartsWith, IsBefore, EndsWith}
+use Rattle.ir_core_erasing.specs.Walks.{joined_backward, post, StartsWith, IsBefore, EndsWith}
 
 module _ {E : Type 0} where
-  pub joined-append : (g : E → List E) (xs ys : List E) → joined g (xs ++ ys) ≡ joined g ys ++ joined g xs
-  joined-append g [] ys = sym (append-nil (joined g ys))
-  joined-append g (x ∷ xs) ys = ap (λ zs. zs ++ g x) (joined-append g xs ys) ∙ append_assoc (joined g ys) (joined g xs) (g x)
+  pub joined-append : (g : E → List E) (xs ys : List E) → joined_backward g (xs ++ ys) ≡ joined_backward g ys ++ joined_backward g xs
+  joined-append g [] ys = sym (append-nil (joined_backward g ys))
+  joined-append g (x ∷ xs) ys = ap (λ zs. zs ++ g x) (joined-append g xs ys) ∙ append_assoc (joined_backward g ys) (joined_backward g xs) (g x)
 
-  pub joined-same : (g h : E → List E) (xs : List E) → ((x : E) → In x xs → g x ≡ h x) → joined g xs ≡ joined h xs
+  pub joined-same : (g h : E → List E) (xs : List E) → ((x : E) → In x xs → g x ≡ h x) → joined_backward g xs ≡ joined_backward h xs
   joined-same g h [] same = refl
-  joined-same g h (x ∷ xs) same = ap (λ zs. zs ++ g x) (joined-same g h xs (λ y i. same y (inr i))) ∙ ap (λ zs. joined h xs ++ zs) (same x (inl refl))
+  joined-same g h (x ∷ xs) same = ap (λ zs. zs ++ g x) (joined-same g h xs (λ y i. same y (inr i))) ∙ ap (λ zs. joined_backward h xs ++ zs) (same x (inl refl))
 
-  pub joined-in : (g : E → List E) (x : E) (cs : List E) → In x (joined g cs) → (c : E) × In c cs × In x (g c)
+  pub joined-in : (g : E → List E) (x : E) (cs : List E) → In x (joined_backward g cs) → (c : E) × In c cs × In x (g c)
   joined-in g x [] h = absurd h
-  joined-in g x (c ∷ cs) h = elim (In-append x (joined g cs) (g c) h) [
+  joined-in g x (c ∷ cs) h = elim (In-append x (joined_backward g cs) (g c) h) [
     | inl i ↦ let m = joined-in g x cs i in (m.0, inr m.1, m.2)
     | inr i ↦ (c, inl refl, i)
   ]
@@ -69,7 +69,7 @@ module _ {E : Type 0} where
   module _ (lists : E → List E) where
     pub post-within : (n : ℕ) (e x : E) → In x (post n lists e) → Within lists e x
     post-within zero e x h = absurd h
-    post-within (suc n) e x h = elim (In-append x (joined (post n lists) (lists e)) (e ∷ []) h) [
+    post-within (suc n) e x h = elim (In-append x (joined_backward (post n lists) (lists e)) (e ∷ []) h) [
       | inl i ↦ let m = joined-in (post n lists) x (lists e) i in Within-trans lists lists e m.0 x (below m.1 itself) (post-within n m.0 x m.2)
       | inr (inl k) ↦ subst (Within lists e) (sym k) itself
       | inr (inr k) ↦ absurd k
@@ -89,10 +89,10 @@ module _ {E : Type 0} where
       children-apart : (e a b x : E) → In a (lists e) → In b (lists e) → Within lists a x → Within lists b x → a ≡ b
       children-apart e a b x h k v w = elim (linear a b x v w) [ inl i ↦ apart-in e a b h k i | inr i ↦ sym (apart-in e b a k h i) ]
 
-      joined-once : (n : ℕ) (e : E) (cs : List E) → ((c : E) → In c cs → In c (lists e)) → Distinct cs → ((c : E) → Distinct (post n lists c)) → Distinct (joined (post n lists) cs)
+      joined-once : (n : ℕ) (e : E) (cs : List E) → ((c : E) → In c cs → In c (lists e)) → Distinct cs → ((c : E) → Distinct (post n lists c)) → Distinct (joined_backward (post n lists) cs)
       joined-once n e [] sub d each = tt
       joined-once n e (c ∷ cs) sub d each =
-          Distinct-append (joined (post n lists) cs) (post n lists c) (joined-once n e cs (λ z i. sub z (inr i)) d.1 each) (each c)
+          Distinct-append (joined_backward (post n lists) cs) (post n lists c) (joined-once n e cs (λ z i. sub z (inr i)) d.1 each) (each c)
           (λ x i k. (let m = joined-in (post n lists) x cs i in
           let same : m.0 ≡ c = children-apart e m.0 c x (sub m.0 (inr m.1)) (sub c (inl refl)) (post-within n m.0 x m.2) (post-within n c x k) in
           not_in-Absent c cs d.0 (subst (λ z. In z cs) same m.1)))
@@ -100,21 +100,21 @@ module _ {E : Type 0} where
       pub post-once : (n : ℕ) (e : E) → Distinct (post n lists e)
       post-once zero e = tt
       post-once (suc n) e =
-          Distinct-append (joined (post n lists) (lists e)) (e ∷ []) (joined-once n e (lists e) (λ z i. i) (once e) (post-once n)) (tt, tt)
+          Distinct-append (joined_backward (post n lists) (lists e)) (e ∷ []) (joined-once n e (lists e) (λ z i. i) (once e) (post-once n)) (tt, tt)
           (λ x i k. elim k [
             | inl s ↦ (let m = joined-in (post n lists) x (lists e) i in no_cycle m.0 e m.1 (subst (Within lists m.0) s (post-within n m.0 x m.2)))
             | inr s ↦ absurd s
           ])
 
     -- a listing of each, by its equation
-    module _ (t : E → List E) (rolls : (e : E) → t e ≡ joined t (lists e) ++ e ∷ []) where
+    module _ (t : E → List E) (rolls : (e : E) → t e ≡ joined_backward t (lists e) ++ e ∷ []) where
       pub child-infix : (e c : E) → In c (lists e) → Infix (t c) (t e)
       child-infix e c h =
           let m = split c (lists e) h in record {
-            front = joined t m.1;
-            back = joined t m.0 ++ e ∷ [];
-            is = rolls e ∙ ap (λ zs. zs ++ e ∷ []) (ap (joined t) m.2 ∙ joined-append t m.0 (c ∷ m.1))
-                ∙ append_assoc (joined t m.1 ++ t c) (joined t m.0) (e ∷ []) ∙ append_assoc (joined t m.1) (t c) (joined t m.0 ++ e ∷ []);
+            front = joined_backward t m.1;
+            back = joined_backward t m.0 ++ e ∷ [];
+            is = rolls e ∙ ap (λ zs. zs ++ e ∷ []) (ap (joined_backward t) m.2 ∙ joined-append t m.0 (c ∷ m.1))
+                ∙ append_assoc (joined_backward t m.1 ++ t c) (joined_backward t m.0) (e ∷ []) ∙ append_assoc (joined_backward t m.1) (t c) (joined_backward t m.0 ++ e ∷ []);
           }
 
       pub within-infix : (e x : E) → Within lists e x → Infix (t x) (t e)
@@ -122,7 +122,7 @@ module _ {E : Type 0} where
       within-infix e x (below {c = c} h w) = infix-trans (t x) (t c) (t e) (child-infix c x h) (within-infix e c w)
 
       pub own : (e : E) → In e (t e)
-      own e = subst (In e) (sym (rolls e)) (In-right e (joined t (lists e)) (e ∷ []) (inl refl))
+      own e = subst (In e) (sym (rolls e)) (In-right e (joined_backward t (lists e)) (e ∷ []) (inl refl))
 
       pub listed : (e x : E) → Within lists e x → In x (t e)
       listed e x w = infix-in x (t x) (t e) (within-infix e x w) (own x)
@@ -130,21 +130,21 @@ module _ {E : Type 0} where
       -- a listing begins as that of the last child does
       pub starts-down : (e c y : E) → EndsWith (lists e) c → StartsWith (t c) y → StartsWith (t e) y
       starts-down e c y last s = (
-        s.0 ++ (joined t last.0 ++ e ∷ []),
-        rolls e ∙ ap (λ zs. zs ++ e ∷ []) (ap (joined t) last.1 ∙ joined-append t last.0 (c ∷ []) ∙ ap (λ zs. zs ++ joined t last.0) s.1)
-            ∙ append_assoc (y ∷ s.0) (joined t last.0) (e ∷ []),
+        s.0 ++ (joined_backward t last.0 ++ e ∷ []),
+        rolls e ∙ ap (λ zs. zs ++ e ∷ []) (ap (joined_backward t) last.1 ∙ joined-append t last.0 (c ∷ []) ∙ ap (λ zs. zs ++ joined_backward t last.0) s.1)
+            ∙ append_assoc (y ∷ s.0) (joined_backward t last.0) (e ∷ []),
       )
 
       pub starts-leaf : (e : E) → lists e ≡ [] → StartsWith (t e) e
-      starts-leaf e none = ([], rolls e ∙ ap (λ cs. joined t cs ++ e ∷ []) none)
+      starts-leaf e none = ([], rolls e ∙ ap (λ cs. joined_backward t cs ++ e ∷ []) none)
 
       -- behind the listing of a first child stands its owner
       pub then-owner : (p x : E) (vs : List E) → lists p ≡ x ∷ vs → Infix (x ∷ p ∷ []) (t p)
       then-owner p x vs is = record {
-        front = joined t vs ++ joined t (lists x);
+        front = joined_backward t vs ++ joined_backward t (lists x);
         back = [];
-        is = rolls p ∙ ap (λ zs. zs ++ p ∷ []) (ap (joined t) is ∙ ap (λ zs. joined t vs ++ zs) (rolls x) ∙ sym (append_assoc (joined t vs) (joined t (lists x)) (x ∷ [])))
-            ∙ append_assoc (joined t vs ++ joined t (lists x)) (x ∷ []) (p ∷ []);
+        is = rolls p ∙ ap (λ zs. zs ++ p ∷ []) (ap (joined_backward t) is ∙ ap (λ zs. joined_backward t vs ++ zs) (rolls x) ∙ sym (append_assoc (joined_backward t vs) (joined_backward t (lists x)) (x ∷ [])))
+            ∙ append_assoc (joined_backward t vs ++ joined_backward t (lists x)) (x ∷ []) (p ∷ []);
       }
 
       -- behind that of another child begins that of the sibling before it
@@ -153,13 +153,13 @@ module _ {E : Type 0} where
           let us = m.0 in
           let vs = m.1 in
           let is = m.2 in
-          let a = joined t vs in
-          let b = joined t (lists x) in
-          let c = joined t us in
+          let a = joined_backward t vs in
+          let b = joined_backward t (lists x) in
+          let c = joined_backward t us in
           record {
             front = a ++ b;
             back = s.0 ++ (c ++ p ∷ []);
-            is = rolls p ∙ ap (λ zs. zs ++ p ∷ []) (ap (joined t) is ∙ joined-append t us (q ∷ x ∷ vs)
+            is = rolls p ∙ ap (λ zs. zs ++ p ∷ []) (ap (joined_backward t) is ∙ joined-append t us (q ∷ x ∷ vs)
                 ∙ ap (λ zs. zs ++ c) (ap (λ zs. (a ++ zs) ++ t q) (rolls x) ∙ ap (λ zs. (a ++ (b ++ x ∷ [])) ++ zs) s.1))
                 ∙ append_assoc ((a ++ (b ++ x ∷ [])) ++ y ∷ s.0) c (p ∷ [])
                 ∙ append_assoc (a ++ (b ++ x ∷ [])) (y ∷ s.0) (c ++ p ∷ [])
@@ -175,4 +175,4 @@ module _ {E : Type 0} where
 
       -- the entity itself is the last of its listing
       pub nothing-follows : (e : E) → Distinct (t e) → (us vs : List E) → t e ≡ us ++ e ∷ vs → vs ≡ []
-      nothing-follows e d us vs is = unique-split e us vs (joined t (lists e)) [] (subst Distinct is d) (sym is ∙ rolls e)
+      nothing-follows e d us vs is = unique-split e us vs (joined_backward t (lists e)) [] (subst Distinct is d) (sym is ∙ rolls e)

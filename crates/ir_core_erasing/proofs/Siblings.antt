@@ -13,12 +13,12 @@ use Rattle.ir_model.specs.Ids.{Absent, Distinct}
 use Rattle.ir_model.proofs.Keeps.{Distinct-unmap}
 use Rattle.ir_model.proofs.Nests.{In-map_back, not_in-Absent}
 use Rattle.ir_base_arenas.specs.Arena.{get}
-use Rattle.ir_base_arenas.specs.Lists.{Ends, Links, linked, head_or, last_of, last_or}
+use Rattle.ir_base_arenas.specs.Lists.{Ends, Links, linked, head_or, last_from, last_or}
 use Rattle.ir_core_records.specs.declared.record.Operation.{Operation}
 use Rattle.ir_core_records.specs.declared.record.BasicBlock.{BasicBlock}
 use Rattle.ir_core_records.specs.declared.record.Region.{Region}
 use Rattle.ir_core_records.specs.declared.records.Records.{Records}
-use Rattle.ir_core_records.specs.Meaning.{closed, forest_of, op_record, block_record}
+use Rattle.ir_core_records.specs.Meaning.{closed, forest_in, op_record, block_record}
 use Rattle.ir_core_records.specs.Nested.{AreNested}
 use Rattle.ir_core_records.specs.Tree.{tree_of, ops_in, blocks_in, block_ends, region_ends, op_regions}
 use Rattle.ir_core_erasing.specs.Walks.{StartsWith, EndsWith, IsBefore, before_from, kept_last, kept_previous, tail_in, prev_in}
@@ -58,7 +58,7 @@ module _ {A E : Type 0} (c : A → E) where
   map-previous xs x None m = (map c m.0, ap (map c) m.1)
   map-previous xs x (Some q) m = map-before xs q x m
 
-last-got : (x : ArenaIndex) (xs : List ArenaIndex) → Some (last_of x xs) ≡ slice_get (x ∷ xs) (length xs)
+last-got : (x : ArenaIndex) (xs : List ArenaIndex) → Some (last_from x xs) ≡ slice_get (x ∷ xs) (length xs)
 last-got x [] = refl
 last-got x (y ∷ ys) = last-got y ys
 
@@ -67,7 +67,7 @@ last-last : (xs : List ArenaIndex) → last_or None xs ≡ last_in xs
 last-last [] = refl
 last-last (x ∷ xs) = last-got x xs ∙ ap (slice_get (x ∷ xs)) (let e : length xs ≡ length (x ∷ xs) - 1 = omega arith in e)
 
-of-ends : (y : ArenaIndex) (xs : List ArenaIndex) → EndsWith (y ∷ xs) (last_of y xs)
+of-ends : (y : ArenaIndex) (xs : List ArenaIndex) → EndsWith (y ∷ xs) (last_from y xs)
 of-ends y [] = ([], refl)
 of-ends y (x ∷ xs) = let m = of-ends x xs in (y ∷ m.0, ap (λ ws. y ∷ ws) m.1)
 
@@ -75,7 +75,7 @@ split-previous : (xs us vs : List ArenaIndex) (x : ArenaIndex) → xs ≡ us ++ 
 split-previous xs [] vs x is = (vs, is)
 split-previous xs (u ∷ us) vs x is =
     let m = of-ends u us in
-    (m.0, vs, is ∙ ap (λ ws. ws ++ x ∷ vs) m.1 ∙ append_assoc m.0 (last_of u us ∷ []) (x ∷ vs))
+    (m.0, vs, is ∙ ap (λ ws. ws ++ x ∷ vs) m.1 ∙ append_assoc m.0 (last_from u us ∷ []) (x ∷ vs))
 
 scan : (p : Option ArenaIndex) (x : ArenaIndex) (xs : List ArenaIndex) → In x xs
     → (StartsWith xs x × (before_from p x xs ≡ p)) ⊎ ((q : ArenaIndex) × (before_from p x xs ≡ Some q) × IsBefore xs q x)
@@ -125,21 +125,21 @@ abbrev pub AreNeighbours : (ArenaIndex → Option Links) → (ArenaIndex → Lis
 AreNeighbours nodes lists = (c x : ArenaIndex) (a b : List ArenaIndex) → lists c ≡ a ++ x ∷ b → nodes x ≡ Some (linked (last_or None a) (head_or None b) c)
 
 module _ {D A K B S X L : Type 0} (t : Records D A K B S X L) (nested : AreNested (tree_of t)) where
-  pub ops_of-is : (b : ArenaIndex) → ops_of (forest_of t) b ≡ ops_in (tree_of t) b
+  pub ops_of-is : (b : ArenaIndex) → ops_of (forest_in t) b ≡ ops_in (tree_of t) b
   ops_of-is b = by (get t.blocks b) refl
     where
       by : (m : Option (BasicBlock D A K B S X L)) → get t.blocks b ≡ m → list_of (λ (r : BlockRecord context_ids (closed A K B S X L)). r.ops) (option_map (block_record (ops_in (tree_of t) b)) m) ≡ ops_in (tree_of t) b
       by None e = sym (nested.op_lists.absent b (ap (option_map block_ends) e))
       by (Some r) e = refl
 
-  pub blocks_of-is : (g : ArenaIndex) → blocks_of (forest_of t) g ≡ blocks_in (tree_of t) g
+  pub blocks_of-is : (g : ArenaIndex) → blocks_of (forest_in t) g ≡ blocks_in (tree_of t) g
   blocks_of-is g = by (get t.regions g) refl
     where
       by : (m : Option Region) → get t.regions g ≡ m → list_of (λ (bs : List ArenaIndex). bs) (option_map (λ _. blocks_in (tree_of t) g) m) ≡ blocks_in (tree_of t) g
       by None e = sym (nested.block_lists.absent g (ap (option_map region_ends) e))
       by (Some r) e = refl
 
-  pub regions_of-is : (o : ArenaIndex) → regions_of (forest_of t) o ≡ list_of (λ gs. gs) ((tree_of t).regions_of o)
+  pub regions_of-is : (o : ArenaIndex) → regions_of (forest_in t) o ≡ list_of (λ gs. gs) ((tree_of t).regions_of o)
   regions_of-is o = by (get t.ops o)
     where
       by : (m : Option (Operation D A K B S X L)) → list_of (λ (r : OpRecord context_ids (closed A K B S X L)). r.regions) (option_map op_record m) ≡ list_of (λ gs. gs) (option_map op_regions m)
@@ -151,8 +151,8 @@ module _ {D A K B S X L : Type 0} (t : Records D A K B S X L) (nested : AreNeste
   tail-is (Some e) xs there gone = there e refl
 
   -- the last child
-  pub last-is : (e : Entity context_ids) → kept_last (tree_of t) e ≡ last_in (children (forest_of t) e)
-  last-is (an_op o) = ap (λ gs. option_map a_region (last_in gs)) (sym (regions_of-is o)) ∙ last-map a_region (regions_of (forest_of t) o)
+  pub last-is : (e : Entity context_ids) → kept_last (tree_of t) e ≡ last_in (children (forest_in t) e)
+  last-is (an_op o) = ap (λ gs. option_map a_region (last_in gs)) (sym (regions_of-is o)) ∙ last-map a_region (regions_of (forest_in t) o)
   last-is (a_block b) =
       ap (option_map an_op) (tail-is ((tree_of t).block_ends b) (ops_in (tree_of t) b) (λ e h. ap (λ (x : Ends). x.tail) (nested.op_lists.ends b e h)) (nested.op_lists.absent b) ∙ last-last (ops_in (tree_of t) b))
       ∙ last-map an_op (ops_in (tree_of t) b) ∙ ap (λ os. last_in (map an_op os)) (sym (ops_of-is b))
@@ -162,37 +162,37 @@ module _ {D A K B S X L : Type 0} (t : Records D A K B S X L) (nested : AreNeste
 
   module _ (op_links : AreNeighbours (tree_of t).ops (ops_in (tree_of t))) (block_links : AreNeighbours (tree_of t).blocks (blocks_in (tree_of t))) where
     -- the one before, whatever list the entity stands in
-    pub previous-is : (p x : Entity context_ids) → In x (children (forest_of t) p) → PreviousIs (children (forest_of t) p) x (kept_previous (tree_of t) x)
+    pub previous-is : (p x : Entity context_ids) → In x (children (forest_in t) p) → PreviousIs (children (forest_in t) p) x (kept_previous (tree_of t) x)
     previous-is (an_op o) x h =
-        let m = In-map_back a_region x (regions_of (forest_of t) o) h in
-        subst (λ z. PreviousIs (children (forest_of t) (an_op o)) z (kept_previous (tree_of t) z)) (sym m.2)
+        let m = In-map_back a_region x (regions_of (forest_in t) o) h in
+        subst (λ z. PreviousIs (children (forest_in t) (an_op o)) z (kept_previous (tree_of t) z)) (sym m.2)
         (by m.0 ((tree_of t).regions_of o) refl (subst (In m.0) (regions_of-is o) m.1))
       where
         by : (g : ArenaIndex) (w : Option (List ArenaIndex)) → (tree_of t).regions_of o ≡ w → In g (list_of (λ gs. gs) ((tree_of t).regions_of o))
-            → PreviousIs (children (forest_of t) (an_op o)) (a_region g) (kept_previous (tree_of t) (a_region g))
+            → PreviousIs (children (forest_in t) (an_op o)) (a_region g) (kept_previous (tree_of t) (a_region g))
         by g None e i = absurd (subst (λ (m : Option (List ArenaIndex)). In g (list_of (λ gs. gs) m)) e i)
         by g (Some gs) e i =
             let found : kept_previous (tree_of t) (a_region g) ≡ option_map a_region (before_from None g gs) =
             ap (λ (m : Option ArenaIndex). option_map a_region (option_and_then (λ (gs : List ArenaIndex). before_from None g gs) (option_and_then (tree_of t).regions_of m))) (nested.parents o g i)
             ∙ ap (λ (m : Option (List ArenaIndex)). option_map a_region (option_and_then (λ (gs : List ArenaIndex). before_from None g gs) m)) e in
-            let regions : regions_of (forest_of t) o ≡ gs = regions_of-is o ∙ ap (list_of (λ gs. gs)) e in
-            subst (PreviousIs (children (forest_of t) (an_op o)) (a_region g)) (sym found)
-            (map-previous a_region (regions_of (forest_of t) o) g (before_from None g gs)
+            let regions : regions_of (forest_in t) o ≡ gs = regions_of-is o ∙ ap (list_of (λ gs. gs)) e in
+            subst (PreviousIs (children (forest_in t) (an_op o)) (a_region g)) (sym found)
+            (map-previous a_region (regions_of (forest_in t) o) g (before_from None g gs)
             (subst (λ xs. PreviousIs xs g (before_from None g gs)) (sym regions) (scan-previous g gs (subst (λ (m : Option (List ArenaIndex)). In g (list_of (λ gs. gs) m)) e i))))
     previous-is (a_block b) x h =
-        let m = In-map_back an_op x (ops_of (forest_of t) b) h in
+        let m = In-map_back an_op x (ops_of (forest_in t) b) h in
         let at = split m.0 (ops_in (tree_of t) b) (subst (In m.0) (ops_of-is b) m.1) in
         let links = op_links b m.0 at.0 at.1 at.2 in
-        subst (λ z. PreviousIs (children (forest_of t) (a_block b)) z (kept_previous (tree_of t) z)) (sym m.2)
-        (subst (PreviousIs (children (forest_of t) (a_block b)) (an_op m.0)) (sym (ap (λ l. option_map an_op (prev_in l)) links))
-        (map-previous an_op (ops_of (forest_of t) b) m.0 (last_or None at.0) (split-previous (ops_of (forest_of t) b) at.0 at.1 m.0 (ops_of-is b ∙ at.2))))
+        subst (λ z. PreviousIs (children (forest_in t) (a_block b)) z (kept_previous (tree_of t) z)) (sym m.2)
+        (subst (PreviousIs (children (forest_in t) (a_block b)) (an_op m.0)) (sym (ap (λ l. option_map an_op (prev_in l)) links))
+        (map-previous an_op (ops_of (forest_in t) b) m.0 (last_or None at.0) (split-previous (ops_of (forest_in t) b) at.0 at.1 m.0 (ops_of-is b ∙ at.2))))
     previous-is (a_region g) x h =
-        let m = In-map_back a_block x (blocks_of (forest_of t) g) h in
+        let m = In-map_back a_block x (blocks_of (forest_in t) g) h in
         let at = split m.0 (blocks_in (tree_of t) g) (subst (In m.0) (blocks_of-is g) m.1) in
         let links = block_links g m.0 at.0 at.1 at.2 in
-        subst (λ z. PreviousIs (children (forest_of t) (a_region g)) z (kept_previous (tree_of t) z)) (sym m.2)
-        (subst (PreviousIs (children (forest_of t) (a_region g)) (a_block m.0)) (sym (ap (λ l. option_map a_block (prev_in l)) links))
-        (map-previous a_block (blocks_of (forest_of t) g) m.0 (last_or None at.0) (split-previous (blocks_of (forest_of t) g) at.0 at.1 m.0 (blocks_of-is g ∙ at.2))))
+        subst (λ z. PreviousIs (children (forest_in t) (a_region g)) z (kept_previous (tree_of t) z)) (sym m.2)
+        (subst (PreviousIs (children (forest_in t) (a_region g)) (a_block m.0)) (sym (ap (λ l. option_map a_block (prev_in l)) links))
+        (map-previous a_block (blocks_of (forest_in t) g) m.0 (last_or None at.0) (split-previous (blocks_of (forest_in t) g) at.0 at.1 m.0 (blocks_of-is g ∙ at.2))))
 
 drop-here : (xs : List ArenaIndex) (k : ℕ) (d : ArenaIndex) → k < length xs → drop k xs ≡ slice_index_or xs k d ∷ drop (suc k) xs
 drop-here [] k d h = absurd (omega (arith, h))
@@ -219,7 +219,7 @@ module _ (xs : List ArenaIndex) (k : ℕ) (d x : ArenaIndex) (p : Option ArenaIn
   scan-end h = ap (before_from p x) (drop-past xs k h)
 
 -- no region stands twice in an operation
-pub regions-once : {D A K B S X L : Type 0} (t : Records D A K B S X L) (o : ArenaIndex) (r : Operation D A K B S X L) → Some r ≡ get t.ops o → Nested (forest_of t) → Distinct r.regions
+pub regions-once : {D A K B S X L : Type 0} (t : Records D A K B S X L) (o : ArenaIndex) (r : Operation D A K B S X L) → Some r ≡ get t.ops o → Nested (forest_in t) → Distinct r.regions
 regions-once {D} {A} {K} {B} {S} {X} {L} t o r found nested =
     Distinct-unmap a_region r.regions
     (subst (λ (m : Option (Operation D A K B S X L)). Distinct {A = Entity context_ids} (map a_region (list_of (λ (q : OpRecord context_ids (closed A K B S X L)). q.regions) (option_map op_record m)))) (sym found) (nested.once (an_op o)))

@@ -10,7 +10,7 @@ use Rattle.ir_model.proofs.Nests.{Within-trans}
 use Rattle.ir_model.proofs.TwoRuns.{lawful}
 use Rattle.ir_core_records.specs.declared.records.Records.{Records}
 use Rattle.ir_core_records.specs.Chains.{chains_of}
-use Rattle.ir_core_records.specs.Meaning.{forest_of}
+use Rattle.ir_core_records.specs.Meaning.{forest_in}
 use Rattle.ir_core_records.specs.Nested.{AreNested}
 use Rattle.ir_core_records.specs.Table.{KnowOwn}
 use Rattle.ir_core_records.specs.Tree.{tree_of}
@@ -35,23 +35,23 @@ module _ {D A K B S X L : Type 0} where
   pub record Tearing (first now : Records D A K B S X L) (root here : Entity context_ids) : Type 0 where
     pub keys : ℕ
     pub steps : ℕ
-    pub erasing : Erasing (forest_of first) root keys (forest_of now) steps
-    pub live : IsLive (forest_of now) root
-    pub inside : Inside (forest_of now) root here
+    pub erasing : Erasing (forest_in first) root keys (forest_in now) steps
+    pub live : IsLive (forest_in now) root
+    pub inside : Inside (forest_in now) root here
     pub keeps : Keeps first now steps
 
   -- a teardown that is done
   pub record Torn (first now : Records D A K B S X L) (root : Entity context_ids) : Type 0 where
     pub steps : ℕ
-    pub removed : Removes (forest_of first) root (forest_of now)
-    pub size : IsSubtreeSize (forest_of first) root steps
+    pub removed : Removes (forest_in first) root (forest_in now)
+    pub size : IsSubtreeSize (forest_in first) root steps
     pub keeps : Keeps first now steps
 
   abbrev pub Tears : Records D A K B S X L → Records D A K B S X L → Entity context_ids → Option (Entity context_ids) → Type 0
   Tears first now root None = Torn first now root
   Tears first now root (Some x) = Tearing first now root x
 
-  pub start : (t : Records D A K B S X L) (root : Entity context_ids) (keys : ℕ) → WellFormed (forest_of t) keys → AreNested (tree_of t) → IsLive (forest_of t) root → Bare (forest_of t) root → Unnamed (forest_of t) root → Tearing t t root root
+  pub start : (t : Records D A K B S X L) (root : Entity context_ids) (keys : ℕ) → WellFormed (forest_in t) keys → AreNested (tree_of t) → IsLive (forest_in t) root → Bare (forest_in t) root → Unnamed (forest_in t) root → Tearing t t root root
   start t root keys formed nested live bare unnamed = record {
     keys = keys;
     steps = 0;
@@ -60,28 +60,28 @@ module _ {D A K B S X L : Type 0} where
       unnamed = unnamed;
       bare = bare;
       completes = λ last k. k;
-      counts = λ left s. subst (IsSubtreeSize (forest_of t) root) (omega arith) s;
+      counts = λ left s. subst (IsSubtreeSize (forest_in t) root) (omega arith) s;
     };
     live = live;
     inside = itself;
     keeps = record { counted = omega arith; nested = nested; chains = refl; own = λ k. k; ids = none-refl t };
   }
 
-  module _ (first now : Records D A K B S X L) (root here leaf : Entity context_ids) (w : Tearing first now root here) (i : Inside (forest_of now) here leaf) where
-    pub leaf-inside : Inside (forest_of now) root leaf
-    leaf-inside = Within-trans (children (forest_of now)) (children (forest_of now)) root here leaf w.inside i
+  module _ (first now : Records D A K B S X L) (root here leaf : Entity context_ids) (w : Tearing first now root here) (i : Inside (forest_in now) here leaf) where
+    pub leaf-inside : Inside (forest_in now) root leaf
+    leaf-inside = Within-trans (children (forest_in now)) (children (forest_in now)) root here leaf w.inside i
 
-    pub leaf-live : IsLive (forest_of now) leaf
-    leaf-live = inside-live (forest_of now) w.erasing.formed.nested root leaf w.live leaf-inside
+    pub leaf-live : IsLive (forest_in now) leaf
+    leaf-live = inside-live (forest_in now) w.erasing.formed.nested root leaf w.live leaf-inside
 
     -- what is inside the leaf is inside the root
-    pub leaf-bare : Bare (forest_of now) leaf
-    leaf-bare = λ o k. w.erasing.bare o (Within-trans (children (forest_of now)) (children (forest_of now)) root leaf (an_op o) leaf-inside k)
+    pub leaf-bare : Bare (forest_in now) leaf
+    leaf-bare = λ o k. w.erasing.bare o (Within-trans (children (forest_in now)) (children (forest_in now)) root leaf (an_op o) leaf-inside k)
 
-    pub leaf-unnamed : Unnamed (forest_of now) leaf
-    leaf-unnamed = λ o d h k. w.erasing.unnamed o d h (Within-trans (children (forest_of now)) (children (forest_of now)) root leaf (owner context_ids d) leaf-inside k)
+    pub leaf-unnamed : Unnamed (forest_in now) leaf
+    leaf-unnamed = λ o d h k. w.erasing.unnamed o d h (Within-trans (children (forest_in now)) (children (forest_in now)) root leaf (owner context_ids d) leaf-inside k)
 
-    module _ (none : children (forest_of now) leaf ≡ []) (next : Records D A K B S X L) (r : RemovesLeaf now leaf next) where
+    module _ (none : children (forest_in now) leaf ≡ []) (next : Records D A K B S X L) (r : RemovesLeaf now leaf next) where
       keeps-on : Keeps first next (w.steps + 1)
       keeps-on = record {
         counted = omega (arith, r.counted, w.keeps.counted);
@@ -91,25 +91,25 @@ module _ {D A K B S X L : Type 0} where
         ids = none-trans first now next w.keeps.ids r.ids;
       }
 
-      step-to : (leaf ≡ root → ⊥) → (p : Entity context_ids) → In leaf (children (forest_of now) p) → Inside (forest_of now) root p → Tearing first next root p
+      step-to : (leaf ≡ root → ⊥) → (p : Entity context_ids) → In leaf (children (forest_in now) p) → Inside (forest_in now) root p → Tearing first next root p
       step-to other p h at =
-          let over : p ≡ leaf → ⊥ = λ e. (let n : In {A = Entity context_ids} leaf [] = subst (λ xs. In leaf xs) none (subst (λ z. In leaf (children (forest_of now) z)) e h) in n) in
+          let over : p ≡ leaf → ⊥ = λ e. (let n : In {A = Entity context_ids} leaf [] = subst (λ xs. In leaf xs) none (subst (λ z. In leaf (children (forest_in now) z)) e h) in n) in
           record {
             keys = w.keys;
             steps = w.steps + 1;
-            erasing = erasing-step (forest_of first) root w.keys lawful (forest_of now) (forest_of next) leaf w.steps w.erasing none leaf-inside r.removed other;
-            live = live-still lawful (forest_of now) (forest_of next) leaf none r.removed root (λ e. other (sym e)) w.live;
-            inside = inside-still lawful (forest_of now) (forest_of next) leaf none r.removed root p over at;
+            erasing = erasing-step (forest_in first) root w.keys lawful (forest_in now) (forest_in next) leaf w.steps w.erasing none leaf-inside r.removed other;
+            live = live-still lawful (forest_in now) (forest_in next) leaf none r.removed root (λ e. other (sym e)) w.live;
+            inside = inside-still lawful (forest_in now) (forest_in next) leaf none r.removed root p over at;
             keeps = keeps-on;
           }
 
       -- after a leaf that is not the root it goes on at what the leaf stood in
-      pub next-step : (leaf ≡ root → ⊥) → (o : Option (Entity context_ids)) → IsParent (forest_of now) leaf o → Tears first next root o
+      pub next-step : (leaf ≡ root → ⊥) → (o : Option (Entity context_ids)) → IsParent (forest_in now) leaf o → Tears first next root o
       next-step other o is =
-          let p = owner-inside (forest_of now) root leaf other leaf-inside in
-          subst (Tears first next root) (sym (parent-one (forest_of now) w.erasing.formed.nested leaf p.0 o p.1 is)) (step-to other p.0 p.1 p.2)
+          let p = owner-inside (forest_in now) root leaf other leaf-inside in
+          subst (Tears first next root) (sym (parent-one (forest_in now) w.erasing.formed.nested leaf p.0 o p.1 is)) (step-to other p.0 p.1 p.2)
 
       pub last-step : leaf ≡ root → Torn first next root
       last-step is =
-          let done = erasing-last (forest_of first) root w.keys lawful (forest_of now) (forest_of next) leaf w.steps w.erasing none leaf-inside r.removed is in
+          let done = erasing-last (forest_in first) root w.keys lawful (forest_in now) (forest_in next) leaf w.steps w.erasing none leaf-inside r.removed is in
           record { steps = w.steps + 1; removed = done.0; size = done.1; keeps = keeps-on }

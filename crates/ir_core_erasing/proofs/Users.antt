@@ -22,7 +22,7 @@ use Rattle.ir_core_records.specs.Distinct.{first_with}
 use Rattle.ir_core_records.specs.Found.{place-In}
 use Rattle.ir_core_records.specs.KeptUses.{kept-exact}
 use Rattle.ir_core_records.specs.Lists.{in_record, uses_with}
-use Rattle.ir_core_records.specs.Meaning.{forest_of, definer_of, value_of, use_of}
+use Rattle.ir_core_records.specs.Meaning.{forest_in, definer_of, value_of, use_of}
 use Rattle.ir_core_records.specs.Meant.{value-same, operands-meant, successors-meant, numbers-meant}
 use Rattle.ir_core_records.specs.Numbered.{uses_with-at}
 use Rattle.ir_core_records.specs.Table.{block_uses_at, definitions_at, operands_at, successors_at, uses_at}
@@ -70,38 +70,38 @@ successor-same m n b c e =
 
 module _ {D A K B S X L : Type 0} (t : Records D A K B S X L) (linked : AreLinked (chains_of t)) where
   -- the kept uses of a value, and of a block, are its uses
-  value-uses : (v : ValueIndex) (u : Use context_ids) → In u (map use_of (uses_at t v)) ↔ IsUse (forest_of t) (a_value (value_of v)) u
-  value-uses v u = kept-exact (operands_at t) (uses_at t) linked.values operand_like operand-same (operands_of (forest_of t)) (operands-meant t) v u
+  value-uses : (v : ValueIndex) (u : Use context_ids) → In u (map use_of (uses_at t v)) ↔ IsUse (forest_in t) (a_value (value_of v)) u
+  value-uses v u = kept-exact (operands_at t) (uses_at t) linked.values operand_like operand-same (operands_of (forest_in t)) (operands-meant t) v u
 
-  block-uses : (b : BlockIndex) (u : Use context_ids) → In u (map use_of (block_uses_at t b)) ↔ IsUse (forest_of t) (the_block b.index) u
-  block-uses b u = kept-exact (successors_at t) (block_uses_at t) linked.blocks successor_like successor-same (successors_of (forest_of t)) (successors-meant t) b u
+  block-uses : (b : BlockIndex) (u : Use context_ids) → In u (map use_of (block_uses_at t b)) ↔ IsUse (forest_in t) (the_block b.index) u
+  block-uses b u = kept-exact (successors_at t) (block_uses_at t) linked.blocks successor_like successor-same (successors_of (forest_in t)) (successors-meant t) b u
 
   -- what is not named has no kept uses
-  pub unnamed-value : (e : Entity context_ids) → Unnamed (forest_of t) e → (v : ValueIndex) → Inside (forest_of t) e (definer_entity context_ids (definer_of v.definer)) → uses_at t v ≡ []
+  pub unnamed-value : (e : Entity context_ids) → Unnamed (forest_in t) e → (v : ValueIndex) → Inside (forest_in t) e (definer_entity context_ids (definer_of v.definer)) → uses_at t v ≡ []
   unnamed-value e none v i = empty (uses_at t v) (λ u h.
-      none u.user (a_value (value_of v)) (use-named (forest_of t) (a_value (value_of v)) (use_of u) ((value-uses v (use_of u)).0 (In-map use_of u (uses_at t v) h))) i)
+      none u.user (a_value (value_of v)) (use-named (forest_in t) (a_value (value_of v)) (use_of u) ((value-uses v (use_of u)).0 (In-map use_of u (uses_at t v) h))) i)
 
-  pub unnamed-block : (e : Entity context_ids) → Unnamed (forest_of t) e → (b : BlockIndex) → Inside (forest_of t) e (a_block b.index) → block_uses_at t b ≡ []
+  pub unnamed-block : (e : Entity context_ids) → Unnamed (forest_in t) e → (b : BlockIndex) → Inside (forest_in t) e (a_block b.index) → block_uses_at t b ≡ []
   unnamed-block e none b i = empty (block_uses_at t b) (λ u h.
-      none u.user (the_block b.index) (use-named (forest_of t) (the_block b.index) (use_of u) ((block-uses b (use_of u)).0 (In-map use_of u (block_uses_at t b) h))) i)
+      none u.user (the_block b.index) (use-named (forest_in t) (the_block b.index) (use_of u) ((block-uses b (use_of u)).0 (In-map use_of u (block_uses_at t b) h))) i)
 
   module _ (root : Entity context_ids) where
     -- the user is inside the root
     abbrev pub IsUserInside : UseIndex → Type 0
-    IsUserInside u = Inside (forest_of t) root (an_op u.user)
+    IsUserInside u = Inside (forest_in t) root (an_op u.user)
 
     -- to ask each kept use is to ask each user
-    asked : (d : Named context_ids) (uses : List UseIndex) → ((u : Use context_ids) → In u (map use_of uses) ↔ IsUse (forest_of t) d u) → All IsUserInside uses ↔ UsersInside (forest_of t) root d
+    asked : (d : Named context_ids) (uses : List UseIndex) → ((u : Use context_ids) → In u (map use_of uses) ↔ IsUse (forest_in t) d u) → All IsUserInside uses ↔ UsersInside (forest_in t) root d
     asked d uses exact = (
       λ all u h. (let m = In-map_back use_of u uses ((exact u).1 h) in
-          subst (λ (w : Use context_ids). Inside (forest_of t) root (an_op w.user)) (sym m.2) (all-in IsUserInside uses all m.0 m.1)),
+          subst (λ (w : Use context_ids). Inside (forest_in t) root (an_op w.user)) (sym m.2) (all-in IsUserInside uses all m.0 m.1)),
       λ by. in-all IsUserInside uses (λ u h. by (use_of u) ((exact (use_of u)).0 (In-map use_of u uses h))),
     )
 
-    pub block-asked : (b : BlockIndex) → All IsUserInside (block_uses_at t b) ↔ UsersInside (forest_of t) root (the_block b.index)
+    pub block-asked : (b : BlockIndex) → All IsUserInside (block_uses_at t b) ↔ UsersInside (forest_in t) root (the_block b.index)
     block-asked b = asked (the_block b.index) (block_uses_at t b) (block-uses b)
 
-    module _ (d : Definer) (once : Distinct (numbers_of (forest_of t) (definer_of d))) where
+    module _ (d : Definer) (once : Distinct (numbers_of (forest_in t) (definer_of d))) where
       -- the uses that a definition keeps are those of its number
       kept-of : (r : Definition) → In r (definitions_at t d) → uses_with (definitions_at t d) r.number ≡ r.uses
       kept-of r h =
@@ -109,7 +109,7 @@ module _ {D A K B S X L : Type 0} (t : Records D A K B S X L) (linked : AreLinke
           sym (uses_with-at (definitions_at t d) r.number p.0 r p.1 (first_with (λ (x : Definition). x.number) (definitions_at t d) r.number p.0 r (subst Distinct (numbers-meant t d) once) p.1 refl))
 
       -- to ask each definition is to ask each number
-      pub definitions-asked : All (λ (r : Definition). All IsUserInside r.uses) (definitions_at t d) ↔ ((n : ℕ) → In n (numbers_of (forest_of t) (definer_of d)) → UsersInside (forest_of t) root (a_value (record { definer = definer_of d; number = n })))
+      pub definitions-asked : All (λ (r : Definition). All IsUserInside r.uses) (definitions_at t d) ↔ ((n : ℕ) → In n (numbers_of (forest_in t) (definer_of d)) → UsersInside (forest_in t) root (a_value (record { definer = definer_of d; number = n })))
       definitions-asked = (
         λ all n h. (let m = In-map_back (λ (x : Definition). x.number) n (definitions_at t d) (subst (In n) (numbers-meant t d) h) in
             let kept : uses_with (definitions_at t d) n ≡ m.0.uses = ap (uses_with (definitions_at t d)) m.2 ∙ kept-of m.0 m.1 in
@@ -121,23 +121,23 @@ module _ {D A K B S X L : Type 0} (t : Records D A K B S X L) (linked : AreLinke
             (by r.number (subst (In r.number) (sym (numbers-meant t d)) (In-map (λ (x : Definition). x.number) r (definitions_at t d) h))))),
       )
 
-    module _ (once : (d : Definer) → Distinct (numbers_of (forest_of t) (definer_of d))) where
+    module _ (once : (d : Definer) → Distinct (numbers_of (forest_in t) (definer_of d))) where
       -- of an operation, by its record
       pub op-asked : (op : ArenaIndex) (x : Operation D A K B S X L) → get t.ops op ≡ Some x → (results : List Definition) → results ≡ x.results
-          → All (λ (r : Definition). All IsUserInside r.uses) results ↔ EntityClosed (forest_of t) root (an_op op)
+          → All (λ (r : Definition). All IsUserInside r.uses) results ↔ EntityClosed (forest_in t) root (an_op op)
       op-asked op x found results is =
-          subst (λ rs. All (λ (r : Definition). All IsUserInside r.uses) rs ↔ EntityClosed (forest_of t) root (an_op op)) (sym (is ∙ sym (ap (in_record (λ (y : Operation D A K B S X L). y.results) []) found)))
+          subst (λ rs. All (λ (r : Definition). All IsUserInside r.uses) rs ↔ EntityClosed (forest_in t) root (an_op op)) (sym (is ∙ sym (ap (in_record (λ (y : Operation D A K B S X L). y.results) []) found)))
           (definitions-asked (Op op) (once (Op op)))
 
       -- of a block, by its record
       pub block-uses-asked : (block : ArenaIndex) (x : BasicBlock D A K B S X L) → get t.blocks block ≡ Some x → (uses : List UseIndex) → uses ≡ x.uses
-          → All IsUserInside uses ↔ UsersInside (forest_of t) root (the_block block)
+          → All IsUserInside uses ↔ UsersInside (forest_in t) root (the_block block)
       block-uses-asked block x found uses is =
-          subst (λ us. All IsUserInside us ↔ UsersInside (forest_of t) root (the_block block)) (sym (is ∙ sym (ap (in_record (λ (y : BasicBlock D A K B S X L). y.uses) []) found)))
+          subst (λ us. All IsUserInside us ↔ UsersInside (forest_in t) root (the_block block)) (sym (is ∙ sym (ap (in_record (λ (y : BasicBlock D A K B S X L). y.uses) []) found)))
           (block-asked (record { index = block }))
 
       pub arguments-asked : (block : ArenaIndex) (x : BasicBlock D A K B S X L) → get t.blocks block ≡ Some x → (arguments : List Definition) → arguments ≡ x.arguments
-          → All (λ (r : Definition). All IsUserInside r.uses) arguments ↔ ((n : ℕ) → In n (numbers_of (forest_of t) (of_block block)) → UsersInside (forest_of t) root (a_value (record { definer = of_block block; number = n })))
+          → All (λ (r : Definition). All IsUserInside r.uses) arguments ↔ ((n : ℕ) → In n (numbers_of (forest_in t) (of_block block)) → UsersInside (forest_in t) root (a_value (record { definer = of_block block; number = n })))
       arguments-asked block x found arguments is =
-          subst (λ rs. All (λ (r : Definition). All IsUserInside r.uses) rs ↔ ((n : ℕ) → In n (numbers_of (forest_of t) (of_block block)) → UsersInside (forest_of t) root (a_value (record { definer = of_block block; number = n })))) (sym (is ∙ sym (ap (in_record (λ (y : BasicBlock D A K B S X L). y.arguments) []) found)))
+          subst (λ rs. All (λ (r : Definition). All IsUserInside r.uses) rs ↔ ((n : ℕ) → In n (numbers_of (forest_in t) (of_block block)) → UsersInside (forest_in t) root (a_value (record { definer = of_block block; number = n })))) (sym (is ∙ sym (ap (in_record (λ (y : BasicBlock D A K B S X L). y.arguments) []) found)))
           (definitions-asked (Block block) (once (Block block)))

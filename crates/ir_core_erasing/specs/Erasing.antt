@@ -7,7 +7,7 @@ use Rattle.ir_model.specs.Changes.{Removes}
 use Rattle.ir_base_arenas.specs.Arena.{Arena, arena_len, is_passed}
 use Rattle.ir_core_records.specs.declared.records.Records.{Records}
 use Rattle.ir_core_records.specs.Chains.{chains_of}
-use Rattle.ir_core_records.specs.Meaning.{forest_of}
+use Rattle.ir_core_records.specs.Meaning.{forest_in}
 use Rattle.ir_core_records.specs.Nested.{AreNested}
 use Rattle.ir_core_records.specs.Table.{KnowOwn}
 use Rattle.ir_core_records.specs.Tree.{tree_of}
@@ -35,7 +35,7 @@ module _ {D A K B S X L : Type 0} where
 
   -- e alone was removed, by one removal, and all that it stood beside agrees as before
   pub record RemovesLeaf (old : Records D A K B S X L) (e : Entity context_ids) (new : Records D A K B S X L) : Type 0 where
-    pub removed : Removes (forest_of old) e (forest_of new)
+    pub removed : Removes (forest_in old) e (forest_in new)
     pub nested : AreNested (tree_of new)
     pub chains : chains_of new ≡ chains_of old
     pub own : KnowOwn old → KnowOwn new

@@ -9,20 +9,20 @@ use Rattle.ir_model.specs.Parent.{last_of}
 use Rattle.ir_model.specs.Subtree.{ListsSubtree}
 use Rattle.ir_base_arenas.specs.Lists.{Links, Ends}
 use Rattle.ir_core_records.specs.declared.records.Records.{Records}
-use Rattle.ir_core_records.specs.Meaning.{forest_of}
+use Rattle.ir_core_records.specs.Meaning.{forest_in}
 use Rattle.ir_core_records.specs.Nested.{AreNested}
 use Rattle.ir_core_records.specs.Tree.{Tree, tree_of}
 use Rattle.ir_core_nesting.specs.Climbs.{depth, size}
 
 -- the lists of these, from that of the last to that of the first
-abbrev pub joined : {E : Type 0} → (E → List E) → List E → List E
-joined g [] = []
-joined g (c ∷ cs) = joined g cs ++ g c
+abbrev pub joined_backward : {E : Type 0} → (E → List E) → List E → List E
+joined_backward g [] = []
+joined_backward g (c ∷ cs) = joined_backward g cs ++ g c
 
 -- the listing of e, so many levels deep
 abbrev pub post : {E : Type 0} → ℕ → (E → List E) → E → List E
 post zero lists e = []
-post (suc n) lists e = joined (post n lists) (lists e) ++ e ∷ []
+post (suc n) lists e = joined_backward (post n lists) (lists e) ++ e ∷ []
 
 -- the list begins with x
 abbrev pub StartsWith : {E : Type 0} → List E → E → Type 0
@@ -66,9 +66,9 @@ kept_previous t (a_region g) = option_map a_region (option_and_then (λ (gs : Li
 module _ {D A K B S X L : Type 0} where
   -- all that is inside e, in the order of the walk; no entity is deeper than there are slots
   abbrev pub subtree : Records D A K B S X L → Entity context_ids → List (Entity context_ids)
-  subtree t e = post (suc (suc (size t)) - depth t (Some e)) (children (forest_of t)) e
+  subtree t e = post (suc (suc (size t)) - depth t (Some e)) (children (forest_in t)) e
 
 -- the listing has exactly what is inside, each once
 abbrev pub SubtreesListed : (D A K B S X L : Type 0) → Type 0
 SubtreesListed D A K B S X L =
-    (t : Records D A K B S X L) (e : Entity context_ids) → AreNested (tree_of t) → Nested (forest_of t) → ListsSubtree (forest_of t) e (subtree t e)
+    (t : Records D A K B S X L) (e : Entity context_ids) → AreNested (tree_of t) → Nested (forest_in t) → ListsSubtree (forest_in t) e (subtree t e)

@@ -6,7 +6,7 @@ ghost use Rattle.std.specs.Prelude.{◌≡◌, ◌↔◌, ℕ, All, IsTrue};
 ghost use Rattle.ir_model.specs.Forest.{an_op};
 ghost use Rattle.ir_model.specs.Nesting.{Inside, IsClosed, IsLive, Nested, WellFormed};
 ghost use Rattle.ir_core_records.specs.Chains.{chains_of, AreLinked};
-ghost use Rattle.ir_core_records.specs.Meaning.{entity_of, forest_of};
+ghost use Rattle.ir_core_records.specs.Meaning.{entity_of, forest_in};
 ghost use Rattle.ir_core_records.specs.Nested.{AreNested};
 ghost use Rattle.ir_core_records.specs.Tree.{tree_of};
 ghost use Rattle.ir_core_erasing.specs.Closed.{EntityClosed};
@@ -19,9 +19,9 @@ use ir_core_records::{Definition, EntityIndex, KeptUse, Records};
 // What an entity stands in, but no further out than the root.
 fn up_within<D: Dialects>(records: &Records<D>, root: EntityIndex, here: EntityIndex) -> EntityIndex
     requires nested { AreNested (tree_of records.now) }
-    requires formed { Nested (forest_of records.now) }
-    requires inside { Inside (forest_of records.now) (entity_of root) (entity_of here) }
-    ensures { Inside (forest_of records.now) (entity_of root) (entity_of result) }
+    requires formed { Nested (forest_in records.now) }
+    requires inside { Inside (forest_in records.now) (entity_of root) (entity_of here) }
+    ensures { Inside (forest_in records.now) (entity_of root) (entity_of result) }
 {
     if are_one(here, root) {
         return here;
@@ -40,9 +40,9 @@ fn climbs_into<D: Dialects>(
     inner: EntityIndex,
 ) -> bool
     requires nested { AreNested (tree_of records.now) }
-    requires formed { Nested (forest_of records.now) }
-    requires home { Inside (forest_of records.now) (entity_of root) (entity_of home) }
-    ensures { IsTrue result ↔ Inside (forest_of records.now) (entity_of root) (entity_of inner) }
+    requires formed { Nested (forest_in records.now) }
+    requires home { Inside (forest_in records.now) (entity_of root) (entity_of home) }
+    ensures { IsTrue result ↔ Inside (forest_in records.now) (entity_of root) (entity_of inner) }
 {
     depths_follow::<D>();
     let mut current = Some(inner);
@@ -66,9 +66,9 @@ fn are_users_inside<D: Dialects>(
     uses: &[KeptUse],
 ) -> bool
     requires nested { AreNested (tree_of records.now) }
-    requires formed { Nested (forest_of records.now) }
-    requires home { Inside (forest_of records.now) (entity_of root) (entity_of home) }
-    ensures { IsTrue result ↔ All (λ u. Inside (forest_of records.now) (entity_of root) (an_op u.user)) uses.now }
+    requires formed { Nested (forest_in records.now) }
+    requires home { Inside (forest_in records.now) (entity_of root) (entity_of home) }
+    ensures { IsTrue result ↔ All (λ u. Inside (forest_in records.now) (entity_of root) (an_op u.user)) uses.now }
 {
     for used in uses {
         if !climbs_into(records, root, home, EntityIndex::Op(used.user())) {
@@ -86,9 +86,9 @@ fn are_all_users_inside<D: Dialects>(
     definitions: &[Definition],
 ) -> bool
     requires nested { AreNested (tree_of records.now) }
-    requires formed { Nested (forest_of records.now) }
-    requires home { Inside (forest_of records.now) (entity_of root) (entity_of home) }
-    ensures { IsTrue result ↔ All (λ r. All (λ u. Inside (forest_of records.now) (entity_of root) (an_op u.user)) r.uses) definitions.now }
+    requires formed { Nested (forest_in records.now) }
+    requires home { Inside (forest_in records.now) (entity_of root) (entity_of home) }
+    ensures { IsTrue result ↔ All (λ r. All (λ u. Inside (forest_in records.now) (entity_of root) (an_op u.user)) r.uses) definitions.now }
 {
     for definition in definitions {
         if !are_users_inside(records, root, home, definition.uses.as_slice()) {
@@ -101,11 +101,11 @@ fn are_all_users_inside<D: Dialects>(
 // Whether the users of what the entity itself defines are all inside the root.
 fn keeps_its_users<D: Dialects>(records: &Records<D>, root: EntityIndex, here: EntityIndex) -> bool
     requires nested { AreNested (tree_of records.now) }
-    requires formed { (keys : ℕ) × WellFormed (forest_of records.now) keys }
+    requires formed { (keys : ℕ) × WellFormed (forest_in records.now) keys }
     requires linked { AreLinked (chains_of records.now) }
-    requires live { IsLive (forest_of records.now) (entity_of here) }
-    requires inside { Inside (forest_of records.now) (entity_of root) (entity_of here) }
-    ensures { IsTrue result ↔ EntityClosed (forest_of records.now) (entity_of root) (entity_of here) }
+    requires live { IsLive (forest_in records.now) (entity_of here) }
+    requires inside { Inside (forest_in records.now) (entity_of root) (entity_of here) }
+    ensures { IsTrue result ↔ EntityClosed (forest_in records.now) (entity_of root) (entity_of here) }
 {
     let home = up_within(records, root, up_within(records, root, here));
     match here {
@@ -127,10 +127,10 @@ fn keeps_its_users<D: Dialects>(records: &Records<D>, root: EntityIndex, here: E
 /// Whether a live entity can be erased: whether each operand or successor that names a definition of its subtree belongs to an operation of the subtree. It takes no memory. It is the test that pliron's `erase` makes, asked of all definitions inside and not of the operation's own results alone.
 pub fn can_erase<D: Dialects>(records: &Records<D>, entity: EntityIndex) -> bool
     requires nested { AreNested (tree_of records.now) }
-    requires formed { (keys : ℕ) × WellFormed (forest_of records.now) keys }
+    requires formed { (keys : ℕ) × WellFormed (forest_in records.now) keys }
     requires linked { AreLinked (chains_of records.now) }
-    requires live { IsLive (forest_of records.now) (entity_of entity) }
-    ensures { IsTrue result ↔ IsClosed (forest_of records.now) (entity_of entity) }
+    requires live { IsLive (forest_in records.now) (entity_of entity) }
+    ensures { IsTrue result ↔ IsClosed (forest_in records.now) (entity_of entity) }
 {
     subtrees_are_listed::<D>();
     let mut current = Some(deepest(records, entity));

@@ -5,7 +5,7 @@ ghost use Rattle.ir_model.specs.Changes.{DropsUses};
 ghost use Rattle.ir_model.specs.Nesting.{IsLive, Nested};
 ghost use Rattle.ir_core_records.specs.Chains.{chains_of, AreLinked};
 ghost use Rattle.ir_core_records.specs.Frames.{KeepsTree};
-ghost use Rattle.ir_core_records.specs.Meaning.{entity_of, forest_of};
+ghost use Rattle.ir_core_records.specs.Meaning.{entity_of, forest_in};
 ghost use Rattle.ir_core_records.specs.Nested.{AreNested};
 ghost use Rattle.ir_core_records.specs.Tree.{tree_of};
 ghost use Rattle.ir_core_erasing.specs.Dropping.{without_uses};
@@ -18,10 +18,10 @@ use ir_core_records::{EntityIndex, Records};
 // Drops the uses of one entity: those of an operation, and none of a block or a region.
 fn drop_uses<D: Dialects>(records: &mut Records<D>, entity: EntityIndex)
     requires linked { AreLinked (chains_of records.old) }
-    requires live { IsLive (forest_of records.old) (entity_of entity) }
+    requires live { IsLive (forest_in records.old) (entity_of entity) }
     ensures linked { AreLinked (chains_of records.new) }
     ensures keeps { KeepsTree records.old records.new }
-    ensures forest { forest_of records.new ≡ without_uses (forest_of records.old) (entity_of entity) }
+    ensures forest { forest_in records.new ≡ without_uses (forest_in records.old) (entity_of entity) }
 {
     if let EntityIndex::Op(op) = entity {
         unlink_operands(records, op);
@@ -32,10 +32,10 @@ fn drop_uses<D: Dialects>(records: &mut Records<D>, entity: EntityIndex)
 /// Takes the operands and successors of all operations inside a live entity out, also its own. It takes no memory. It stands for pliron's `drop_all_uses`.
 pub fn drop_all_uses<D: Dialects>(records: &mut Records<D>, entity: EntityIndex)
     requires nested { AreNested (tree_of records.old) }
-    requires formed { Nested (forest_of records.old) }
+    requires formed { Nested (forest_in records.old) }
     requires linked { AreLinked (chains_of records.old) }
-    requires live { IsLive (forest_of records.old) (entity_of entity) }
-    ensures forest { DropsUses (forest_of records.old) (entity_of entity) (forest_of records.new) }
+    requires live { IsLive (forest_in records.old) (entity_of entity) }
+    ensures forest { DropsUses (forest_in records.old) (entity_of entity) (forest_in records.new) }
     ensures linked { AreLinked (chains_of records.new) }
     ensures keeps { KeepsTree records.old records.new }
 {

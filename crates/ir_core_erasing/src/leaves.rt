@@ -6,7 +6,7 @@ ghost use Rattle.ir_model.specs.Changes.{in_blocks, in_regions, without};
 ghost use Rattle.ir_model.specs.Forest.{an_op, a_block, a_region};
 ghost use Rattle.ir_model.specs.Nesting.{IsLinked, IsLive, Nested, children};
 ghost use Rattle.ir_core_records.specs.Chains.{chains_of, AreLinked};
-ghost use Rattle.ir_core_records.specs.Meaning.{entity_of, forest_of};
+ghost use Rattle.ir_core_records.specs.Meaning.{entity_of, forest_in};
 ghost use Rattle.ir_core_records.specs.Nested.{AreNested};
 ghost use Rattle.ir_core_records.specs.Tree.{tree_of};
 ghost use Rattle.ir_core_nesting.specs.Edits.{KeepsChains};
@@ -23,8 +23,8 @@ use ir_core_records::{EntityIndex, Records};
 // Takes an operation out of its block, if it stands in one.
 fn detach_operation<D: Dialects>(records: &mut Records<D>, op: ArenaIndex)
     requires nested { AreNested (tree_of records.old) }
-    requires formed { Nested (forest_of records.old) }
-    ensures forest { forest_of records.new ≡ in_blocks (forest_of records.old) (without same_id op) }
+    requires formed { Nested (forest_in records.old) }
+    ensures forest { forest_in records.new ≡ in_blocks (forest_in records.old) (without same_id op) }
     ensures nested { AreNested (tree_of records.new) }
     ensures keeps { KeepsChains records.old records.new }
 {
@@ -36,8 +36,8 @@ fn detach_operation<D: Dialects>(records: &mut Records<D>, op: ArenaIndex)
 // Takes a block out of its region, if it stands in one.
 fn detach_block<D: Dialects>(records: &mut Records<D>, block: ArenaIndex)
     requires nested { AreNested (tree_of records.old) }
-    requires formed { Nested (forest_of records.old) }
-    ensures forest { forest_of records.new ≡ in_regions (forest_of records.old) (without same_id block) }
+    requires formed { Nested (forest_in records.old) }
+    ensures forest { forest_in records.new ≡ in_regions (forest_in records.old) (without same_id block) }
     ensures nested { AreNested (tree_of records.new) }
     ensures keeps { KeepsChains records.old records.new }
 {
@@ -49,12 +49,12 @@ fn detach_block<D: Dialects>(records: &mut Records<D>, block: ArenaIndex)
 // Removes an operation without regions.
 fn remove_operation<D: Dialects>(records: &mut Records<D>, op: ArenaIndex)
     requires nested { AreNested (tree_of records.old) }
-    requires formed { Nested (forest_of records.old) }
+    requires formed { Nested (forest_in records.old) }
     requires linked { AreLinked (chains_of records.old) }
-    requires live { IsLive (forest_of records.old) (an_op op) }
-    requires leaf { children (forest_of records.old) (an_op op) ≡ [] }
-    requires bare { Bare (forest_of records.old) (an_op op) }
-    requires unnamed { Unnamed (forest_of records.old) (an_op op) }
+    requires live { IsLive (forest_in records.old) (an_op op) }
+    requires leaf { children (forest_in records.old) (an_op op) ≡ [] }
+    requires bare { Bare (forest_in records.old) (an_op op) }
+    requires unnamed { Unnamed (forest_in records.old) (an_op op) }
     ensures { RemovesLeaf records.old (an_op op) records.new }
 {
     detach_operation(records, op);
@@ -64,11 +64,11 @@ fn remove_operation<D: Dialects>(records: &mut Records<D>, op: ArenaIndex)
 // Removes a block without operations.
 fn remove_block<D: Dialects>(records: &mut Records<D>, block: ArenaIndex)
     requires nested { AreNested (tree_of records.old) }
-    requires formed { Nested (forest_of records.old) }
+    requires formed { Nested (forest_in records.old) }
     requires linked { AreLinked (chains_of records.old) }
-    requires live { IsLive (forest_of records.old) (a_block block) }
-    requires leaf { children (forest_of records.old) (a_block block) ≡ [] }
-    requires unnamed { Unnamed (forest_of records.old) (a_block block) }
+    requires live { IsLive (forest_in records.old) (a_block block) }
+    requires leaf { children (forest_in records.old) (a_block block) ≡ [] }
+    requires unnamed { Unnamed (forest_in records.old) (a_block block) }
     ensures { RemovesLeaf records.old (a_block block) records.new }
 {
     detach_block(records, block);
@@ -78,9 +78,9 @@ fn remove_block<D: Dialects>(records: &mut Records<D>, block: ArenaIndex)
 // Removes a region without blocks.
 fn remove_region<D: Dialects>(records: &mut Records<D>, region: ArenaIndex)
     requires nested { AreNested (tree_of records.old) }
-    requires formed { Nested (forest_of records.old) }
-    requires live { IsLive (forest_of records.old) (a_region region) }
-    requires leaf { children (forest_of records.old) (a_region region) ≡ [] }
+    requires formed { Nested (forest_in records.old) }
+    requires live { IsLive (forest_in records.old) (a_region region) }
+    requires leaf { children (forest_in records.old) (a_region region) ≡ [] }
     ensures { RemovesLeaf records.old (a_region region) records.new }
 {
     remove_empty_region(records, region);
@@ -89,12 +89,12 @@ fn remove_region<D: Dialects>(records: &mut Records<D>, region: ArenaIndex)
 // Removes an entity in which nothing stands, which uses nothing, and of which nothing is used.
 pub(crate) fn remove_leaf<D: Dialects>(records: &mut Records<D>, entity: EntityIndex)
     requires nested { AreNested (tree_of records.old) }
-    requires formed { Nested (forest_of records.old) }
+    requires formed { Nested (forest_in records.old) }
     requires linked { AreLinked (chains_of records.old) }
-    requires live { IsLive (forest_of records.old) (entity_of entity) }
-    requires leaf { children (forest_of records.old) (entity_of entity) ≡ [] }
-    requires bare { Bare (forest_of records.old) (entity_of entity) }
-    requires unnamed { Unnamed (forest_of records.old) (entity_of entity) }
+    requires live { IsLive (forest_in records.old) (entity_of entity) }
+    requires leaf { children (forest_in records.old) (entity_of entity) ≡ [] }
+    requires bare { Bare (forest_in records.old) (entity_of entity) }
+    requires unnamed { Unnamed (forest_in records.old) (entity_of entity) }
     ensures { RemovesLeaf records.old (entity_of entity) records.new }
 {
     match entity {

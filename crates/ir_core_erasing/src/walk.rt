@@ -9,7 +9,7 @@ ghost use Rattle.ir_model.specs.Forest.{Entity};
 ghost use Rattle.ir_model.specs.Ids.{Distinct};
 ghost use Rattle.ir_model.specs.Nesting.{Inside, Nested, children};
 ghost use Rattle.ir_model.specs.Parent.{first_of};
-ghost use Rattle.ir_core_records.specs.Meaning.{entity_of, forest_of};
+ghost use Rattle.ir_core_records.specs.Meaning.{entity_of, forest_in};
 ghost use Rattle.ir_core_records.specs.Nested.{AreNested};
 ghost use Rattle.ir_core_records.specs.Tree.{tree_of};
 ghost use Rattle.ir_core_erasing.specs.Walks.{before_from, kept_last, kept_previous, subtree, SubtreesListed};
@@ -79,7 +79,7 @@ fn item_before(items: &[ArenaIndex], item: ArenaIndex) -> Option<ArenaIndex>
 
 // The one before an entity in its list, as the records say.
 fn previous_in_record<D: Dialects>(records: &Records<D>, entity: EntityIndex) -> Option<EntityIndex>
-    requires { Nested (forest_of records.now) }
+    requires { Nested (forest_in records.now) }
     ensures { option_map entity_of result ≡ kept_previous (tree_of records.now) (entity_of entity) }
 {
     match entity {
@@ -103,9 +103,9 @@ fn previous_in_record<D: Dialects>(records: &Records<D>, entity: EntityIndex) ->
 /// The entity that last children lead to, in which nothing stands. A walk over all inside `start` begins there.
 pub fn deepest<D: Dialects>(records: &Records<D>, start: EntityIndex) -> EntityIndex
     requires nested { AreNested (tree_of records.now) }
-    requires formed { Nested (forest_of records.now) }
-    ensures inside { Inside (forest_of records.now) (entity_of start) (entity_of result) }
-    ensures leaf { children (forest_of records.now) (entity_of result) ≡ [] }
+    requires formed { Nested (forest_in records.now) }
+    ensures inside { Inside (forest_in records.now) (entity_of start) (entity_of result) }
+    ensures leaf { children (forest_in records.now) (entity_of result) ≡ [] }
     ensures first { first_of (subtree records.now (entity_of start)) ≡ Some (entity_of result) }
 {
     depths_follow::<D>();
@@ -123,7 +123,7 @@ pub fn next_inside<D: Dialects>(
     here: EntityIndex,
 ) -> Option<EntityIndex>
     requires nested { AreNested (tree_of records.now) }
-    requires formed { Nested (forest_of records.now) }
+    requires formed { Nested (forest_in records.now) }
     ensures { (before behind : List (Entity context_ids)) → subtree records.now (entity_of root) ≡ before ++ entity_of here ∷ behind
         → option_map entity_of result ≡ first_of behind }
 {

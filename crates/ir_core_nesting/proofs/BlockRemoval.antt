@@ -15,7 +15,7 @@ use Rattle.ir_core_records.specs.Chains.{chains_of}
 use Rattle.ir_core_records.specs.Table.{KnowOwn}
 use Rattle.ir_core_records.specs.Tree.{tree_of, ops_in, blocks_in}
 use Rattle.ir_core_records.specs.Nested.{AreNested}
-use Rattle.ir_core_records.specs.Meaning.{forest_of, block_record}
+use Rattle.ir_core_records.specs.Meaning.{forest_in, block_record}
 use Rattle.ir_core_nesting.specs.Leaves.{without_block}
 use Rattle.ir_core_nesting.proofs.Readings.{live-of, read-cut, seen-cut}
 use Rattle.ir_core_nesting.proofs.Kept.{OpsFound, BlocksFound, Becomes, ops-are, blocks-are, nested-still}
@@ -54,14 +54,14 @@ module _ {D A K B S X L : Type 0} (old : Records D A K B S X L) (block : ArenaIn
     blocks-stay : blocks_in (tree_of left) ≡ blocks_in (tree_of old)
     blocks-stay = blocks-are old left found_blocks block_lists
 
-    left-forest : forest_of left ≡ without_block (forest_of old) block
+    left-forest : forest_in left ≡ without_block (forest_in old) block
     left-forest = λ i. record {
-      ops = (forest_of old).ops;
+      ops = (forest_in old).ops;
       blocks = fun_ext (λ b. ap (λ (f : ArenaIndex → List ArenaIndex). option_map (block_record (f b)) (get left.blocks b)) ops-stay ∙ seen-cut old.blocks (block_record (ops_in (tree_of old) b)) block live b) i;
       regions = λ g. option_map (λ (_ : Region). blocks-stay i g) (get old.regions g);
     }
 
-    pub block-left : ((n : ℕ) → uses_with x.arguments n ≡ []) → x.uses ≡ [] → Becomes old left (without_block (forest_of old) block)
+    pub block-left : ((n : ℕ) → uses_with x.arguments n ≡ []) → x.uses ≡ [] → Becomes old left (without_block (forest_in old) block)
     block-left unused unnamed = record {
       forest = left-forest;
       nested = nested-still old left ops-stay blocks-stay op_lists block_lists nested.parents;

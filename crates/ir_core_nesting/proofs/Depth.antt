@@ -10,7 +10,7 @@ use Rattle.ir_model.proofs.Nests.{Absent-not_in, not_in-Absent}
 use Rattle.ir_base_arenas.specs.Arena.{get}
 use Rattle.ir_base_arenas.specs.Lists.{container_of}
 use Rattle.ir_core_records.specs.declared.records.Records.{Records}
-use Rattle.ir_core_records.specs.Meaning.{forest_of, op_record, block_record}
+use Rattle.ir_core_records.specs.Meaning.{forest_in, op_record, block_record}
 use Rattle.ir_core_records.specs.Nested.{AreNested}
 use Rattle.ir_core_records.specs.Tree.{tree_of, ops_in, blocks_in}
 use Rattle.ir_core_nesting.specs.Climbs.{climb, above, depth, kept_parent, size}
@@ -86,7 +86,7 @@ unmap f None h = h
 unmap f (Some x) h = refl
 
 -- there are no more live entities than slots
-live-entities-fit : {D A K B S X L : Type 0} (t : Records D A K B S X L) (xs : List (Entity context_ids)) → Distinct xs → ((x : Entity context_ids) → In x xs → IsLive (forest_of t) x) → length xs ≤ size t
+live-entities-fit : {D A K B S X L : Type 0} (t : Records D A K B S X L) (xs : List (Entity context_ids)) → Distinct xs → ((x : Entity context_ids) → In x xs → IsLive (forest_in t) x) → length xs ≤ size t
 live-entities-fit t xs apart live =
     let ops = pick op_in an_op op_tells xs in
     let blocks = pick block_in a_block block_tells xs in
@@ -96,7 +96,7 @@ live-entities-fit t xs apart live =
     let c : length regions ≤ length t.regions.slots = live-fit t.regions regions (pick-apart region_in a_region region_tells xs apart) (λ q i. unmap (λ _. blocks_in (tree_of t) q) (get t.regions q) (live (a_region q) (pick-in region_in a_region region_tells q xs i))) in
     omega (arith, picked xs)
 
-module _ {D A K B S X L : Type 0} (t : Records D A K B S X L) (nested : AreNested (tree_of t)) (formed : Nested (forest_of t))
+module _ {D A K B S X L : Type 0} (t : Records D A K B S X L) (nested : AreNested (tree_of t)) (formed : Nested (forest_in t))
     (op_homes : (b o : ArenaIndex) → (container_of (tree_of t).ops o ≡ Some b) ↔ In o (ops_in (tree_of t) b))
     (block_homes : (g b : ArenaIndex) → (container_of (tree_of t).blocks b ≡ Some g) ↔ In b (blocks_in (tree_of t) g)) where
   fits : (n : ℕ) (x : Entity context_ids) (o : Option (Entity context_ids)) → kept_parent (tree_of t) x ≡ o → length (climb n (kept_parent (tree_of t)) o) ≤ size t
@@ -105,8 +105,8 @@ module _ {D A K B S X L : Type 0} (t : Records D A K B S X L) (nested : AreNeste
       let to = parent-to t nested formed op_homes block_homes in
       let owner = owner-live t nested formed op_homes block_homes in
       live-entities-fit t (climb n (kept_parent (tree_of t)) (Some y))
-      (climb-apart (children (forest_of t)) (kept_parent (tree_of t)) to formed.no_cycle n y)
-      (climb-live (children (forest_of t)) (kept_parent (tree_of t)) to (IsLive (forest_of t)) owner n y (owner x y (to x y e)))
+      (climb-apart (children (forest_in t)) (kept_parent (tree_of t)) to formed.no_cycle n y)
+      (climb-live (children (forest_in t)) (kept_parent (tree_of t)) to (IsLive (forest_in t)) owner n y (owner x y (to x y e)))
 
   above-up : (x : Entity context_ids) → above t (Some x) ≡ x ∷ above t (kept_parent (tree_of t) x)
   above-up x = ap (λ xs. x ∷ xs) (climb-stable (size t) (kept_parent (tree_of t)) (kept_parent (tree_of t) x) (fits (suc (size t)) x (kept_parent (tree_of t) x) refl))

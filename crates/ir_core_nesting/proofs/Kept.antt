@@ -7,7 +7,7 @@ use Rattle.ir_model.specs.Forest.{Forest}
 use Rattle.ir_model.specs.Nesting.{In, list_of as in_list}
 use Rattle.ir_base_arenas.specs.Arena.{Arena}
 use Rattle.ir_base_arenas.specs.Lists.{Links, Ends, seen, AreLists}
-use Rattle.ir_base_arenas.specs.Walks.{list_of}
+use Rattle.ir_base_arenas.specs.Walks.{list_in}
 use Rattle.ir_core_records.specs.declared.record.Operation.{Operation}
 use Rattle.ir_core_records.specs.declared.record.BasicBlock.{BasicBlock}
 use Rattle.ir_core_records.specs.declared.record.Region.{Region}
@@ -15,14 +15,14 @@ use Rattle.ir_core_records.specs.declared.records.Records.{Records}
 use Rattle.ir_core_records.specs.Tree.{tree_of, ops_in, blocks_in, op_links, block_links, block_ends, region_ends}
 use Rattle.ir_core_records.specs.Nested.{AreNested}
 use Rattle.ir_core_records.specs.Chains.{chains_of}
-use Rattle.ir_core_records.specs.Meaning.{closed, forest_of}
+use Rattle.ir_core_records.specs.Meaning.{closed, forest_in}
 use Rattle.ir_core_records.specs.Table.{KnowOwn}
 
 -- the walks find the lists of two arenas, whatever these are
 abbrev pub AreFound : {T C : Type 0} → (T → Links) → (C → Ends) → Type 0
 AreFound {T} {C} links ends =
     (nodes : Arena T) (containers : Arena C) (lists : ArenaIndex → List ArenaIndex)
-    → AreLists (seen links nodes) (seen ends containers) lists → (c : ArenaIndex) → lists c ≡ list_of links ends nodes containers c
+    → AreLists (seen links nodes) (seen ends containers) lists → (c : ArenaIndex) → lists c ≡ list_in links ends nodes containers c
 
 -- of blocks and of regions
 abbrev pub OpsFound : (D A K B S X L : Type 0) → Type 0
@@ -34,7 +34,7 @@ BlocksFound D A K B S X L = AreFound {T = BasicBlock D A K B S X L} {C = Region}
 module _ {D A K B S X L : Type 0} where
   -- the records mean this forest now, their links agree, the same is used at the same places, and records know their places as before
   pub record Becomes (old new : Records D A K B S X L) (f : Forest context_ids (closed A K B S X L)) : Type 0 where
-    pub forest : forest_of new ≡ f
+    pub forest : forest_in new ≡ f
     pub nested : AreNested (tree_of new)
     pub chains : chains_of new ≡ chains_of old
     pub own : KnowOwn old → KnowOwn new

@@ -15,7 +15,7 @@ use Rattle.ir_core_records.specs.declared.record.Operation.{Operation}
 use Rattle.ir_core_records.specs.declared.record.BasicBlock.{BasicBlock}
 use Rattle.ir_core_records.specs.declared.record.Region.{Region}
 use Rattle.ir_core_records.specs.declared.records.Records.{Records}
-use Rattle.ir_core_records.specs.Meaning.{forest_of}
+use Rattle.ir_core_records.specs.Meaning.{forest_in}
 use Rattle.ir_core_records.specs.Nested.{AreNested}
 use Rattle.ir_core_records.specs.Tree.{tree_of, ops_in, blocks_in, op_links, block_links, block_ends, region_ends}
 use Rattle.ir_core_nesting.specs.Edits.{no_op_links, no_block_links, no_block_ends, no_region_ends, EditsTo, OpListsTell, BlockListsTell}
@@ -47,20 +47,20 @@ module _ {D A K B S X L : Type 0} (tell : OpListsTell D A K B S X L) (old : Reco
   relinked = record old { ops = ops; blocks = blocks }
 
   pub ops-one : (g : List ArenaIndex → List ArenaIndex) (b : ArenaIndex) → AreLists (seen op_links ops) (seen block_ends blocks) (with_list (ops_in (tree_of old)) b (g (ops_in (tree_of old) b)))
-      → EditsTo old relinked (on_block (forest_of old) b (on_ops g))
+      → EditsTo old relinked (on_block (forest_in old) b (on_ops g))
   ops-one g b l =
       let told = tell old ops blocks (with_list (ops_in (tree_of old)) b (g (ops_in (tree_of old) b))) nested l same_ops same_blocks in
       record { forest = told.forest ∙ ops-at_one old g b; nested = told.nested; keeps = told.keeps }
 
   pub ops-each : (g : List ArenaIndex → List ArenaIndex) (lists : ArenaIndex → List ArenaIndex) → AreLists (seen op_links ops) (seen block_ends blocks) lists → lists ≡ (λ b. g (ops_in (tree_of old) b))
-      → EditsTo old relinked (in_blocks (forest_of old) g)
+      → EditsTo old relinked (in_blocks (forest_in old) g)
   ops-each g lists l is =
       let told = tell old ops blocks (λ b. g (ops_in (tree_of old) b)) nested (subst (λ f. AreLists (seen op_links ops) (seen block_ends blocks) f) is l) same_ops same_blocks in
       record { forest = told.forest ∙ ops-at_each old g; nested = told.nested; keeps = told.keeps }
 
   pub ops-append : (donee donor : ArenaIndex)
       → AreLists (seen op_links ops) (seen block_ends blocks) (with_list (with_list (ops_in (tree_of old)) donee (ops_in (tree_of old) donee ++ ops_in (tree_of old) donor)) donor [])
-      → EditsTo old relinked (append_ops (forest_of old) donee donor (ops_in (tree_of old) donor))
+      → EditsTo old relinked (append_ops (forest_in old) donee donor (ops_in (tree_of old) donor))
   ops-append donee donor l =
       let told = tell old ops blocks (with_list (with_list (ops_in (tree_of old)) donee (ops_in (tree_of old) donee ++ ops_in (tree_of old) donor)) donor []) nested l same_ops same_blocks in
       record { forest = told.forest ∙ ops-joined old donee donor; nested = told.nested; keeps = told.keeps }
@@ -71,20 +71,20 @@ module _ {D A K B S X L : Type 0} (tell : BlockListsTell D A K B S X L) (old : R
   relinked_blocks = record old { blocks = blocks; regions = regions }
 
   pub blocks-one : (g : List ArenaIndex → List ArenaIndex) (r : ArenaIndex) → AreLists (seen block_links blocks) (seen region_ends regions) (with_list (blocks_in (tree_of old)) r (g (blocks_in (tree_of old) r)))
-      → EditsTo old relinked_blocks (on_region (forest_of old) r g)
+      → EditsTo old relinked_blocks (on_region (forest_in old) r g)
   blocks-one g r l =
       let told = tell old blocks regions (with_list (blocks_in (tree_of old)) r (g (blocks_in (tree_of old) r))) nested l same_blocks same_regions in
       record { forest = told.forest ∙ blocks-at_one old g r; nested = told.nested; keeps = told.keeps }
 
   pub blocks-each : (g : List ArenaIndex → List ArenaIndex) (lists : ArenaIndex → List ArenaIndex) → AreLists (seen block_links blocks) (seen region_ends regions) lists → lists ≡ (λ r. g (blocks_in (tree_of old) r))
-      → EditsTo old relinked_blocks (in_regions (forest_of old) g)
+      → EditsTo old relinked_blocks (in_regions (forest_in old) g)
   blocks-each g lists l is =
       let told = tell old blocks regions (λ r. g (blocks_in (tree_of old) r)) nested (subst (λ f. AreLists (seen block_links blocks) (seen region_ends regions) f) is l) same_blocks same_regions in
       record { forest = told.forest ∙ blocks-at_each old g; nested = told.nested; keeps = told.keeps }
 
   pub blocks-append : (donee donor : ArenaIndex)
       → AreLists (seen block_links blocks) (seen region_ends regions) (with_list (with_list (blocks_in (tree_of old)) donee (blocks_in (tree_of old) donee ++ blocks_in (tree_of old) donor)) donor [])
-      → EditsTo old relinked_blocks (append_blocks (forest_of old) donee donor (blocks_in (tree_of old) donor))
+      → EditsTo old relinked_blocks (append_blocks (forest_in old) donee donor (blocks_in (tree_of old) donor))
   blocks-append donee donor l =
       let told = tell old blocks regions (with_list (with_list (blocks_in (tree_of old)) donee (blocks_in (tree_of old) donee ++ blocks_in (tree_of old) donor)) donor []) nested l same_blocks same_regions in
       record { forest = told.forest ∙ blocks-joined old donee donor; nested = told.nested; keeps = told.keeps }

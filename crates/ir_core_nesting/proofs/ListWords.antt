@@ -15,7 +15,7 @@ use Rattle.ir_base_arenas.specs.Arena.{get}
 use Rattle.ir_base_arenas.specs.Lists.{with_list}
 use Rattle.ir_core_records.specs.declared.record.Region.{Region}
 use Rattle.ir_core_records.specs.declared.records.Records.{Records}
-use Rattle.ir_core_records.specs.Meaning.{forest_of, block_record}
+use Rattle.ir_core_records.specs.Meaning.{forest_in, block_record}
 use Rattle.ir_core_records.specs.Tree.{tree_of, ops_in, blocks_in}
 use Rattle.ir_core_nesting.specs.Edits.{with_op_lists, with_block_lists}
 
@@ -97,25 +97,25 @@ module _ {B R : Type 0} (record_of : List ArenaIndex → B → R) (on : (List Ar
 
 module _ {D A K B S X L : Type 0} (t : Records D A K B S X L) where
   -- in the words of operations
-  pub ops-at_one : (g : List ArenaIndex → List ArenaIndex) (c : ArenaIndex) → with_op_lists (forest_of t) (with_list (ops_in (tree_of t)) c (g (ops_in (tree_of t) c))) ≡ on_block (forest_of t) c (on_ops g)
-  ops-at_one g c = λ i. record (forest_of t) { blocks = fun_ext (λ k. at_one block_record on_ops (λ h xs x. refl) (ops_in (tree_of t)) g c k (get t.blocks k)) i }
+  pub ops-at_one : (g : List ArenaIndex → List ArenaIndex) (c : ArenaIndex) → with_op_lists (forest_in t) (with_list (ops_in (tree_of t)) c (g (ops_in (tree_of t) c))) ≡ on_block (forest_in t) c (on_ops g)
+  ops-at_one g c = λ i. record (forest_in t) { blocks = fun_ext (λ k. at_one block_record on_ops (λ h xs x. refl) (ops_in (tree_of t)) g c k (get t.blocks k)) i }
 
-  pub ops-at_each : (g : List ArenaIndex → List ArenaIndex) → with_op_lists (forest_of t) (λ k. g (ops_in (tree_of t) k)) ≡ in_blocks (forest_of t) g
-  ops-at_each g = λ i. record (forest_of t) { blocks = fun_ext (λ k. at_each block_record on_ops (λ h xs x. refl) (ops_in (tree_of t)) g k (get t.blocks k)) i }
+  pub ops-at_each : (g : List ArenaIndex → List ArenaIndex) → with_op_lists (forest_in t) (λ k. g (ops_in (tree_of t) k)) ≡ in_blocks (forest_in t) g
+  ops-at_each g = λ i. record (forest_in t) { blocks = fun_ext (λ k. at_each block_record on_ops (λ h xs x. refl) (ops_in (tree_of t)) g k (get t.blocks k)) i }
 
   pub ops-joined : (donee donor : ArenaIndex)
-      → with_op_lists (forest_of t) (with_list (with_list (ops_in (tree_of t)) donee (ops_in (tree_of t) donee ++ ops_in (tree_of t) donor)) donor [])
-      ≡ append_ops (forest_of t) donee donor (ops_in (tree_of t) donor)
-  ops-joined donee donor = λ i. record (forest_of t) { blocks = fun_ext (λ k. joined block_record on_ops (λ h xs x. refl) (ops_in (tree_of t)) donee donor k (get t.blocks k)) i }
+      → with_op_lists (forest_in t) (with_list (with_list (ops_in (tree_of t)) donee (ops_in (tree_of t) donee ++ ops_in (tree_of t) donor)) donor [])
+      ≡ append_ops (forest_in t) donee donor (ops_in (tree_of t) donor)
+  ops-joined donee donor = λ i. record (forest_in t) { blocks = fun_ext (λ k. joined block_record on_ops (λ h xs x. refl) (ops_in (tree_of t)) donee donor k (get t.blocks k)) i }
 
   -- in the words of blocks
-  pub blocks-at_one : (g : List ArenaIndex → List ArenaIndex) (c : ArenaIndex) → with_block_lists (forest_of t) (with_list (blocks_in (tree_of t)) c (g (blocks_in (tree_of t) c))) ≡ on_region (forest_of t) c g
-  blocks-at_one g c = λ i. record (forest_of t) { regions = fun_ext (λ k. at_one (λ xs (x : Region). xs) (λ h. h) (λ h xs x. refl) (blocks_in (tree_of t)) g c k (get t.regions k)) i }
+  pub blocks-at_one : (g : List ArenaIndex → List ArenaIndex) (c : ArenaIndex) → with_block_lists (forest_in t) (with_list (blocks_in (tree_of t)) c (g (blocks_in (tree_of t) c))) ≡ on_region (forest_in t) c g
+  blocks-at_one g c = λ i. record (forest_in t) { regions = fun_ext (λ k. at_one (λ xs (x : Region). xs) (λ h. h) (λ h xs x. refl) (blocks_in (tree_of t)) g c k (get t.regions k)) i }
 
-  pub blocks-at_each : (g : List ArenaIndex → List ArenaIndex) → with_block_lists (forest_of t) (λ k. g (blocks_in (tree_of t) k)) ≡ in_regions (forest_of t) g
-  blocks-at_each g = λ i. record (forest_of t) { regions = fun_ext (λ k. at_each (λ xs (x : Region). xs) (λ h. h) (λ h xs x. refl) (blocks_in (tree_of t)) g k (get t.regions k)) i }
+  pub blocks-at_each : (g : List ArenaIndex → List ArenaIndex) → with_block_lists (forest_in t) (λ k. g (blocks_in (tree_of t) k)) ≡ in_regions (forest_in t) g
+  blocks-at_each g = λ i. record (forest_in t) { regions = fun_ext (λ k. at_each (λ xs (x : Region). xs) (λ h. h) (λ h xs x. refl) (blocks_in (tree_of t)) g k (get t.regions k)) i }
 
   pub blocks-joined : (donee donor : ArenaIndex)
-      → with_block_lists (forest_of t) (with_list (with_list (blocks_in (tree_of t)) donee (blocks_in (tree_of t) donee ++ blocks_in (tree_of t) donor)) donor [])
-      ≡ append_blocks (forest_of t) donee donor (blocks_in (tree_of t) donor)
-  blocks-joined donee donor = λ i. record (forest_of t) { regions = fun_ext (λ k. joined (λ xs (x : Region). xs) (λ h. h) (λ h xs x. refl) (blocks_in (tree_of t)) donee donor k (get t.regions k)) i }
+      → with_block_lists (forest_in t) (with_list (with_list (blocks_in (tree_of t)) donee (blocks_in (tree_of t) donee ++ blocks_in (tree_of t) donor)) donor [])
+      ≡ append_blocks (forest_in t) donee donor (blocks_in (tree_of t) donor)
+  blocks-joined donee donor = λ i. record (forest_in t) { regions = fun_ext (λ k. joined (λ xs (x : Region). xs) (λ h. h) (λ h xs x. refl) (blocks_in (tree_of t)) donee donor k (get t.regions k)) i }

@@ -24,7 +24,7 @@ use Rattle.ir_core_records.specs.declared.record.Operation.{Operation}
 use Rattle.ir_core_records.specs.declared.record.Region.{Region}
 use Rattle.ir_core_records.specs.declared.records.Records.{Records}
 use Rattle.ir_core_records.specs.Lists.{in_record, uses_with, edited}
-use Rattle.ir_core_records.specs.Meaning.{closed, forest_of, op_record, block_record}
+use Rattle.ir_core_records.specs.Meaning.{closed, forest_in, op_record, block_record}
 use Rattle.ir_core_records.specs.Nested.{AreNested}
 use Rattle.ir_core_records.specs.Tree.{tree_of, ops_in, blocks_in, op_links, op_regions, region_ends, region_parent}
 use Rattle.ir_core_nesting.specs.Edits.{EditsTo}
@@ -68,7 +68,7 @@ SameIds-trans a b c f g = record {
 }
 
 module _ {D A K B S X L : Type 0} (t : Records D A K B S X L) (nested : AreNested (tree_of t)) where
-  listed : (o g : ArenaIndex) → In g (regions_of (forest_of t) o) → In g (list_of (λ gs. gs) ((tree_of t).regions_of o))
+  listed : (o g : ArenaIndex) → In g (regions_of (forest_in t) o) → In g (list_of (λ gs. gs) ((tree_of t).regions_of o))
   listed o g h = by (get t.ops o) h
     where
       by : (m : Option (Operation D A K B S X L)) → In g (list_of (λ (r : OpRecord context_ids (closed A K B S X L)). r.regions) (option_map op_record m)) → In g (list_of (λ gs. gs) (option_map op_regions m))
@@ -76,17 +76,17 @@ module _ {D A K B S X L : Type 0} (t : Records D A K B S X L) (nested : AreNeste
       by (Some y) k = k
 
   -- each list of regions has no region that names another operation
-  pub only-owner : (r o : ArenaIndex) (region : Region) → get t.regions r ≡ Some region → In r (regions_of (forest_of t) o) → region.parent ≡ o
+  pub only-owner : (r o : ArenaIndex) (region : Region) → get t.regions r ≡ Some region → In r (regions_of (forest_in t) o) → region.parent ≡ o
   only-owner r o region found h = same_Some _ _ (sym (ap (option_map region_parent) found) ∙ nested.parents o r (listed o r h))
 
   -- the operation that a live region names has it in its list
-  pub owner-has : Nested (forest_of t) → (r : ArenaIndex) (region : Region) → get t.regions r ≡ Some region → In r (regions_of (forest_of t) region.parent)
+  pub owner-has : Nested (forest_in t) → (r : ArenaIndex) (region : Region) → get t.regions r ≡ Some region → In r (regions_of (forest_in t) region.parent)
   owner-has formed r region found =
       let live : IsSome (option_map (λ (_ : Region). blocks_in (tree_of t) r) (get t.regions r)) = ap (λ (m : Option Region). is_some (option_map (λ (_ : Region). blocks_in (tree_of t) r) m)) found in
       let at = formed.regions_linked r live in
-      subst (λ o. In r (regions_of (forest_of t) o)) (sym (only-owner r at.0 region found at.1)) at.1
+      subst (λ o. In r (regions_of (forest_in t) o)) (sym (only-owner r at.0 region found at.1)) at.1
 
-  pub owner-held : (r o : ArenaIndex) → In r (regions_of (forest_of t) o) → IsLive t.ops o
+  pub owner-held : (r o : ArenaIndex) → In r (regions_of (forest_in t) o) → IsLive t.ops o
   owner-held r o h = by (get t.ops o) h
     where
       by : (m : Option (Operation D A K B S X L)) → In r (list_of (λ (r : OpRecord context_ids (closed A K B S X L)). r.regions) (option_map op_record m)) → IsSome m
@@ -94,7 +94,7 @@ module _ {D A K B S X L : Type 0} (t : Records D A K B S X L) (nested : AreNeste
       by (Some y) k = refl
 
   -- no operation has a region twice
-  pub regions-once : Nested (forest_of t) → (o : ArenaIndex) → Distinct (in_record op_regions [] (get t.ops o))
+  pub regions-once : Nested (forest_in t) → (o : ArenaIndex) → Distinct (in_record op_regions [] (get t.ops o))
   regions-once formed o = by (get t.ops o) (formed.once (an_op o))
     where
       by : (m : Option (Operation D A K B S X L)) → Distinct {A = Entity context_ids} (map a_region (list_of (λ (r : OpRecord context_ids (closed A K B S X L)). r.regions) (option_map op_record m))) → Distinct (in_record op_regions [] m)
@@ -213,7 +213,7 @@ module _ {D A K B S X L : Type 0} (old : Records D A K B S X L) (op from r : Are
     ]
   ]
 
-  region-moved : EditsTo old moved (move_region (forest_of old) r op)
+  region-moved : EditsTo old moved (move_region (forest_in old) r op)
   region-moved = record {
     forest = λ i. record {
       ops = fun_ext ops_moved i;
@@ -247,9 +247,9 @@ module _ {D A K B S X L : Type 0} (old : Records D A K B S X L) (op from r : Are
 
   -- the records as they are written
   pub records-moved : (ops : Arena (Operation D A K B S X L)) (regions : Arena Region) → ops ≡ moved.ops → regions ≡ moved.regions
-      → EditsTo old (record { ops = ops; blocks = old.blocks; regions = regions }) (move_region (forest_of old) r op)
+      → EditsTo old (record { ops = ops; blocks = old.blocks; regions = regions }) (move_region (forest_in old) r op)
   records-moved ops regions e f =
-      subst (λ (t : Records D A K B S X L). EditsTo old t (move_region (forest_of old) r op)) (sym (λ i. record { ops = e i; blocks = old.blocks; regions = f i })) region-moved
+      subst (λ (t : Records D A K B S X L). EditsTo old t (move_region (forest_in old) r op)) (sym (λ i. record { ops = e i; blocks = old.blocks; regions = f i })) region-moved
 
 -- a list that could not grow
 module _ {D A K B S X L : Type 0} (old : Records D A K B S X L) (op : ArenaIndex) (x : Operation D A K B S X L) (found : get old.ops op ≡ Some x) (nested : AreNested (tree_of old)) (found_ops : OpsFound D A K B S X L) where
@@ -262,12 +262,12 @@ module _ {D A K B S X L : Type 0} (old : Records D A K B S X L) (op : ArenaIndex
   lists : AreLists (tree_of after).ops (tree_of after).block_ends (ops_in (tree_of old))
   lists = subst (λ h. AreLists h (tree_of old).block_ends (ops_in (tree_of old))) (sym (fun_ext (rest (option_map op_links)))) nested.op_lists
 
-  kept : EditsTo old after (forest_of old)
+  kept : EditsTo old after (forest_in old)
   kept = record {
     forest = λ i. record {
       ops = fun_ext (rest (option_map op_record)) i;
       blocks = λ b. option_map (block_record (ops-are old after found_ops lists i b)) (get old.blocks b);
-      regions = (forest_of old).regions;
+      regions = (forest_in old).regions;
     };
     nested = nested-still old after (ops-are old after found_ops lists) refl lists nested.block_lists
         (λ o g h. nested.parents o g (subst (λ (xs : List ArenaIndex). In g xs) (rest (λ m. list_of (λ gs. gs) (option_map op_regions m)) o) h));
@@ -288,5 +288,5 @@ module _ {D A K B S X L : Type 0} (old : Records D A K B S X L) (op : ArenaIndex
     };
   }
 
-  pub records-kept : (ops : Arena (Operation D A K B S X L)) → ops ≡ fill old.ops op (record x { regions = x.regions }) → EditsTo old (record old { ops = ops }) (forest_of old)
-  records-kept ops is = subst (λ (a : Arena (Operation D A K B S X L)). EditsTo old (record old { ops = a }) (forest_of old)) (sym is) kept
+  pub records-kept : (ops : Arena (Operation D A K B S X L)) → ops ≡ fill old.ops op (record x { regions = x.regions }) → EditsTo old (record old { ops = ops }) (forest_in old)
+  records-kept ops is = subst (λ (a : Arena (Operation D A K B S X L)). EditsTo old (record old { ops = a }) (forest_in old)) (sym is) kept

@@ -18,7 +18,7 @@ use Rattle.ir_core_records.specs.Chains.{chains_of}
 use Rattle.ir_core_records.specs.Table.{KnowOwn}
 use Rattle.ir_core_records.specs.Tree.{tree_of, ops_in, blocks_in, op_links, block_links, block_ends, region_ends}
 use Rattle.ir_core_records.specs.Nested.{AreNested}
-use Rattle.ir_core_records.specs.Meaning.{forest_of, block_record}
+use Rattle.ir_core_records.specs.Meaning.{forest_in, block_record}
 use Rattle.ir_core_nesting.proofs.Readings.{read-new}
 use Rattle.ir_core_nesting.proofs.Kept.{OpsFound, BlocksFound, Becomes, ops-are, blocks-are, nested-still}
 use Rattle.ir_core_nesting.proofs.Chained.{uses-none, chains-same}
@@ -50,9 +50,9 @@ module _ {D A K B S X L : Type 0} (old : Records D A K B S X L) (id : ArenaIndex
     new-nested : AreNested (tree_of old) → AreNested (tree_of new)
     new-nested nested = nested-still old new (ops-are old new found_ops op_lists) (blocks-are old new found_blocks block_lists) op_lists block_lists nested.parents
 
-    new-forest : AreNested (tree_of old) → forest_of new ≡ record (forest_of old) { blocks = put same_id id (block_record [] block) (forest_of old).blocks }
+    new-forest : AreNested (tree_of old) → forest_in new ≡ record (forest_in old) { blocks = put same_id id (block_record [] block) (forest_in old).blocks }
     new-forest nested = λ i. record {
-      ops = (forest_of old).ops;
+      ops = (forest_in old).ops;
       blocks = fun_ext at i;
       regions = λ g. option_map (λ _. blocks-are old new found_blocks block_lists i g) (get old.regions g);
     }
@@ -60,14 +60,14 @@ module _ {D A K B S X L : Type 0} (old : Records D A K B S X L) (id : ArenaIndex
         none : ops_in (tree_of old) id ≡ []
         none = nested.op_lists.absent id (ap (option_map block_ends) (get-new old.blocks id is_new))
 
-        at : (b : ArenaIndex) → option_map (block_record (ops_in (tree_of new) b)) (get (fill old.blocks id block) b) ≡ put same_id id (block_record [] block) (forest_of old).blocks b
+        at : (b : ArenaIndex) → option_map (block_record (ops_in (tree_of new) b)) (get (fill old.blocks id block) b) ≡ put same_id id (block_record [] block) (forest_in old).blocks b
         at b = ap (λ (f : ArenaIndex → List ArenaIndex). option_map (block_record (f b)) (get (fill old.blocks id block) b)) (ops-are old new found_ops op_lists) ∙ elim (id_cases b id) [
           | inl e ↦ ap (λ z. option_map (block_record (ops_in (tree_of old) z)) (get (fill old.blocks id block) z)) e
               ∙ ap (option_map (block_record (ops_in (tree_of old) id))) (get-fill_new old.blocks id block is_new)
               ∙ ap (λ (xs : List ArenaIndex). Some (block_record xs block)) none
-              ∙ sym (ap (λ q. cond q (Some (block_record [] block)) ((forest_of old).blocks b)) (ap (λ z. same_id z id) e ∙ id_same id))
+              ∙ sym (ap (λ q. cond q (Some (block_record [] block)) ((forest_in old).blocks b)) (ap (λ z. same_id z id) e ∙ id_same id))
           | inr ne ↦ ap (option_map (block_record (ops_in (tree_of old) b))) (get-fill_new_other old.blocks id b block is_new ne)
-              ∙ sym (ap (λ q. cond q (Some (block_record [] block)) ((forest_of old).blocks b)) (id_differs b id ne))
+              ∙ sym (ap (λ q. cond q (Some (block_record [] block)) ((forest_in old).blocks b)) (id_differs b id ne))
         ]
 
 -- the records with one bare block more
@@ -76,9 +76,9 @@ pub new-basic_block : {D A K B S X L : Type 0} (old : Records D A K B S X L) (bl
     → AreLists (seen op_links old.ops) (seen block_ends (fill old.blocks id block)) (ops_in (tree_of old))
     → AreLists (seen block_links (fill old.blocks id block)) (seen region_ends old.regions) (blocks_in (tree_of old))
     → block.index ≡ id → block.uses ≡ [] → All (λ (r : Definition). r.uses ≡ []) block.arguments
-    → Becomes old (record old { blocks = blocks }) (record (forest_of old) { blocks = put same_id id (block_record [] block) (forest_of old).blocks })
+    → Becomes old (record old { blocks = blocks }) (record (forest_in old) { blocks = put same_id id (block_record [] block) (forest_in old).blocks })
 new-basic_block {D} {A} {K} {B} {S} {X} {L} old blocks id block is_new filled found_ops found_blocks nested op_lists block_lists own uses unused =
-    subst (λ (a : Arena (BasicBlock D A K B S X L)). Becomes old (record old { blocks = a }) (record (forest_of old) { blocks = put same_id id (block_record [] block) (forest_of old).blocks })) (sym filled) (record {
+    subst (λ (a : Arena (BasicBlock D A K B S X L)). Becomes old (record old { blocks = a }) (record (forest_in old) { blocks = put same_id id (block_record [] block) (forest_in old).blocks })) (sym filled) (record {
       forest = new-forest old id block is_new found_ops found_blocks op_lists block_lists nested;
       nested = new-nested old id block is_new found_ops found_blocks op_lists block_lists nested;
       chains = new-chains old id block is_new uses unused;

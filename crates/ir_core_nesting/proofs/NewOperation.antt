@@ -19,7 +19,7 @@ use Rattle.ir_core_records.specs.Chains.{chains_of}
 use Rattle.ir_core_records.specs.Table.{KnowOwn}
 use Rattle.ir_core_records.specs.Tree.{tree_of, ops_in, op_links, block_ends, op_regions}
 use Rattle.ir_core_records.specs.Nested.{AreNested}
-use Rattle.ir_core_records.specs.Meaning.{forest_of, op_record, block_record}
+use Rattle.ir_core_records.specs.Meaning.{forest_in, op_record, block_record}
 use Rattle.ir_core_nesting.proofs.Readings.{read-new, seen-new}
 use Rattle.ir_core_nesting.proofs.Kept.{OpsFound, Becomes, ops-are, nested-still}
 use Rattle.ir_core_nesting.proofs.Chained.{uses-none, chains-same}
@@ -52,11 +52,11 @@ module _ {D A K B S X L : Type 0} (old : Records D A K B S X L) (id : ArenaIndex
         parents : (o g : ArenaIndex) → In g (list_of (λ gs. gs) ((tree_of new).regions_of o)) → (tree_of new).parent_ops g ≡ Some o
         parents o g h = nested.parents o g (subst (λ (xs : List ArenaIndex). In g xs) (read-new old.ops id (λ m. list_of (λ gs. gs) (option_map op_regions m)) op is_new none o) h)
 
-    new-forest : forest_of new ≡ record (forest_of old) { ops = put same_id id (op_record op) (forest_of old).ops }
+    new-forest : forest_in new ≡ record (forest_in old) { ops = put same_id id (op_record op) (forest_in old).ops }
     new-forest = λ i. record {
       ops = fun_ext (seen-new old.ops op_record id op is_new) i;
       blocks = λ b. option_map (block_record (ops-are old new found lists i b)) (get old.blocks b);
-      regions = (forest_of old).regions;
+      regions = (forest_in old).regions;
     }
 
 -- the records with one bare operation more
@@ -64,9 +64,9 @@ pub new-operation : {D A K B S X L : Type 0} (old : Records D A K B S X L) (ops 
     → IsNew old.ops id → ops ≡ fill old.ops id op → OpsFound D A K B S X L → AreNested (tree_of old)
     → AreLists (seen op_links (fill old.ops id op)) (seen block_ends old.blocks) (ops_in (tree_of old))
     → op.index ≡ id → op.operands ≡ [] → op.successors ≡ [] → op.regions ≡ [] → All (λ (r : Definition). r.uses ≡ []) op.results
-    → Becomes old (record old { ops = ops }) (record (forest_of old) { ops = put same_id id (op_record op) (forest_of old).ops })
+    → Becomes old (record old { ops = ops }) (record (forest_in old) { ops = put same_id id (op_record op) (forest_in old).ops })
 new-operation {D} {A} {K} {B} {S} {X} {L} old ops id op is_new filled found nested lists own operands successors regions unused =
-    subst (λ (a : Arena (Operation D A K B S X L)). Becomes old (record old { ops = a }) (record (forest_of old) { ops = put same_id id (op_record op) (forest_of old).ops })) (sym filled) (record {
+    subst (λ (a : Arena (Operation D A K B S X L)). Becomes old (record old { ops = a }) (record (forest_in old) { ops = put same_id id (op_record op) (forest_in old).ops })) (sym filled) (record {
       forest = new-forest old id op is_new found lists;
       nested = new-nested old id op is_new found lists nested regions;
       chains = new-chains old id op is_new operands successors unused;

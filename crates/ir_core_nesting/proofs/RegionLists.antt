@@ -23,7 +23,7 @@ use Rattle.ir_core_records.specs.Chains.{chains_of}
 use Rattle.ir_core_records.specs.Table.{KnowOwn}
 use Rattle.ir_core_records.specs.Tree.{tree_of, ops_in, blocks_in, op_links, block_links, op_regions, region_ends, region_parent}
 use Rattle.ir_core_records.specs.Nested.{AreNested}
-use Rattle.ir_core_records.specs.Meaning.{closed, forest_of, op_record, block_record}
+use Rattle.ir_core_records.specs.Meaning.{closed, forest_in, op_record, block_record}
 use Rattle.ir_core_nesting.specs.Leaves.{without_region}
 use Rattle.ir_core_nesting.proofs.Readings.{live-of, read-written, seen-written, seen-cut}
 use Rattle.ir_core_nesting.proofs.Kept.{OpsFound, BlocksFound, Becomes, ops-are, blocks-are, nested-still}
@@ -93,7 +93,7 @@ module _ {D A K B S X L : Type 0} (old : Records D A K B S X L) (op : ArenaIndex
     -- the record of the operation is rewritten, and the regions are told one by one
     pub relisted-forest : (change : OpRecord context_ids (closed A K B S X L) → OpRecord context_ids (closed A K B S X L)) → op_record (record x { regions = rs }) ≡ change (op_record x)
         → (lists_now : ArenaIndex → Option (List ArenaIndex)) → ((g : ArenaIndex) → option_map (λ (_ : Region). blocks_in (tree_of old) g) (get regions g) ≡ lists_now g)
-        → forest_of with_regions ≡ record (forest_of old) { ops = rewrite same_id op change (forest_of old).ops; regions = lists_now }
+        → forest_in with_regions ≡ record (forest_in old) { ops = rewrite same_id op change (forest_in old).ops; regions = lists_now }
     relisted-forest change changed lists_now is = λ i. record {
       ops = fun_ext (seen-written old.ops op_record op change x (record x { regions = rs }) found changed) i;
       blocks = λ b. option_map (block_record (ops-stay i b)) (get old.blocks b);
@@ -133,17 +133,17 @@ module _ {D A K B S X L : Type 0} (old : Records D A K B S X L) (op : ArenaIndex
       none : blocks_in (tree_of old) r ≡ []
       none = nested.block_lists.absent r (ap (option_map region_ends) (get-new old.regions r is_new))
 
-      pub added-forest : forest_of added ≡ add_region (forest_of old) op r
+      pub added-forest : forest_in added ≡ add_region (forest_in old) op r
       added-forest = relisted-forest old op x found (x.regions ++ r ∷ []) (fill old.regions r region) found_ops found_blocks nested lists
           (λ rec. record rec { regions = rec.regions ++ r ∷ [] }) refl
-          (put same_id r [] (forest_of old).regions)
+          (put same_id r [] (forest_in old).regions)
           (λ g. elim (id_cases g r) [
             | inl e ↦ ap (λ z. option_map (λ (_ : Region). blocks_in (tree_of old) z) (get (fill old.regions r region) z)) e
                 ∙ ap (option_map (λ _. blocks_in (tree_of old) r)) (get-fill_new old.regions r region is_new)
                 ∙ ap Some none
-                ∙ sym (ap (λ q. cond q (Some []) ((forest_of old).regions g)) (ap (λ z. same_id z r) e ∙ id_same r))
+                ∙ sym (ap (λ q. cond q (Some []) ((forest_in old).regions g)) (ap (λ z. same_id z r) e ∙ id_same r))
             | inr ne ↦ ap (option_map (λ (_ : Region). blocks_in (tree_of old) g)) (get-fill_new_other old.regions r g region is_new ne)
-                ∙ sym (ap (λ q. cond q (Some []) ((forest_of old).regions g)) (id_differs g r ne))
+                ∙ sym (ap (λ q. cond q (Some []) ((forest_in old).regions g)) (id_differs g r ne))
           ])
 
   -- the regions of the operation and all regions are as they were
@@ -159,7 +159,7 @@ module _ {D A K B S X L : Type 0} (old : Records D A K B S X L) (op : ArenaIndex
         (λ g h. ap (option_map region_parent) (same g) ∙ owned-by old nested op g x found h)
         (λ o g ne h. ap (option_map region_parent) (same g) ∙ nested.parents o g h)
 
-    pub undone-forest : forest_of undone ≡ forest_of old
+    pub undone-forest : forest_in undone ≡ forest_in old
     undone-forest = λ i. record {
       ops = fun_ext (read-written old.ops op (option_map op_record) x x found refl) i;
       blocks = λ b. option_map (block_record (ops-are old undone found_ops (relisted-ops old op x found x.regions regions nested) i b)) (get old.blocks b);
@@ -182,10 +182,10 @@ module _ {D A K B S X L : Type 0} (old : Records D A K B S X L) (op : ArenaIndex
           (λ o g ne h. ap (option_map region_parent) (get-cut_other old.regions r g live (λ e. ne (same_Some _ _ (sym (nested.parents o g h) ∙ ap (λ z. option_map region_parent (get old.regions z)) e ∙ last_owned))))
           ∙ nested.parents o g h)
 
-      pub left-forest : forest_of left ≡ without_region (on_op (forest_of old) op (on_regions (λ _. rest))) r
+      pub left-forest : forest_in left ≡ without_region (on_op (forest_in old) op (on_regions (λ _. rest))) r
       left-forest = relisted-forest old op x found rest (cut old.regions r) found_ops found_blocks nested lists
           (on_regions (λ _. rest)) refl
-          (λ g. cond (same_id g r) None ((forest_of old).regions g))
+          (λ g. cond (same_id g r) None ((forest_in old).regions g))
           (λ g. seen-cut old.regions (λ _. blocks_in (tree_of old) g) r live g)
 
 -- what was made and taken back leaves what was there
@@ -208,9 +208,9 @@ module _ {D A K B S X L : Type 0} (old : Records D A K B S X L) (op : ArenaIndex
   pub region-added : (r : ArenaIndex) (region : Region) → IsNew old.regions r → region.parent ≡ op
       → ops ≡ fill old.ops op (record x { regions = x.regions ++ r ∷ [] }) → regions ≡ fill old.regions r region
       → AreLists (seen block_links old.blocks) (seen region_ends (fill old.regions r region)) (blocks_in (tree_of old))
-      → Becomes old now (add_region (forest_of old) op r)
+      → Becomes old now (add_region (forest_in old) op r)
   region-added r region is_new knows e f lists =
-      subst (λ (t : Records D A K B S X L). Becomes old t (add_region (forest_of old) op r)) (sym (now-is (x.regions ++ r ∷ []) (fill old.regions r region) e f)) (record {
+      subst (λ (t : Records D A K B S X L). Becomes old t (add_region (forest_in old) op r)) (sym (now-is (x.regions ++ r ∷ []) (fill old.regions r region) e f)) (record {
         forest = added-forest old op x found found_ops found_blocks nested r region is_new lists;
         nested = added-nested old op x found found_ops found_blocks nested r region is_new lists knows;
         chains = relisted-chains old op x found (x.regions ++ r ∷ []) (fill old.regions r region);
@@ -219,11 +219,11 @@ module _ {D A K B S X L : Type 0} (old : Records D A K B S X L) (op : ArenaIndex
 
   pub region-undone : (r : ArenaIndex) (region : Region) → IsNew old.regions r
       → ops ≡ fill old.ops op (record x { regions = x.regions }) → regions ≡ cut (fill old.regions r region) r
-      → Becomes old now (forest_of old)
+      → Becomes old now (forest_in old)
   region-undone r region is_new e f =
       let all = cut (fill old.regions r region) r in
       let same = made-undone old.regions r region is_new in
-      subst (λ (t : Records D A K B S X L). Becomes old t (forest_of old)) (sym (now-is x.regions all e f)) (record {
+      subst (λ (t : Records D A K B S X L). Becomes old t (forest_in old)) (sym (now-is x.regions all e f)) (record {
         forest = undone-forest old op x found found_ops found_blocks nested all same;
         nested = undone-nested old op x found found_ops found_blocks nested all same;
         chains = relisted-chains old op x found x.regions all;
@@ -233,9 +233,9 @@ module _ {D A K B S X L : Type 0} (old : Records D A K B S X L) (op : ArenaIndex
   pub region-left : (rest : List ArenaIndex) (r : ArenaIndex) → x.regions ≡ rest ++ r ∷ [] → Distinct x.regions → IsLive old.regions r
       → ops ≡ fill old.ops op (record x { regions = rest }) → regions ≡ cut old.regions r
       → AreLists (seen block_links old.blocks) (seen region_ends (cut old.regions r)) (blocks_in (tree_of old))
-      → Becomes old now (without_region (on_op (forest_of old) op (on_regions (λ _. rest))) r)
+      → Becomes old now (without_region (on_op (forest_in old) op (on_regions (λ _. rest))) r)
   region-left rest r splits once live e f lists =
-      subst (λ (t : Records D A K B S X L). Becomes old t (without_region (on_op (forest_of old) op (on_regions (λ _. rest))) r)) (sym (now-is rest (cut old.regions r) e f)) (record {
+      subst (λ (t : Records D A K B S X L). Becomes old t (without_region (on_op (forest_in old) op (on_regions (λ _. rest))) r)) (sym (now-is rest (cut old.regions r) e f)) (record {
         forest = left-forest old op x found found_ops found_blocks nested rest r splits live lists;
         nested = left-nested old op x found found_ops found_blocks nested rest r splits live lists once;
         chains = relisted-chains old op x found rest (cut old.regions r);
@@ -243,7 +243,7 @@ module _ {D A K B S X L : Type 0} (old : Records D A K B S X L) (op : ArenaIndex
       })
 
 -- the regions of an operation in the forest are those of its record
-pub regions-read : {D A K B S X L : Type 0} (t : Records D A K B S X L) (op : ArenaIndex) → regions_of (forest_of t) op ≡ in_record op_regions [] (get t.ops op)
+pub regions-read : {D A K B S X L : Type 0} (t : Records D A K B S X L) (op : ArenaIndex) → regions_of (forest_in t) op ≡ in_record op_regions [] (get t.ops op)
 regions-read {D} {A} {K} {B} {S} {X} {L} t op = by (get t.ops op)
   where
     by : (m : Option (Operation D A K B S X L)) → list_of (λ (r : OpRecord context_ids (closed A K B S X L)). r.regions) (option_map op_record m) ≡ in_record op_regions [] m
@@ -251,7 +251,7 @@ regions-read {D} {A} {K} {B} {S} {X} {L} t op = by (get t.ops op)
     by (Some y) = refl
 
 -- a region that is empty in the forest is live, and the walk finds nothing
-pub empty-region : {D A K B S X L : Type 0} (t : Records D A K B S X L) (r : ArenaIndex) → (forest_of t).regions r ≡ Some [] → IsLive t.regions r × (blocks_in (tree_of t) r ≡ [])
+pub empty-region : {D A K B S X L : Type 0} (t : Records D A K B S X L) (r : ArenaIndex) → (forest_in t).regions r ≡ Some [] → IsLive t.regions r × (blocks_in (tree_of t) r ≡ [])
 empty-region t r e = by (get t.regions r) refl e
   where
     by : (m : Option Region) → get t.regions r ≡ m → option_map (λ (_ : Region). blocks_in (tree_of t) r) m ≡ Some [] → IsLive t.regions r × (blocks_in (tree_of t) r ≡ [])

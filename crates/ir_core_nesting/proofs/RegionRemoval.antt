@@ -18,7 +18,7 @@ use Rattle.ir_core_records.specs.declared.record.Operation.{Operation}
 use Rattle.ir_core_records.specs.declared.record.Region.{Region}
 use Rattle.ir_core_records.specs.declared.records.Records.{Records}
 use Rattle.ir_core_records.specs.Nested.{AreNested}
-use Rattle.ir_core_records.specs.Meaning.{forest_of, op_record}
+use Rattle.ir_core_records.specs.Meaning.{forest_in, op_record}
 use Rattle.ir_core_records.specs.Tree.{tree_of, blocks_in, block_links, region_ends, region_parent}
 use Rattle.ir_core_nesting.specs.Leaves.{in_ops, without_region}
 use Rattle.ir_core_nesting.proofs.Readings.{live-of, seen-cut}
@@ -59,19 +59,19 @@ module _ {D A K B S X L : Type 0} (old : Records D A K B S X L) (op r : ArenaInd
   left_alone p other (Some z) e = sym (ap (λ rs. Some (record (op_record z) { regions = rs })) (without_absent same_id id_tells r z.regions (elsewhere p z e other)))
 
   -- to take it out of one list is to take it out of all
-  one-all : (p : ArenaIndex) → rewrite same_id op (on_regions (without same_id r)) (forest_of old).ops p ≡ rewrite_all (on_regions (without same_id r)) (forest_of old).ops p
+  one-all : (p : ArenaIndex) → rewrite same_id op (on_regions (without same_id r)) (forest_in old).ops p ≡ rewrite_all (on_regions (without same_id r)) (forest_in old).ops p
   one-all p = elim (id_cases p op) [
-    | inl e ↦ ap (λ b. cond b (option_map (on_regions (without same_id r)) ((forest_of old).ops p)) ((forest_of old).ops p)) (ap (λ z. same_id z op) e ∙ id_same op)
-    | inr ne ↦ ap (λ b. cond b (option_map (on_regions (without same_id r)) ((forest_of old).ops p)) ((forest_of old).ops p)) (id_differs p op ne) ∙ left_alone p ne (get old.ops p) refl
+    | inl e ↦ ap (λ b. cond b (option_map (on_regions (without same_id r)) ((forest_in old).ops p)) ((forest_in old).ops p)) (ap (λ z. same_id z op) e ∙ id_same op)
+    | inr ne ↦ ap (λ b. cond b (option_map (on_regions (without same_id r)) ((forest_in old).ops p)) ((forest_in old).ops p)) (id_differs p op ne) ∙ left_alone p ne (get old.ops p) refl
   ]
 
-  region-gone : Becomes old left (without_region (in_ops (forest_of old) (without same_id r)) r)
+  region-gone : Becomes old left (without_region (in_ops (forest_in old) (without same_id r)) r)
   region-gone = record {
     forest = relisted-forest old op x found kept (cut old.regions r) found_ops found_blocks nested lists
         (on_regions (without same_id r)) refl
-        (λ g. cond (same_id g r) None ((forest_of old).regions g))
+        (λ g. cond (same_id g r) None ((forest_in old).regions g))
         (λ g. seen-cut old.regions (λ _. blocks_in (tree_of old) g) r live g)
-        ∙ (λ i. record (forest_of old) { ops = fun_ext one-all i; regions = λ g. cond (same_id g r) None ((forest_of old).regions g) });
+        ∙ (λ i. record (forest_in old) { ops = fun_ext one-all i; regions = λ g. cond (same_id g r) None ((forest_in old).regions g) });
     nested = relisted-nested old op x found kept (cut old.regions r) found_ops found_blocks nested lists here
         (λ o g ne h. still g o (λ e. ne (same_Some _ _ (sym (nested.parents o g h) ∙ ap (λ z. option_map region_parent (get old.regions z)) e ∙ owned))) (nested.parents o g h));
     chains = relisted-chains old op x found kept (cut old.regions r);
@@ -80,6 +80,6 @@ module _ {D A K B S X L : Type 0} (old : Records D A K B S X L) (op r : ArenaInd
 
   -- as the records are written
   pub region-removed : (ops : Arena (Operation D A K B S X L)) (regions : Arena Region) → ops ≡ fill old.ops op (record x { regions = kept }) → regions ≡ cut old.regions r
-      → Becomes old (record { ops = ops; blocks = old.blocks; regions = regions }) (without_region (in_ops (forest_of old) (without same_id r)) r)
+      → Becomes old (record { ops = ops; blocks = old.blocks; regions = regions }) (without_region (in_ops (forest_in old) (without same_id r)) r)
   region-removed ops regions e f =
-      subst (λ (t : Records D A K B S X L). Becomes old t (without_region (in_ops (forest_of old) (without same_id r)) r)) (sym (λ i. record { ops = e i; blocks = old.blocks; regions = f i })) region-gone
+      subst (λ (t : Records D A K B S X L). Becomes old t (without_region (in_ops (forest_in old) (without same_id r)) r)) (sym (λ i. record { ops = e i; blocks = old.blocks; regions = f i })) region-gone

@@ -13,7 +13,7 @@ use Rattle.ir_core_records.specs.declared.record.BasicBlock.{BasicBlock}
 use Rattle.ir_core_records.specs.declared.record.Region.{Region}
 use Rattle.ir_core_records.specs.declared.records.Records.{Records}
 use Rattle.ir_core_records.specs.Lists.{in_record, uses_with}
-use Rattle.ir_core_records.specs.Meaning.{forest_of, op_record, block_record}
+use Rattle.ir_core_records.specs.Meaning.{forest_in, op_record, block_record}
 use Rattle.ir_core_records.specs.Nested.{AreNested}
 use Rattle.ir_core_records.specs.Tree.{tree_of, ops_in, blocks_in, op_links, block_links, block_ends, region_ends, op_regions, region_parent}
 use Rattle.ir_core_nesting.specs.Edits.{no_op_links, no_block_links, no_block_ends, no_region_ends, with_op_lists, with_block_lists, EditsTo, OpListsTell, BlockListsTell}
@@ -71,7 +71,7 @@ module _ {D A K B S X L : Type 0} (found_ops : OpsFound D A K B S X L) (found_bl
       blocks-stay : blocks_in (tree_of new) ≡ blocks_in (tree_of old)
       blocks-stay = blocks-are old new found_blocks block_lists
 
-      listed : (b : ArenaIndex) → option_map (block_record (ops_in (tree_of new) b)) (get blocks b) ≡ option_map (on_ops (λ _. lists b)) ((forest_of old).blocks b)
+      listed : (b : ArenaIndex) → option_map (block_record (ops_in (tree_of new) b)) (get blocks b) ≡ option_map (on_ops (λ _. lists b)) ((forest_in old).blocks b)
       listed b =
           ap (λ (f : ArenaIndex → List ArenaIndex). option_map (block_record (f b)) (get blocks b)) lists-are
           ∙ block_rest (option_map (block_record (lists b))) (λ x. refl) b
@@ -81,7 +81,7 @@ module _ {D A K B S X L : Type 0} (found_ops : OpsFound D A K B S X L) (found_bl
           by None = refl
           by (Some x) = refl
 
-      ops-told : EditsTo old new (with_op_lists (forest_of old) lists)
+      ops-told : EditsTo old new (with_op_lists (forest_in old) lists)
       ops-told = record {
         forest = λ i. record {
           ops = fun_ext (op_rest (option_map op_record) (λ x. refl)) i;
@@ -136,7 +136,7 @@ module _ {D A K B S X L : Type 0} (found_ops : OpsFound D A K B S X L) (found_bl
       ops-stay : ops_in (tree_of now) ≡ ops_in (tree_of old)
       ops-stay = ops-are old now found_ops op_lists
 
-      regions-listed : (g : ArenaIndex) → option_map (λ (_ : Region). blocks_in (tree_of now) g) (get regions g) ≡ option_map (λ _. lists g) ((forest_of old).regions g)
+      regions-listed : (g : ArenaIndex) → option_map (λ (_ : Region). blocks_in (tree_of now) g) (get regions g) ≡ option_map (λ _. lists g) ((forest_in old).regions g)
       regions-listed g =
           ap (λ (f : ArenaIndex → List ArenaIndex). option_map (λ (_ : Region). f g) (get regions g)) blocks-listed
           ∙ region_rest (option_map (λ _. lists g)) (λ x. refl) g
@@ -146,10 +146,10 @@ module _ {D A K B S X L : Type 0} (found_ops : OpsFound D A K B S X L) (found_bl
           by None = refl
           by (Some x) = refl
 
-      blocks-told : EditsTo old now (with_block_lists (forest_of old) lists)
+      blocks-told : EditsTo old now (with_block_lists (forest_in old) lists)
       blocks-told = record {
         forest = λ i. record {
-          ops = (forest_of old).ops;
+          ops = (forest_in old).ops;
           blocks = fun_ext (λ b. ap (λ (f : ArenaIndex → List ArenaIndex). option_map (block_record (f b)) (get blocks b)) ops-stay ∙ links_rest (option_map (block_record (ops_in (tree_of old) b))) (λ x. refl) b) i;
           regions = fun_ext regions-listed i;
         };

@@ -17,7 +17,7 @@ use Rattle.ir_core_records.specs.Chains.{chains_of}
 use Rattle.ir_core_records.specs.Table.{KnowOwn}
 use Rattle.ir_core_records.specs.Tree.{tree_of, ops_in, op_links, block_ends, op_regions}
 use Rattle.ir_core_records.specs.Nested.{AreNested}
-use Rattle.ir_core_records.specs.Meaning.{closed, forest_of, op_record, block_record}
+use Rattle.ir_core_records.specs.Meaning.{closed, forest_in, op_record, block_record}
 use Rattle.ir_core_nesting.specs.Leaves.{without_op}
 use Rattle.ir_core_nesting.proofs.Readings.{live-of, read-cut, seen-cut}
 use Rattle.ir_core_nesting.proofs.Kept.{OpsFound, Becomes, ops-are, nested-still}
@@ -61,11 +61,11 @@ module _ {D A K B S X L : Type 0} (old : Records D A K B S X L) (op : ArenaIndex
           | inr ne ↦ nested.parents o g (subst (λ (m : Option (Operation D A K B S X L)). In g (list_of (λ gs. gs) (option_map op_regions m))) (get-cut_other old.ops op o live ne) h)
         ]
 
-    pub left-forest : forest_of left ≡ without_op (forest_of old) op
+    pub left-forest : forest_in left ≡ without_op (forest_in old) op
     left-forest = λ i. record {
       ops = fun_ext (seen-cut old.ops op_record op live) i;
       blocks = λ b. option_map (block_record (ops-are old left found_ops lists i b)) (get old.blocks b);
-      regions = (forest_of old).regions;
+      regions = (forest_in old).regions;
     }
 
 -- an operation that has no operands in the forest has none
@@ -77,9 +77,9 @@ pub operation-left : {D A K B S X L : Type 0} (old : Records D A K B S X L) (ops
     → get old.ops op ≡ Some x → ops ≡ cut old.ops op → OpsFound D A K B S X L → AreNested (tree_of old)
     → AreLists (seen op_links (cut old.ops op)) (seen block_ends old.blocks) (ops_in (tree_of old))
     → x.operands ≡ [] → x.successors ≡ [] → ((n : ℕ) → uses_with x.results n ≡ [])
-    → Becomes old (record old { ops = ops }) (without_op (forest_of old) op)
+    → Becomes old (record old { ops = ops }) (without_op (forest_in old) op)
 operation-left {D} {A} {K} {B} {S} {X} {L} old ops op x found is found_ops nested lists operands successors unused =
-    subst (λ (a : Arena (Operation D A K B S X L)). Becomes old (record old { ops = a }) (without_op (forest_of old) op)) (sym is) (record {
+    subst (λ (a : Arena (Operation D A K B S X L)). Becomes old (record old { ops = a }) (without_op (forest_in old) op)) (sym is) (record {
       forest = left-forest old op x found found_ops nested lists;
       nested = left-nested old op x found found_ops nested lists;
       chains = left-chains old op x found operands successors unused;

@@ -6,7 +6,7 @@ use Rattle.ir_model.specs.Forest.{Dialect, Entity, an_op, a_block, a_region, For
 use Rattle.ir_model.specs.Nesting.{In, Inside, Nested, children}
 use Rattle.ir_base_arenas.specs.Lists.{container_of}
 use Rattle.ir_core_records.specs.declared.records.Records.{Records}
-use Rattle.ir_core_records.specs.Meaning.{forest_of}
+use Rattle.ir_core_records.specs.Meaning.{forest_in}
 use Rattle.ir_core_records.specs.Nested.{AreNested}
 use Rattle.ir_core_records.specs.Tree.{Tree, tree_of}
 
@@ -44,7 +44,7 @@ module _ {D A K B S X L : Type 0} where
 abbrev pub DepthsFollow : (D A K B S X L : Type 0) → Type 0
 DepthsFollow D A K B S X L =
     (t : Records D A K B S X L) (x y : Entity context_ids)
-    → AreNested (tree_of t) → Nested (forest_of t) → In x (children (forest_of t) y) → depth t (Some x) ≡ suc (depth t (Some y))
+    → AreNested (tree_of t) → Nested (forest_in t) → In x (children (forest_in t) y) → depth t (Some x) ≡ suc (depth t (Some y))
 
 -- nothing is deeper than there are slots
 abbrev pub DepthsFit : (D A K B S X L : Type 0) → Type 0

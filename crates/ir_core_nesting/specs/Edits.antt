@@ -12,7 +12,7 @@ use Rattle.ir_core_records.specs.declared.record.BasicBlock.{BasicBlock}
 use Rattle.ir_core_records.specs.declared.record.Region.{Region}
 use Rattle.ir_core_records.specs.declared.records.Records.{Records}
 use Rattle.ir_core_records.specs.Chains.{chains_of}
-use Rattle.ir_core_records.specs.Meaning.{closed, forest_of}
+use Rattle.ir_core_records.specs.Meaning.{closed, forest_in}
 use Rattle.ir_core_records.specs.Nested.{AreNested}
 use Rattle.ir_core_records.specs.Table.{KnowOwn}
 use Rattle.ir_core_records.specs.Tree.{tree_of, op_links, block_links, block_ends, region_ends}
@@ -53,7 +53,7 @@ module _ {D A K B S X L : Type 0} where
 
   -- the records mean this forest now, their links agree, and all else is kept
   pub record EditsTo (old new : Records D A K B S X L) (f : Forest context_ids (closed A K B S X L)) : Type 0 where
-    pub forest : forest_of new ≡ f
+    pub forest : forest_in new ≡ f
     pub nested : AreNested (tree_of new)
     pub keeps : KeepsChains old new
 
@@ -62,11 +62,11 @@ abbrev pub OpListsTell : (D A K B S X L : Type 0) → Type 0
 OpListsTell D A K B S X L =
     (old : Records D A K B S X L) (ops : Arena (Operation D A K B S X L)) (blocks : Arena (BasicBlock D A K B S X L)) (lists : ArenaIndex → List ArenaIndex)
     → AreNested (tree_of old) → AreLists (seen op_links ops) (seen block_ends blocks) lists → SameBut no_op_links old.ops ops → SameBut no_block_ends old.blocks blocks
-    → EditsTo old (record old { ops = ops; blocks = blocks }) (with_op_lists (forest_of old) lists)
+    → EditsTo old (record old { ops = ops; blocks = blocks }) (with_op_lists (forest_in old) lists)
 
 -- an edit of the lists of blocks alone is told by the new lists
 abbrev pub BlockListsTell : (D A K B S X L : Type 0) → Type 0
 BlockListsTell D A K B S X L =
     (old : Records D A K B S X L) (blocks : Arena (BasicBlock D A K B S X L)) (regions : Arena Region) (lists : ArenaIndex → List ArenaIndex)
     → AreNested (tree_of old) → AreLists (seen block_links blocks) (seen region_ends regions) lists → SameBut no_block_links old.blocks blocks → SameBut no_region_ends old.regions regions
-    → EditsTo old (record old { blocks = blocks; regions = regions }) (with_block_lists (forest_of old) lists)
+    → EditsTo old (record old { blocks = blocks; regions = regions }) (with_block_lists (forest_in old) lists)

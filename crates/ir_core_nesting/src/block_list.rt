@@ -6,7 +6,7 @@ ghost use Rattle.ir_model.specs.Forest.{a_block};
 ghost use Rattle.ir_model.specs.Nesting.{IsLinked, blocks_of};
 ghost use Rattle.ir_model.specs.Changes.{on_region, in_regions, without, put_before, put_after, append_blocks};
 ghost use Rattle.ir_base_arenas.specs.Arena.{IsLive};
-ghost use Rattle.ir_core_records.specs.Meaning.{forest_of};
+ghost use Rattle.ir_core_records.specs.Meaning.{forest_in};
 ghost use Rattle.ir_core_records.specs.Nested.{AreNested};
 ghost use Rattle.ir_core_records.specs.Tree.{tree_of};
 ghost use Rattle.ir_core_nesting.specs.Edits.{KeepsChains};
@@ -21,8 +21,8 @@ pub fn insert_at_front<D: Dialects>(records: &mut Records<D>, block: ArenaIndex,
     requires nested { AreNested (tree_of records.old) }
     requires live { IsLive records.old.blocks block }
     requires region_live { IsLive records.old.regions region }
-    requires unlinked { ¬ IsLinked (forest_of records.old) (a_block block) }
-    ensures forest { forest_of records.new ≡ on_region (forest_of records.old) region (λ bs. block ∷ bs) }
+    requires unlinked { ¬ IsLinked (forest_in records.old) (a_block block) }
+    ensures forest { forest_in records.new ≡ on_region (forest_in records.old) region (λ bs. block ∷ bs) }
     ensures nested { AreNested (tree_of records.new) }
     ensures keeps { KeepsChains records.old records.new }
 {
@@ -41,8 +41,8 @@ pub fn insert_at_back<D: Dialects>(records: &mut Records<D>, block: ArenaIndex, 
     requires nested { AreNested (tree_of records.old) }
     requires live { IsLive records.old.blocks block }
     requires region_live { IsLive records.old.regions region }
-    requires unlinked { ¬ IsLinked (forest_of records.old) (a_block block) }
-    ensures forest { forest_of records.new ≡ on_region (forest_of records.old) region (λ bs. bs ++ block ∷ []) }
+    requires unlinked { ¬ IsLinked (forest_in records.old) (a_block block) }
+    ensures forest { forest_in records.new ≡ on_region (forest_in records.old) region (λ bs. bs ++ block ∷ []) }
     ensures nested { AreNested (tree_of records.new) }
     ensures keeps { KeepsChains records.old records.new }
 {
@@ -60,9 +60,9 @@ pub fn insert_at_back<D: Dialects>(records: &mut Records<D>, block: ArenaIndex, 
 pub fn insert_before<D: Dialects>(records: &mut Records<D>, block: ArenaIndex, mark: ArenaIndex)
     requires nested { AreNested (tree_of records.old) }
     requires live { IsLive records.old.blocks block }
-    requires unlinked { ¬ IsLinked (forest_of records.old) (a_block block) }
-    requires mark_linked { IsLinked (forest_of records.old) (a_block mark) }
-    ensures forest { forest_of records.new ≡ in_regions (forest_of records.old) (put_before same_id block mark) }
+    requires unlinked { ¬ IsLinked (forest_in records.old) (a_block block) }
+    requires mark_linked { IsLinked (forest_in records.old) (a_block mark) }
+    ensures forest { forest_in records.new ≡ in_regions (forest_in records.old) (put_before same_id block mark) }
     ensures nested { AreNested (tree_of records.new) }
     ensures keeps { KeepsChains records.old records.new }
 {
@@ -80,9 +80,9 @@ pub fn insert_before<D: Dialects>(records: &mut Records<D>, block: ArenaIndex, m
 pub fn insert_after<D: Dialects>(records: &mut Records<D>, block: ArenaIndex, mark: ArenaIndex)
     requires nested { AreNested (tree_of records.old) }
     requires live { IsLive records.old.blocks block }
-    requires unlinked { ¬ IsLinked (forest_of records.old) (a_block block) }
-    requires mark_linked { IsLinked (forest_of records.old) (a_block mark) }
-    ensures forest { forest_of records.new ≡ in_regions (forest_of records.old) (put_after same_id block mark) }
+    requires unlinked { ¬ IsLinked (forest_in records.old) (a_block block) }
+    requires mark_linked { IsLinked (forest_in records.old) (a_block mark) }
+    ensures forest { forest_in records.new ≡ in_regions (forest_in records.old) (put_after same_id block mark) }
     ensures nested { AreNested (tree_of records.new) }
     ensures keeps { KeepsChains records.old records.new }
 {
@@ -99,8 +99,8 @@ pub fn insert_after<D: Dialects>(records: &mut Records<D>, block: ArenaIndex, ma
 /// Takes a block that stands in a list out of it. It stands for pliron's `unlink`.
 pub fn unlink<D: Dialects>(records: &mut Records<D>, block: ArenaIndex)
     requires nested { AreNested (tree_of records.old) }
-    requires linked { IsLinked (forest_of records.old) (a_block block) }
-    ensures forest { forest_of records.new ≡ in_regions (forest_of records.old) (without same_id block) }
+    requires linked { IsLinked (forest_in records.old) (a_block block) }
+    ensures forest { forest_in records.new ≡ in_regions (forest_in records.old) (without same_id block) }
     ensures nested { AreNested (tree_of records.new) }
     ensures keeps { KeepsChains records.old records.new }
 {
@@ -119,7 +119,7 @@ pub fn append<D: Dialects>(records: &mut Records<D>, donee: ArenaIndex, donor: A
     requires donee_live { IsLive records.old.regions donee }
     requires donor_live { IsLive records.old.regions donor }
     requires two { donee ≢ donor }
-    ensures forest { forest_of records.new ≡ append_blocks (forest_of records.old) donee donor (blocks_of (forest_of records.old) donor) }
+    ensures forest { forest_in records.new ≡ append_blocks (forest_in records.old) donee donor (blocks_of (forest_in records.old) donor) }
     ensures nested { AreNested (tree_of records.new) }
     ensures keeps { KeepsChains records.old records.new }
 {

@@ -14,7 +14,7 @@ ghost use Rattle.ir_core_records.specs.declared.record.Definer.TheVariants.{Op};
 ghost use Rattle.ir_core_records.specs.Chains.{chains_of, AreLinked};
 ghost use Rattle.ir_core_records.specs.Lists.{edited, in_record};
 ghost use Rattle.ir_core_records.specs.Growth.{Grows, SkipsIds, Clears};
-ghost use Rattle.ir_core_records.specs.Meaning.{forest_of, definition_of};
+ghost use Rattle.ir_core_records.specs.Meaning.{forest_in, definition_of};
 ghost use Rattle.ir_core_records.specs.Nested.{AreNested};
 ghost use Rattle.ir_core_records.specs.Table.{KnowOwn, uses_at};
 ghost use Rattle.ir_core_records.specs.Tree.{tree_of, op_regions};
@@ -99,7 +99,7 @@ pub fn insert_operation<D: Dialects>(
     requires unused { All (λ r. r.uses ≡ []) results }
     ensures grows { IfOk result (λ op. Grows records.old.ops records.new.ops (op ∷ [])) }
     ensures room { OnOk result (room records.new.ops + 1 ≡ room records.old.ops) }
-    ensures forest { IfOk result (λ op. forest_of records.new ≡ with_op (forest_of records.old) op D.unknown kind (map definition_of results) [] [] []) }
+    ensures forest { IfOk result (λ op. forest_in records.new ≡ with_op (forest_in records.old) op D.unknown kind (map definition_of results) [] [] []) }
     ensures blocks { records.new.blocks ≡ records.old.blocks }
     ensures regions { records.new.regions ≡ records.old.regions }
     ensures nested { AreNested (tree_of records.new) }
@@ -136,7 +136,7 @@ pub fn insert_block<D: Dialects>(
     requires unused { All (λ r. r.uses ≡ []) arguments }
     ensures grows { IfOk result (λ block. Grows records.old.blocks records.new.blocks (block ∷ [])) }
     ensures room { OnOk result (room records.new.blocks + 1 ≡ room records.old.blocks) }
-    ensures forest { IfOk result (λ block. forest_of records.new ≡ with_block (forest_of records.old) block D.unknown label (map definition_of arguments)) }
+    ensures forest { IfOk result (λ block. forest_in records.new ≡ with_block (forest_in records.old) block D.unknown label (map definition_of arguments)) }
     ensures ops { records.new.ops ≡ records.old.ops }
     ensures regions { records.new.regions ≡ records.old.regions }
     ensures nested { AreNested (tree_of records.new) }
@@ -194,14 +194,14 @@ pub fn add_region<D: Dialects>(
     requires room { 0 < room records.old.regions }
     ensures grows { IfOk result (λ region. Grows records.old.regions records.new.regions (region ∷ [])) }
     ensures room { OnOk result (room records.new.regions + 1 ≡ room records.old.regions) }
-    ensures forest { IfOk result (λ region. forest_of records.new ≡ with_region (forest_of records.old) op region) }
+    ensures forest { IfOk result (λ region. forest_in records.new ≡ with_region (forest_in records.old) op region) }
     ensures op_ids { SameIds records.old.ops records.new.ops }
     ensures blocks { records.new.blocks ≡ records.old.blocks }
     ensures nested { AreNested (tree_of records.new) }
     ensures chains { chains_of records.new ≡ chains_of records.old }
     ensures linked { AreLinked (chains_of records.old) → AreLinked (chains_of records.new) }
     ensures own { KnowOwn records.old → KnowOwn records.new }
-    ensures same { OnErr result (forest_of records.new ≡ forest_of records.old) }
+    ensures same { OnErr result (forest_in records.new ≡ forest_in records.old) }
     ensures skipped { OnErr result (SkipsIds records.old.regions records.new.regions 1) }
 {
     node_changes_keep_lists::<Operation<D>, BasicBlock<D>>();
@@ -233,12 +233,12 @@ pub fn add_region<D: Dialects>(
 pub fn remove_bare_operation<D: Dialects>(records: &mut Records<D>, op: ArenaIndex)
     requires nested { AreNested (tree_of records.old) }
     requires live { IsLive records.old.ops op }
-    requires unlinked { ¬ IsLinked (forest_of records.old) (an_op op) }
-    requires regions { regions_of (forest_of records.old) op ≡ [] }
-    requires operands { operands_of (forest_of records.old) op ≡ [] }
-    requires successors { successors_of (forest_of records.old) op ≡ [] }
+    requires unlinked { ¬ IsLinked (forest_in records.old) (an_op op) }
+    requires regions { regions_of (forest_in records.old) op ≡ [] }
+    requires operands { operands_of (forest_in records.old) op ≡ [] }
+    requires successors { successors_of (forest_in records.old) op ≡ [] }
     requires unused { (number : ℕ) → uses_at records.old (record { definer = Op op; number = number }) ≡ [] }
-    ensures forest { forest_of records.new ≡ without_op (forest_of records.old) op }
+    ensures forest { forest_in records.new ≡ without_op (forest_in records.old) op }
     ensures cleared { Clears records.old.ops records.new.ops (op ∷ []) }
     ensures ops { records.new.ops ≡ cut records.old.ops op }
     ensures blocks { records.new.blocks ≡ records.old.blocks }
@@ -258,13 +258,13 @@ pub fn remove_bare_operation<D: Dialects>(records: &mut Records<D>, op: ArenaInd
 pub fn remove_last_region<D: Dialects>(records: &mut Records<D>, op: ArenaIndex)
     requires nested { AreNested (tree_of records.old) }
     requires live { IsLive records.old.ops op }
-    requires some { ¬ (regions_of (forest_of records.old) op ≡ []) }
-    requires once { Distinct (regions_of (forest_of records.old) op) }
-    requires empty { (rest : List ArenaIndex) (region : ArenaIndex) → regions_of (forest_of records.old) op ≡ rest ++ region ∷ []
-        → (forest_of records.old).regions region ≡ Some [] }
-    ensures forest { (rest : List ArenaIndex) (region : ArenaIndex) → regions_of (forest_of records.old) op ≡ rest ++ region ∷ []
-        → forest_of records.new ≡ without_region (on_op (forest_of records.old) op (on_regions (λ _. rest))) region }
-    ensures cleared { (rest : List ArenaIndex) (region : ArenaIndex) → regions_of (forest_of records.old) op ≡ rest ++ region ∷ []
+    requires some { ¬ (regions_of (forest_in records.old) op ≡ []) }
+    requires once { Distinct (regions_of (forest_in records.old) op) }
+    requires empty { (rest : List ArenaIndex) (region : ArenaIndex) → regions_of (forest_in records.old) op ≡ rest ++ region ∷ []
+        → (forest_in records.old).regions region ≡ Some [] }
+    ensures forest { (rest : List ArenaIndex) (region : ArenaIndex) → regions_of (forest_in records.old) op ≡ rest ++ region ∷ []
+        → forest_in records.new ≡ without_region (on_op (forest_in records.old) op (on_regions (λ _. rest))) region }
+    ensures cleared { (rest : List ArenaIndex) (region : ArenaIndex) → regions_of (forest_in records.old) op ≡ rest ++ region ∷ []
         → Clears records.old.regions records.new.regions (region ∷ []) }
     ensures op_ids { SameIds records.old.ops records.new.ops }
     ensures blocks { records.new.blocks ≡ records.old.blocks }

@@ -6,7 +6,7 @@ ghost use Rattle.ir_model.specs.Forest.{an_op};
 ghost use Rattle.ir_model.specs.Nesting.{IsLinked, ops_of};
 ghost use Rattle.ir_model.specs.Changes.{on_block, on_ops, in_blocks, without, put_before, put_after, append_ops};
 ghost use Rattle.ir_base_arenas.specs.Arena.{IsLive};
-ghost use Rattle.ir_core_records.specs.Meaning.{forest_of};
+ghost use Rattle.ir_core_records.specs.Meaning.{forest_in};
 ghost use Rattle.ir_core_records.specs.Nested.{AreNested};
 ghost use Rattle.ir_core_records.specs.Tree.{tree_of};
 ghost use Rattle.ir_core_nesting.specs.Edits.{KeepsChains};
@@ -21,8 +21,8 @@ pub fn insert_at_front<D: Dialects>(records: &mut Records<D>, op: ArenaIndex, bl
     requires nested { AreNested (tree_of records.old) }
     requires live { IsLive records.old.ops op }
     requires block_live { IsLive records.old.blocks block }
-    requires unlinked { ¬ IsLinked (forest_of records.old) (an_op op) }
-    ensures forest { forest_of records.new ≡ on_block (forest_of records.old) block (on_ops (λ os. op ∷ os)) }
+    requires unlinked { ¬ IsLinked (forest_in records.old) (an_op op) }
+    ensures forest { forest_in records.new ≡ on_block (forest_in records.old) block (on_ops (λ os. op ∷ os)) }
     ensures nested { AreNested (tree_of records.new) }
     ensures keeps { KeepsChains records.old records.new }
 {
@@ -41,8 +41,8 @@ pub fn insert_at_back<D: Dialects>(records: &mut Records<D>, op: ArenaIndex, blo
     requires nested { AreNested (tree_of records.old) }
     requires live { IsLive records.old.ops op }
     requires block_live { IsLive records.old.blocks block }
-    requires unlinked { ¬ IsLinked (forest_of records.old) (an_op op) }
-    ensures forest { forest_of records.new ≡ on_block (forest_of records.old) block (on_ops (λ os. os ++ op ∷ [])) }
+    requires unlinked { ¬ IsLinked (forest_in records.old) (an_op op) }
+    ensures forest { forest_in records.new ≡ on_block (forest_in records.old) block (on_ops (λ os. os ++ op ∷ [])) }
     ensures nested { AreNested (tree_of records.new) }
     ensures keeps { KeepsChains records.old records.new }
 {
@@ -60,9 +60,9 @@ pub fn insert_at_back<D: Dialects>(records: &mut Records<D>, op: ArenaIndex, blo
 pub fn insert_before<D: Dialects>(records: &mut Records<D>, op: ArenaIndex, mark: ArenaIndex)
     requires nested { AreNested (tree_of records.old) }
     requires live { IsLive records.old.ops op }
-    requires unlinked { ¬ IsLinked (forest_of records.old) (an_op op) }
-    requires mark_linked { IsLinked (forest_of records.old) (an_op mark) }
-    ensures forest { forest_of records.new ≡ in_blocks (forest_of records.old) (put_before same_id op mark) }
+    requires unlinked { ¬ IsLinked (forest_in records.old) (an_op op) }
+    requires mark_linked { IsLinked (forest_in records.old) (an_op mark) }
+    ensures forest { forest_in records.new ≡ in_blocks (forest_in records.old) (put_before same_id op mark) }
     ensures nested { AreNested (tree_of records.new) }
     ensures keeps { KeepsChains records.old records.new }
 {
@@ -80,9 +80,9 @@ pub fn insert_before<D: Dialects>(records: &mut Records<D>, op: ArenaIndex, mark
 pub fn insert_after<D: Dialects>(records: &mut Records<D>, op: ArenaIndex, mark: ArenaIndex)
     requires nested { AreNested (tree_of records.old) }
     requires live { IsLive records.old.ops op }
-    requires unlinked { ¬ IsLinked (forest_of records.old) (an_op op) }
-    requires mark_linked { IsLinked (forest_of records.old) (an_op mark) }
-    ensures forest { forest_of records.new ≡ in_blocks (forest_of records.old) (put_after same_id op mark) }
+    requires unlinked { ¬ IsLinked (forest_in records.old) (an_op op) }
+    requires mark_linked { IsLinked (forest_in records.old) (an_op mark) }
+    ensures forest { forest_in records.new ≡ in_blocks (forest_in records.old) (put_after same_id op mark) }
     ensures nested { AreNested (tree_of records.new) }
     ensures keeps { KeepsChains records.old records.new }
 {
@@ -99,8 +99,8 @@ pub fn insert_after<D: Dialects>(records: &mut Records<D>, op: ArenaIndex, mark:
 /// Takes an operation that stands in a list out of it. It stands for pliron's `unlink`.
 pub fn unlink<D: Dialects>(records: &mut Records<D>, op: ArenaIndex)
     requires nested { AreNested (tree_of records.old) }
-    requires linked { IsLinked (forest_of records.old) (an_op op) }
-    ensures forest { forest_of records.new ≡ in_blocks (forest_of records.old) (without same_id op) }
+    requires linked { IsLinked (forest_in records.old) (an_op op) }
+    ensures forest { forest_in records.new ≡ in_blocks (forest_in records.old) (without same_id op) }
     ensures nested { AreNested (tree_of records.new) }
     ensures keeps { KeepsChains records.old records.new }
 {
@@ -115,7 +115,7 @@ pub fn append<D: Dialects>(records: &mut Records<D>, donee: ArenaIndex, donor: A
     requires donee_live { IsLive records.old.blocks donee }
     requires donor_live { IsLive records.old.blocks donor }
     requires two { donee ≢ donor }
-    ensures forest { forest_of records.new ≡ append_ops (forest_of records.old) donee donor (ops_of (forest_of records.old) donor) }
+    ensures forest { forest_in records.new ≡ append_ops (forest_in records.old) donee donor (ops_of (forest_in records.old) donor) }
     ensures nested { AreNested (tree_of records.new) }
     ensures keeps { KeepsChains records.old records.new }
 {

@@ -5,7 +5,7 @@ ghost use Rattle.ir_model.specs.ContextIds.{context_ids};
 ghost use Rattle.ir_model.specs.Forest.{same_entity};
 ghost use Rattle.ir_model.specs.Nesting.{Inside, Nested};
 ghost use Rattle.ir_model.specs.Parent.{IsParent};
-ghost use Rattle.ir_core_records.specs.Meaning.{entity_of, forest_of};
+ghost use Rattle.ir_core_records.specs.Meaning.{entity_of, forest_in};
 ghost use Rattle.ir_core_records.specs.Nested.{AreNested};
 ghost use Rattle.ir_core_records.specs.Tree.{tree_of};
 ghost use Rattle.ir_core_nesting.specs.Climbs.{kept_parent, DepthsFit, DepthsFollow};
@@ -54,8 +54,8 @@ pub fn are_one(a: EntityIndex, b: EntityIndex) -> bool
 /// What an entity stands in: an operation in a block, a block in a region, a region in an operation. It is `None` where the entity stands in no list, or isn't live. It stands for pliron's `get_parent_block`, `get_parent_region` and `get_parent_op`.
 pub fn parent_of<D: Dialects>(records: &Records<D>, entity: EntityIndex) -> Option<EntityIndex>
     requires nested { AreNested (tree_of records.now) }
-    requires formed { Nested (forest_of records.now) }
-    ensures { IsParent (forest_of records.now) (entity_of entity) (option_map entity_of result) }
+    requires formed { Nested (forest_in records.now) }
+    ensures { IsParent (forest_in records.now) (entity_of entity) (option_map entity_of result) }
 {
     lists_hold_nodes::<Operation<D>, BasicBlock<D>>();
     lists_hold_nodes::<BasicBlock<D>, Region>();
@@ -65,8 +65,8 @@ pub fn parent_of<D: Dialects>(records: &Records<D>, entity: EntityIndex) -> Opti
 /// Whether `inner` is `outer` or stands inside it, however deep. It climbs from `inner`, a step a level.
 pub fn is_inside<D: Dialects>(records: &Records<D>, outer: EntityIndex, inner: EntityIndex) -> bool
     requires nested { AreNested (tree_of records.now) }
-    requires formed { Nested (forest_of records.now) }
-    ensures { IsTrue result ↔ Inside (forest_of records.now) (entity_of outer) (entity_of inner) }
+    requires formed { Nested (forest_in records.now) }
+    ensures { IsTrue result ↔ Inside (forest_in records.now) (entity_of outer) (entity_of inner) }
 {
     lists_hold_nodes::<Operation<D>, BasicBlock<D>>();
     lists_hold_nodes::<BasicBlock<D>, Region>();

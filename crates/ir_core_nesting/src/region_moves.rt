@@ -8,7 +8,7 @@ ghost use Rattle.ir_model.specs.Nesting.{In, Nested, regions_of};
 ghost use Rattle.ir_model.specs.Changes.{move_region as moved, without};
 ghost use Rattle.ir_base_arenas.specs.Arena.{get, IsLive};
 ghost use Rattle.ir_core_records.specs.Lists.{edited, in_record};
-ghost use Rattle.ir_core_records.specs.Meaning.{forest_of};
+ghost use Rattle.ir_core_records.specs.Meaning.{forest_in};
 ghost use Rattle.ir_core_records.specs.Nested.{AreNested};
 ghost use Rattle.ir_core_records.specs.Tree.{tree_of, op_regions};
 ghost use Rattle.ir_core_nesting.specs.Edits.{KeepsChains};
@@ -57,13 +57,13 @@ pub fn move_region<D: Dialects>(
     op: ArenaIndex,
 ) -> Result<(), AllocError>
     requires nested { AreNested (tree_of records.old) }
-    requires formed { Nested (forest_of records.old) }
+    requires formed { Nested (forest_in records.old) }
     requires region_live { IsLive records.old.regions region }
     requires op_live { IsLive records.old.ops op }
-    ensures forest { OnOk result (forest_of records.new
-        ≡ (if list_any (λ g. same_id g region) (regions_of (forest_of records.old) op) then forest_of records.old else moved (forest_of records.old) region op)) }
-    ensures same { OnErr result (forest_of records.new ≡ forest_of records.old) }
-    ensures refused { OnErr result (¬ In region (regions_of (forest_of records.old) op)) }
+    ensures forest { OnOk result (forest_in records.new
+        ≡ (if list_any (λ g. same_id g region) (regions_of (forest_in records.old) op) then forest_in records.old else moved (forest_in records.old) region op)) }
+    ensures same { OnErr result (forest_in records.new ≡ forest_in records.old) }
+    ensures refused { OnErr result (¬ In region (regions_of (forest_in records.old) op)) }
     ensures nested { AreNested (tree_of records.new) }
     ensures keeps { KeepsChains records.old records.new }
 {

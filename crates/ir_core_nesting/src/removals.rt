@@ -11,7 +11,7 @@ ghost use Rattle.ir_base_arenas.specs.Arena.{cut, IsLive};
 ghost use Rattle.ir_base_arenas.specs.Lists.{SameIds};
 ghost use Rattle.ir_core_records.specs.declared.record.Definer.TheVariants.{Block};
 ghost use Rattle.ir_core_records.specs.Chains.{chains_of};
-ghost use Rattle.ir_core_records.specs.Meaning.{forest_of};
+ghost use Rattle.ir_core_records.specs.Meaning.{forest_in};
 ghost use Rattle.ir_core_records.specs.Nested.{AreNested};
 ghost use Rattle.ir_core_records.specs.Table.{block_uses_at, KnowOwn, uses_at};
 ghost use Rattle.ir_core_records.specs.Tree.{tree_of};
@@ -28,11 +28,11 @@ use ir_core_records::{BasicBlock, Operation, Records, Region};
 pub fn remove_bare_block<D: Dialects>(records: &mut Records<D>, block: ArenaIndex)
     requires nested { AreNested (tree_of records.old) }
     requires live { IsLive records.old.blocks block }
-    requires unlinked { ¬ IsLinked (forest_of records.old) (a_block block) }
-    requires empty { ops_of (forest_of records.old) block ≡ [] }
+    requires unlinked { ¬ IsLinked (forest_in records.old) (a_block block) }
+    requires empty { ops_of (forest_in records.old) block ≡ [] }
     requires unused { (number : ℕ) → uses_at records.old (record { definer = Block block; number = number }) ≡ [] }
     requires unnamed { block_uses_at records.old (record { index = block }) ≡ [] }
-    ensures forest { forest_of records.new ≡ without_block (forest_of records.old) block }
+    ensures forest { forest_in records.new ≡ without_block (forest_in records.old) block }
     ensures ops { records.new.ops ≡ records.old.ops }
     ensures blocks { records.new.blocks ≡ cut records.old.blocks block }
     ensures regions { records.new.regions ≡ records.old.regions }
@@ -51,9 +51,9 @@ pub fn remove_bare_block<D: Dialects>(records: &mut Records<D>, block: ArenaInde
 /// Removes a live region without blocks, and takes it out of the list of its operation, where it is looked for from the back. It takes no memory.
 pub fn remove_empty_region<D: Dialects>(records: &mut Records<D>, region: ArenaIndex)
     requires nested { AreNested (tree_of records.old) }
-    requires formed { Nested (forest_of records.old) }
-    requires empty { (forest_of records.old).regions region ≡ Some [] }
-    ensures forest { forest_of records.new ≡ without_region (in_ops (forest_of records.old) (without same_id region)) region }
+    requires formed { Nested (forest_in records.old) }
+    requires empty { (forest_in records.old).regions region ≡ Some [] }
+    ensures forest { forest_in records.new ≡ without_region (in_ops (forest_in records.old) (without same_id region)) region }
     ensures op_ids { SameIds records.old.ops records.new.ops }
     ensures blocks { records.new.blocks ≡ records.old.blocks }
     ensures regions { records.new.regions ≡ cut records.old.regions region }

@@ -21,7 +21,7 @@ use Rattle.ir_core_records.specs.declared.record.Operation.{Operation}
 use Rattle.ir_core_records.specs.Chains.{AreLinked, chains_of}
 use Rattle.ir_core_records.specs.Lists.{HaveDistinctUses, in_record}
 use Rattle.ir_core_records.specs.declared.records.Records.{Records}
-use Rattle.ir_core_records.specs.Meaning.{definer_of, forest_of, use_of, value_of}
+use Rattle.ir_core_records.specs.Meaning.{definer_of, forest_in, use_of, value_of}
 use Rattle.ir_core_records.specs.Table.{block_uses_at, definitions_at, operands_at, successors_at, uses_at}
 use Rattle.ir_core_records.specs.Values.{IsLiveBlockUse, IsLiveUse}
 use Rattle.ir_core_records.specs.Found.{number-found, number-missing}
@@ -85,15 +85,15 @@ each-copied named items kept Q each (Err e) is = tt
 module _ {D A K B S X L : Type 0} (t : Records D A K B S X L) where
   -- a value is found where a definition has its number
   module _ (v : ValueIndex) (ds : List Definition) (same : ds ≡ definitions_at t v.definer) where
-    numbers-here : numbers_of (forest_of t) (definer_of v.definer) ≡ map (λ (r : Definition). r.number) ds
+    numbers-here : numbers_of (forest_in t) (definer_of v.definer) ≡ map (λ (r : Definition). r.number) ds
     numbers-here = numbers-meant t v.definer ∙ ap (map (λ (r : Definition). r.number)) (sym same)
 
-    pub finds-definition : (i : ℕ) → position (λ (r : Definition). r.number == v.number) ds ≡ Some i → slice_get (numbers_of (forest_of t) (definer_of v.definer)) i ≡ Some v.number
+    pub finds-definition : (i : ℕ) → position (λ (r : Definition). r.number == v.number) ds ≡ Some i → slice_get (numbers_of (forest_in t) (definer_of v.definer)) i ≡ Some v.number
     finds-definition i e =
         let p = number-found (λ (r : Definition). r.number) ds v.number i e in
         ap (λ ns. slice_get ns i) numbers-here ∙ slice_get-map (λ (r : Definition). r.number) ds i ∙ ap (option_map (λ (r : Definition). r.number)) p.1 ∙ ap Some p.2
 
-    pub lacks-definition : position (λ (r : Definition). r.number == v.number) ds ≡ None → In v.number (numbers_of (forest_of t) (definer_of v.definer)) → ⊥
+    pub lacks-definition : position (λ (r : Definition). r.number == v.number) ds ≡ None → In v.number (numbers_of (forest_in t) (definer_of v.definer)) → ⊥
     lacks-definition none h =
         let at = In-map_back (λ (r : Definition). r.number) v.number ds (subst (In v.number) numbers-here h) in
         number-missing (λ (r : Definition). r.number) ds v.number none at.0 at.1 (sym at.2)
@@ -112,21 +112,21 @@ module _ {D A K B S X L : Type 0} (t : Records D A K B S X L) where
     pub successors-differ : AreLinked (chains_of t) → HaveDistinctUses op.successors
     successors-differ linked = subst HaveDistinctUses (sym successors-here) (places-differ (successors_at t) (block_uses_at t) linked.blocks u.user)
 
-    pub finds-operand : (i : ℕ) → position (λ (a : UsePlace ValueIndex). a.number == u.number) op.operands ≡ Some i → IsOperandAt (forest_of t) (use_of u) i
+    pub finds-operand : (i : ℕ) → position (λ (a : UsePlace ValueIndex). a.number == u.number) op.operands ≡ Some i → IsOperandAt (forest_in t) (use_of u) i
     finds-operand i e = operand-found t u i (ap (position (λ (a : UsePlace ValueIndex). a.number == u.number)) (sym operands-here) ∙ e)
 
-    pub finds-successor : (i : ℕ) → position (λ (a : UsePlace BlockIndex). a.number == u.number) op.successors ≡ Some i → IsSuccessorAt (forest_of t) (use_of u) i
+    pub finds-successor : (i : ℕ) → position (λ (a : UsePlace BlockIndex). a.number == u.number) op.successors ≡ Some i → IsSuccessorAt (forest_in t) (use_of u) i
     finds-successor i e = successor-found t u i (ap (position (λ (a : UsePlace BlockIndex). a.number == u.number)) (sym successors-here) ∙ e)
 
-    pub lacks-operand : position (λ (a : UsePlace ValueIndex). a.number == u.number) op.operands ≡ None → IsLiveUse (forest_of t) (use_of u) → ⊥
+    pub lacks-operand : position (λ (a : UsePlace ValueIndex). a.number == u.number) op.operands ≡ None → IsLiveUse (forest_in t) (use_of u) → ⊥
     lacks-operand none = operand-missing t u (ap (position (λ (a : UsePlace ValueIndex). a.number == u.number)) (sym operands-here) ∙ none)
 
-    pub lacks-successor : position (λ (a : UsePlace BlockIndex). a.number == u.number) op.successors ≡ None → IsLiveBlockUse (forest_of t) (use_of u) → ⊥
+    pub lacks-successor : position (λ (a : UsePlace BlockIndex). a.number == u.number) op.successors ≡ None → IsLiveBlockUse (forest_in t) (use_of u) → ⊥
     lacks-successor none = successor-missing t u (ap (position (λ (a : UsePlace BlockIndex). a.number == u.number)) (sym successors-here) ∙ none)
 
     -- what stands there is what the use is of
-    pub operand-names : (i : ℕ) (a : UsePlace ValueIndex) → IsOperandAt (forest_of t) (use_of u) i → slice_get op.operands i ≡ Some a → IsUse (forest_of t) (a_value (value_of a.names)) (use_of u)
+    pub operand-names : (i : ℕ) (a : UsePlace ValueIndex) → IsOperandAt (forest_in t) (use_of u) i → slice_get op.operands i ≡ Some a → IsUse (forest_in t) (a_value (value_of a.names)) (use_of u)
     operand-names i a placed e = operand-use t u i a placed (ap (λ xs. slice_get xs i) (sym operands-here) ∙ e)
 
-    pub successor-names : (i : ℕ) (a : UsePlace BlockIndex) → IsSuccessorAt (forest_of t) (use_of u) i → slice_get op.successors i ≡ Some a → IsUse (forest_of t) (the_block a.names.index) (use_of u)
+    pub successor-names : (i : ℕ) (a : UsePlace BlockIndex) → IsSuccessorAt (forest_in t) (use_of u) i → slice_get op.successors i ≡ Some a → IsUse (forest_in t) (the_block a.names.index) (use_of u)
     successor-names i a placed e = successor-use t u i a placed (ap (λ xs. slice_get xs i) (sym successors-here) ∙ e)

@@ -8,7 +8,7 @@ use Rattle.ir_model.specs.declared.ids.ArenaIndex.{ArenaIndex}
 use Rattle.ir_model.specs.ContextIds.{context_ids}
 use Rattle.ir_model.specs.Ids.{Distinct}
 use Rattle.ir_model.specs.Forest.{a_value, of_op, Operand}
-use Rattle.ir_model.specs.Nesting.{In, IsLiveNamed, WellFormed, numbers_of, operands_of, uses_of as use_numbers_of}
+use Rattle.ir_model.specs.Nesting.{In, IsLiveNamed, WellFormed, numbers_of, operands_of, use_numbers_of}
 use Rattle.ir_model.specs.Sessions.{Number}
 use Rattle.ir_model.specs.Uses.{AreUses, Use}
 use Rattle.ir_model.proofs.Nests.{In-append, In-left, In-right, In-map, In-map_back, not_in-Absent, Distinct-append, Distinct-map}
@@ -24,7 +24,7 @@ use Rattle.ir_core_records.specs.declared.records.Records.{Records}
 use Rattle.ir_core_records.specs.Chains.{AreLinked, chains_of}
 use Rattle.ir_core_records.specs.Lists.{in_record, uses_with}
 use Rattle.ir_core_records.specs.Meaning.{use_of, value_of}
-use Rattle.ir_core_context.specs.State.{State, bare, forest_of, uses_of}
+use Rattle.ir_core_context.specs.State.{ContextState, bare, forest_of, uses_of}
 use Rattle.ir_core_context.specs.Calls.{LiveWasMade}
 use Rattle.ir_core_records.specs.Table.{definitions_at, operands_at, uses_at}
 use Rattle.ir_core_records.specs.Found.{place-In}
@@ -33,7 +33,7 @@ use Rattle.ir_core_records.specs.Meant.{map-map, numbers-meant}
 use Rattle.ir_core_queries.specs.Values.{AreUsesOfResults, IsUseOfResult, uses_of_results}
 
 -- the kept lists of live values have exactly their uses, each once
-abbrev AreExact : {D A K B S X L : Type 0} → State D A K B S X L → Type 0
+abbrev AreExact : {D A K B S X L : Type 0} → ContextState D A K B S X L → Type 0
 AreExact s = (v : ValueIndex) → IsLiveNamed (forest_of s) (a_value (value_of v)) → AreUses (forest_of s) (a_value (value_of v)) (uses_of s v)
 
 module _ {A B : Type 0} (f : A → List B) where
@@ -86,7 +86,7 @@ uses_with-own (x ∷ rs) d r (inr h) =
     let ne : x.number ≡ r.number → ⊥ = λ e. not_in-Absent x.number (map (λ (y : Definition). y.number) rs) d.0 (subst (λ n. In n (map (λ (y : Definition). y.number) rs)) (sym e) (In-map (λ (y : Definition). y.number) r rs h)) in
     subst (λ b. cond b x.uses (uses_with rs r.number) ≡ r.uses) (sym (ne_eqb x.number r.number ne)) (uses_with-own rs d.1 r h)
 
-module _ {D A K B S X L : Type 0} (s : State D A K B S X L) (keys : ℕ) (formed : WellFormed (forest_of s) keys) (linked : AreLinked (chains_of s.records)) (are : AreExact s) (o : ArenaIndex) where
+module _ {D A K B S X L : Type 0} (s : ContextState D A K B S X L) (keys : ℕ) (formed : WellFormed (forest_of s) keys) (linked : AreLinked (chains_of s.records)) (are : AreExact s) (o : ArenaIndex) where
   -- the results of the operation, as indices
   abbrev results : List ValueIndex
   results = map (result_index o) (numbers_of (forest_of s) (of_op o))
@@ -167,7 +167,7 @@ any-joined (r ∷ rs) u h = elim (In-append u r.uses (flat_map (λ (x : Definiti
         let n : length (x ∷ us) ≢ 0 = omega arith in
         subst (λ b. (not b || list_any (λ (y : Definition). not (length y.uses == 0)) rs) ≡ true) (sym (ne_eqb (length (x ∷ us)) 0 n)) refl
 
-module _ {D A K B S X L : Type 0} (s : State D A K B S X L) (keys : ℕ) (formed : WellFormed (forest_of s) keys) (linked : AreLinked (chains_of s.records)) (are : AreExact s) (o : ArenaIndex) (op : Operation D A K B S X L) (at : get s.records.ops o ≡ Some op) where
+module _ {D A K B S X L : Type 0} (s : ContextState D A K B S X L) (keys : ℕ) (formed : WellFormed (forest_of s) keys) (linked : AreLinked (chains_of s.records)) (are : AreExact s) (o : ArenaIndex) (op : Operation D A K B S X L) (at : get s.records.ops o ≡ Some op) where
   -- what the results of a live operation keep
   pub uses-here : map use_of (flat_map (λ (r : Definition). r.uses) op.results) ≡ uses_of_results s o
   uses-here = subst (λ (m : Option (Operation D A K B S X L)). map use_of (flat_map (λ (r : Definition). r.uses) (in_record (λ (x : Operation D A K B S X L). x.results) [] m)) ≡ uses_of_results s o) at (read-joined s keys formed linked are o)

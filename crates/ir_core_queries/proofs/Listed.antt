@@ -10,7 +10,7 @@ use Rattle.ir_base_arenas.specs.Arena.{get}
 use Rattle.ir_core_records.specs.declared.record.BasicBlock.{BasicBlock}
 use Rattle.ir_core_records.specs.declared.record.Region.{Region}
 use Rattle.ir_core_records.specs.declared.records.Records.{Records}
-use Rattle.ir_core_records.specs.Meaning.{closed, forest_of, block_record}
+use Rattle.ir_core_records.specs.Meaning.{closed, forest_in, block_record}
 use Rattle.ir_core_records.specs.Nested.{AreNested}
 use Rattle.ir_core_records.specs.Tree.{tree_of, ops_in, blocks_in, block_ends, region_ends}
 
@@ -39,7 +39,7 @@ one-block x z e = cc
 
 module _ {D A K B S X L : Type 0} (t : Records D A K B S X L) (nested : AreNested (tree_of t)) where
   -- the operations of a block are those that its links make
-  pub ops-meant : (b : ArenaIndex) → ops_of (forest_of t) b ≡ ops_in (tree_of t) b
+  pub ops-meant : (b : ArenaIndex) → ops_of (forest_in t) b ≡ ops_in (tree_of t) b
   ops-meant b = by (get t.blocks b) refl
     where
       by : (m : Option (BasicBlock D A K B S X L)) → get t.blocks b ≡ m → list_of (λ (r : BlockRecord context_ids (closed A K B S X L)). r.ops) (option_map (block_record (ops_in (tree_of t) b)) m) ≡ ops_in (tree_of t) b
@@ -47,15 +47,15 @@ module _ {D A K B S X L : Type 0} (t : Records D A K B S X L) (nested : AreNeste
       by (Some r) e = refl
 
   -- the blocks of a region are those that its links make
-  pub blocks-meant : (g : ArenaIndex) → blocks_of (forest_of t) g ≡ blocks_in (tree_of t) g
+  pub blocks-meant : (g : ArenaIndex) → blocks_of (forest_in t) g ≡ blocks_in (tree_of t) g
   blocks-meant g = by (get t.regions g) refl
     where
       by : (m : Option Region) → get t.regions g ≡ m → list_of (λ (bs : List ArenaIndex). bs) (option_map (λ _. blocks_in (tree_of t) g) m) ≡ blocks_in (tree_of t) g
       by None e = sym (nested.block_lists.absent g (ap (option_map region_ends) e))
       by (Some r) e = refl
 
-  pub ops-listed : AreListed (forest_of t) an_op a_block (ops_in (tree_of t))
-  ops-listed = record { list = λ b. ap (map an_op) (ops-meant b); homes = op-home (forest_of t); one = one-op }
+  pub ops-listed : AreListed (forest_in t) an_op a_block (ops_in (tree_of t))
+  ops-listed = record { list = λ b. ap (map an_op) (ops-meant b); homes = op-home (forest_in t); one = one-op }
 
-  pub blocks-listed : AreListed (forest_of t) a_block a_region (blocks_in (tree_of t))
-  blocks-listed = record { list = λ g. ap (map a_block) (blocks-meant g); homes = block-home (forest_of t); one = one-block }
+  pub blocks-listed : AreListed (forest_in t) a_block a_region (blocks_in (tree_of t))
+  blocks-listed = record { list = λ g. ap (map a_block) (blocks-meant g); homes = block-home (forest_in t); one = one-block }

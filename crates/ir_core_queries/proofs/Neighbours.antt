@@ -10,7 +10,7 @@ use Rattle.ir_model.specs.Parent.{ComesAfter, FindsOne, IsIn, IsNext, IsParent, 
 use Rattle.ir_model.proofs.Back.{slice_get-in}
 use Rattle.ir_model.proofs.Nests.{In-map, In-map_back}
 use Rattle.ir_model.proofs.Relinks.{Adjacent-first, Adjacent-second}
-use Rattle.ir_base_arenas.specs.Lists.{Links, Ends, Heap, unlinked, linked, head_or, last_or, last_of, ends_of}
+use Rattle.ir_base_arenas.specs.Lists.{Links, Ends, Heap, unlinked, linked, head_or, last_or, last_from, ends_of}
 use Rattle.ir_core_queries.specs.Neighbours.{EndsTell, IsLiveLink, LinksTell}
 use Rattle.ir_core_queries.proofs.Listed.{AreListed}
 use Rattle.ir_core_queries.proofs.Live.{owner-live}
@@ -194,7 +194,7 @@ head-first : (xs : List ArenaIndex) → head_or None xs ≡ slice_get xs 0
 head-first [] = refl
 head-first (x ∷ xs) = refl
 
-last-got : (x : ArenaIndex) (xs : List ArenaIndex) → Some (last_of x xs) ≡ slice_get (x ∷ xs) (length xs)
+last-got : (x : ArenaIndex) (xs : List ArenaIndex) → Some (last_from x xs) ≡ slice_get (x ∷ xs) (length xs)
 last-got x [] = refl
 last-got x (y ∷ ys) = last-got y ys
 

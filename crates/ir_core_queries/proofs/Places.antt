@@ -15,7 +15,7 @@ use Rattle.ir_model.proofs.TwoRuns.{lawful}
 use Rattle.ir_base_arenas.specs.Arena.{get}
 use Rattle.ir_core_records.specs.declared.record.Operation.{Operation}
 use Rattle.ir_core_records.specs.declared.records.Records.{Records}
-use Rattle.ir_core_records.specs.Meaning.{closed, forest_of, op_record}
+use Rattle.ir_core_records.specs.Meaning.{closed, forest_in, op_record}
 use Rattle.ir_core_records.specs.Numbered.{position-None}
 
 pub place-of : {A : Type 0} (x : A) (xs : List A) → In x xs → (k : ℕ) × (slice_get xs k ≡ Some x)
@@ -38,7 +38,7 @@ missed-item xs item none h =
     cc
 
 -- the regions that the record of an operation has
-pub regions-read : {D A K B S X L : Type 0} (t : Records D A K B S X L) (o : ArenaIndex) (op : Operation D A K B S X L) → get t.ops o ≡ Some op → regions_of (forest_of t) o ≡ op.regions
+pub regions-read : {D A K B S X L : Type 0} (t : Records D A K B S X L) (o : ArenaIndex) (op : Operation D A K B S X L) → get t.ops o ≡ Some op → regions_of (forest_in t) o ≡ op.regions
 regions-read {D = D} {A = A} {K = K} {B = B} {S = S} {X = X} {L = L} t o op e =
     ap (λ (m : Option (Operation D A K B S X L)). list_of (λ (r : OpRecord context_ids (closed A K B S X L)). r.regions) (option_map op_record m)) e
 

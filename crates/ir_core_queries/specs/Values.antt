@@ -9,7 +9,7 @@ use Rattle.ir_model.specs.Nesting.{In, IsLive, definitions_of, numbers_of}
 use Rattle.ir_model.specs.Uses.{IsUse, Use}
 use Rattle.ir_core_records.specs.declared.record.Definer.{Definer}
 use Rattle.ir_core_records.specs.declared.record.Definer.TheVariants.{Op, Block}
-use Rattle.ir_core_context.specs.State.{State, forest_of, uses_of}
+use Rattle.ir_core_context.specs.State.{ContextState, forest_of, uses_of}
 use Rattle.ir_core_queries.specs.declared.error.ValueError.{ValueError}
 use Rattle.ir_core_queries.specs.declared.error.ValueError.TheVariants.{NotInOpResult, NotInBlockArgument}
 
@@ -34,7 +34,7 @@ module _ {W : Dialect} where
     pub missing : In v.number (numbers_of f v.definer) → ⊥
 
   -- the value has the type at this place
-  pub record HasType (f : Forest context_ids W) (v : Value context_ids) (ty : ℕ) : Type 0 where
+  pub record IsOfType (f : Forest context_ids W) (v : Value context_ids) (ty : ℕ) : Type 0 where
     pub definition : Definition context_ids W
     pub defined : In definition (definitions_of f v.definer)
     pub number : definition.number ≡ v.number
@@ -53,5 +53,5 @@ module _ {W : Dialect} where
 
 module _ {D A K B S X L : Type 0} where
   -- the kept lists of the uses of an operation's results, joined in the order of the results
-  abbrev pub uses_of_results : State D A K B S X L → ArenaIndex → List (Use context_ids)
+  abbrev pub uses_of_results : ContextState D A K B S X L → ArenaIndex → List (Use context_ids)
   uses_of_results s o = flat_map (λ n. uses_of s (record { definer = Op o; number = n })) (numbers_of (forest_of s) (of_op o))

@@ -3,7 +3,7 @@
 ghost use Rattle.std.specs.Prelude.{◌≡◌, ◌↔◌, [], All, IsTrue};
 ghost use Rattle.ir_model.specs.Forest.{a_region};
 ghost use Rattle.ir_model.specs.Nesting.{children, Inside, IsClosed, IsLinked, IsLive, Nested};
-ghost use Rattle.ir_core_records.specs.Meaning.{entity_of, forest_of as forest_in};
+ghost use Rattle.ir_core_records.specs.Meaning.{entity_of, forest_in};
 ghost use Rattle.ir_core_records.specs.Nested.{AreNested};
 ghost use Rattle.ir_core_records.specs.Tree.{tree_of};
 ghost use Rattle.ir_core_context.specs.State.{forest_of};

@@ -8,11 +8,11 @@ ghost use Rattle.ir_model.specs.Forest.{a_value, an_op, definer_entity, the_bloc
 ghost use Rattle.ir_model.specs.ContextIds.{context_ids};
 ghost use Rattle.ir_model.specs.Nesting.{IsLive, IsLiveNamed, numbers_of};
 ghost use Rattle.ir_model.specs.Uses.{AreUses, IsOperandAt, IsSuccessorAt, IsUse, Use as PlainUse};
-ghost use Rattle.ir_core_records.specs.Meaning.{definer_of, forest_of as forest_in, use_of, value_of};
+ghost use Rattle.ir_core_records.specs.Meaning.{definer_of, forest_in, use_of, value_of};
 ghost use Rattle.ir_core_records.specs.Table.{definitions_at};
 ghost use Rattle.ir_core_records.specs.Values.{IsLiveBlockUse, IsLiveUse};
 ghost use Rattle.ir_core_context.specs.State.{forest_of, types_of, uses_of};
-ghost use Rattle.ir_core_queries.specs.Values.{HasType, LacksArgument, LacksResult, missing_from};
+ghost use Rattle.ir_core_queries.specs.Values.{IsOfType, LacksArgument, LacksResult, missing_from};
 
 use crate::error::{IndexErr, UseError, ValueError};
 use ir_base_dialects::{CoreError, Dialects, Ptr, TypeHandle};
@@ -107,7 +107,7 @@ pub trait ValueQueries<D: Dialects> {
     /// The type of a live value.
     fn get_type(self, ctx: &Context<D>) -> TypeHandle
         requires { IsLiveNamed (forest_of ctx.now) (a_value (value_of (index_of self))) }
-        ensures found { HasType (forest_of ctx.now) (value_of (index_of self)) result.place }
+        ensures found { IsOfType (forest_of ctx.now) (value_of (index_of self)) result.place }
         ensures known { result.place < length (types_of ctx.now) };
 
     /// The location of what defines a live value.
@@ -200,7 +200,7 @@ pub trait UseQueries<D: Dialects> {
     /// The type of the value that a live use names.
     fn get_type(self, ctx: &Context<D>) -> TypeHandle
         requires { IsLiveUse (forest_of ctx.now) (use_of (index_of self)) }
-        ensures found { (v : PlainValue context_ids) × (IsUse (forest_of ctx.now) (a_value v) (use_of (index_of self))) × HasType (forest_of ctx.now) v result.place }
+        ensures found { (v : PlainValue context_ids) × (IsUse (forest_of ctx.now) (a_value v) (use_of (index_of self))) × IsOfType (forest_of ctx.now) v result.place }
         ensures known { result.place < length (types_of ctx.now) };
 }
 

@@ -27,11 +27,11 @@ module _ {D A K B S X L : Type 0} where
   chains_of t = record { operands = operands_at t; successors = successors_at t; uses = uses_at t; block_uses = block_uses_at t }
 
 -- a place's number and what it names, without where its use stands
-abbrev pub name_of : {N : Type 0} → UsePlace N → ℕ × N
-name_of a = (a.number, a.names)
+abbrev pub number_and_name : {N : Type 0} → UsePlace N → ℕ × N
+number_and_name a = (a.number, a.names)
 
 abbrev pub names_in : {N : Type 0} → List (UsePlace N) → List (ℕ × N)
-names_in xs = map name_of xs
+names_in xs = map number_and_name xs
 
 -- these are named, with the numbers from n on
 abbrev pub names_from : {N : Type 0} → ℕ → List N → List (ℕ × N)

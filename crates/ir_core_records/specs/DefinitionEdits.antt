@@ -15,16 +15,16 @@ use Rattle.ir_core_records.specs.Lists.{uses_with, HasNumber, HaveDistinctNumber
 use Rattle.ir_core_records.specs.Found.{place-In}
 
 -- with this number and type, and neither name nor uses
-abbrev pub unused : ℕ → ℕ → Definition
-unused n ty = record { number = n; ty = ty; name = None; uses = [] }
+abbrev pub unused_definition : ℕ → ℕ → Definition
+unused_definition n ty = record { number = n; ty = ty; name = None; uses = [] }
 
 -- the definition is rewritten, where it has this number
 abbrev pub rewritten : ℕ → (Definition → Definition) → Definition → Definition
 rewritten n g r = if r.number == n then g r else r
 
 -- with this type, and all else as it was
-abbrev pub with_type : ℕ → Definition → Definition
-with_type ty r = record r { ty = ty }
+abbrev pub typed_as : ℕ → Definition → Definition
+typed_as ty r = record r { ty = ty }
 
 -- with this name, or none, and all else as it was
 abbrev pub with_name : Option (Box (List ℕ)) → Definition → Definition
@@ -41,8 +41,8 @@ none_behind : (r : Definition) (rs : List Definition) (n : ℕ) → ¬ (HasNumbe
 none_behind r rs n none h = none (suc h.0, h.1, h.2, h.3)
 
 -- one more with a new number, and one fewer
-pub distinct-insert : (rs : List Definition) (i n ty : ℕ) → ¬ (HasNumber rs n) → HaveDistinctNumbers rs → HaveDistinctNumbers (insert rs i (unused n ty))
-distinct-insert rs i n ty none d = AddsOne-distinct (AddsOne-map (λ (r : Definition). r.number) (AddsOne-insert (unused n ty) rs i)) d (none_in rs n none)
+pub distinct-insert : (rs : List Definition) (i n ty : ℕ) → ¬ (HasNumber rs n) → HaveDistinctNumbers rs → HaveDistinctNumbers (insert rs i (unused_definition n ty))
+distinct-insert rs i n ty none d = AddsOne-distinct (AddsOne-map (λ (r : Definition). r.number) (AddsOne-insert (unused_definition n ty) rs i)) d (none_in rs n none)
 
 pub distinct-remove : (rs : List Definition) (i : ℕ) → HaveDistinctNumbers rs → HaveDistinctNumbers (remove rs i)
 distinct-remove rs i d = Sub-distinct (Sub-map (λ (r : Definition). r.number) (Sub-remove rs i)) d
@@ -57,14 +57,14 @@ uses-absent (r ∷ rs) n none =
     ]
 
 -- a definition without uses is put in
-put_first : (rs : List Definition) (n ty m : ℕ) → ¬ (HasNumber rs n) → uses_with (unused n ty ∷ rs) m ≡ uses_with rs m
+put_first : (rs : List Definition) (n ty m : ℕ) → ¬ (HasNumber rs n) → uses_with (unused_definition n ty ∷ rs) m ≡ uses_with rs m
 put_first rs n ty m none =
     elim (cases_eq n m) [
       | inl q ↦ let hit : n == m ≡ true = eq-eqb n m q in rw hit (sym (uses-absent rs m (subst (λ (k : ℕ). ¬ (HasNumber rs k)) q none)))
       | inr q ↦ let miss : n == m ≡ false = ne_eqb n m q in rw miss refl
     ]
 
-pub uses-insert : (rs : List Definition) (i n ty m : ℕ) → ¬ (HasNumber rs n) → uses_with (insert rs i (unused n ty)) m ≡ uses_with rs m
+pub uses-insert : (rs : List Definition) (i n ty m : ℕ) → ¬ (HasNumber rs n) → uses_with (insert rs i (unused_definition n ty)) m ≡ uses_with rs m
 uses-insert rs zero n ty m none = put_first rs n ty m none
 uses-insert [] (suc i) n ty m none = put_first [] n ty m none
 uses-insert (r ∷ rs) (suc i) n ty m none = ap (λ us. cond (r.number == m) r.uses us) (uses-insert rs i n ty m (none_behind r rs n none))

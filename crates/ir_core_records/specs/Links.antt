@@ -29,5 +29,5 @@ abbrev pub IsFreshUse : {N : Type 0} → (ArenaIndex → List (UsePlace N)) → 
 IsFreshUse {N} places n = (o : ArenaIndex) (i : ℕ) (a : UsePlace N) → slice_get (places o) i ≡ Some a → ¬ (a.number ≡ n)
 
 -- the user has a place with this number
-abbrev pub HasPlace : {N : Type 0} → (ArenaIndex → List (UsePlace N)) → UseIndex → Type 0
-HasPlace {N} places u = (i : ℕ) × (a : UsePlace N) × (slice_get (places u.user) i ≡ Some a) × (a.number ≡ u.number)
+abbrev pub IsPlaced : {N : Type 0} → (ArenaIndex → List (UsePlace N)) → UseIndex → Type 0
+IsPlaced {N} places u = (i : ℕ) × (a : UsePlace N) × (slice_get (places u.user) i ≡ Some a) × (a.number ≡ u.number)

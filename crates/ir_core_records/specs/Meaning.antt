@@ -104,5 +104,5 @@ module _ {D A K B S X L : Type 0} where
   region_records t g = option_map (λ _. blocks_in (tree_of t) g) (get t.regions g)
 
   -- the forest that all records mean
-  abbrev pub forest_of : Records D A K B S X L → Forest context_ids (closed A K B S X L)
-  forest_of t = record { ops = op_records t; blocks = block_records t; regions = region_records t }
+  abbrev pub forest_in : Records D A K B S X L → Forest context_ids (closed A K B S X L)
+  forest_in t = record { ops = op_records t; blocks = block_records t; regions = region_records t }

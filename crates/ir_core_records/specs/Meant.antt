@@ -14,7 +14,7 @@ use Rattle.ir_core_records.specs.declared.record.Operation.{Operation}
 use Rattle.ir_core_records.specs.declared.record.BasicBlock.{BasicBlock}
 use Rattle.ir_core_records.specs.declared.records.Records.{Records}
 use Rattle.ir_core_records.specs.Lists.{in_record}
-use Rattle.ir_core_records.specs.Meaning.{closed, definer_of, definition_of, operand_of, successor_of, value_of, op_record, block_record, forest_of}
+use Rattle.ir_core_records.specs.Meaning.{closed, definer_of, definition_of, operand_of, successor_of, value_of, op_record, block_record, forest_in}
 use Rattle.ir_core_records.specs.Table.{definitions_at, operands_at, successors_at}
 use Rattle.ir_core_records.specs.Tree.{tree_of, ops_in}
 
@@ -42,22 +42,22 @@ value-same v w h =
 
 module _ {D A K B S X L : Type 0} (t : Records D A K B S X L) where
   -- the results of an operation, or the arguments of a block
-  pub definitions-meant : (d : Definer) → definitions_of (forest_of t) (definer_of d) ≡ map (definition_of {A = A} {K = K} {B = B} {S = S} {X = X} {L = L}) (definitions_at t d)
+  pub definitions-meant : (d : Definer) → definitions_of (forest_in t) (definer_of d) ≡ map (definition_of {A = A} {K = K} {B = B} {S = S} {X = X} {L = L}) (definitions_at t d)
   definitions-meant (Op o) =
       list-meant op_record (λ (r : OpRecord context_ids (closed A K B S X L)). r.results) (λ (op : Operation D A K B S X L). op.results) definition_of (λ op. refl) (get t.ops o)
   definitions-meant (Block b) =
       list-meant (block_record (ops_in (tree_of t) b)) (λ (r : BlockRecord context_ids (closed A K B S X L)). r.arguments) (λ (x : BasicBlock D A K B S X L). x.arguments) definition_of (λ x. refl) (get t.blocks b)
 
-  pub operands-meant : (o : ArenaIndex) → operands_of (forest_of t) o ≡ map operand_of (operands_at t o)
+  pub operands-meant : (o : ArenaIndex) → operands_of (forest_in t) o ≡ map operand_of (operands_at t o)
   operands-meant o =
       list-meant op_record (λ (r : OpRecord context_ids (closed A K B S X L)). r.operands) (λ (op : Operation D A K B S X L). op.operands) operand_of (λ op. refl) (get t.ops o)
 
-  pub successors-meant : (o : ArenaIndex) → successors_of (forest_of t) o ≡ map successor_of (successors_at t o)
+  pub successors-meant : (o : ArenaIndex) → successors_of (forest_in t) o ≡ map successor_of (successors_at t o)
   successors-meant o =
       list-meant op_record (λ (r : OpRecord context_ids (closed A K B S X L)). r.successors) (λ (op : Operation D A K B S X L). op.successors) successor_of (λ op. refl) (get t.ops o)
 
   -- the numbers of the results or arguments
-  pub numbers-meant : (d : Definer) → numbers_of (forest_of t) (definer_of d) ≡ map (λ (r : Definition). r.number) (definitions_at t d)
+  pub numbers-meant : (d : Definer) → numbers_of (forest_in t) (definer_of d) ≡ map (λ (r : Definition). r.number) (definitions_at t d)
   numbers-meant d =
       ap (map (λ (x : PlainDefinition context_ids (closed A K B S X L)). x.number)) (definitions-meant d)
       ∙ map-map (definition_of {A = A} {K = K} {B = B} {S = S} {X = X} {L = L}) (λ (x : PlainDefinition context_ids (closed A K B S X L)). x.number) (definitions_at t d)

@@ -20,8 +20,8 @@ module _ {D A K B S X L : Type 0} where
   IsOp t o = IsLive t.ops o
 
   -- the block is live
-  abbrev pub IsBlock : Records D A K B S X L → BlockIndex → Type 0
-  IsBlock t b = IsLive t.blocks b.index
+  abbrev pub IsLiveBlock : Records D A K B S X L → BlockIndex → Type 0
+  IsLiveBlock t b = IsLive t.blocks b.index
 
   abbrev pub operands_at : Records D A K B S X L → ArenaIndex → List (UsePlace ValueIndex)
   operands_at t o = in_record (λ op. op.operands) [] (get t.ops o)

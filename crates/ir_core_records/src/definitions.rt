@@ -3,7 +3,7 @@
 ghost use Rattle.std.specs.Prelude.{◌≡◌, ◌+◌, ◌<◌, ◌≤◌, ◌^◌, ◌==◌, [], length, map, insert, remove, is_ok, if◌then◌else◌, IfOk, Some, slice_get, position};
 ghost use Rattle.std.specs.Borrow.{sem};
 ghost use Rattle.ir_core_records.specs.Lists.{uses_with, HasNumber, HaveDistinctNumbers, IsDefinition, definitions_from};
-ghost use Rattle.ir_core_records.specs.DefinitionEdits.{unused, rewritten, with_name, with_type};
+ghost use Rattle.ir_core_records.specs.DefinitionEdits.{unused_definition, rewritten, with_name, typed_as};
 ghost use Rattle.ir_core_records.specs.Lends.{lends_definition_uses};
 
 use crate::numbered::find_numbered;
@@ -32,7 +32,7 @@ impl Model for Definitions {
 
 // A definition with this number and type, and neither name nor uses.
 fn new_definition(alloc: Global, number: u64, ty: TypeHandle) -> Definition
-    ensures { result ≡ unused number ty.place }
+    ensures { result ≡ unused_definition number ty.place }
 {
     Definition {
         number,
@@ -147,7 +147,7 @@ impl Definitions {
         }
     }
 
-    /// Puts an unused and unnamed definition with this number and type at `index`, before the one that stands there.
+    /// Puts an unused_definition and unnamed definition with this number and type at `index`, before the one that stands there.
     ///
     /// # Errors
     /// Where the list had to grow and couldn't. Then the definitions are as before.
@@ -160,7 +160,7 @@ impl Definitions {
     ) -> Result<(), AllocError>
         requires within { index ≤ length self.old }
         requires new_number { ¬ (HasNumber self.old number) }
-        ensures { self.new ≡ (if is_ok result then insert self.old index (unused number ty.place) else self.old) }
+        ensures { self.new ≡ (if is_ok result then insert self.old index (unused_definition number ty.place) else self.old) }
     {
         self.items.insert(index, new_definition(alloc, number, ty))
     }
@@ -178,7 +178,7 @@ impl Definitions {
     /// Gives the definition with this number this type.
     pub fn set_type(&mut self, number: u64, ty: TypeHandle)
         requires { HasNumber self.old number }
-        ensures { self.new ≡ map (rewritten number (with_type ty.place)) self.old }
+        ensures { self.new ≡ map (rewritten number (typed_as ty.place)) self.old }
     {
         match self.find(number) {
             Some(index) => self.items.at_mut(index).ty = ty.place,

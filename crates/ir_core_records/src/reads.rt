@@ -2,7 +2,7 @@
 
 ghost use Rattle.std.specs.Prelude.{◌≡◌, ◌==◌, position};
 ghost use Rattle.ir_core_records.specs.Lists.{HaveDistinctUses, IsDefinition};
-ghost use Rattle.ir_core_records.specs.Table.{block_uses_at, definitions_at, uses_at, IsBlock, IsValue};
+ghost use Rattle.ir_core_records.specs.Table.{block_uses_at, definitions_at, uses_at, IsLiveBlock, IsValue};
 
 use crate::numbered::{find_near, find_numbered};
 use crate::record::{BlockIndex, Definer, Definition, UsePlace, Uses, ValueIndex};
@@ -11,7 +11,7 @@ use ir_base_dialects::{Dialects, Ptr};
 
 /// The uses of a live block as a successor.
 pub fn block_uses<D: Dialects>(records: &Records<D>, block: BlockIndex) -> &Uses
-    requires { IsBlock records.now block }
+    requires { IsLiveBlock records.now block }
     ensures { result.now ≡ block_uses_at records.now block }
 {
     &records.blocks.at(Ptr::from_index(block.index)).uses

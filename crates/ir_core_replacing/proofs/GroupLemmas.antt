@@ -9,8 +9,8 @@ use Rattle.ir_model.specs.ContextIds.{context_ids}
 use Rattle.ir_model.specs.Uses.{Use}
 use Rattle.ir_core_records.specs.declared.record.UseIndex.{UseIndex}
 use Rattle.ir_core_records.specs.declared.record.UsePlace.{UsePlace}
-use Rattle.ir_core_records.specs.Chains.{name_of, names_in}
-use Rattle.ir_core_records.specs.Links.{LinkedBut, NoHole, HasPlace}
+use Rattle.ir_core_records.specs.Chains.{number_and_name, names_in}
+use Rattle.ir_core_records.specs.Links.{LinkedBut, NoHole, IsPlaced}
 use Rattle.ir_core_records.specs.Lists.{HaveDistinctUses}
 use Rattle.ir_core_chains.specs.Chain.{IsUseChain, Rewrites, unchanged, by_places, by_uses}
 use Rattle.ir_core_chains.specs.ChainEdits.{rewrites-has}
@@ -170,12 +170,12 @@ module _ {N : Type 0} (tell : (v w : N) → (v ≡ w) ⊎ (¬ (v ≡ w))) (from 
   pub all_named : (start : ℕ) → Renamed from (go_behind to start) os os' → (passes : N → Bool) → ((v : N) → (passes v ≡ true) ↔ (v ≡ from)) → (o : ArenaIndex) → names_in (os' o) ≡ map (named_by passes to) (names_in (os o))
   all_named start R passes is =
       renamed-names tell from to (go_behind to start) os os' R (λ o. named_by passes to)
-      (λ o i a at e. ap (λ (b : Bool). cond b (a.number, to) (name_of a)) ((is a.names).1 e))
+      (λ o i a at e. ap (λ (b : Bool). cond b (a.number, to) (number_and_name a)) ((is a.names).1 e))
       (λ o i a at ne. by a (passes a.names) refl ne)
     where
-      by : (a : UsePlace N) (b : Bool) → passes a.names ≡ b → ¬ (a.names ≡ from) → named_by passes to (name_of a) ≡ name_of a
+      by : (a : UsePlace N) (b : Bool) → passes a.names ≡ b → ¬ (a.names ≡ from) → named_by passes to (number_and_name a) ≡ number_and_name a
       by a true e ne = absurd (ne ((is a.names).0 e))
-      by a false e ne = ap (λ (b : Bool). cond b (a.number, to) (name_of a)) e
+      by a false e ne = ap (λ (b : Bool). cond b (a.number, to) (number_and_name a)) e
 
   -- those whose answer is yes
   module _ (us : N → List UseIndex) (L : LinkedBut NoHole os us) (bs : List Bool) where
@@ -190,7 +190,7 @@ module _ {N : Type 0} (tell : (v w : N) → (v ≡ w) ⊎ (¬ (v ≡ w))) (from 
         (ap (λ (x : UsePlace N). x.names) one, ap (slice_get bs) (ap (λ (x : UsePlace N). x.place) one) ∙ r.3)
 
     chosen-so : (start : ℕ) (o : ArenaIndex) (i : ℕ) (a : UsePlace N) → slice_get (os o) i ≡ Some a → a.names ≡ from → (b : Bool) → is_chosen (us from) bs (record { user = o; number = a.number }) ≡ b → (c : Option Bool) → slice_get bs a.place ≡ c
-        → cond b (a.number, to) (name_of a) ≡ (a.number, (by_answer from to start bs a.place c).0)
+        → cond b (a.number, to) (number_and_name a) ≡ (a.number, (by_answer from to start bs a.place c).0)
     chosen-so start o i a at e true h None f = let s = (stands-for o i a at h).1 in absurd (cc)
     chosen-so start o i a at e true h (Some true) f = refl
     chosen-so start o i a at e true h (Some false) f = let s = (stands-for o i a at h).1 in absurd (cc)
@@ -201,11 +201,11 @@ module _ {N : Type 0} (tell : (v w : N) → (v ≡ w) ⊎ (¬ (v ≡ w))) (from 
         let k : is_chosen (us from) bs (record { user = o; number = a.number }) ≡ true = is_chosen-at (us from) bs a.place (record { user = o; number = a.number }) g f in
         absurd (cc)
 
-    chosen-else : (o : ArenaIndex) (i : ℕ) (a : UsePlace N) → slice_get (os o) i ≡ Some a → ¬ (a.names ≡ from) → (b : Bool) → is_chosen (us from) bs (record { user = o; number = a.number }) ≡ b → cond b (a.number, to) (name_of a) ≡ name_of a
+    chosen-else : (o : ArenaIndex) (i : ℕ) (a : UsePlace N) → slice_get (os o) i ≡ Some a → ¬ (a.names ≡ from) → (b : Bool) → is_chosen (us from) bs (record { user = o; number = a.number }) ≡ b → cond b (a.number, to) (number_and_name a) ≡ number_and_name a
     chosen-else o i a at ne true h = absurd (ne (stands-for o i a at h).0)
     chosen-else o i a at ne false h = refl
 
-    itself : from ≡ to → (a : UsePlace N) → a.names ≡ from → (b : Bool) → cond b (a.number, to) (name_of a) ≡ (a.number, from)
+    itself : from ≡ to → (a : UsePlace N) → a.names ≡ from → (b : Bool) → cond b (a.number, to) (number_and_name a) ≡ (a.number, from)
     itself e a is true = λ q. (a.number, sym e q)
     itself e a is false = λ q. (a.number, is q)
 
@@ -238,7 +238,7 @@ module _ {S N : Type 0} {Live : S → ArenaIndex → Type 0} {ps : S → ArenaIn
 
   -- one more
   module _ (t r s : S) (from : N) (goes : ℕ → N × ℕ) (k : ℕ) (L : Linked t) (G : IsRenaming from (gone_to from goes k) t r s) (u : UseIndex) (at : slice_get (us t from) k ≡ Some u) where
-    pub next_has : HasPlace (ps s) u
+    pub next_has : IsPlaced (ps s) u
     next_has = use_placed C t L from (gone_to from goes k) s s G.places k u at
 
     pub next_live : Live s u.user

@@ -7,9 +7,9 @@ use Rattle.ir_model.specs.declared.ids.ArenaIndex.{ArenaIndex}
 use Rattle.ir_model.proofs.IdCases.{id_cases}
 use Rattle.ir_core_records.specs.declared.record.UseIndex.{UseIndex}
 use Rattle.ir_core_records.specs.declared.record.UsePlace.{UsePlace}
-use Rattle.ir_core_records.specs.Chains.{name_of, names_in}
+use Rattle.ir_core_records.specs.Chains.{number_and_name, names_in}
 use Rattle.ir_core_records.specs.Distinct.{distinct_by_place, first_with}
-use Rattle.ir_core_records.specs.Links.{LinkedBut, NoHole, HasPlace}
+use Rattle.ir_core_records.specs.Links.{LinkedBut, NoHole, IsPlaced}
 use Rattle.ir_core_records.specs.Lists.{HaveDistinctUses}
 use Rattle.ir_core_chains.specs.LinkLemmas.{OperandsChange}
 use Rattle.ir_core_chains.specs.ListReads.{slice_get-set_same, slice_get-set_other}
@@ -79,7 +79,7 @@ module _ {N : Type 0} where
       stands : slice_get (os' u.user) index ≡ Some (at_goal u.number (goes k))
       stands = R.moved u.user index was stood refl
 
-      pub still_has : HasPlace os' u
+      pub still_has : IsPlaced os' u
       still_has = (index, at_goal u.number (goes k), stands, refl)
 
       module _ (os'' : ArenaIndex → List (UsePlace N)) (x : N × ℕ) (C : OperandsChange u.user (put_name (os' u.user) u.number x.0 x.1) os' os'') where
@@ -208,20 +208,20 @@ module _ {N : Type 0} (tell : (v w : N) → (v ≡ w) ⊎ (¬ (v ≡ w))) (from 
 
   -- what the places name now, by what they named
   module _ (f : ArenaIndex → ℕ × N → ℕ × N)
-      (goes-so : (o : ArenaIndex) (i : ℕ) (a : UsePlace N) → slice_get (os o) i ≡ Some a → a.names ≡ from → f o (name_of a) ≡ (a.number, (goes a.place).0))
-      (stays-so : (o : ArenaIndex) (i : ℕ) (a : UsePlace N) → slice_get (os o) i ≡ Some a → ¬ (a.names ≡ from) → f o (name_of a) ≡ name_of a) where
-    name-now : (o : ArenaIndex) (i : ℕ) (x y : Option (UsePlace N)) → slice_get (os o) i ≡ x → slice_get (os' o) i ≡ y → option_map name_of y ≡ option_map (f o) (option_map name_of x)
+      (goes-so : (o : ArenaIndex) (i : ℕ) (a : UsePlace N) → slice_get (os o) i ≡ Some a → a.names ≡ from → f o (number_and_name a) ≡ (a.number, (goes a.place).0))
+      (stays-so : (o : ArenaIndex) (i : ℕ) (a : UsePlace N) → slice_get (os o) i ≡ Some a → ¬ (a.names ≡ from) → f o (number_and_name a) ≡ number_and_name a) where
+    name-now : (o : ArenaIndex) (i : ℕ) (x y : Option (UsePlace N)) → slice_get (os o) i ≡ x → slice_get (os' o) i ≡ y → option_map number_and_name y ≡ option_map (f o) (option_map number_and_name x)
     name-now o i None None at at' = refl
     name-now o i None (Some b) at at' = let was = R.came o i b at' in let h : None ≡ Some was.0 = sym at ∙ was.1 in absurd (cc)
     name-now o i (Some a) y at at' =
         elim (tell a.names from) [
-          | inl e ↦ ap (option_map name_of) (sym at' ∙ R.moved o i a at e) ∙ ap Some (sym (goes-so o i a at e))
-          | inr ne ↦ ap (option_map name_of) (sym at' ∙ R.stays o i a at ne) ∙ ap Some (sym (stays-so o i a at ne))
+          | inl e ↦ ap (option_map number_and_name) (sym at' ∙ R.moved o i a at e) ∙ ap Some (sym (goes-so o i a at e))
+          | inr ne ↦ ap (option_map number_and_name) (sym at' ∙ R.stays o i a at ne) ∙ ap Some (sym (stays-so o i a at ne))
         ]
 
     pub renamed-names : (o : ArenaIndex) → names_in (os' o) ≡ map (f o) (names_in (os o))
     renamed-names o = same_items (names_in (os' o)) (map (f o) (names_in (os o))) (λ i.
-        slice_get-map name_of (os' o) i
+        slice_get-map number_and_name (os' o) i
         ∙ name-now o i (slice_get (os o) i) (slice_get (os' o) i) refl refl
-        ∙ ap (option_map (f o)) (sym (slice_get-map name_of (os o) i))
+        ∙ ap (option_map (f o)) (sym (slice_get-map number_and_name (os o) i))
         ∙ sym (slice_get-map (f o) (names_in (os o)) i))

@@ -9,8 +9,8 @@ use Rattle.ir_model.specs.Uses.{Use}
 use Rattle.ir_model.proofs.IdCases.{id_cases, id_same, id_differs}
 use Rattle.ir_core_records.specs.declared.record.UseIndex.{UseIndex}
 use Rattle.ir_core_records.specs.declared.record.UsePlace.{UsePlace}
-use Rattle.ir_core_records.specs.Chains.{name_of, names_in}
-use Rattle.ir_core_records.specs.Links.{LinkedBut, NoHole, HasPlace}
+use Rattle.ir_core_records.specs.Chains.{number_and_name, names_in}
+use Rattle.ir_core_records.specs.Links.{LinkedBut, NoHole, IsPlaced}
 use Rattle.ir_core_records.specs.Distinct.{distinct_by_place}
 use Rattle.ir_core_records.specs.Lists.{HaveDistinctUses}
 use Rattle.ir_core_records.specs.Meaning.{use_of}
@@ -132,12 +132,12 @@ module _ {S N : Type 0} {Live : S → ArenaIndex → Type 0} {ps : S → ArenaIn
   pub places_change : (t : S) (o : ArenaIndex) (xs : List (UsePlace N)) → Live t o → OperandsChange o xs (ps t) (ps (put_ps t o xs))
   places_change t o xs live = record { here = C.place_lists.here t o xs live; others = λ p ne. C.place_lists.others t o xs live p ne }
 
-  pub place_live : (t : S) (u : UseIndex) → HasPlace (ps t) u → Live t u.user
+  pub place_live : (t : S) (u : UseIndex) → IsPlaced (ps t) u → Live t u.user
   place_live t u h = C.place_lists.has t u.user h.0 h.1 h.2
 
   -- a place is renamed in a state in which places were renamed
   module _ (t : S) (L : Linked t) (from : N) (goes : ℕ → N × ℕ) (s r : S) (R : Renamed from goes (ps t) (ps s)) (k : ℕ) (u : UseIndex) (at : slice_get (us t from) k ≡ Some u) where
-    pub use_placed : HasPlace (ps s) u
+    pub use_placed : IsPlaced (ps s) u
     use_placed = still_has from goes (ps t) (ps s) (us t) L R k u at
 
     pub use_live : Live s u.user
@@ -176,7 +176,7 @@ module _ {S N : Type 0} {Live : S → ArenaIndex → Type 0} {ps : S → ArenaIn
 
     -- the names, where the places went so
     module _ (goes : ℕ → N × ℕ) (here : (goes a.place).0 ≡ to) (away : (p : ℕ) (w : UseIndex) → slice_get (us t a.names) p ≡ Some w → ¬ (p ≡ a.place) → (goes p).0 ≡ a.names) where
-      went : (b : Bool) (o : ArenaIndex) (j : ℕ) (c : UsePlace N) → slice_get (ps t o) j ≡ Some c → c.names ≡ a.names → same_use (use_of u) (record { user = o; number = c.number }) ≡ b → cond b (c.number, to) (name_of c) ≡ (c.number, (goes c.place).0)
+      went : (b : Bool) (o : ArenaIndex) (j : ℕ) (c : UsePlace N) → slice_get (ps t o) j ≡ Some c → c.names ≡ a.names → same_use (use_of u) (record { user = o; number = c.number }) ≡ b → cond b (c.number, to) (number_and_name c) ≡ (c.number, (goes c.place).0)
       went true o j c at_c is h =
           let e = is-used o j c at_c h in
           let there : (goes c.place).0 ≡ to = (λ p. (goes (e p).place).0) ∙ here in
@@ -190,7 +190,7 @@ module _ {S N : Type 0} {Live : S → ArenaIndex → Type 0} {ps : S → ArenaIn
           let there : c.names ≡ (goes c.place).0 = is ∙ sym (away c.place (record { user = o; number = c.number }) f other) in
           λ p. (c.number, there p)
 
-      stayed : (b : Bool) (o : ArenaIndex) (j : ℕ) (c : UsePlace N) → slice_get (ps t o) j ≡ Some c → ¬ (c.names ≡ a.names) → same_use (use_of u) (record { user = o; number = c.number }) ≡ b → cond b (c.number, to) (name_of c) ≡ name_of c
+      stayed : (b : Bool) (o : ArenaIndex) (j : ℕ) (c : UsePlace N) → slice_get (ps t o) j ≡ Some c → ¬ (c.names ≡ a.names) → same_use (use_of u) (record { user = o; number = c.number }) ≡ b → cond b (c.number, to) (number_and_name c) ≡ number_and_name c
       stayed true o j c at_c other h = absurd (other (ap (λ (x : UsePlace N). x.names) (is-used o j c at_c h)))
       stayed false o j c at_c other h = refl
 
@@ -209,7 +209,7 @@ module _ {S N : Type 0} {Live : S → ArenaIndex → Type 0} {ps : S → ArenaIn
       pushed_renamed : Renamed a.names (λ q. (a.names, q)) (ps t) (ps s)
       pushed_renamed = subst (Renamed a.names (λ q. (a.names, q)) (ps t)) (sym (ap ps pushed ∙ C.places_stay t to (us t to ++ u ∷ []))) (renamed-none a.names (ps t))
 
-      pub pushed_has : HasPlace (ps s) u
+      pub pushed_has : IsPlaced (ps s) u
       pushed_has = use_placed t L a.names (λ q. (a.names, q)) s s pushed_renamed a.place u use_kept
 
       pub pushed_live : Live s u.user
@@ -311,7 +311,7 @@ module _ {S N : Type 0} {Live : S → ArenaIndex → Type 0} {ps : S → ArenaIn
           was_last : slice_get (us t a.names) last ≡ Some m
           was_last = moved_from_last (us t a.names) a.place past m came
 
-          pub moved_has : HasPlace (ps r) m
+          pub moved_has : IsPlaced (ps r) m
           moved_has = use_placed t L a.names one_went r r taken_renamed last m was_last
 
           pub moved_live : Live r m.user

@@ -6,7 +6,7 @@ ghost use Rattle.std.specs.Prelude.{◌≡◌, ◌↔◌, Bool, true, [], length
 ghost use Rattle.ir_model.specs.declared.ids.ArenaIndex.{ArenaIndex};
 ghost use Rattle.ir_core_records.specs.declared.record.UsePlace.{UsePlace as PlainPlace};
 ghost use Rattle.ir_core_records.specs.Chains.{names_in};
-ghost use Rattle.ir_core_records.specs.Links.{LinkedBut, NoHole, HasPlace};
+ghost use Rattle.ir_core_records.specs.Links.{LinkedBut, NoHole, IsPlaced};
 ghost use Rattle.ir_core_records.specs.Meaning.{use_of};
 ghost use Rattle.ir_core_chains.specs.Chain.{Rewrites};
 ghost use Rattle.ir_core_replacing.specs.Chosen.{is_chosen, same_use};
@@ -25,7 +25,7 @@ pub(crate) fn redirect_use<D: Dialects, N: Renames<D>>(
     to: N,
 ) -> Result<(), AllocError>
     requires linked { LinkedBut NoHole (N.places_at records.old) (N.uses_at records.old) }
-    requires has { HasPlace (N.places_at records.old) used }
+    requires has { IsPlaced (N.places_at records.old) used }
     requires named { N.IsNamed records.old to }
     ensures linked { LinkedBut NoHole (N.places_at records.new) (N.uses_at records.new) }
     ensures names { OnOk result ((o : ArenaIndex) → names_in (N.places_at records.new o) ≡ map (renamed (same_use (use_of used)) to o) (names_in (N.places_at records.old o))) }

@@ -8,9 +8,9 @@ ghost use Rattle.ir_model.specs.Redirect.{redirect_uses, retarget_uses};
 ghost use Rattle.ir_core_records.specs.declared.record.BlockIndex.{BlockIndex as PlainBlock};
 ghost use Rattle.ir_core_records.specs.declared.record.UsePlace.{UsePlace as PlainPlace};
 ghost use Rattle.ir_core_records.specs.declared.record.ValueIndex.{ValueIndex as PlainValue};
-ghost use Rattle.ir_core_records.specs.Meaning.{forest_of, use_of, value_of};
-ghost use Rattle.ir_core_records.specs.Links.{HasPlace};
-ghost use Rattle.ir_core_records.specs.Table.{operands_at, successors_at, uses_at, block_uses_at, IsValue, IsBlock};
+ghost use Rattle.ir_core_records.specs.Meaning.{forest_in, use_of, value_of};
+ghost use Rattle.ir_core_records.specs.Links.{IsPlaced};
+ghost use Rattle.ir_core_records.specs.Table.{operands_at, successors_at, uses_at, block_uses_at, IsValue, IsLiveBlock};
 ghost use Rattle.ir_core_records.specs.Chains.{chains_of, AreLinked};
 ghost use Rattle.ir_core_records.specs.Frames.{KeepsTree};
 ghost use Rattle.ir_core_replacing.specs.Chosen.{is_chosen, same_use};
@@ -31,11 +31,11 @@ pub fn replace_use<D: Dialects>(
     to: ValueIndex,
 ) -> Result<(), AllocError>
     requires linked { AreLinked (chains_of records.old) }
-    requires has { HasPlace (operands_at records.old) used }
+    requires has { IsPlaced (operands_at records.old) used }
     requires named { IsValue records.old to }
     ensures linked { AreLinked (chains_of records.new) }
     ensures keeps { KeepsTree records.old records.new }
-    ensures forest { OnOk result (forest_of records.new ≡ redirect_uses (forest_of records.old) (same_use (use_of used)) (value_of to)) }
+    ensures forest { OnOk result (forest_in records.new ≡ redirect_uses (forest_in records.old) (same_use (use_of used)) (value_of to)) }
     ensures err { OnErr result (records.new ≡ records.old) }
     ensures itself { (a : PlainPlace PlainValue) → IsPlaceOf (operands_at records.old) used a → a.names ≡ to → IsOk result }
 {
@@ -52,11 +52,11 @@ pub fn retarget_pred<D: Dialects>(
     to: BlockIndex,
 ) -> Result<(), AllocError>
     requires linked { AreLinked (chains_of records.old) }
-    requires has { HasPlace (successors_at records.old) used }
-    requires named { IsBlock records.old to }
+    requires has { IsPlaced (successors_at records.old) used }
+    requires named { IsLiveBlock records.old to }
     ensures linked { AreLinked (chains_of records.new) }
     ensures keeps { KeepsTree records.old records.new }
-    ensures forest { OnOk result (forest_of records.new ≡ retarget_uses (forest_of records.old) (same_use (use_of used)) to.index) }
+    ensures forest { OnOk result (forest_in records.new ≡ retarget_uses (forest_in records.old) (same_use (use_of used)) to.index) }
     ensures err { OnErr result (records.new ≡ records.old) }
     ensures itself { (a : PlainPlace PlainBlock) → IsPlaceOf (successors_at records.old) used a → a.names ≡ to → IsOk result }
 {
@@ -78,7 +78,7 @@ pub fn replace_all_uses<D: Dialects>(
     requires named { IsValue records.old to }
     ensures linked { AreLinked (chains_of records.new) }
     ensures keeps { KeepsTree records.old records.new }
-    ensures forest { OnOk result (forest_of records.new ≡ redirect (forest_of records.old) (value_of from) (value_of to)) }
+    ensures forest { OnOk result (forest_in records.new ≡ redirect (forest_in records.old) (value_of from) (value_of to)) }
     ensures err { OnErr result (records.new ≡ records.old) }
     ensures itself { from ≡ to → IsOk result }
 {
@@ -96,11 +96,11 @@ pub fn retarget_all_preds<D: Dialects>(
     to: BlockIndex,
 ) -> Result<(), AllocError>
     requires linked { AreLinked (chains_of records.old) }
-    requires old { IsBlock records.old from }
-    requires named { IsBlock records.old to }
+    requires old { IsLiveBlock records.old from }
+    requires named { IsLiveBlock records.old to }
     ensures linked { AreLinked (chains_of records.new) }
     ensures keeps { KeepsTree records.old records.new }
-    ensures forest { OnOk result (forest_of records.new ≡ retarget (forest_of records.old) from.index to.index) }
+    ensures forest { OnOk result (forest_in records.new ≡ retarget (forest_in records.old) from.index to.index) }
     ensures err { OnErr result (records.new ≡ records.old) }
     ensures itself { from ≡ to → IsOk result }
 {
@@ -124,7 +124,7 @@ pub fn replace_some_uses<D: Dialects>(
     requires count { length answers.now ≡ length (uses_at records.old from) }
     ensures linked { AreLinked (chains_of records.new) }
     ensures keeps { KeepsTree records.old records.new }
-    ensures forest { OnOk result (forest_of records.new ≡ redirect_uses (forest_of records.old) (is_chosen (uses_at records.old from) answers.now) (value_of to)) }
+    ensures forest { OnOk result (forest_in records.new ≡ redirect_uses (forest_in records.old) (is_chosen (uses_at records.old from) answers.now) (value_of to)) }
     ensures err { OnErr result (records.new ≡ records.old) }
     ensures itself { from ≡ to → IsOk result }
 {
@@ -143,12 +143,12 @@ pub fn retarget_some_preds<D: Dialects>(
     answers: &[bool],
 ) -> Result<(), AllocError>
     requires linked { AreLinked (chains_of records.old) }
-    requires old { IsBlock records.old from }
-    requires named { IsBlock records.old to }
+    requires old { IsLiveBlock records.old from }
+    requires named { IsLiveBlock records.old to }
     requires count { length answers.now ≡ length (block_uses_at records.old from) }
     ensures linked { AreLinked (chains_of records.new) }
     ensures keeps { KeepsTree records.old records.new }
-    ensures forest { OnOk result (forest_of records.new ≡ retarget_uses (forest_of records.old) (is_chosen (block_uses_at records.old from) answers.now) to.index) }
+    ensures forest { OnOk result (forest_in records.new ≡ retarget_uses (forest_in records.old) (is_chosen (block_uses_at records.old from) answers.now) to.index) }
     ensures err { OnErr result (records.new ≡ records.old) }
     ensures itself { from ≡ to → IsOk result }
 {

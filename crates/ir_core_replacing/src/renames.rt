@@ -2,7 +2,7 @@
 
 ghost use Rattle.std.specs.Prelude.{◌≡◌, ◌↔◌, IsTrue};
 ghost use Rattle.ir_base_arenas.specs.Arena.{IsLive};
-ghost use Rattle.ir_core_records.specs.Links.{HasPlace};
+ghost use Rattle.ir_core_records.specs.Links.{IsPlaced};
 ghost use Rattle.ir_core_records.specs.Lists.{HaveDistinctUses};
 ghost use Rattle.ir_core_replacing.specs.Renamed.{put_name, IsPlaceOf};
 
@@ -23,7 +23,7 @@ pub(crate) trait Renames<D: Dialects>: Named<D> {
     fn place_of(records: &Records<D>, used: UseIndex) -> (UsePlace<Self>, usize)
         requires live { IsLive records.now.ops used.user }
         requires distinct { HaveDistinctUses (Self.places_at records.now used.user) }
-        requires has { HasPlace (Self.places_at records.now) used }
+        requires has { IsPlaced (Self.places_at records.now) used }
         ensures { IsPlaceOf (Self.places_at records.now) used result.0 };
 
     // Lets the place of a use, which was near an index once, name another definition, among whose uses the use stands at `place`.
@@ -36,7 +36,7 @@ pub(crate) trait Renames<D: Dialects>: Named<D> {
     )
         requires live { IsLive records.old.ops used.user }
         requires distinct { HaveDistinctUses (Self.places_at records.old used.user) }
-        requires has { HasPlace (Self.places_at records.old) used }
+        requires has { IsPlaced (Self.places_at records.old) used }
         ensures { records.new ≡ Self.with_places records.old used.user (put_name (Self.places_at records.old used.user) used.number names place) };
 
     // Keeps these uses of what is live in place of those that were kept, and gives those back.

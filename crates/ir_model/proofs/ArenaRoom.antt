@@ -10,7 +10,7 @@ use Rattle.ir_model.specs.Nesting.{In}
 use Rattle.ir_model.specs.Sessions.{Number, HasRoom, LacksRoom, TakesSlot}
 use Rattle.ir_model.proofs.Nests.{Absent-not_in}
 use Rattle.ir_model.specs.Slots.{Slot, slot_in, slot_at, find, put_in, put, is_taken, is_retired}
-use Rattle.ir_model.specs.Arenas.{Arena, get, fill, cut, IsLive, IsNextVersion, IsNew, IsWhole, is_passed, arena_len, room}
+use Rattle.ir_model.specs.Arenas.{Arena, get, fill, cut, IsLiveIn, IsNextVersion, IsNew, IsWhole, is_passed, arena_len, room}
 use Rattle.ir_model.proofs.Slots.{taken_at, slot_at-place, slot_at-next, put-place, at_zero, at_past, find_at}
 use Rattle.ir_model.proofs.Arenas.{had-within, had-itself, had-below, same_id, open_live, open_new, whole-cut}
 
@@ -81,7 +81,7 @@ module _ {T : Type 0} where
       omega (arith, one, taken, retired, length-gone last (n + 1) rest)
 
   -- a live id and an id that was the last of its slot are those of that list
-  takes-In : (limits : Limits) (a : Arena T) → limits.last_version ≡ a.last_version → IsWhole a → (x : ArenaIndex) → TakesSlot limits (is_passed a) (IsLive a) x → In x (gone a.last_version 1 a.slots)
+  takes-In : (limits : Limits) (a : Arena T) → limits.last_version ≡ a.last_version → IsWhole a → (x : ArenaIndex) → TakesSlot limits (is_passed a) (IsLiveIn a) x → In x (gone a.last_version 1 a.slots)
   takes-In limits a last whole x (inl live) =
       let taken = taken_at a.slots x live in
       gone-In a.last_version 1 a.slots x (x.slot - 1) taken.within (omega (arith, taken.numbered)) (sym taken.version) (rw taken.some refl)
@@ -121,7 +121,7 @@ module _ {T : Type 0} where
       retired s none past = grind (arith, nat_tests)
 
   -- and each id of that list is live, or was the last of its slot
-  In-takes : (limits : Limits) (a : Arena T) → limits.last_version ≡ a.last_version → IsWhole a → (x : ArenaIndex) → In x (gone a.last_version 1 a.slots) → TakesSlot limits (is_passed a) (IsLive a) x
+  In-takes : (limits : Limits) (a : Arena T) → limits.last_version ≡ a.last_version → IsWhole a → (x : ArenaIndex) → In x (gone a.last_version 1 a.slots) → TakesSlot limits (is_passed a) (IsLiveIn a) x
   In-takes limits a last whole x listed =
       let it = In-gone a.last_version 1 a.slots x listed in
       let here : slot_at a.slots x.slot ≡ slot_in a.slots it.place = slot_at-place a.slots x.slot (omega (arith, it.slot)) ∙ ap (slot_in a.slots) (omega (arith, it.slot)) in
@@ -133,7 +133,7 @@ module _ {T : Type 0} where
       past : (n : ℕ) → x.version ≡ n → nat_lt a.last_version (n + 2) ≡ true → limits.last_version < x.version + 2
       past n at past_is = grind (arith, nat_tests)
 
-      by_item : (o : Option T) (n : ℕ) → x.version ≡ n → find a.slots x ≡ o → IsTrue (is_passed a x) → is_gone a.last_version (record { version = n; item = o }) ≡ true → TakesSlot limits (is_passed a) (IsLive a) x
+      by_item : (o : Option T) (n : ℕ) → x.version ≡ n → find a.slots x ≡ o → IsTrue (is_passed a x) → is_gone a.last_version (record { version = n; item = o }) ≡ true → TakesSlot limits (is_passed a) (IsLiveIn a) x
       by_item (Some v) n version found passed is = inl (ap is_some found)
       by_item None n version found passed is = inr (passed, λ live. true≢false (sym live ∙ ap is_some found), past n version is)
 
@@ -175,7 +175,7 @@ module _ {T : Type 0} where
   room-splits a whole = omega (arith, length-gone a.last_version 1 a.slots, gone-within a.last_version 1 a.slots, whole.within)
 
   -- as many ids are live or retired as the limit is above the room
-  pub takes-number : (limits : Limits) (a : Arena T) → limits.last_version ≡ a.last_version → IsWhole a → Number (TakesSlot limits (is_passed a) (IsLive a)) (a.limit - room a)
+  pub takes-number : (limits : Limits) (a : Arena T) → limits.last_version ≡ a.last_version → IsWhole a → Number (TakesSlot limits (is_passed a) (IsLiveIn a)) (a.limit - room a)
   takes-number limits a last whole = (
     gone a.last_version 1 a.slots,
     gone-distinct a.last_version 1 a.slots,
@@ -184,11 +184,11 @@ module _ {T : Type 0} where
   )
 
   -- there is room for as many as the room says, and not for more
-  pub has-room : (limits : Limits) (a : Arena T) (n : ℕ) → limits.slots ≡ a.limit → limits.last_version ≡ a.last_version → IsWhole a → n ≤ room a → HasRoom limits.slots (TakesSlot limits (is_passed a) (IsLive a)) n
+  pub has-room : (limits : Limits) (a : Arena T) (n : ℕ) → limits.slots ≡ a.limit → limits.last_version ≡ a.last_version → IsWhole a → n ≤ room a → HasRoom limits.slots (TakesSlot limits (is_passed a) (IsLiveIn a)) n
   has-room limits a n slots last whole enough =
       (a.limit - room a, takes-number limits a last whole, omega (arith, slots, enough, room-splits a whole))
 
-  pub lacks-room : (limits : Limits) (a : Arena T) (n : ℕ) → limits.slots ≡ a.limit → limits.last_version ≡ a.last_version → IsWhole a → room a < n → LacksRoom limits.slots (TakesSlot limits (is_passed a) (IsLive a)) n
+  pub lacks-room : (limits : Limits) (a : Arena T) (n : ℕ) → limits.slots ≡ a.limit → limits.last_version ≡ a.last_version → IsWhole a → room a < n → LacksRoom limits.slots (TakesSlot limits (is_passed a) (IsLiveIn a)) n
   lacks-room limits a n slots last whole few =
       (a.limit - room a, takes-number limits a last whole, omega (arith, slots, few, room-splits a whole))
 
@@ -209,7 +209,7 @@ module _ {T : Type 0} where
   len-put : (slots : List (Slot T)) (n : ℕ) (s : Slot T) → 1 ≤ n → n ≤ length slots + 1 → count_by is_taken (put slots n s) + taken_by (slot_at slots n) ≡ count_by is_taken slots + taken_by s
   len-put slots n s numbered within = rw (put-place slots n s numbered, slot_at-place slots n numbered) (len-put_in slots (n - 1) s (omega arith))
 
-  taken-one : (a : Arena T) (id : ArenaIndex) → IsLive a id → taken_by (slot_at a.slots id.slot) ≡ 1
+  taken-one : (a : Arena T) (id : ArenaIndex) → IsLiveIn a id → taken_by (slot_at a.slots id.slot) ≡ 1
   taken-one a id live =
       let taken = taken_at a.slots id live in
       let some : IsSome (slot_at a.slots id.slot).item = rw (slot_at-place a.slots id.slot taken.numbered) taken.some in
@@ -222,12 +222,12 @@ module _ {T : Type 0} where
       let vacant : taken_by (slot_at a.slots id.slot) ≡ 0 = rw new.vacant refl in
       omega (arith, len-put a.slots id.slot (record { version = id.version; item = Some v }) at.numbered at.within, vacant)
 
-  pub len-fill_live : (a : Arena T) (id : ArenaIndex) (v : T) → IsLive a id → arena_len (fill a id v) ≡ arena_len a
+  pub len-fill_live : (a : Arena T) (id : ArenaIndex) (v : T) → IsLiveIn a id → arena_len (fill a id v) ≡ arena_len a
   len-fill_live a id v live =
       let at = open_live a id live in
       omega (arith, len-put a.slots id.slot (record { version = id.version; item = Some v }) at.numbered at.within, taken-one a id live)
 
-  pub len-cut : (a : Arena T) (id : ArenaIndex) → IsLive a id → arena_len (cut a id) + 1 ≡ arena_len a
+  pub len-cut : (a : Arena T) (id : ArenaIndex) → IsLiveIn a id → arena_len (cut a id) + 1 ≡ arena_len a
   len-cut a id live =
       let at = open_live a id live in
       omega (arith, len-put a.slots id.slot (record { version = id.version; item = None }) at.numbered at.within, taken-one a id live)
@@ -245,7 +245,7 @@ module _ {T : Type 0} where
   lost_by last s = cond (is_retired last s) 1 0
 
   -- a write of the slot of a live id, which was not empty for good
-  retired-put : (a : Arena T) (id : ArenaIndex) (s : Slot T) → IsLive a id → count_by (is_retired a.last_version) (put a.slots id.slot s) ≡ count_by (is_retired a.last_version) a.slots + lost_by a.last_version s
+  retired-put : (a : Arena T) (id : ArenaIndex) (s : Slot T) → IsLiveIn a id → count_by (is_retired a.last_version) (put a.slots id.slot s) ≡ count_by (is_retired a.last_version) a.slots + lost_by a.last_version s
   retired-put a id s live =
       let taken = taken_at a.slots id live in
       let before : lost_by a.last_version (slot_in a.slots (id.slot - 1)) ≡ 0 = has_record (slot_in a.slots (id.slot - 1)) taken.some in
@@ -255,7 +255,7 @@ module _ {T : Type 0} where
       has_record x some = rw some refl
 
   -- the room after each change
-  pub room-fill_live : (a : Arena T) (id : ArenaIndex) (v : T) → IsLive a id → room (fill a id v) ≡ room a
+  pub room-fill_live : (a : Arena T) (id : ArenaIndex) (v : T) → IsLiveIn a id → room (fill a id v) ≡ room a
   room-fill_live a id v live =
       omega (arith, len-fill_live a id v live, retired-put a id (record { version = id.version; item = Some v }) live)
 
@@ -265,11 +265,11 @@ module _ {T : Type 0} where
   ends : (last : ℕ) (s : Slot T) → s.item ≡ None → last < s.version + 2 → lost_by last s ≡ 1
   ends last s none past = grind (arith, nat_tests)
 
-  pub room-cut : (a : Arena T) (id : ArenaIndex) → IsWhole a → IsLive a id → id.version + 2 ≤ a.last_version → room (cut a id) ≡ room a + 1
+  pub room-cut : (a : Arena T) (id : ArenaIndex) → IsWhole a → IsLiveIn a id → id.version + 2 ≤ a.last_version → room (cut a id) ≡ room a + 1
   room-cut a id whole live fits =
       omega (arith, len-cut a id live, retired-put a id (record { version = id.version; item = None }) live, stays a.last_version (record { version = id.version; item = None }) refl fits, room-splits a whole, room-splits (cut a id) (whole-cut a id whole live))
 
-  pub room-cut_last : (a : Arena T) (id : ArenaIndex) → IsWhole a → IsLive a id → a.last_version < id.version + 2 → room (cut a id) ≡ room a
+  pub room-cut_last : (a : Arena T) (id : ArenaIndex) → IsWhole a → IsLiveIn a id → a.last_version < id.version + 2 → room (cut a id) ≡ room a
   room-cut_last a id whole live past =
       omega (arith, len-cut a id live, retired-put a id (record { version = id.version; item = None }) live, ends a.last_version (record { version = id.version; item = None }) refl past, room-splits a whole, room-splits (cut a id) (whole-cut a id whole live))
 

@@ -6,7 +6,7 @@ use Rattle.ir_model.specs.declared.ids.ArenaIndex.{ArenaIndex}
 use Rattle.ir_model.specs.declared.ids.Limits.{Limits}
 use Rattle.ir_model.specs.Sessions.{IsNewId}
 use Rattle.ir_model.specs.Slots.{Slot, had_version, never, slot_in, slot_at, put}
-use Rattle.ir_model.specs.Arenas.{Arena, IsInRange, empty, get, IsLive, IsNextVersion, IsNew, IsWhole, is_passed, fill, cut, miss}
+use Rattle.ir_model.specs.Arenas.{Arena, IsInRange, empty, get, IsLiveIn, IsNextVersion, IsNew, IsWhole, is_passed, fill, cut, miss}
 use Rattle.ir_model.proofs.Slots.{taken_at, slot_at-place, slot_at-next, length-put, at-put_same, at-put_other, at_zero, at_past, find_vacant, find-put_same, find-put_other}
 
 -- the versions that a slot had
@@ -115,7 +115,7 @@ module _ {T : Type 0} where
     pub within : id.slot ≤ length a.slots + 1
     pub was : ((slot_at a.slots id.slot).version ≡ id.version) ⊎ ((slot_at a.slots id.slot).item ≡ None)
 
-  pub open_live : (a : Arena T) (id : ArenaIndex) → IsLive a id → IsOpen a id
+  pub open_live : (a : Arena T) (id : ArenaIndex) → IsLiveIn a id → IsOpen a id
   open_live a id live =
       let taken = taken_at a.slots id live in
       record {
@@ -132,7 +132,7 @@ module _ {T : Type 0} where
       within_of (inr reused) = omega (arith, reused.0)
 
   -- a live id has a slot, which counts from 1
-  pub live-numbered : (a : Arena T) (id : ArenaIndex) → IsLive a id → 1 ≤ id.slot
+  pub live-numbered : (a : Arena T) (id : ArenaIndex) → IsLiveIn a id → 1 ≤ id.slot
   live-numbered a id live = (open_live a id live).numbered
 
   -- nothing stands under a new id
@@ -140,7 +140,7 @@ module _ {T : Type 0} where
   get-new a id new = find_vacant a.slots id new.vacant
 
   -- what was stored under an id stands there
-  pub get-fill_live : (a : Arena T) (id : ArenaIndex) (v : T) → IsLive a id → get (fill a id v) id ≡ Some v
+  pub get-fill_live : (a : Arena T) (id : ArenaIndex) (v : T) → IsLiveIn a id → get (fill a id v) id ≡ Some v
   get-fill_live a id v live =
       let at = open_live a id live in
       find-put_same a.slots id (record { version = id.version; item = Some v }) refl at.numbered at.within
@@ -151,7 +151,7 @@ module _ {T : Type 0} where
       find-put_same a.slots id (record { version = id.version; item = Some v }) refl at.numbered at.within
 
   -- and each other id keeps what it had
-  pub get-fill_live_other : (a : Arena T) (id q : ArenaIndex) (v : T) → IsLive a id → q ≢ id → get (fill a id v) q ≡ get a q
+  pub get-fill_live_other : (a : Arena T) (id q : ArenaIndex) (v : T) → IsLiveIn a id → q ≢ id → get (fill a id v) q ≡ get a q
   get-fill_live_other a id q v live differs =
       let at = open_live a id live in
       find-put_other a.slots id q (record { version = id.version; item = Some v }) refl at.numbered at.within at.was differs
@@ -162,12 +162,12 @@ module _ {T : Type 0} where
       find-put_other a.slots id q (record { version = id.version; item = Some v }) refl at.numbered at.within at.was differs
 
   -- nothing stands under an id whose record was taken out, and each other id keeps what it had
-  pub get-cut : (a : Arena T) (id : ArenaIndex) → IsLive a id → get (cut a id) id ≡ None
+  pub get-cut : (a : Arena T) (id : ArenaIndex) → IsLiveIn a id → get (cut a id) id ≡ None
   get-cut a id live =
       let at = open_live a id live in
       find-put_same a.slots id (record { version = id.version; item = None }) refl at.numbered at.within
 
-  pub get-cut_other : (a : Arena T) (id q : ArenaIndex) → IsLive a id → q ≢ id → get (cut a id) q ≡ get a q
+  pub get-cut_other : (a : Arena T) (id q : ArenaIndex) → IsLiveIn a id → q ≢ id → get (cut a id) q ≡ get a q
   get-cut_other a id q live differs =
       let at = open_live a id live in
       find-put_other a.slots id q (record { version = id.version; item = None }) refl at.numbered at.within at.was differs
@@ -177,13 +177,13 @@ module _ {T : Type 0} where
   get-miss a q = refl
 
   -- one slot has one live id at most
-  pub live-unique : (a : Arena T) (p q : ArenaIndex) → IsLive a p → IsLive a q → p.slot ≡ q.slot → p ≡ q
+  pub live-unique : (a : Arena T) (p q : ArenaIndex) → IsLiveIn a p → IsLiveIn a q → p.slot ≡ q.slot → p ≡ q
   live-unique a p q live_p live_q same =
       let at_p = (taken_at a.slots p live_p).version in
       let at_q = (taken_at a.slots q live_q).version in
       same_id p q same (sym at_p ∙ ap (λ n. (slot_in a.slots (n - 1)).version) same ∙ at_q)
 
-  passed-same : (a : Arena T) (id q : ArenaIndex) (s : Slot T) → IsLive a id → s.version ≡ id.version → had_version (slot_at (put a.slots id.slot s) q.slot).version q.version ≡ is_passed a q
+  passed-same : (a : Arena T) (id q : ArenaIndex) (s : Slot T) → IsLiveIn a id → s.version ≡ id.version → had_version (slot_at (put a.slots id.slot s) q.slot).version q.version ≡ is_passed a q
   passed-same a id q s live same =
       let at = open_live a id live in
       let taken = taken_at a.slots id live in
@@ -196,10 +196,10 @@ module _ {T : Type 0} where
       ]
 
   -- a write under a live id and a removal hand out no id
-  pub passed-fill_live : (a : Arena T) (id q : ArenaIndex) (v : T) → IsLive a id → is_passed (fill a id v) q ≡ is_passed a q
+  pub passed-fill_live : (a : Arena T) (id q : ArenaIndex) (v : T) → IsLiveIn a id → is_passed (fill a id v) q ≡ is_passed a q
   passed-fill_live a id q v live = passed-same a id q (record { version = id.version; item = Some v }) live refl
 
-  pub passed-cut : (a : Arena T) (id q : ArenaIndex) → IsLive a id → is_passed (cut a id) q ≡ is_passed a q
+  pub passed-cut : (a : Arena T) (id q : ArenaIndex) → IsLiveIn a id → is_passed (cut a id) q ≡ is_passed a q
   passed-cut a id q live = passed-same a id q (record { version = id.version; item = None }) live refl
 
   pub passed-miss : (a : Arena T) (q : ArenaIndex) → is_passed (miss a) q ≡ is_passed a q
@@ -249,7 +249,7 @@ module _ {T : Type 0} where
           ]
 
   -- the id of a live record was handed out
-  pub live-passed : (a : Arena T) (id : ArenaIndex) → IsWhole a → IsLive a id → IsTrue (is_passed a id)
+  pub live-passed : (a : Arena T) (id : ArenaIndex) → IsWhole a → IsLiveIn a id → IsTrue (is_passed a id)
   live-passed a id whole live =
       let taken = taken_at a.slots id live in
       let at = whole.versions (id.slot - 1) taken.within in
@@ -257,13 +257,13 @@ module _ {T : Type 0} where
       rw version (had-itself id.version (omega (arith, at.first, taken.version)))
 
   -- a new id is one that may be handed out
-  pub new-is_new : (limits : Limits) (a : Arena T) (id : ArenaIndex) → limits.slots ≡ a.limit → limits.last_version ≡ a.last_version → IsNew a id → IsNewId limits (is_passed a) (IsLive a) id
+  pub new-is_new : (limits : Limits) (a : Arena T) (id : ArenaIndex) → limits.slots ≡ a.limit → limits.last_version ≡ a.last_version → IsNew a id → IsNewId limits (is_passed a) (IsLiveIn a) id
   new-is_new limits a id slots last new =
       (new.numbered, omega (arith, new.within), omega (arith, new.fits), by_version new.version)
     where
       by_version : IsNextVersion a id
           → ((id.version ≡ 1) × ((j : ArenaIndex) → IsTrue (is_passed a j) → j.slot ≢ id.slot))
-          ⊎ ((l : ArenaIndex) × (l.slot ≡ id.slot) × (id.version ≡ l.version + 2) × IsTrue (is_passed a l) × (IsLive a l → ⊥)
+          ⊎ ((l : ArenaIndex) × (l.slot ≡ id.slot) × (id.version ≡ l.version + 2) × IsTrue (is_passed a l) × (IsLiveIn a l → ⊥)
           × ((j : ArenaIndex) → IsTrue (is_passed a j) → j.slot ≡ id.slot → j.version ≤ l.version))
       by_version (inl end) =
           inl (end.1, λ j had here. true≢false (sym had ∙ ap (λ s. had_version s.version j.version) (at_past a.slots j.slot (omega (arith, end.0, here))) ∙ had-none j.version))
@@ -298,7 +298,7 @@ module _ {T : Type 0} where
           ]
 
   -- each change of an arena leaves it whole
-  pub whole-fill_live : (a : Arena T) (id : ArenaIndex) (v : T) → IsWhole a → IsLive a id → IsWhole (fill a id v)
+  pub whole-fill_live : (a : Arena T) (id : ArenaIndex) (v : T) → IsWhole a → IsLiveIn a id → IsWhole (fill a id v)
   whole-fill_live a id v whole live =
       let taken = taken_at a.slots id live in
       put-whole a id (record { version = id.version; item = Some v }) a.removals whole taken.numbered (omega (arith, taken.within)) (omega (arith, taken.within, taken.numbered, whole.within))
@@ -314,7 +314,7 @@ module _ {T : Type 0} where
       first (inl end) = omega (arith, end.1)
       first (inr reused) = omega (arith, reused.2)
 
-  pub whole-cut : (a : Arena T) (id : ArenaIndex) → IsWhole a → IsLive a id → IsWhole (cut a id)
+  pub whole-cut : (a : Arena T) (id : ArenaIndex) → IsWhole a → IsLiveIn a id → IsWhole (cut a id)
   whole-cut a id whole live =
       let taken = taken_at a.slots id live in
       put-whole a id (record { version = id.version; item = None }) (a.removals + 1) whole taken.numbered (omega (arith, taken.within)) (omega (arith, taken.within, taken.numbered, whole.within))
@@ -330,17 +330,17 @@ module _ {T : Type 0} where
       true≢false (sym (ap is_some (get-fill_new a id v new)) ∙ ap (λ j. is_some (get (fill a id v) j)) (sym same) ∙ ap is_some (get-new (fill a id v) i next))
 
   -- and it might have been handed out before that insertion
-  pub new-before : (limits : Limits) (a : Arena T) (id i : ArenaIndex) (v : T) → IsNew a id → IsNewId limits (is_passed (fill a id v)) (IsLive (fill a id v)) i → IsNewId limits (is_passed a) (IsLive a) i
+  pub new-before : (limits : Limits) (a : Arena T) (id i : ArenaIndex) (v : T) → IsNew a id → IsNewId limits (is_passed (fill a id v)) (IsLiveIn (fill a id v)) i → IsNewId limits (is_passed a) (IsLiveIn a) i
   new-before limits a id i v new next = (next.0, next.1, next.2, by_version next.3)
     where
       earlier : (j : ArenaIndex) → IsTrue (is_passed a j) → IsTrue (is_passed (fill a id v) j)
       earlier j had = (passed-fill_new a id j v new).1 (inl had)
 
       by_version : ((i.version ≡ 1) × ((j : ArenaIndex) → IsTrue (is_passed (fill a id v) j) → j.slot ≢ i.slot))
-          ⊎ ((l : ArenaIndex) × (l.slot ≡ i.slot) × (i.version ≡ l.version + 2) × IsTrue (is_passed (fill a id v) l) × (IsLive (fill a id v) l → ⊥)
+          ⊎ ((l : ArenaIndex) × (l.slot ≡ i.slot) × (i.version ≡ l.version + 2) × IsTrue (is_passed (fill a id v) l) × (IsLiveIn (fill a id v) l → ⊥)
           × ((j : ArenaIndex) → IsTrue (is_passed (fill a id v) j) → j.slot ≡ i.slot → j.version ≤ l.version))
           → ((i.version ≡ 1) × ((j : ArenaIndex) → IsTrue (is_passed a j) → j.slot ≢ i.slot))
-          ⊎ ((l : ArenaIndex) × (l.slot ≡ i.slot) × (i.version ≡ l.version + 2) × IsTrue (is_passed a l) × (IsLive a l → ⊥)
+          ⊎ ((l : ArenaIndex) × (l.slot ≡ i.slot) × (i.version ≡ l.version + 2) × IsTrue (is_passed a l) × (IsLiveIn a l → ⊥)
           × ((j : ArenaIndex) → IsTrue (is_passed a j) → j.slot ≡ i.slot → j.version ≤ l.version))
       by_version (inl first) = inl (first.0, λ j had. first.1 j (earlier j had))
       by_version (inr (l, slot, version, passed, dead, greatest)) =
@@ -354,10 +354,10 @@ module _ {T : Type 0} where
   gone-fill_new a id q v new passed gone =
       get-fill_new_other a id q v new (λ same. true≢false (sym passed ∙ ap (is_passed a) same ∙ passed-new a id new)) ∙ gone
 
-  pub gone-fill_live : (a : Arena T) (id q : ArenaIndex) (v : T) → IsLive a id → get a q ≡ None → get (fill a id v) q ≡ None
+  pub gone-fill_live : (a : Arena T) (id q : ArenaIndex) (v : T) → IsLiveIn a id → get a q ≡ None → get (fill a id v) q ≡ None
   gone-fill_live a id q v live gone =
       get-fill_live_other a id q v live (λ same. true≢false (sym live ∙ ap (λ i. is_some (get a i)) (sym same) ∙ ap is_some gone)) ∙ gone
 
-  pub gone-cut : (a : Arena T) (id q : ArenaIndex) → IsLive a id → get a q ≡ None → get (cut a id) q ≡ None
+  pub gone-cut : (a : Arena T) (id q : ArenaIndex) → IsLiveIn a id → get a q ≡ None → get (cut a id) q ≡ None
   gone-cut a id q live gone =
       get-cut_other a id q live (λ same. true≢false (sym live ∙ ap (λ i. is_some (get a i)) (sym same) ∙ ap is_some gone)) ∙ gone

@@ -6,7 +6,7 @@ use Rattle.std.specs.Option.{option_map}
 use Rattle.ir_model.specs.Ids.{Ids}
 use Rattle.ir_model.specs.ContextIds.{context_ids}
 use Rattle.ir_model.specs.Forest.{Text, Dialect, Definer, of_op, of_block, definer_entity, Value, Entity, an_op, a_block, a_region, Definition, OpRecord, BlockRecord, Forest, Named, a_value, the_block}
-use Rattle.ir_model.specs.Nesting.{In, list_of, children, IsLive, IsLiveNamed, WellFormed, definitions_of, numbers_of, types_of, uses_of, names_of}
+use Rattle.ir_model.specs.Nesting.{In, list_of, children, IsLive, IsLiveNamed, WellFormed, definitions_of, numbers_of, definition_types_of, use_numbers_of, names_of}
 use Rattle.ir_model.specs.Changes.{rewrite, on_op, on_block}
 use Rattle.ir_model.specs.Calls.{Part, the_types, the_names, the_labels, the_locations, the_attributes, SamePart, SameStructure, ChangesAlone, on_definitions, on_value, set_type, set_name, set_label, set_loc, set_attributes, HasType, HasName, loc_of, attributes_of, names_given}
 use Rattle.ir_model.specs.CallLaws.{LocIsSet, AttributesAreSet, CallsChangeOnePart}
@@ -27,7 +27,7 @@ reads {R = R} read h keeps same key m x = by (same x key) (m x)
 
 module _ {N : Ids} {W : Dialect} where
   -- well-formedness asks for no part but types
-  pub formed_alike : (f g : Forest N W) (keys : ℕ) → SameStructure f g → ((d : Definer N) (t : ℕ) → In t (types_of g d) → t < keys) → WellFormed f keys → WellFormed g keys
+  pub formed_alike : (f g : Forest N W) (keys : ℕ) → SameStructure f g → ((d : Definer N) (t : ℕ) → In t (definition_types_of g d) → t < keys) → WellFormed f keys → WellFormed g keys
   formed_alike f g keys s known w = record {
     nested = Nested-same f g same_children s.regions (λ x. (s.live x).1) (λ r. (s.live (a_region r)).0) w.nested;
     numbers = λ d e n. rw (s.numbers d, s.numbers e) (w.numbers d e n);
@@ -43,7 +43,7 @@ module _ {N : Ids} {W : Dialect} where
       same_children (a_block b) = ap (map an_op) (s.ops b)
       same_children (a_region r) = ap (map a_block) (s.blocks r)
 
-      same_uses : (o : N.Op) → uses_of g o ≡ uses_of f o
+      same_uses : (o : N.Op) → use_numbers_of g o ≡ use_numbers_of f o
       same_uses o = rw (s.operands o, s.successors o)
 
       same_names : (o : N.Op) → names_of g o ≡ names_of f o
@@ -89,7 +89,7 @@ module _ {N : Ids} {W : Dialect} where
       numbers (of_op p) = reads (λ m. map (λ (x : Definition N W). x.number) (list_of (λ (r : OpRecord N W). r.results) m)) h k.numbers N.same_op o f.ops p
       numbers (of_block b) = refl
 
-      types : the_types ≢ part → (d : Definer N) → types_of (on_op f o h) d ≡ types_of f d
+      types : the_types ≢ part → (d : Definer N) → definition_types_of (on_op f o h) d ≡ definition_types_of f d
       types n (of_op p) = reads (λ m. map (λ (x : Definition N W). x.ty) (list_of (λ (r : OpRecord N W). r.results) m)) h (k.types n) N.same_op o f.ops p
       types n (of_block b) = refl
 
@@ -146,7 +146,7 @@ module _ {N : Ids} {W : Dialect} where
       numbers (of_op p) = refl
       numbers (of_block c) = reads (λ m. map (λ (x : Definition N W). x.number) (list_of (λ (r : BlockRecord N W). r.arguments) m)) h k.numbers N.same_block b f.blocks c
 
-      types : the_types ≢ part → (d : Definer N) → types_of (on_block f b h) d ≡ types_of f d
+      types : the_types ≢ part → (d : Definer N) → definition_types_of (on_block f b h) d ≡ definition_types_of f d
       types n (of_op p) = refl
       types n (of_block c) = reads (λ m. map (λ (x : Definition N W). x.ty) (list_of (λ (r : BlockRecord N W). r.arguments) m)) h (k.types n) N.same_block b f.blocks c
 

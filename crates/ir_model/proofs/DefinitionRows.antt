@@ -2,7 +2,7 @@
 use mathlib.Core.Path.{refl, ap}
 use Rattle.std.proofs.Common.{List, length}
 use Rattle.ir_model.specs.Forest.{of_op, of_block}
-use Rattle.ir_model.specs.Nesting.{types_of, numbers_of}
+use Rattle.ir_model.specs.Nesting.{definition_types_of, numbers_of}
 use Rattle.ir_model.specs.Edits.{State}
 use Rattle.ir_model.specs.EditStart.{NumberName, o1, b0, row_ids, row_dialect}
 use Rattle.ir_model.specs.DefinitionRows.{ResultRows, ArgumentRows}
@@ -18,7 +18,7 @@ arguments s = numbers_of s.forest (of_block b0)
 
 pub result_rows : ResultRows
 result_rows = record {
-  push = leads (here _ (here _ (here _ (same_state (same_ops _ _ refl refl refl refl refl refl refl refl) refl refl refl refl)))) refl refl (λ e. let f = ap (λ (s : State row_ids row_dialect). types_of s.forest (of_op o1)) e in cc);
+  push = leads (here _ (here _ (here _ (same_state (same_ops _ _ refl refl refl refl refl refl refl refl) refl refl refl refl)))) refl refl (λ e. let f = ap (λ (s : State row_ids row_dialect). definition_types_of s.forest (of_op o1)) e in cc);
   insert = leads (here _ (here _ (here _ (same_state (same_ops _ _ refl refl refl refl refl refl refl refl) refl refl refl refl)))) refl refl (λ e. let f = ap results e in cc);
   remove = leads (here _ (same_state (same_ops _ _ refl refl refl refl refl refl refl refl) refl refl refl refl)) refl refl (λ e. let f = ap results e in cc);
 }

@@ -5,7 +5,7 @@ use Rattle.std.specs.List.{zip, cons_option}
 use Rattle.std.specs.Prelude.{slice_get}
 use Rattle.ir_model.specs.Ids.{Ids, Fresh, Distinct, FreshDistinct}
 use Rattle.ir_model.specs.Forest.{Dialect, Definer, Forest}
-use Rattle.ir_model.specs.Nesting.{In, numbers_of, uses_of}
+use Rattle.ir_model.specs.Nesting.{In, numbers_of, use_numbers_of}
 use Rattle.ir_model.specs.Edits.{The, Each, these}
 use Rattle.ir_model.proofs.Nests.{Absent-not_in, not_in-Absent}
 use Rattle.ir_model.proofs.Back.{slice_get-in}
@@ -18,7 +18,7 @@ module _ {N : Ids} {W : Dialect} where
     pub blocks : (b : N.Block) → In b new.blocks → f.blocks b ≡ None
     pub regions : (r : N.Region) → In r new.regions → f.regions r ≡ None
     pub numbers : (d : Definer N) (n : N.ValueNumber) → In n new.numbers → In n (numbers_of f d) → ⊥
-    pub uses : (o : N.Op) (u : N.UseNumber) → In u new.uses → In u (uses_of f o) → ⊥
+    pub uses : (o : N.Op) (u : N.UseNumber) → In u new.uses → In u (use_numbers_of f o) → ⊥
 
 module _ {A : Type 0} where
   pub only : (xs : List A) (x : A) → length xs ≡ 1 → slice_get xs 0 ≡ Some x → xs ≡ x ∷ []

@@ -6,7 +6,7 @@ use Rattle.ir_model.specs.declared.answer.Answer.{Answer}
 use Rattle.ir_model.specs.Ids.{Distinct}
 use Rattle.ir_model.specs.ContextIds.{context_ids}
 use Rattle.ir_model.specs.Forest.{Dialect, Behaviour, Definer, Value, OpRecord}
-use Rattle.ir_model.specs.Nesting.{In, list_of, uses_of}
+use Rattle.ir_model.specs.Nesting.{In, list_of, use_numbers_of}
 use Rattle.ir_model.specs.Edits.{Edit, Condition}
 use Rattle.ir_model.specs.Sessions.{Session, Step, condition, counter, slots, memory, made, Run, Skips, Makes}
 use Rattle.ir_model.specs.Soundness.{Sound}
@@ -112,13 +112,13 @@ module _ {W : Dialect} where
             let v : Value context_ids = record { definer = d; number = n } in
             k.passed.numbers n (In-map (λ (v : Value context_ids). v.number) v s.state.tables.values (k.listed.values v h))
 
-        operand_use : (o : ArenaIndex) (u : ℕ) → HasOperand s o u → In u (uses_of s.state.forest o)
+        operand_use : (o : ArenaIndex) (u : ℕ) → HasOperand s o u → In u (use_numbers_of s.state.forest o)
         operand_use o u h = In-left u _ _ h
 
-        successor_use : (o : ArenaIndex) (u : ℕ) → HasSuccessor s o u → In u (uses_of s.state.forest o)
+        successor_use : (o : ArenaIndex) (u : ℕ) → HasSuccessor s o u → In u (use_numbers_of s.state.forest o)
         successor_use o u h = In-right u _ _ h
 
-        use_passed : (o : ArenaIndex) (u : ℕ) → In u (uses_of s.state.forest o) → IsTrue (s.passed.uses u)
+        use_passed : (o : ArenaIndex) (u : ℕ) → In u (use_numbers_of s.state.forest o) → IsTrue (s.passed.uses u)
         use_passed o u h = k.passed.uses o u h
 
         apart : (o p : ArenaIndex) (u : ℕ) → HasOperand s o u → HasSuccessor s p u → ⊥

@@ -3,7 +3,7 @@ use mathlib.Core.Path.{◌≡◌, sym, subst}
 use Rattle.std.proofs.Common.{ℕ, ◌<◌, ◌⊎◌, inl, inr, true, false, Option, Some, None, List, ◌++◌, map, length, is_some}
 use Rattle.ir_model.specs.Ids.{Ids, Fresh, Distinct, counts}
 use Rattle.ir_model.specs.Forest.{Dialect, Behaviour, Definer, of_op, of_block, Value, Entity, an_op, a_block, a_region, a_value}
-use Rattle.ir_model.specs.Nesting.{In, children, IsLiveNamed, WellFormed, uses_of, numbers_of, types_of}
+use Rattle.ir_model.specs.Nesting.{In, children, IsLiveNamed, WellFormed, use_numbers_of, numbers_of, definition_types_of}
 use Rattle.ir_model.specs.Edits.{Edit, State, Condition, Change, needs}
 use Rattle.ir_model.specs.ContextIds.{context_ids}
 use Rattle.ir_model.specs.Sessions.{Session, condition, counter, slots, memory, made, Skips, Makes, IsNewSession, live_op, live_block, live_region}
@@ -25,7 +25,7 @@ module _ {N : Ids} {W : Dialect} where
     pub numbers : map (λ (v : Value N). v.number) t.tables.values ≡ map (λ (v : Value N). v.number) s.tables.values ++ new.numbers
     pub values : (v : Value N) → In v s.tables.values → In v t.tables.values
     pub live_values : (v : Value N) → IsLiveNamed t.forest (a_value v) → IsLiveNamed s.forest (a_value v) ⊎ (In v t.tables.values × In v.number new.numbers)
-    pub uses : (o : N.Op) (u : N.UseNumber) → In u (uses_of t.forest o) → In u (uses_of s.forest o) ⊎ In u new.uses
+    pub uses : (o : N.Op) (u : N.UseNumber) → In u (use_numbers_of t.forest o) → In u (use_numbers_of s.forest o) ⊎ In u new.uses
 
 -- what an edit owes where its condition holds and all that it makes is new
 abbrev pub GrowsBy : (N : Ids) {W : Dialect} → Behaviour W → Edit W → Type 0
@@ -162,7 +162,7 @@ module _ {W : Dialect} where
       no_numbers (of_op o) m h = h
       no_numbers (of_block o) m h = h
 
-      no_types : (d : Definer context_ids) (m : ℕ) → In m (types_of (empty {W = W} context_ids).forest d) → ⊥
+      no_types : (d : Definer context_ids) (m : ℕ) → In m (definition_types_of (empty {W = W} context_ids).forest d) → ⊥
       no_types (of_op o) m h = h
       no_types (of_block o) m h = h
 

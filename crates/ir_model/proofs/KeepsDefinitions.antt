@@ -4,7 +4,7 @@ use Rattle.std.proofs.Common.{ℕ, ◌<◌, ◌≢◌, ◌⊎◌, inl, inr, Bool
 use Rattle.std.specs.Option.{option_map}
 use Rattle.ir_model.specs.Ids.{Ids, Distinct}
 use Rattle.ir_model.specs.Forest.{Text, Dialect, Definer, of_op, of_block, Value, Entity, an_op, a_block, a_region, Definition, OpRecord, BlockRecord, Forest, Named, a_value, the_block}
-use Rattle.ir_model.specs.Nesting.{In, list_of, children, IsLive, IsLiveNamed, WellFormed, numbers_of, uses_of, names_of, regions_of, definitions_of}
+use Rattle.ir_model.specs.Nesting.{In, list_of, children, IsLive, IsLiveNamed, WellFormed, numbers_of, use_numbers_of, names_of, regions_of, definitions_of}
 use Rattle.ir_model.specs.Changes.{rewrite, on_op, on_block, on_results, on_arguments, new_block}
 use Rattle.ir_model.proofs.Loops.{Lawful}
 use Rattle.ir_model.proofs.Keeps.{rewrite_at, Nested-same}
@@ -37,7 +37,7 @@ module _ {N : Ids} {W : Dialect} where
     pub regions : (o : N.Op) → regions_of g o ≡ regions_of f o
     pub live : (x : Entity N) → IsLive f x → IsLive g x
     pub back : (r : N.Region) → IsLive g (a_region r) → IsLive f (a_region r)
-    pub uses : (o : N.Op) → uses_of g o ≡ uses_of f o
+    pub uses : (o : N.Op) → use_numbers_of g o ≡ use_numbers_of f o
     pub names : (o : N.Op) → names_of g o ≡ names_of f o
     pub at : (e : Definer N) → ((e ≡ d) × (definitions_of f e ≡ xs) × (definitions_of g e ≡ ys)) ⊎ (definitions_of g e ≡ definitions_of f e)
 
@@ -52,7 +52,7 @@ module _ {N : Ids} {W : Dialect} where
     pub record KeptOrMade (new : List N.ValueNumber) : Type 0 where
       pub forest : WellFormed g keys
       pub values : (v : Value N) → IsLiveNamed g (a_value v) → IsLiveNamed f (a_value v) ⊎ ((v.definer ≡ d) × In v.number new)
-      pub uses : (o : N.Op) (u : N.UseNumber) → In u (uses_of g o) → In u (uses_of f o)
+      pub uses : (o : N.Op) (u : N.UseNumber) → In u (use_numbers_of g o) → In u (use_numbers_of f o)
 
     pub made_kept : (new : List N.ValueNumber) → ((n : N.ValueNumber) → In n (numbers_in xs) → In n (numbers_in ys)) → ((n : N.ValueNumber) → In n (numbers_in ys) → In n (numbers_in xs) ⊎ In n new)
         → ((e : Definer N) (n : N.ValueNumber) → In n new → In n (numbers_of f e) → ⊥) → (Distinct (numbers_in xs) → Distinct (numbers_in ys))

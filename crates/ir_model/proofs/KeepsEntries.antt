@@ -5,7 +5,7 @@ use Rattle.std.specs.List.{insert, remove}
 use Rattle.std.specs.Option.{option_map}
 use Rattle.ir_model.specs.Ids.{Ids, Distinct}
 use Rattle.ir_model.specs.Forest.{Dialect, Value, OpRecord, Forest, Operand, Successor, Named, a_value, the_block}
-use Rattle.ir_model.specs.Nesting.{In, list_of, IsLiveNamed, WellFormed, uses_of, names_of}
+use Rattle.ir_model.specs.Nesting.{In, list_of, IsLiveNamed, WellFormed, use_numbers_of, names_of}
 use Rattle.ir_model.specs.Changes.{rewrite, on_op, on_operands, on_successors, operand, successor}
 use Rattle.ir_model.proofs.Loops.{Lawful}
 use Rattle.ir_model.proofs.Keeps.{rewrite_at}
@@ -62,8 +62,8 @@ module _ {N : Ids} {W : Dialect} where
       after = on_op f o (on_uses G H)
 
       -- the record is the rewritten one, or the old one
-      use_case : (p : N.Op) → ((p ≡ o) × (uses_of after p ≡ use_numbers (on_uses G H r)) × (uses_of f p ≡ use_numbers r) × (names_of after p ≡ named_by (on_uses G H r)) × (names_of f p ≡ named_by r))
-          ⊎ ((uses_of after p ≡ uses_of f p) × (names_of after p ≡ names_of f p))
+      use_case : (p : N.Op) → ((p ≡ o) × (use_numbers_of after p ≡ use_numbers (on_uses G H r)) × (use_numbers_of f p ≡ use_numbers r) × (names_of after p ≡ named_by (on_uses G H r)) × (names_of f p ≡ named_by r))
+          ⊎ ((use_numbers_of after p ≡ use_numbers_of f p) × (names_of after p ≡ names_of f p))
       use_case p = elim (rewrite_at N.same_op L.ops o (on_uses G H) f.ops p) [
         | inl e ↦ inl (
             let was : f.ops p ≡ Some r = ap f.ops e.0 ∙ is in
@@ -73,23 +73,23 @@ module _ {N : Ids} {W : Dialect} where
       ]
 
       pub puts_kept : (u : N.UseNumber) (d : Named N) → Puts u (use_numbers r) (use_numbers (on_uses G H r)) → Puts d (named_by r) (named_by (on_uses G H r))
-          → In u new → ((p : N.Op) → In u (uses_of f p) → ⊥) → IsLiveNamed f d → Kept f after keys new
+          → In u new → ((p : N.Op) → In u (use_numbers_of f p) → ⊥) → IsLiveNamed f d → Kept f after keys new
       puts_kept u d puts puts_name made unused live = kept_uses f after.ops (λ p ps. cond (N.same_op p o) (G ps) ps) (λ p ps. cond (N.same_op p o) (H ps) ps) (shape_at N.same_op o G H f.ops) keys new w uses once named
           (λ p v h. elim (in_use p v h) [ inl e ↦ inr (rw e.0 made) | inr i ↦ inl i ])
         where
-          in_use : (p : N.Op) (v : N.UseNumber) → In v (uses_of after p) → ((v ≡ u) × (p ≡ o)) ⊎ In v (uses_of f p)
+          in_use : (p : N.Op) (v : N.UseNumber) → In v (use_numbers_of after p) → ((v ≡ u) × (p ≡ o)) ⊎ In v (use_numbers_of f p)
           in_use p v h = elim (use_case p) [
             | inl e ↦ elim (puts-in v puts (rw e.1 at h)) [ inl s ↦ inl (s, e.0) | inr i ↦ inr (rw e.2 i) ]
             | inr e ↦ inr (rw e.0 at h)
           ]
 
-          uses : (p q : N.Op) (v : N.UseNumber) → In v (uses_of after p) → In v (uses_of after q) → p ≡ q
+          uses : (p q : N.Op) (v : N.UseNumber) → In v (use_numbers_of after p) → In v (use_numbers_of after q) → p ≡ q
           uses p q v h k = elim (in_use p v h) [
-            | inl e ↦ elim (in_use q v k) [ inl g ↦ e.1 ∙ sym g.1 | inr j ↦ absurd (unused q (subst (λ x. In x (uses_of f q)) e.0 j)) ]
-            | inr i ↦ elim (in_use q v k) [ inl g ↦ absurd (unused p (subst (λ x. In x (uses_of f p)) g.0 i)) | inr j ↦ w.uses p q v i j ]
+            | inl e ↦ elim (in_use q v k) [ inl g ↦ e.1 ∙ sym g.1 | inr j ↦ absurd (unused q (subst (λ x. In x (use_numbers_of f q)) e.0 j)) ]
+            | inr i ↦ elim (in_use q v k) [ inl g ↦ absurd (unused p (subst (λ x. In x (use_numbers_of f p)) g.0 i)) | inr j ↦ w.uses p q v i j ]
           ]
 
-          once : (p : N.Op) → Distinct (uses_of after p)
+          once : (p : N.Op) → Distinct (use_numbers_of after p)
           once p = elim (use_case p) [
             | inl e ↦ rw e.1 (puts-distinct puts (rw e.2 at (w.uses_once p)) (λ h. unused p (rw e.2 h)))
             | inr e ↦ rw e.0 (w.uses_once p)
@@ -105,10 +105,10 @@ module _ {N : Ids} {W : Dialect} where
       loses_kept fewer fewer_names = kept_uses f after.ops (λ p ps. cond (N.same_op p o) (G ps) ps) (λ p ps. cond (N.same_op p o) (H ps) ps) (shape_at N.same_op o G H f.ops) keys new w
           (λ p q v h k. w.uses p q v (still_use p v h) (still_use q v k)) once named (λ p v h. inl (still_use p v h))
         where
-          still_use : (p : N.Op) (v : N.UseNumber) → In v (uses_of after p) → In v (uses_of f p)
+          still_use : (p : N.Op) (v : N.UseNumber) → In v (use_numbers_of after p) → In v (use_numbers_of f p)
           still_use p v h = elim (use_case p) [ inl e ↦ rw e.2 (Sub-in v fewer (rw e.1 at h)) | inr e ↦ rw e.0 at h ]
 
-          once : (p : N.Op) → Distinct (uses_of after p)
+          once : (p : N.Op) → Distinct (use_numbers_of after p)
           once p = elim (use_case p) [ inl e ↦ rw e.1 (Sub-distinct fewer (rw e.2 at (w.uses_once p))) | inr e ↦ rw e.0 (w.uses_once p) ]
 
           named : (p : N.Op) (c : Named N) → In c (names_of after p) → IsLiveNamed f c
@@ -116,12 +116,12 @@ module _ {N : Ids} {W : Dialect} where
 
     -- an operand that is put in, by a push, an insertion or in the place of another
     pub operand_kept : (G : List (Operand N) → List (Operand N)) (u : N.UseNumber) (v : Value N) → ((ps : List (Operand N)) → Puts (operand (u, v)) ps (G ps))
-        → In u new → ((p : N.Op) → In u (uses_of f p) → ⊥) → IsLiveNamed f (a_value v) → Kept f (on_op f o (on_operands G)) keys new
+        → In u new → ((p : N.Op) → In u (use_numbers_of f p) → ⊥) → IsLiveNamed f (a_value v) → Kept f (on_op f o (on_operands G)) keys new
     operand_kept G u v puts = puts_kept G (λ ps. ps) u (a_value v)
         (puts-before _ (puts-map (λ (p : Operand N). p.use_number) (puts r.operands))) (puts-before _ (puts-map (λ (p : Operand N). a_value p.value) (puts r.operands)))
 
     pub successor_kept : (H : List (Successor N) → List (Successor N)) (u : N.UseNumber) (b : N.Block) → ((ps : List (Successor N)) → Puts (successor (u, b)) ps (H ps))
-        → In u new → ((p : N.Op) → In u (uses_of f p) → ⊥) → IsLiveNamed f (the_block b) → Kept f (on_op f o (on_successors H)) keys new
+        → In u new → ((p : N.Op) → In u (use_numbers_of f p) → ⊥) → IsLiveNamed f (the_block b) → Kept f (on_op f o (on_successors H)) keys new
     successor_kept H u b puts = puts_kept (λ ps. ps) H u (the_block b)
         (puts-behind _ (puts-map (λ (p : Successor N). p.use_number) (puts r.successors))) (puts-behind _ (puts-map (λ (p : Successor N). the_block p.block) (puts r.successors)))
 

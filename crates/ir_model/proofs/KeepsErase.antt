@@ -4,7 +4,7 @@ use Rattle.std.proofs.Common.{ℕ, ◌≢◌, ◌⊎◌, inl, inr, Bool, true, f
 use Rattle.std.specs.Option.{option_map}
 use Rattle.ir_model.specs.Ids.{Ids, Distinct}
 use Rattle.ir_model.specs.Forest.{Dialect, Definer, of_op, of_block, Entity, an_op, a_block, a_region, Definition, OpRecord, BlockRecord, Forest, Named, a_value, the_block, same_entity, definer_entity, owner}
-use Rattle.ir_model.specs.Nesting.{In, Within, itself, below, list_of, children, Inside, IsLive, IsLiveNamed, IsClosed, WellFormed, uses_of, names_of, operands_of, successors_of, regions_of, ops_of, definitions_of}
+use Rattle.ir_model.specs.Nesting.{In, Within, itself, below, list_of, children, Inside, IsLive, IsLiveNamed, IsClosed, WellFormed, use_numbers_of, names_of, operands_of, successors_of, regions_of, ops_of, definitions_of}
 use Rattle.ir_model.specs.Changes.{on_ops, on_regions, but, Removes}
 use Rattle.ir_model.proofs.Loops.{Lawful}
 use Rattle.ir_model.proofs.Nests.{In-map, In-map_back, Distinct-map, NoCycle-fewer, OneList-fewer}
@@ -131,7 +131,7 @@ module _ {N : Ids} {W : Dialect} (L : Lawful N) (f g : Forest N W) (e : Entity N
     | inr kept ↦ rw kept.1 at h
   ]
 
-  some_use : (o : N.Op) (u : N.UseNumber) → In u (uses_of g o) → In u (uses_of f o)
+  some_use : (o : N.Op) (u : N.UseNumber) → In u (use_numbers_of g o) → In u (use_numbers_of f o)
   some_use o u h = elim (op_parts o) [
     | inl gone ↦ absurd (let k : In u [] = rw (gone.0, gone.1) at h in k)
     | inr kept ↦ rw (kept.1, kept.2) at h

@@ -4,7 +4,7 @@ use Rattle.std.proofs.Common.{ℕ, ◌<◌, ◌≢◌, ◌⊎◌, inl, inr, Bool
 use Rattle.std.specs.List.{list_any}
 use Rattle.ir_model.specs.Ids.{Ids, Distinct}
 use Rattle.ir_model.specs.Forest.{Dialect, Definer, of_op, of_block, Entity, an_op, a_block, a_region, Definition, OpRecord, Forest, Operand, Successor, Named, a_value, the_block}
-use Rattle.ir_model.specs.Nesting.{In, Within, itself, below, list_of, children, Inside, IsLive, IsLiveNamed, WellFormed, numbers_of, uses_of, names_of, definitions_of, regions_of, blocks_of}
+use Rattle.ir_model.specs.Nesting.{In, Within, itself, below, list_of, children, Inside, IsLive, IsLiveNamed, WellFormed, numbers_of, use_numbers_of, names_of, definitions_of, regions_of, blocks_of}
 use Rattle.ir_model.specs.Changes.{put, new_op}
 use Rattle.ir_model.proofs.Renaming.{Tells}
 use Rattle.ir_model.proofs.Loops.{Lawful}
@@ -143,7 +143,7 @@ module _ {N : Ids} {W : Dialect} (L : Lawful N) (f : Forest N W) (keys : ℕ) (w
   abbrev new_names : List (Named N)
   new_names = map (λ p. a_value p.value) operands ++ map (λ p. the_block p.block) successors
 
-  pub uses_case : (p : N.Op) → ((p ≡ o) × (uses_of after p ≡ new_uses) × (names_of after p ≡ new_names)) ⊎ ((uses_of after p ≡ uses_of f p) × (names_of after p ≡ names_of f p))
+  pub uses_case : (p : N.Op) → ((p ≡ o) × (use_numbers_of after p ≡ new_uses) × (names_of after p ≡ new_names)) ⊎ ((use_numbers_of after p ≡ use_numbers_of f p) × (names_of after p ≡ names_of f p))
   uses_case p = elim (op_case p) [
     | inl e ↦ inl (e.0, rw e.1, rw e.1)
     | inr e ↦ inr (rw e.1, rw e.1)
@@ -166,7 +166,7 @@ module _ {N : Ids} {W : Dialect} (L : Lawful N) (f : Forest N W) (keys : ℕ) (w
 
   pub NewOp-keeps : Distinct regions → Distinct (map (λ x. x.number) results) → Distinct new_uses
       → ((d : Definer N) (n : N.ValueNumber) → In n (map (λ x. x.number) results) → In n (numbers_of f d) → ⊥)
-      → ((p : N.Op) (u : N.UseNumber) → In u new_uses → In u (uses_of f p) → ⊥)
+      → ((p : N.Op) (u : N.UseNumber) → In u new_uses → In u (use_numbers_of f p) → ⊥)
       → ((d : Named N) → In d new_names → IsLiveNamed f d)
       → ((t : ℕ) → In t (map (λ x. x.ty) results) → t < keys)
       → WellFormed after keys

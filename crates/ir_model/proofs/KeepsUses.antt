@@ -4,7 +4,7 @@ use Rattle.std.proofs.Common.{ℕ, ◌⊎◌, inl, inr, Bool, true, false, Optio
 use Rattle.std.specs.Option.{option_map}
 use Rattle.ir_model.specs.Ids.{Ids, Distinct}
 use Rattle.ir_model.specs.Forest.{Dialect, Definer, of_op, of_block, Value, Entity, an_op, a_block, a_region, OpRecord, Forest, Operand, Successor, Named, a_value, the_block, same_value}
-use Rattle.ir_model.specs.Nesting.{In, list_of, children, IsLive, IsLiveNamed, WellFormed, uses_of, names_of, regions_of, definitions_of}
+use Rattle.ir_model.specs.Nesting.{In, list_of, children, IsLive, IsLiveNamed, WellFormed, use_numbers_of, names_of, regions_of, definitions_of}
 use Rattle.ir_model.specs.Changes.{rewrite_all, redirect, redirected, retarget, retargeted, DropsUses, no_uses}
 use Rattle.ir_model.proofs.Nests.{In-append, In-left, In-right}
 use Rattle.ir_model.proofs.Keeps.{list_of-map, is_some-map, Nested-same}
@@ -17,7 +17,7 @@ module _ {N : Ids} {W : Dialect} where
   abbrev pub named_by : OpRecord N W → List (Named N)
   named_by r = map (λ p. a_value p.value) r.operands ++ map (λ p. the_block p.block) r.successors
 
-  pub uses_are : (f : Forest N W) (o : N.Op) → uses_of f o ≡ list_of use_numbers (f.ops o)
+  pub uses_are : (f : Forest N W) (o : N.Op) → use_numbers_of f o ≡ list_of use_numbers (f.ops o)
   uses_are f o = by (f.ops o)
     where
       by : (m : Option (OpRecord N W)) → map (λ p. p.use_number) (list_of (λ r. r.operands) m) ++ map (λ p. p.use_number) (list_of (λ r. r.successors) m) ≡ list_of use_numbers m
@@ -62,10 +62,10 @@ module _ {N : Ids} {W : Dialect} where
     named_still (the_block b) h = h
 
     pub kept_uses : (keys : ℕ) (new : List N.UseNumber) → WellFormed f keys
-        → ((o p : N.Op) (u : N.UseNumber) → In u (uses_of after o) → In u (uses_of after p) → o ≡ p)
-        → ((o : N.Op) → Distinct (uses_of after o))
+        → ((o p : N.Op) (u : N.UseNumber) → In u (use_numbers_of after o) → In u (use_numbers_of after p) → o ≡ p)
+        → ((o : N.Op) → Distinct (use_numbers_of after o))
         → ((o : N.Op) (d : Named N) → In d (names_of after o) → IsLiveNamed f d)
-        → ((o : N.Op) (u : N.UseNumber) → In u (uses_of after o) → In u (uses_of f o) ⊎ In u new) → Kept f after keys new
+        → ((o : N.Op) (u : N.UseNumber) → In u (use_numbers_of after o) → In u (use_numbers_of f o) ⊎ In u new) → Kept f after keys new
     kept_uses keys new w uses once named back = record {
       forest = record {
         nested = Nested-same f after same_children same_regions live_still (λ r h. h) w.nested;
@@ -87,7 +87,7 @@ module _ {N : Ids} {W : Dialect} where
     abbrev renamed : Forest N W
     renamed = record f { ops = rewrite_all (on_uses G H) f.ops }
 
-    same_uses : (o : N.Op) → uses_of renamed o ≡ uses_of f o
+    same_uses : (o : N.Op) → use_numbers_of renamed o ≡ use_numbers_of f o
     same_uses o = uses_are renamed o ∙ by (f.ops o) ∙ sym (uses_are f o)
       where
         by : (m : Option (OpRecord N W)) → list_of use_numbers (option_map (on_uses G H) m) ≡ list_of use_numbers m
@@ -190,7 +190,7 @@ module _ {N : Ids} {W : Dialect} (f : Forest N W) (keys : ℕ) (new : List N.Use
         by (Some r) (inl k) = k
         by (Some r) (inr k) = k
 
-    drops_case : (o : N.Op) → ((uses_of g o ≡ uses_of f o) × (names_of g o ≡ names_of f o)) ⊎ ((uses_of g o ≡ []) × (names_of g o ≡ []))
+    drops_case : (o : N.Op) → ((use_numbers_of g o ≡ use_numbers_of f o) × (names_of g o ≡ names_of f o)) ⊎ ((use_numbers_of g o ≡ []) × (names_of g o ≡ []))
     drops_case o = elim (drops.either o) [
       | inl k ↦ inl (uses_are g o ∙ ap (list_of use_numbers) k ∙ sym (uses_are f o), names_are g o ∙ ap (list_of named_by) k ∙ sym (names_are f o))
       | inr k ↦ inr (uses_are g o ∙ ap (list_of use_numbers) k ∙ no_numbers (f.ops o), names_are g o ∙ ap (list_of named_by) k ∙ no_names (f.ops o))
@@ -211,7 +211,7 @@ module _ {N : Ids} {W : Dialect} (f : Forest N W) (keys : ℕ) (new : List N.Use
         (λ o d h. elim (drops_case o) [ inl c ↦ w.named o d (rw c.1 at h) | inr c ↦ absurd (let k : In {A = Named N} d [] = rw c.1 at h in k) ])
         (λ o u h. inl (fewer_uses o u h))
       where
-        fewer_uses : (o : N.Op) (u : N.UseNumber) → In u (uses_of g o) → In u (uses_of f o)
+        fewer_uses : (o : N.Op) (u : N.UseNumber) → In u (use_numbers_of g o) → In u (use_numbers_of f o)
         fewer_uses o u h = elim (drops_case o) [ inl c ↦ rw c.0 at h | inr c ↦ absurd (let k : In u [] = rw c.0 at h in k) ]
 
     pub DropsUses-kept : Kept f g keys new

@@ -9,7 +9,7 @@ use Rattle.std.specs.Cmp.Lexicographic.{slice_cmp, nat_list_cmp_total}
 use Rattle.std.specs.FinMap as finite
 use Rattle.ir_model.specs.Forest.{Text}
 use Rattle.ir_model.specs.Nesting.{In}
-use Rattle.ir_model.specs.Legaliser.{Given, nothing_given, name_of, give, IsFree, base, numbered, Chooses, GivesNew, Gives, Run}
+use Rattle.ir_model.specs.Legaliser.{Given, nothing_given, name_of, give, IsFree, base, numbered_text, Chooses, GivesNew, Gives, NamesInTurn}
 use Rattle.ir_model.specs.DefinitionLaws.{SourcesApart, CallsSettle, NamesLeadBack}
 
 -- no two sources have one name
@@ -53,7 +53,7 @@ gives_apart old new source name g apart = by (name_of old source) g
     by None n = subst Apart (sym n.new_is) (gift_apart old source name new.counter (chosen_free (IsFree old) old.counter source name new.counter n.chosen) apart)
     by (Some known) k = subst Apart (sym k.1) apart
 
-run_apart : (calls : List (Text × Text)) (old new : Given) → Run old calls new → Apart old → Apart new
+run_apart : (calls : List (Text × Text)) (old new : Given) → NamesInTurn old calls new → Apart old → Apart new
 run_apart [] old new r apart = subst Apart (sym r) apart
 run_apart (call ∷ calls) old new r apart = run_apart calls r.0 new r.2 (gives_apart old r.0 call.0 call.1 r.1 apart)
 
@@ -99,7 +99,7 @@ choose_one free counter source n m j k (inr a) (inr b) =
     let not_less : b.number < a.number → ⊥ = λ l. a.is_next.least b.number b.is_next.from l b.is_next.is_free in
     let not_more : a.number < b.number → ⊥ = λ l. b.is_next.least a.number a.is_next.from l a.is_next.is_free in
     let same : a.number ≡ b.number = omega (arith, not_less, not_more) in
-    (a.name_is ∙ ap (numbered (base source)) same ∙ sym b.name_is, a.next_is ∙ ap (λ c. c + 1) same ∙ sym b.next_is)
+    (a.name_is ∙ ap (numbered_text (base source)) same ∙ sym b.name_is, a.next_is ∙ ap (λ c. c + 1) same ∙ sym b.next_is)
 
 -- so is what one call gives
 pub gives_one : (old s t : Given) (source n m : Text) → Gives old source n s → Gives old source m t → (n ≡ m) × (s ≡ t)
@@ -110,7 +110,7 @@ gives_one old s t source n m g h = by (name_of old source) g h
     by (Some known) a b = (a.0 ∙ sym b.0, a.1 ∙ sym b.1)
 
 -- and what a run of calls gives
-run_one : (calls others : List (Text × Text)) (old s t : Given) → map (λ call. call.0) calls ≡ map (λ call. call.0) others → Run old calls s → Run old others t → (calls ≡ others) × (s ≡ t)
+run_one : (calls others : List (Text × Text)) (old s t : Given) → map (λ call. call.0) calls ≡ map (λ call. call.0) others → NamesInTurn old calls s → NamesInTurn old others t → (calls ≡ others) × (s ≡ t)
 run_one [] [] old s t e r q = (refl, r ∙ sym q)
 run_one [] (d ∷ ds) old s t e r q = absurd cc
 run_one (c ∷ cs) [] old s t e r q = absurd cc
@@ -118,19 +118,19 @@ run_one (c ∷ cs) (d ∷ ds) old s t e r q =
     let head : c.0 ≡ d.0 = cc in
     let rest : map (λ (call : Text × Text). call.0) cs ≡ map (λ (call : Text × Text). call.0) ds = cc in
     let one = gives_one old r.0 q.0 c.0 c.1 d.1 r.1 (subst (λ source. Gives old source d.1 q.0) (sym head) q.1) in
-    let more = run_one cs ds r.0 s t rest r.2 (subst (λ now. Run now ds t) (sym one.1) q.2) in
+    let more = run_one cs ds r.0 s t rest r.2 (subst (λ now. NamesInTurn now ds t) (sym one.1) q.2) in
     ((λ i. (head i, one.0 i) ∷ more.0 i), more.1)
 
 pub calls_settle : CallsSettle
 calls_settle counter calls others s t e r q = run_one calls others (nothing_given counter) s t e r q
 
 -- a source keeps its name over a run
-run_keeps : (calls : List (Text × Text)) (old s : Given) (q n : Text) → Run old calls s → name_of old q ≡ Some n → name_of s q ≡ Some n
+run_keeps : (calls : List (Text × Text)) (old s : Given) (q n : Text) → NamesInTurn old calls s → name_of old q ≡ Some n → name_of s q ≡ Some n
 run_keeps [] old s q n r h = subst (λ t. name_of t q ≡ Some n) (sym r) h
 run_keeps (c ∷ cs) old s q n r h = run_keeps cs r.0 s q n r.2 (gives_keeps old r.0 c.0 c.1 q n r.1 h)
 
 -- a source has the name that a call gave it
-run_named : (calls : List (Text × Text)) (old s : Given) (call : Text × Text) → Run old calls s → In call calls → name_of s call.0 ≡ Some call.1
+run_named : (calls : List (Text × Text)) (old s : Given) (call : Text × Text) → NamesInTurn old calls s → In call calls → name_of s call.0 ≡ Some call.1
 run_named [] old s call r h = elim h [ ]
 run_named (c ∷ cs) old s call r (inl e) = subst (λ (d : Text × Text). name_of s d.0 ≡ Some d.1) (sym e) (run_keeps cs r.0 s c.0 c.1 r.2 (gives_named old r.0 c.0 c.1 r.1))
 run_named (c ∷ cs) old s call r (inr h) = run_named cs r.0 s call r.2 h

@@ -6,12 +6,12 @@ use Rattle.std.specs.Str.{chars}
 use Rattle.std.proofs.lemmas.Fmt.{decimal-digits_value}
 use Rattle.std.proofs.lemmas.Str.Parse.{numerals_by_value, tells_all_ascii_digits}
 use Rattle.ir_model.specs.Forest.{Text}
-use Rattle.ir_model.specs.Legaliser.{Given, nothing_given, name_of, IsFree, base, numbered, GivesNew, Gives, Run, IsSpent}
+use Rattle.ir_model.specs.Legaliser.{Given, nothing_given, name_of, IsFree, base, numbered_text, GivesNew, Gives, NamesInTurn, IsSpent}
 use Rattle.ir_model.specs.LetterRows.{GivesAlone, e_acute, LegaliseFirstLetters, last_calls, earlier_calls, LegaliseCounterSpent}
 use Rattle.ir_model.proofs.Legalisers.{calls_settle, names_lead_back, gives_one}
 use Rattle.ir_model.proofs.NamedRows.{zero_text, differ, given, found, taken_by, gives_base, gives_numbered, empty_base}
 
-alone : (counter : ℕ) (calls : List (Text × Text)) → (s : Given) × Run (nothing_given counter) calls s → GivesAlone counter calls
+alone : (counter : ℕ) (calls : List (Text × Text)) → (s : Given) × NamesInTurn (nothing_given counter) calls s → GivesAlone counter calls
 alone counter calls run = record { given = run; alone = λ others s e r. (calls_settle counter others calls s run.0 e r run.1).0 }
 
 -- the number in decimal
@@ -41,7 +41,7 @@ mark_base = refl
 single : (source name : Text) → base source ≡ name → Gives (nothing_given 0) source name (given ((source, name) ∷ []) 0)
 single source name is = gives_base [] 0 source name refl is refl
 
-not_given : (source name other : Text) → base source ≡ name → (name ≡ other → ⊥) → (s : Given) → Run (nothing_given 0) ((source, other) ∷ []) s → ⊥
+not_given : (source name other : Text) → base source ≡ name → (name ≡ other → ⊥) → (s : Given) → NamesInTurn (nothing_given 0) ((source, other) ∷ []) s → ⊥
 not_given source name other is apart s r = apart (gives_one (nothing_given 0) _ r.0 source name other (single source name is) r.1).0
 
 pub first_letters : LegaliseFirstLetters
@@ -86,10 +86,10 @@ earlier_pairs = (codes "b_", codes "b__18446744073709551613") ∷ (codes "b.", c
 first_call : (counter : ℕ) → Gives (nothing_given counter) (codes "b.") (codes "b_") (given ((codes "b.", codes "b_") ∷ []) counter)
 first_call counter = gives_base [] counter (codes "b.") (codes "b_") refl point_base refl
 
-last_number : numbered (codes "b_") (2 ^ 64 - 2) ≡ codes "b__18446744073709551614"
+last_number : numbered_text (codes "b_") (2 ^ 64 - 2) ≡ codes "b__18446744073709551614"
 last_number = ap (λ t. codes "b__" ++ t) last_text
 
-last_run : Run (nothing_given (2 ^ 64 - 2)) last_calls (given last_pairs (2 ^ 64 - 1))
+last_run : NamesInTurn (nothing_given (2 ^ 64 - 2)) last_calls (given last_pairs (2 ^ 64 - 1))
 last_run = (
   _,
   first_call (2 ^ 64 - 2),
@@ -99,17 +99,17 @@ last_run = (
 earlier_number : Gives (given ((codes "b.", codes "b_") ∷ []) (2 ^ 64 - 3)) (codes "b_") (codes "b__18446744073709551613") (given earlier_pairs (2 ^ 64 - 2))
 earlier_number = gives_numbered ((codes "b.", codes "b_") ∷ []) (2 ^ 64 - 3) (codes "b_") (codes "b_") (codes "b__18446744073709551613") (codes "b.") refl refl refl (ap (λ t. codes "b__" ++ t) earlier_text) refl (omega arith)
 
-earlier_run : Run (nothing_given (2 ^ 64 - 3)) earlier_calls (given earlier_pairs (2 ^ 64 - 2))
+earlier_run : NamesInTurn (nothing_given (2 ^ 64 - 3)) earlier_calls (given earlier_pairs (2 ^ 64 - 2))
 earlier_run = (_, first_call (2 ^ 64 - 3), (_, earlier_number, refl))
 
 third_number : Gives (given earlier_pairs (2 ^ 64 - 2)) (codes "b!") (codes "b__18446744073709551614") (given ((codes "b!", codes "b__18446744073709551614") ∷ earlier_pairs) (2 ^ 64 - 1))
 third_number = gives_numbered earlier_pairs (2 ^ 64 - 2) (codes "b!") (codes "b_") (codes "b__18446744073709551614") (codes "b.") refl mark_base refl last_number refl (omega arith)
 
-third_run : Run (nothing_given (2 ^ 64 - 3)) (earlier_calls ++ (codes "b!", codes "b__18446744073709551614") ∷ []) (given ((codes "b!", codes "b__18446744073709551614") ∷ earlier_pairs) (2 ^ 64 - 1))
+third_run : NamesInTurn (nothing_given (2 ^ 64 - 3)) (earlier_calls ++ (codes "b!", codes "b__18446744073709551614") ∷ []) (given ((codes "b!", codes "b__18446744073709551614") ∷ earlier_pairs) (2 ^ 64 - 1))
 third_run = (_, first_call (2 ^ 64 - 3), (_, earlier_number, (_, third_number, refl)))
 
 -- after these calls the legaliser is in no other state
-after_last : (s : Given) → Run (nothing_given (2 ^ 64 - 2)) last_calls s → s ≡ given last_pairs (2 ^ 64 - 1)
+after_last : (s : Given) → NamesInTurn (nothing_given (2 ^ 64 - 2)) last_calls s → s ≡ given last_pairs (2 ^ 64 - 1)
 after_last s r = (calls_settle (2 ^ 64 - 2) last_calls last_calls s (given last_pairs (2 ^ 64 - 1)) refl r last_run).1
 
 last_spent : IsSpent (given last_pairs (2 ^ 64 - 1)) (codes "b!")
@@ -121,12 +121,12 @@ last_spent = record {
   };
 }
 
-not_spent : (s : Given) → Run (nothing_given (2 ^ 64 - 3)) earlier_calls s → IsSpent s (codes "b!") → ⊥
+not_spent : (s : Given) → NamesInTurn (nothing_given (2 ^ 64 - 3)) earlier_calls s → IsSpent s (codes "b!") → ⊥
 not_spent s r spent =
     let same = (calls_settle (2 ^ 64 - 3) earlier_calls earlier_calls s (given earlier_pairs (2 ^ 64 - 2)) refl r earlier_run).1 in
     spent_gives (given earlier_pairs (2 ^ 64 - 2)) _ (codes "b!") (codes "b__18446744073709551614") (subst (λ t. IsSpent t (codes "b!")) same spent) third_number
 
-named_first : (s : Given) → Run (nothing_given (2 ^ 64 - 2)) last_calls s → name_of s (codes "b.") ≡ Some (codes "b_")
+named_first : (s : Given) → NamesInTurn (nothing_given (2 ^ 64 - 2)) last_calls s → name_of s (codes "b.") ≡ Some (codes "b_")
 named_first s r = (names_lead_back (2 ^ 64 - 2) last_calls s (codes "b.", codes "b_") (codes "b.") r (inl refl)).1 refl
 
 pub counter_spent : LegaliseCounterSpent

@@ -13,7 +13,7 @@ use Rattle.ir_model.specs.ContextIds.{context_ids}
 use Rattle.ir_model.specs.Forest.{Text, Dialect, Forest, Definition}
 use Rattle.ir_model.specs.Nesting.{In}
 use Rattle.ir_model.specs.Names.{value_id, block_id, unique_name, IsValueName, IsBlockName}
-use Rattle.ir_model.specs.Legaliser.{Given, nothing_given, name_of, IsFree, base, numbered, Chooses, GivesNew, Gives, Run}
+use Rattle.ir_model.specs.Legaliser.{Given, nothing_given, name_of, IsFree, base, numbered_text, Chooses, GivesNew, Gives, NamesInTurn}
 use Rattle.ir_model.specs.SmallForests.{bare}
 use Rattle.ir_model.proofs.Legalisers.{sources_apart, calls_settle, names_lead_back, text_itself, gives_named, gives_keeps, gives_one}
 use Rattle.ir_model.specs.IdForests.{first, second, first_again}
@@ -133,7 +133,7 @@ gives_base pairs counter source name unknown is free = new_given pairs counter c
 
 -- its base with the counter, where the base is taken and that is free
 pub gives_numbered : (pairs : List (Text × Text)) (counter : ℕ) (source text name holder : Text) → look_up pairs source ≡ None → base source ≡ text → look_up pairs holder ≡ Some text
-    → numbered text counter ≡ name → list_any (λ p. same_text name p.1) pairs ≡ false → counter < 2 ^ 64 - 1
+    → numbered_text text counter ≡ name → list_any (λ p. same_text name p.1) pairs ≡ false → counter < 2 ^ 64 - 1
     → Gives (given pairs counter) source name (given ((source, name) ∷ pairs) (counter + 1))
 gives_numbered pairs counter source text name holder unknown is held named free small = new_given pairs counter (counter + 1) source name unknown
     (inr (record {
@@ -141,11 +141,11 @@ gives_numbered pairs counter source text name holder unknown is held named free 
       taken = λ f. taken_by pairs counter text holder held (subst (IsFree (given pairs counter)) is f);
       is_next = record {
         from = omega arith;
-        is_free = subst (λ t. IsFree (given pairs counter) (numbered t counter)) (sym is) (subst (IsFree (given pairs counter)) (sym named) (free_by pairs counter name free));
+        is_free = subst (λ t. IsFree (given pairs counter) (numbered_text t counter)) (sym is) (subst (IsFree (given pairs counter)) (sym named) (free_by pairs counter name free));
         least = λ d p q. absurd (omega (arith, p, q));
       };
       below = omega (arith, small);
-      name_is = sym named ∙ ap (λ t. numbered t counter) (sym is);
+      name_is = sym named ∙ ap (λ t. numbered_text t counter) (sym is);
       next_is = refl;
     }))
 
@@ -157,7 +157,7 @@ pub empty_base : base (codes "") ≡ codes "_"
 unfolding chars
 empty_base = refl
 
-clashing_run : (s : Given) × Run (nothing_given 0) clashing_calls s
+clashing_run : (s : Given) × NamesInTurn (nothing_given 0) clashing_calls s
 clashing_run = (
   _,
   (

@@ -4,7 +4,7 @@ use Rattle.std.proofs.Common.{ℕ, ◌≢◌, ◌⊎◌, inl, inr, Bool, true, f
 use Rattle.std.specs.Option.{option_map}
 use Rattle.ir_model.specs.Ids.{Ids}
 use Rattle.ir_model.specs.Forest.{Dialect, Definer, of_op, of_block, Value, Entity, an_op, a_block, a_region, OpRecord, BlockRecord, Forest, Named, a_value, the_block}
-use Rattle.ir_model.specs.Nesting.{In, list_of, children, IsLive, IsLiveNamed, Nested, WellFormed, operands_of, successors_of, uses_of, names_of, definitions_of}
+use Rattle.ir_model.specs.Nesting.{In, list_of, children, IsLive, IsLiveNamed, Nested, WellFormed, operands_of, successors_of, use_numbers_of, names_of, definitions_of}
 use Rattle.ir_model.specs.Changes.{rewrite, on_ops, on_regions}
 use Rattle.ir_model.proofs.Keeps.{list_of-map, is_some-map}
 
@@ -44,12 +44,12 @@ module _ {N : Ids} {W : Dialect} where
   pub record Kept (f g : Forest N W) (keys : ℕ) (new : List N.UseNumber) : Type 0 where
     pub forest : WellFormed g keys
     pub values : (v : Value N) → IsLiveNamed g (a_value v) → IsLiveNamed f (a_value v)
-    pub uses : (o : N.Op) (u : N.UseNumber) → In u (uses_of g o) → In u (uses_of f o) ⊎ In u new
+    pub uses : (o : N.Op) (u : N.UseNumber) → In u (use_numbers_of g o) → In u (use_numbers_of f o) ⊎ In u new
 
   -- definitions, uses and what is live are as before, but for more regions
   pub record SameButLists (f g : Forest N W) : Type 0 where
     pub definitions : (d : Definer N) → definitions_of g d ≡ definitions_of f d
-    pub uses : (o : N.Op) → uses_of g o ≡ uses_of f o
+    pub uses : (o : N.Op) → use_numbers_of g o ≡ use_numbers_of f o
     pub names : (o : N.Op) → names_of g o ≡ names_of f o
     pub ops : (o : N.Op) → is_some (g.ops o) ≡ is_some (f.ops o)
     pub blocks : (b : N.Block) → is_some (g.blocks b) ≡ is_some (f.blocks b)

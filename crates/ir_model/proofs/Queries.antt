@@ -8,7 +8,7 @@ use Rattle.ir_model.specs.declared.ids.ArenaIndex.{ArenaIndex}
 use Rattle.ir_model.specs.Ids.{Ids}
 use Rattle.ir_model.specs.ContextIds.{context_ids}
 use Rattle.ir_model.specs.Forest.{Dialect, Behaviour, Definer, Definition, of_op, of_block, Entity, an_op, a_block, a_region, OpRecord, Operand, Successor, Forest, Named, a_value, the_block, Value}
-use Rattle.ir_model.specs.Nesting.{In, list_of, children, WellFormed, ops_of, blocks_of, regions_of, names_of, operands_of, successors_of, definitions_of, types_of}
+use Rattle.ir_model.specs.Nesting.{In, list_of, children, WellFormed, ops_of, blocks_of, regions_of, names_of, operands_of, successors_of, definitions_of, definition_types_of}
 use Rattle.ir_model.specs.Edits.{StoredType, The}
 use Rattle.ir_model.specs.Uses.{Use, IsUse}
 use Rattle.ir_model.specs.Parent.{FindsOne, IsParent}
@@ -267,7 +267,7 @@ module _ {W : Dialect} (f : Forest context_ids W) (keys : ℕ) (w : WellFormed f
         let at = In-map_back (λ (x : Definition context_ids W). x.number) v.number (definitions_of f v.definer) live in
         ((at.0.ty, (at.0, at.1, sym at.2, refl)), (at.0.name, (at.0, at.1, sym at.2, refl)));
     one_type = λ ty other h k. sym h.3 ∙ ap (λ (x : Definition context_ids W). x.ty) (one_definition h.0 k.0 h.1 k.1 h.2 k.2) ∙ k.3;
-    known = λ ty h. w.known v.definer ty (subst (λ z. In z (types_of f v.definer)) h.3 (In-map (λ (x : Definition context_ids W). x.ty) h.0 (definitions_of f v.definer) h.1));
+    known = λ ty h. w.known v.definer ty (subst (λ z. In z (definition_types_of f v.definer)) h.3 (In-map (λ (x : Definition context_ids W). x.ty) h.0 (definitions_of f v.definer) h.1));
     one_name = λ name other h k. sym h.3 ∙ ap (λ (x : Definition context_ids W). x.name) (one_definition h.0 k.0 h.1 k.1 h.2 k.2) ∙ k.3;
     given = λ name. (λ h. h, λ h. h);
   }

@@ -8,7 +8,7 @@ use Rattle.ir_model.specs.Ids.{Ids, Distinct}
 use Rattle.ir_model.specs.ContextIds.{context_ids}
 use Rattle.ir_model.specs.declared.ids.ArenaIndex.{ArenaIndex}
 use Rattle.ir_model.specs.Forest.{Dialect, Definer, Definition, Value, same_value, OpRecord, Operand, Successor, Forest, Named, a_value, the_block}
-use Rattle.ir_model.specs.Nesting.{In, list_of, IsLiveNamed, WellFormed, definitions_of, types_of, uses_of, names_of, operands_of, successors_of}
+use Rattle.ir_model.specs.Nesting.{In, list_of, IsLiveNamed, WellFormed, definitions_of, definition_types_of, use_numbers_of, names_of, operands_of, successors_of}
 use Rattle.ir_model.specs.Changes.{on_operands, on_successors}
 use Rattle.ir_model.specs.Uses.{Use, IsUse}
 use Rattle.ir_model.specs.Redirect.{redirect_uses, retarget_uses}
@@ -173,7 +173,7 @@ module _ {N : Ids} {W : Dialect} (f : Forest N W) (set : Use N → Bool) where
         by None = refl
         by (Some r) = refl
 
-    pub value_numbers : (o : N.Op) → uses_of (redirect_uses f set new) o ≡ uses_of f o
+    pub value_numbers : (o : N.Op) → use_numbers_of (redirect_uses f set new) o ≡ use_numbers_of f o
     value_numbers o = ap₂ (λ us vs. map (λ (p : Operand N). p.use_number) us ++ map (λ (p : Successor N). p.use_number) vs) (operands_after o) (successors_stay o)
         ∙ ap (λ us. us ++ map (λ (p : Successor N). p.use_number) (successors_of f o)) (numbers_stay (operand_entries N) (chosen o) new (operands_of f o))
 
@@ -214,7 +214,7 @@ module _ {N : Ids} {W : Dialect} (f : Forest N W) (set : Use N → Bool) where
         by None = refl
         by (Some r) = refl
 
-    pub block_numbers : (o : N.Op) → uses_of (retarget_uses f set new) o ≡ uses_of f o
+    pub block_numbers : (o : N.Op) → use_numbers_of (retarget_uses f set new) o ≡ use_numbers_of f o
     block_numbers o = ap₂ (λ us vs. map (λ (p : Operand N). p.use_number) us ++ map (λ (p : Successor N). p.use_number) vs) (operands_stay o) (successors_after o)
         ∙ ap (λ us. map (λ (p : Operand N). p.use_number) (operands_of f o) ++ us) (numbers_stay (successor_entries N) (chosen o) new (successors_of f o))
 
@@ -248,7 +248,7 @@ untyped f g keys part n a w = formed_alike f g keys a.structure (λ d t h. w.kno
 typed : {N : Ids} {W : Dialect} (L : Lawful N) (f : Forest N W) (keys : ℕ) (v : Value N) (ty : ℕ) → ty < keys → WellFormed f keys → WellFormed (set_type f v ty) keys
 typed {N = N} {W = W} L f keys v ty lt w = formed_alike f (set_type f v ty) keys (alone_type f v ty).structure known w
   where
-    known : (d : Definer N) (t : ℕ) → In t (types_of (set_type f v ty) d) → t < keys
+    known : (d : Definer N) (t : ℕ) → In t (definition_types_of (set_type f v ty) d) → t < keys
     known d t h = by (same_value N (record { definer = d; number = at.0.number }) v) refl
       where
         at : (x : Definition N W) × In x (definitions_of (set_type f v ty) d) × (t ≡ x.ty)
@@ -261,7 +261,7 @@ typed {N = N} {W = W} L f keys v ty lt w = formed_alike f (set_type f v ty) keys
         by true e = (let s = (type_is_set L f v ty).1 t (subst (λ z. HasType (set_type f v ty) z t) ((value_tells L _ v).0 e) has) in subst (λ z. z < keys) (sym s) lt)
         by false e =
             let k = ((type_is_set L f v ty).2 (record { definer = d; number = at.0.number }) t (λ s. (let q : same_value N (record { definer = d; number = at.0.number }) v ≡ true = (value_tells L _ v).1 s in cc))).0 has in
-            w.known d t (subst (λ z. In z (types_of f d)) k.3 (In-map (λ (x : Definition N W). x.ty) k.0 (definitions_of f d) k.1))
+            w.known d t (subst (λ z. In z (definition_types_of f d)) k.3 (In-map (λ (x : Definition N W). x.ty) k.0 (definitions_of f d) k.1))
 
 pub calls_keep_well_formed : (W : Dialect) → CallsKeepWellFormed W
 calls_keep_well_formed W f keys w = record {

@@ -6,7 +6,7 @@ use Rattle.std.specs.List.{filter}
 use Rattle.std.specs.Option.{option_map, option_map_or}
 use Rattle.ir_model.specs.Ids.{Ids, Distinct}
 use Rattle.ir_model.specs.Forest.{Dialect, Behaviour, Definer, of_op, of_block, Entity, an_op, a_block, a_region, Definition, OpRecord, BlockRecord, Forest, Operand, Successor, Named, a_value, the_block, definer_entity, owner}
-use Rattle.ir_model.specs.Nesting.{In, Within, itself, below, list_of, children, Inside, IsLive, IsLiveNamed, IsClosed, Nested, WellFormed, uses_of, names_of, regions_of, ops_of, blocks_of, definitions_of}
+use Rattle.ir_model.specs.Nesting.{In, Within, itself, below, list_of, children, Inside, IsLive, IsLiveNamed, IsClosed, Nested, WellFormed, use_numbers_of, names_of, regions_of, ops_of, blocks_of, definitions_of}
 use Rattle.ir_model.specs.Changes.{on_ops}
 use Rattle.ir_model.specs.BlockGraph.{implements, pure_interface}
 use Rattle.ir_model.specs.Dead.{Dead, dead, GoesWith, inside_it, inside_dead, IsSwept, Sweeps}
@@ -238,13 +238,13 @@ module _ {N : Ids} {W : Dialect} (B : Behaviour W) (f : Forest N W) (b : N.Block
   abbrev uses_by : Option (OpRecord N W) → List N.UseNumber
   uses_by m = map (λ (x : Operand N). x.use_number) (list_of (λ (q : OpRecord N W). q.operands) m) ++ map (λ (x : Successor N). x.use_number) (list_of (λ (q : OpRecord N W). q.successors) m)
 
-  some_use : (o : N.Op) (u : N.UseNumber) → In u (uses_of g o) → In u (uses_of f o)
+  some_use : (o : N.Op) (u : N.UseNumber) → In u (use_numbers_of g o) → In u (use_numbers_of f o)
   some_use o u h = elim (op_case o) [
     | inl gone ↦ absurd (let k : In {A = N.UseNumber} u [] = subst (λ m. In u (uses_by m)) gone h in k)
     | inr kept ↦ subst (λ m. In u (uses_by m)) kept.1 h
   ]
 
-  uses_once : (o : N.Op) → Distinct (uses_of f o) → Distinct (uses_of g o)
+  uses_once : (o : N.Op) → Distinct (use_numbers_of f o) → Distinct (use_numbers_of g o)
   uses_once o h = elim (op_case o) [
     | inl gone ↦ subst (λ m. Distinct (uses_by m)) (sym gone) tt
     | inr kept ↦ subst (λ m. Distinct (uses_by m)) (sym kept.1) h

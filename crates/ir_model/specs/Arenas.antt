@@ -36,8 +36,8 @@ module _ {T : Type 0} where
   get a id = find a.slots id
 
   -- a record stands under the id
-  abbrev pub IsLive : Arena T → ArenaIndex → Type 0
-  IsLive a id = IsSome (get a id)
+  abbrev pub IsLiveIn : Arena T → ArenaIndex → Type 0
+  IsLiveIn a id = IsSome (get a id)
 
   -- how many records are live
   abbrev pub arena_len : Arena T → ℕ

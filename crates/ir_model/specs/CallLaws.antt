@@ -5,7 +5,7 @@ use Rattle.std.specs.Option.{option_map}
 use Rattle.ir_model.specs.declared.ids.ArenaIndex.{ArenaIndex}
 use Rattle.ir_model.specs.ContextIds.{context_ids}
 use Rattle.ir_model.specs.Forest.{Text, Dialect, Definer, definer_entity, Value, Forest, Named, a_value, the_block}
-use Rattle.ir_model.specs.Nesting.{IsLive, IsLiveNamed, WellFormed, uses_of}
+use Rattle.ir_model.specs.Nesting.{IsLive, IsLiveNamed, WellFormed, use_numbers_of}
 use Rattle.ir_model.specs.Changes.{on_operands, on_successors}
 use Rattle.ir_model.specs.Uses.{Use, IsUse, AreUses, IsOperandAt, IsSuccessorAt}
 use Rattle.ir_model.specs.Redirect.{redirect_uses, retarget_uses}
@@ -61,7 +61,7 @@ module _ {W : Dialect} (f : Forest context_ids W) where
     pub others : (d : Value context_ids) (u : Use context_ids) → set u ≡ false → IsUse (redirect_uses f set new) (a_value d) u ↔ IsUse f (a_value d) u
     pub blocks : (b : ArenaIndex) (u : Use context_ids) → IsUse (redirect_uses f set new) (the_block b) u ↔ IsUse f (the_block b) u
     pub places : (u : Use context_ids) (index : ℕ) → IsOperandAt (redirect_uses f set new) u index ↔ IsOperandAt f u index
-    pub numbers : (o : ArenaIndex) → uses_of (redirect_uses f set new) o ≡ uses_of f o
+    pub numbers : (o : ArenaIndex) → use_numbers_of (redirect_uses f set new) o ≡ use_numbers_of f o
     pub rest : (o : ArenaIndex) → option_map (on_operands (λ _. [])) ((redirect_uses f set new).ops o) ≡ option_map (on_operands (λ _. [])) (f.ops o)
     pub elsewhere : ((redirect_uses f set new).blocks ≡ f.blocks) × ((redirect_uses f set new).regions ≡ f.regions)
 
@@ -71,7 +71,7 @@ module _ {W : Dialect} (f : Forest context_ids W) where
     pub others : (b : ArenaIndex) (u : Use context_ids) → set u ≡ false → IsUse (retarget_uses f set new) (the_block b) u ↔ IsUse f (the_block b) u
     pub values : (v : Value context_ids) (u : Use context_ids) → IsUse (retarget_uses f set new) (a_value v) u ↔ IsUse f (a_value v) u
     pub places : (u : Use context_ids) (index : ℕ) → IsSuccessorAt (retarget_uses f set new) u index ↔ IsSuccessorAt f u index
-    pub numbers : (o : ArenaIndex) → uses_of (retarget_uses f set new) o ≡ uses_of f o
+    pub numbers : (o : ArenaIndex) → use_numbers_of (retarget_uses f set new) o ≡ use_numbers_of f o
     pub rest : (o : ArenaIndex) → option_map (on_successors (λ _. [])) ((retarget_uses f set new).ops o) ≡ option_map (on_successors (λ _. [])) (f.ops o)
     pub elsewhere : ((retarget_uses f set new).blocks ≡ f.blocks) × ((retarget_uses f set new).regions ≡ f.regions)
 

@@ -3,7 +3,7 @@ use Rattle.std.specs.Prelude.{◌≡◌, ◌≢◌, ◌↔◌, ℕ, if◌then◌
 use Rattle.std.specs.Option.{option_map}
 use Rattle.ir_model.specs.Ids.{Ids}
 use Rattle.ir_model.specs.Forest.{Text, Dialect, Definer, of_op, of_block, Value, Entity, Definition, Forest}
-use Rattle.ir_model.specs.Nesting.{In, IsLive, regions_of, ops_of, blocks_of, definitions_of, numbers_of, types_of, operands_of, successors_of}
+use Rattle.ir_model.specs.Nesting.{In, IsLive, regions_of, ops_of, blocks_of, definitions_of, numbers_of, definition_types_of, operands_of, successors_of}
 use Rattle.ir_model.specs.Changes.{on_op, on_block, on_results, on_arguments}
 
 module _ {N : Ids} {W : Dialect} where
@@ -79,7 +79,7 @@ pub data Part : Type 0 where
 module _ {N : Ids} {W : Dialect} where
   -- both forests have this part alike
   abbrev pub SamePart : Part → Forest N W → Forest N W → Type 0
-  SamePart the_types f g = (d : Definer N) → types_of g d ≡ types_of f d
+  SamePart the_types f g = (d : Definer N) → definition_types_of g d ≡ definition_types_of f d
   SamePart the_names f g = (d : Definer N) → names_given g d ≡ names_given f d
   SamePart the_labels f g = (b : N.Block) → label_of g b ≡ label_of f b
   SamePart the_locations f g = (d : Definer N) → loc_of g d ≡ loc_of f d

@@ -10,7 +10,7 @@ use Rattle.ir_model.specs.Uses.{Use, IsUse, AreUses}
 use Rattle.ir_model.specs.Parent.{ComesAfter, first_of, IsParent, IsNext, IsPrevious, IsIndex}
 use Rattle.ir_model.specs.BlockGraph.{succs, targets_of, terminator, ArePredecessors}
 use Rattle.ir_model.specs.Subtree.{DefinedInside, ListsSubtree}
-use Rattle.ir_model.specs.Legaliser.{Given, nothing_given, name_of, Run}
+use Rattle.ir_model.specs.Legaliser.{Given, nothing_given, name_of, NamesInTurn}
 use Rattle.ir_model.specs.Names.{IsValueName, IsBlockName}
 
 -- slot and version fit their types
@@ -118,15 +118,15 @@ module _ (W : Dialect) where
 
 -- what one legaliser gave, from any counter on: no two sources have one identifier
 abbrev pub SourcesApart : Type 0
-SourcesApart = (counter : ℕ) (calls : List (Text × Text)) (s : Given) → Run (nothing_given counter) calls s
+SourcesApart = (counter : ℕ) (calls : List (Text × Text)) (s : Given) → NamesInTurn (nothing_given counter) calls s
     → (source other name : Text) → name_of s source ≡ Some name → name_of s other ≡ Some name → source ≡ other
 
 -- what one legaliser gives is settled by the sources and their order, and so is what it is afterwards
 abbrev pub CallsSettle : Type 0
 CallsSettle = (counter : ℕ) (calls others : List (Text × Text)) (s t : Given) → map (λ call. call.0) calls ≡ map (λ call. call.0) others
-    → Run (nothing_given counter) calls s → Run (nothing_given counter) others t → (calls ≡ others) × (s ≡ t)
+    → NamesInTurn (nothing_given counter) calls s → NamesInTurn (nothing_given counter) others t → (calls ≡ others) × (s ≡ t)
 
 -- each identifier that was given is that of its source, and of no other
 abbrev pub NamesLeadBack : Type 0
 NamesLeadBack = (counter : ℕ) (calls : List (Text × Text)) (s : Given) (call : Text × Text) (source : Text)
-    → Run (nothing_given counter) calls s → In call calls → (name_of s source ≡ Some call.1) ↔ (source ≡ call.0)
+    → NamesInTurn (nothing_given counter) calls s → In call calls → (name_of s source ≡ Some call.1) ↔ (source ≡ call.0)

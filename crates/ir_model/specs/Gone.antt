@@ -4,7 +4,7 @@ use Rattle.ir_model.specs.declared.ids.ArenaIndex.{ArenaIndex}
 use Rattle.ir_model.specs.declared.answer.Answer.{Answer}
 use Rattle.ir_model.specs.ContextIds.{context_ids}
 use Rattle.ir_model.specs.Forest.{Dialect, Behaviour, Definer}
-use Rattle.ir_model.specs.Nesting.{In, numbers_of, uses_of}
+use Rattle.ir_model.specs.Nesting.{In, numbers_of, use_numbers_of}
 use Rattle.ir_model.specs.Edits.{Edit}
 use Rattle.ir_model.specs.Sessions.{Session, Run, live_op, live_block, live_region}
 use Rattle.ir_model.specs.Soundness.{Sound}
@@ -16,7 +16,7 @@ module _ {W : Dialect} where
 
   -- the number stands at an operand or a successor
   abbrev pub IsUseNumber : Session W → ℕ → Type 0
-  IsUseNumber s u = (o : ArenaIndex) × In u (uses_of s.state.forest o)
+  IsUseNumber s u = (o : ArenaIndex) × In u (use_numbers_of s.state.forest o)
 
   -- the id or number was handed out or skipped, and nothing has it
   abbrev pub IsGoneOp : Session W → ArenaIndex → Type 0

@@ -50,14 +50,14 @@ abbrev pub base : List ℕ → List ℕ
 base source = if is_identifier source then source else replaced (chars source)
 
 -- the base, `_` and a number in decimal
-abbrev pub numbered : List ℕ → ℕ → List ℕ
-numbered text c = text ++ 95 ∷ decimal c
+abbrev pub numbered_text : List ℕ → ℕ → List ℕ
+numbered_text text c = text ++ 95 ∷ decimal c
 
--- c is the least number at or above the counter whose numbered text is free
-pub record IsNext (free : List ℕ → Type 0) (counter : ℕ) (text : List ℕ) (c : ℕ) : Type 0 where
+-- c is the least number at or above the counter whose numbered_text text is free
+pub record IsNextNumber (free : List ℕ → Type 0) (counter : ℕ) (text : List ℕ) (c : ℕ) : Type 0 where
   pub from : counter ≤ c
-  pub is_free : free (numbered text c)
-  pub least : (d : ℕ) → counter ≤ d → d < c → ¬ (free (numbered text d))
+  pub is_free : free (numbered_text text c)
+  pub least : (d : ℕ) → counter ≤ d → d < c → ¬ (free (numbered_text text d))
 
 -- the base is chosen where it is free, and the counter stays
 pub record ChoosesBase (free : List ℕ → Type 0) (counter : ℕ) (source name : List ℕ) (next : ℕ) : Type 0 where
@@ -69,9 +69,9 @@ pub record ChoosesBase (free : List ℕ → Type 0) (counter : ℕ) (source name
 pub record ChoosesNumbered (free : List ℕ → Type 0) (counter : ℕ) (source name : List ℕ) (next : ℕ) : Type 0 where
   pub number : ℕ
   pub taken : ¬ (free (base source))
-  pub is_next : IsNext free counter (base source) number
+  pub is_next : IsNextNumber free counter (base source) number
   pub below : number < 2 ^ 64 - 1
-  pub name_is : name ≡ numbered (base source) number
+  pub name_is : name ≡ numbered_text (base source) number
   pub next_is : next ≡ number + 1
 
 -- the name for a new source, and the counter after it, by which names are free
@@ -90,7 +90,7 @@ Gives old source name new = MatchOption (name_of old source) (GivesNew old sourc
 -- the base is taken, and no number from the counter to below `usize::MAX` makes it free
 pub record HasNoName (free : List ℕ → Type 0) (counter : ℕ) (source : List ℕ) : Type 0 where
   pub taken : ¬ (free (base source))
-  pub none_free : (c : ℕ) → counter ≤ c → c < 2 ^ 64 - 1 → ¬ (free (numbered (base source) c))
+  pub none_free : (c : ℕ) → counter ≤ c → c < 2 ^ 64 - 1 → ¬ (free (numbered_text (base source) c))
 
 -- a new source for which no name is left
 pub record IsSpent (s : Given) (source : List ℕ) : Type 0 where
@@ -98,6 +98,6 @@ pub record IsSpent (s : Given) (source : List ℕ) : Type 0 where
   pub no_name : HasNoName (IsFree s) s.counter source
 
 -- a run of calls, each a source and the name that it was given, from one state to another
-abbrev pub Run : Given → List (List ℕ × List ℕ) → Given → Type 0
-Run old [] new = new ≡ old
-Run old (call ∷ calls) new = (next : Given) × Gives old call.0 call.1 next × Run next calls new
+abbrev pub NamesInTurn : Given → List (List ℕ × List ℕ) → Given → Type 0
+NamesInTurn old [] new = new ≡ old
+NamesInTurn old (call ∷ calls) new = (next : Given) × Gives old call.0 call.1 next × NamesInTurn next calls new

@@ -4,7 +4,7 @@ use Rattle.ir_model.specs.ContextIds.{context_ids}
 use Rattle.ir_model.specs.Forest.{Text, Forest, Value, of_op}
 use Rattle.ir_model.specs.Nesting.{In}
 use Rattle.ir_model.specs.Names.{value_id, block_id, unique_name, IsValueName, IsBlockName}
-use Rattle.ir_model.specs.Legaliser.{Given, nothing_given, name_of, Run}
+use Rattle.ir_model.specs.Legaliser.{Given, nothing_given, name_of, NamesInTurn}
 use Rattle.ir_model.specs.SmallForests.{bare}
 use Rattle.ir_model.specs.IdForests.{first, second, first_again, three, op_of_kind, block_with}
 
@@ -46,12 +46,12 @@ clashing_calls =
 
 -- sources whose identifiers clash are given different ones
 pub record LegaliseClashes : Type 0 where
-  pub given : (s : Given) × Run (nothing_given 0) clashing_calls s
+  pub given : (s : Given) × NamesInTurn (nothing_given 0) clashing_calls s
   -- in this order they are given nothing else
-  pub alone : (calls : List (Text × Text)) (s : Given) → map (λ call. call.0) calls ≡ map (λ call. call.0) clashing_calls → Run (nothing_given 0) calls s → calls ≡ clashing_calls
+  pub alone : (calls : List (Text × Text)) (s : Given) → map (λ call. call.0) calls ≡ map (λ call. call.0) clashing_calls → NamesInTurn (nothing_given 0) calls s → calls ≡ clashing_calls
   -- each identifier leads back to its source, and to no other
-  pub back : (s : Given) (call : Text × Text) (source : Text) → Run (nothing_given 0) clashing_calls s → In call clashing_calls → (name_of s source ≡ Some call.1) ↔ (source ≡ call.0)
+  pub back : (s : Given) (call : Text × Text) (source : Text) → NamesInTurn (nothing_given 0) clashing_calls s → In call clashing_calls → (name_of s source ≡ Some call.1) ↔ (source ≡ call.0)
   -- an identifier that nothing has is given no number
-  pub not_numbered : (s : Given) → Run (nothing_given 0) ((codes "hello_", codes "hello__0") ∷ []) s → ⊥
+  pub not_numbered : (s : Given) → NamesInTurn (nothing_given 0) ((codes "hello_", codes "hello__0") ∷ []) s → ⊥
   -- the second source is not given the first one's name
-  pub not_twice : (s : Given) → Run (nothing_given 0) ((codes "hello_", codes "hello_") ∷ (codes "hello.", codes "hello_") ∷ []) s → ⊥
+  pub not_twice : (s : Given) → NamesInTurn (nothing_given 0) ((codes "hello_", codes "hello_") ∷ (codes "hello.", codes "hello_") ∷ []) s → ⊥

@@ -69,12 +69,12 @@ module _ {N : Ids} {W : Dialect} where
   numbers_of f d = map (λ x. x.number) (definitions_of f d)
 
   -- the types of the results or arguments, in order
-  abbrev pub types_of : Forest N W → Definer N → List ℕ
-  types_of f d = map (λ x. x.ty) (definitions_of f d)
+  abbrev pub definition_types_of : Forest N W → Definer N → List ℕ
+  definition_types_of f d = map (λ x. x.ty) (definitions_of f d)
 
   -- the use numbers of the operation: those of its operands, then those of its successors
-  abbrev pub uses_of : Forest N W → N.Op → List N.UseNumber
-  uses_of f o = map (λ p. p.use_number) (operands_of f o) ++ map (λ p. p.use_number) (successors_of f o)
+  abbrev pub use_numbers_of : Forest N W → N.Op → List N.UseNumber
+  use_numbers_of f o = map (λ p. p.use_number) (operands_of f o) ++ map (λ p. p.use_number) (successors_of f o)
 
   -- what the operation names
   abbrev pub names_of : Forest N W → N.Op → List (Named N)
@@ -102,7 +102,7 @@ module _ {N : Ids} {W : Dialect} where
     pub nested : Nested f
     pub numbers : (d e : Definer N) (n : N.ValueNumber) → In n (numbers_of f d) → In n (numbers_of f e) → d ≡ e
     pub numbers_once : (d : Definer N) → Distinct (numbers_of f d)
-    pub uses : (o p : N.Op) (u : N.UseNumber) → In u (uses_of f o) → In u (uses_of f p) → o ≡ p
-    pub uses_once : (o : N.Op) → Distinct (uses_of f o)
+    pub uses : (o p : N.Op) (u : N.UseNumber) → In u (use_numbers_of f o) → In u (use_numbers_of f p) → o ≡ p
+    pub uses_once : (o : N.Op) → Distinct (use_numbers_of f o)
     pub named : (o : N.Op) (d : Named N) → In d (names_of f o) → IsLiveNamed f d
-    pub known : (d : Definer N) (t : ℕ) → In t (types_of f d) → t < keys
+    pub known : (d : Definer N) (t : ℕ) → In t (definition_types_of f d) → t < keys

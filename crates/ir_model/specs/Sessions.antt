@@ -62,7 +62,7 @@ pub record Passes (old : Passed) (made : Fresh context_ids) (new : Passed) : Typ
   pub uses : (n : ℕ) → IsTrue (new.uses n) ↔ (IsTrue (old.uses n) ⊎ In n made.uses)
 
 -- no more of any kind
-pub record Within (a b : Counts) : Type 0 where
+pub record NoMore (a b : Counts) : Type 0 where
   pub ops : a.ops ≤ b.ops
   pub blocks : a.blocks ≤ b.blocks
   pub regions : a.regions ≤ b.regions
@@ -133,7 +133,7 @@ module _ {W : Dialect} where
     pub beside : t.beside ≡ s.beside
     pub limits : t.limits ≡ s.limits
     pub skipped : Fresh context_ids
-    pub within : Within (counts context_ids skipped) (needs edit)
+    pub within : NoMore (counts context_ids skipped) (needs edit)
     pub were_new : AreNew s skipped
     pub passed : Passes s.passed skipped t.passed
 

@@ -5,7 +5,7 @@ use Rattle.ir_model.specs.declared.answer.Answer.{Answer}
 use Rattle.ir_model.specs.ContextIds.{context_ids}
 use Rattle.ir_model.specs.Ids.{Counts, Distinct}
 use Rattle.ir_model.specs.Forest.{Dialect, Behaviour, Value, a_value}
-use Rattle.ir_model.specs.Nesting.{In, IsLiveNamed, WellFormed, uses_of}
+use Rattle.ir_model.specs.Nesting.{In, IsLiveNamed, WellFormed, use_numbers_of}
 use Rattle.ir_model.specs.Edits.{Edit}
 use Rattle.ir_model.specs.Sessions.{Session, Step, Run, Number, TakesSlot, IsNewSession, live_op, live_block, live_region}
 
@@ -23,7 +23,7 @@ module _ {W : Dialect} where
     pub blocks : (b : ArenaIndex) → In b s.state.tables.blocks → IsTrue (s.passed.blocks b)
     pub regions : (r : ArenaIndex) → In r s.state.tables.regions → IsTrue (s.passed.regions r)
     pub numbers : (n : ℕ) → In n (map (λ v. v.number) s.state.tables.values) → IsTrue (s.passed.numbers n)
-    pub uses : (o : ArenaIndex) (u : ℕ) → In u (uses_of s.state.forest o) → IsTrue (s.passed.uses u)
+    pub uses : (o : ArenaIndex) (u : ℕ) → In u (use_numbers_of s.state.forest o) → IsTrue (s.passed.uses u)
 
   -- no table names an entity or a number twice
   pub record ListedOnce (s : Session W) : Type 0 where

@@ -8,7 +8,7 @@ use Rattle.ir_model.specs.declared.answer.Refused.TheVariants.{Condition as ForC
 use Rattle.ir_model.specs.Ids.{Counts, Distinct}
 use Rattle.ir_model.specs.ContextIds.{context_ids}
 use Rattle.ir_model.specs.Forest.{Dialect, Behaviour}
-use Rattle.ir_model.specs.Nesting.{In, regions_of, uses_of}
+use Rattle.ir_model.specs.Nesting.{In, regions_of, use_numbers_of}
 use Rattle.ir_model.specs.Edits.{Edit, State, Condition, NewType, NewOp, NewBlock, AddRegion, PushResult, PushArgument, InsertResult, InsertArgument, RemoveResult, RemoveArgument, PushOperand, PushSuccessor, InsertOperand, InsertSuccessor, RemoveOperand, RemoveSuccessor, ReplaceOperand, ReplaceSuccessor, ReplaceAllUses, RetargetAll, OpFront, OpBack, OpBefore, OpAfter, UnlinkOp, UnlinkBlock, BlockFront, BlockBack, BlockBefore, BlockAfter, AppendOps, AppendBlocks, MoveRegion, DropOpUses, DropBlockUses, DropRegionUses, EraseOp, EraseBlock, EraseRegion}
 use Rattle.ir_model.specs.Sessions.{Session, Passed, Step}
 use Rattle.ir_model.specs.Soundness.{AreGone, Sound}
@@ -134,7 +134,7 @@ module _ {W : Dialect} where
     pub blocks : (i : ArenaIndex) → (In i t.state.tables.blocks × (In i s.state.tables.blocks → ⊥)) ↔ (IsTrue (t.passed.blocks i) × (s.passed.blocks i ≡ false))
     pub regions : (i : ArenaIndex) → (In i t.state.tables.regions × (In i s.state.tables.regions → ⊥)) ↔ (IsTrue (t.passed.regions i) × (s.passed.regions i ≡ false))
     pub numbers : (n : ℕ) → (In n (numbers_in t) × (In n (numbers_in s) → ⊥)) ↔ (IsTrue (t.passed.numbers n) × (s.passed.numbers n ≡ false))
-    pub uses : (o : ArenaIndex) (u : ℕ) → In u (uses_of t.state.forest o) → (In u (uses_of s.state.forest o) → ⊥) → IsTrue (t.passed.uses u) × (s.passed.uses u ≡ false)
+    pub uses : (o : ArenaIndex) (u : ℕ) → In u (use_numbers_of t.state.forest o) → (In u (use_numbers_of s.state.forest o) → ⊥) → IsTrue (t.passed.uses u) × (s.passed.uses u ≡ false)
 
 module _ (W : Dialect) (B : Behaviour W) where
   -- refused for a counter exactly where the condition holds and numbers lack

@@ -7,7 +7,7 @@ use Rattle.ir_model.specs.Nesting.{IsLive, IsLiveNamed}
 use Rattle.ir_model.specs.ContextIds.{context_ids}
 use Rattle.ir_model.specs.Edits.{AddRegion, Condition, Each, NewOp, Tables as PlainTables, The}
 use Rattle.ir_core_records.specs.Meaning.{value_of}
-use Rattle.ir_run_tables.specs.State.{State, forest_of, session_of}
+use Rattle.ir_run_tables.specs.State.{ContextState, forest_of, session_of}
 use Rattle.ir_base_arenas.specs.declared.ptr.Ptr.{Ptr}
 use Rattle.ir_core_records.specs.declared.handles.Value.{Value}
 use Rattle.ir_core_records.specs.declared.record.BasicBlock.{BasicBlock}
@@ -22,7 +22,7 @@ there (Some x) = (λ h. record { value = x; found = refl; holds = tt }, λ t. re
 alone : {A : Type 0} → A ↔ (A × Unit {0})
 alone = (λ a. (a, tt), λ p. p.0)
 
-module _ {D A K B S X L : Type 0} (c : State D A K B S X L) (t : Tables D A K B S X L) where
+module _ {D A K B S X L : Type 0} (c : ContextState D A K B S X L) (t : Tables D A K B S X L) where
   -- these are numbers of live values
   abbrev pub AreValues : List ℕ → Type 0
   AreValues = Each (λ n. The (slice_get t.values.items n) (λ v. IsLiveNamed (forest_of c) (a_value (value_of v.index))))
@@ -61,7 +61,7 @@ module _ {D A K B S X L : Type 0} (c : State D A K B S X L) (t : Tables D A K B 
   region_condition = the-map (λ p. p.index) t.ops.items (λ p. IsLive (forest_of c) (an_op p.index)) (λ o. The ((forest_of c).ops o) (λ _. Unit {0})) (λ p. there ((forest_of c).ops p.index))
 
 -- where place was made in the tables, the numbers name what they named
-module _ {D A K B S X L : Type 0} (c : State D A K B S X L) (t u : Tables D A K B S X L) (same : entries_of u ≡ entries_of t) where
+module _ {D A K B S X L : Type 0} (c : ContextState D A K B S X L) (t u : Tables D A K B S X L) (same : entries_of u ≡ entries_of t) where
   pub types_still : (ns : List ℕ) → Each (λ n. n < length (entries_of t).types) ns → AreTypes c u ns
   types_still ns h = let P : PlainTables context_ids → Type 0 = λ e. Each (λ n. n < length e.types) ns in (types_so c u ns).1 (subst P (sym same) h)
 
@@ -72,7 +72,7 @@ module _ {D A K B S X L : Type 0} (c : State D A K B S X L) (t u : Tables D A K 
       (op_condition c u kind types operands successors regions).1 (subst P (sym same) h)
 
 -- what is tested of the tables as they are lent
-module _ {D A K B S X L : Type 0} (c : State D A K B S X L) (t : Tables D A K B S X L) where
+module _ {D A K B S X L : Type 0} (c : ContextState D A K B S X L) (t : Tables D A K B S X L) where
   pub types_tested : (count : ℕ) → count ≡ length t.types.items → (ns : List ℕ) → Each (λ n. n < count) ns ↔ Each (λ n. n < length (entries_of t).types) ns
   types_tested count is ns = let P : ℕ → Type 0 = λ k. Each (λ n. n < k) ns ↔ Each (λ n. n < length (entries_of t).types) ns in subst P (sym is) (types_so c t ns)
 

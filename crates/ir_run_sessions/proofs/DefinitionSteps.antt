@@ -25,7 +25,7 @@ use Rattle.ir_core_records.specs.Meaning.{closed}
 use Rattle.ir_core_chains.specs.ListReads.{slice_get-push_at}
 use Rattle.ir_run_tables.specs.Calls.{SameButForest, SkipsAtMost}
 use Rattle.ir_run_tables.specs.Definitions.{MakesValue, UnusedAt, definition_inserted, definition_pushed, definition_removed}
-use Rattle.ir_run_tables.specs.State.{State, bare, forest_of, session_of, types_of}
+use Rattle.ir_run_tables.specs.State.{ContextState, bare, forest_of, session_of, types_of}
 use Rattle.ir_run_tables.specs.Named.{NamesLive}
 use Rattle.ir_run_tables.specs.SessionLists.{the-map}
 use Rattle.ir_run_tables.specs.SessionTables.{answer_of, with_value}
@@ -85,7 +85,7 @@ place_within {W = W} f g d at n same there =
     omega (arith, slice_get_within (numbers_of g d) at n (ap (λ x. slice_get (numbers_of x d) at) same ∙ there), length-map (definitions_of g d) (λ (x : Definition context_ids W). x.number))
 
 -- an edit that makes one value number
-module _ {D A K B S X L : Type 0} (behave : Behaviour (closed A K B S X L)) (c : State D A K B S X L) (tb : Tables context_ids) (edit : Edit (closed A K B S X L)) (may : Condition (session_of c tb).state edit) (asks : one_number ≡ needs edit) where
+module _ {D A K B S X L : Type 0} (behave : Behaviour (closed A K B S X L)) (c : ContextState D A K B S X L) (tb : Tables context_ids) (edit : Edit (closed A K B S X L)) (may : Condition (session_of c tb).state edit) (asks : one_number ≡ needs edit) where
   abbrev before : Session (closed A K B S X L)
   before = session_of c tb
 
@@ -103,9 +103,9 @@ module _ {D A K B S X L : Type 0} (behave : Behaviour (closed A K B S X L)) (c :
 
     -- and where its call is
     pub not_made : (T : Type 0) (n : Counts) → n ≡ one_number → HasRoom (bare c) n → ((failed_call T e ≡ failed_call T CounterSpent) ↔ LacksNumbers (bare c) one_number) → (failed_call T e ≡ failed_call T SlotsSpent → ⊥)
-        → (d : State D A K B S X L) → d ≡ c → Step behave before edit (answer_of (Err e)) (session_of d tc)
+        → (d : ContextState D A K B S X L) → d ≡ c → Step behave before edit (answer_of (Err e)) (session_of d tc)
     not_made T n is room counter slots d same =
-        let P : State D A K B S X L → Type 0 = λ x. SkipsAtMost (bare c) (bare x) one_number in
+        let P : ContextState D A K B S X L → Type 0 = λ x. SkipsAtMost (bare c) (bare x) one_number in
         let Q : Counts → Type 0 = λ k. HasRoom (bare c) k in
         refused behave c tb edit may one_number asks e runs_out (record {
           memory = λ of. subst Q is room;
@@ -113,7 +113,7 @@ module _ {D A K B S X L : Type 0} (behave : Behaviour (closed A K B S X L)) (c :
           slots = λ of. absurd (slots (ap (failed_call T) of));
         }) d tc kept (subst P (sym same) (skips_none (bare c) one_number))
 
-  module _ (n : Counts) (is : n ≡ one_number) (room : HasRoom (bare c) n) (d : State D A K B S X L) (by : Definer context_ids) (make : ℕ → Forest context_ids (closed A K B S X L)) (makes : MakesValue (bare c) (bare d) make)
+  module _ (n : Counts) (is : n ≡ one_number) (room : HasRoom (bare c) n) (d : ContextState D A K B S X L) (by : Definer context_ids) (make : ℕ → Forest context_ids (closed A K B S X L)) (makes : MakesValue (bare c) (bare d) make)
       (at : ℕ) (there : (k : ℕ) → slice_get (numbers_of (make k) by) at ≡ Some k) (ready tc : Tables context_ids) (kept : ready ≡ tb) where
     -- else it is made, and its value stands behind the others
     pub value_made : (entered : The (slice_get (numbers_of (forest_of d) by) at) (λ k. tc ≡ with_value ready (value_by by k)))
@@ -127,7 +127,7 @@ module _ {D A K B S X L : Type 0} (behave : Behaviour (closed A K B S X L)) (c :
         (change makes.number (same-state _ _ _ _ _ _ makes.forest makes.handed.store tables))
         (Made number) (ap Made (last ∙ ap (λ (t : Tables context_ids). length t.values) kept) ∙ says)
 
-module _ {D A K B S X L : Type 0} (c : State D A K B S X L) (tb : Tables context_ids) where
+module _ {D A K B S X L : Type 0} (c : ContextState D A K B S X L) (tb : Tables context_ids) where
   abbrev s : Session (closed A K B S X L)
   s = session_of c tb
 
@@ -198,7 +198,7 @@ module _ {D A K B S X L : Type 0} (c : State D A K B S X L) (tb : Tables context
         has_type,
       )
 
-  module _ (behave : Behaviour (closed A K B S X L)) (room : HasRoom (bare c) no_needs) (d : State D A K B S X L) (same : SameButForest (bare c) (bare d)) (n at : ℕ) (i : ArenaIndex) where
+  module _ (behave : Behaviour (closed A K B S X L)) (room : HasRoom (bare c) no_needs) (d : ContextState D A K B S X L) (same : SameButForest (bare c) (bare d)) (n at : ℕ) (i : ArenaIndex) where
     pub remove_result_done : NamesLive f an_op tb.ops n i → UnusedAt f (of_op i) at → forest_of d ≡ definition_removed f (of_op i) at → Step behave s (RemoveResult n at) Done (session_of d tb)
     remove_result_done x unused e =
         done c tb behave room d same (RemoveResult n at)

@@ -16,7 +16,7 @@ use Rattle.ir_model.proofs.Supply.{above}
 use Rattle.ir_core_records.specs.Meaning.{closed}
 use Rattle.ir_run_tables.specs.Calls.{HandsOut, SameButForest, SkipsAtMost}
 use Rattle.ir_run_tables.specs.Places.{MakesUse}
-use Rattle.ir_run_tables.specs.State.{State, bare, forest_of, session_of}
+use Rattle.ir_run_tables.specs.State.{ContextState, bare, forest_of, session_of}
 use Rattle.ir_run_tables.specs.SessionTables.{done_of}
 use Rattle.ir_run_sessions.proofs.SessionSteps.{HasRoom, Tells, made_so, no_fresh, passes_none, refused, same-state, skips_none, tells_memory}
 
@@ -34,7 +34,7 @@ numbers_unless s n none lacking = elim (at_most (none.values.0 + n.numbers) s.li
 abbrev pub fresh_use : ℕ → Fresh context_ids
 fresh_use u = record { ops = []; blocks = []; regions = []; numbers = []; uses = u ∷ [] }
 
-module _ {D A K B S X L : Type 0} (c : State D A K B S X L) (tb : Tables context_ids) where
+module _ {D A K B S X L : Type 0} (c : ContextState D A K B S X L) (tb : Tables context_ids) where
   abbrev s : Session (closed A K B S X L)
   s = session_of c tb
 
@@ -43,7 +43,7 @@ module _ {D A K B S X L : Type 0} (c : State D A K B S X L) (tb : Tables context
   refused_so behave edit fails = condition fails refl refl
 
 -- a call that needs nothing
-module _ {D A K B S X L : Type 0} (c : State D A K B S X L) (d : State D A K B S X L) (same : SameButForest (bare c) (bare d)) where
+module _ {D A K B S X L : Type 0} (c : ContextState D A K B S X L) (d : ContextState D A K B S X L) (same : SameButForest (bare c) (bare d)) where
   -- hands nothing out
   pub handed : HandsOut (bare c) (bare d) no_needs no_fresh
   handed = record {
@@ -56,13 +56,13 @@ module _ {D A K B S X L : Type 0} (c : State D A K B S X L) (d : State D A K B S
     limits = same.limits;
   }
 
-module _ {D A K B S X L : Type 0} (c : State D A K B S X L) (tb : Tables context_ids) where
-  module _ (d : State D A K B S X L) (same : SameButForest (bare c) (bare d)) where
+module _ {D A K B S X L : Type 0} (c : ContextState D A K B S X L) (tb : Tables context_ids) where
+  module _ (d : ContextState D A K B S X L) (same : SameButForest (bare c) (bare d)) where
     -- and leaves all but the forest
     pub left : (g : Forest context_ids (closed A K B S X L)) → forest_of d ≡ g → (session_of d tb).state ≡ over (session_of c tb).state g
     left g e = same-state _ _ _ _ _ _ e same.store refl
 
-  module _ (behave : Behaviour (closed A K B S X L)) (room : HasRoom (bare c) no_needs) (d : State D A K B S X L) where
+  module _ (behave : Behaviour (closed A K B S X L)) (room : HasRoom (bare c) no_needs) (d : ContextState D A K B S X L) where
     -- an edit that needs nothing and makes nothing is done
     pub done : SameButForest (bare c) (bare d) → (edit : Edit (closed A K B S X L)) → Condition (session_of c tb).state edit → no_needs ≡ needs edit → Done ≡ reply (session_of c tb).state edit
         → Change behave (session_of c tb).state edit no_fresh (session_of d tb).state → Step behave (session_of c tb) edit Done (session_of d tb)
@@ -77,7 +77,7 @@ module _ {D A K B S X L : Type 0} (c : State D A K B S X L) (tb : Tables context
         let Q : Answer → Type 0 = λ x. Step behave (session_of c tb) edit x (session_of d tb) in
         subst Q (sym is) (done same edit may asks says (change made))
     done_unless same edit may asks says g change (Err e) made runs_out memory err a is =
-        let P : State D A K B S X L → Type 0 = λ x. SkipsAtMost (bare c) (bare x) no_needs in
+        let P : ContextState D A K B S X L → Type 0 = λ x. SkipsAtMost (bare c) (bare x) no_needs in
         let Q : Answer → Type 0 = λ x. Step behave (session_of c tb) edit x (session_of d tb) in
         let R : CoreError → Type 0 = λ x. Tells (bare c) no_needs x in
         subst Q (sym is) (refused behave c tb edit may no_needs asks e (runs_out e refl) (subst R (sym memory) (tells_memory (bare c) no_needs room)) d tb refl (subst P (sym err) (skips_none (bare c) no_needs)))
@@ -99,7 +99,7 @@ module _ {D A K B S X L : Type 0} (c : State D A K B S X L) (tb : Tables context
           made_so behave c tb edit may one_use asks room_for d tb (fresh_use m.number) one_use asks m.handed (change m.number (same-state _ _ _ _ _ _ m.forest m.handed.store refl)) a (is ∙ says)
       use_made {T = T} (Err e) m counter slots err a is =
           let failed : CoreError → Result T CoreError = λ x. Err x in
-          let P : State D A K B S X L → Type 0 = λ x. SkipsAtMost (bare c) (bare x) one_use in
+          let P : ContextState D A K B S X L → Type 0 = λ x. SkipsAtMost (bare c) (bare x) one_use in
           let Q : Answer → Type 0 = λ x. Step behave (session_of c tb) edit x (session_of d tb) in
           subst Q (sym is) (refused behave c tb edit may one_use asks e runs_out (record {
             memory = λ of. use_room (λ l. let told : failed e ≡ failed CounterSpent = counter.1 l in absurd cc);

@@ -11,13 +11,13 @@ use Rattle.ir_model.specs.Edits.{Condition, DropBlockUses, DropOpUses, DropRegio
 use Rattle.ir_model.specs.Sessions.{Session, Step}
 use Rattle.ir_core_records.specs.Meaning.{closed}
 use Rattle.ir_run_tables.specs.Calls.{SameButForest}
-use Rattle.ir_run_tables.specs.State.{State, bare, forest_of, session_of}
+use Rattle.ir_run_tables.specs.State.{ContextState, bare, forest_of, session_of}
 use Rattle.ir_run_tables.specs.Named.{NamesLive}
 use Rattle.ir_run_sessions.proofs.SessionSteps.{HasRoom}
 use Rattle.ir_run_sessions.proofs.EntryKinds.{blocks, listed, not_one, one, ops, regions, unlisted}
 use Rattle.ir_run_sessions.proofs.DoneSteps.{done, left}
 
-module _ {D A K B S X L : Type 0} (c : State D A K B S X L) (tb : Tables context_ids) where
+module _ {D A K B S X L : Type 0} (c : ContextState D A K B S X L) (tb : Tables context_ids) where
   abbrev s : Session (closed A K B S X L)
   s = session_of c tb
 
@@ -49,7 +49,7 @@ module _ {D A K B S X L : Type 0} (c : State D A K B S X L) (tb : Tables context
     not_erase_region at fails t =
         not_one (ops f tb) n (λ i. closed_at at i (regions_of f i)) fails (unlisted tb.ops f.ops (λ (r : OpRecord context_ids (closed A K B S X L)). r.regions) (closed_at at) n t)
 
-  module _ (behave : Behaviour (closed A K B S X L)) (room : HasRoom (bare c) no_needs) (d : State D A K B S X L) (same : SameButForest (bare c) (bare d)) (n : ℕ) (i : ArenaIndex) where
+  module _ (behave : Behaviour (closed A K B S X L)) (room : HasRoom (bare c) no_needs) (d : ContextState D A K B S X L) (same : SameButForest (bare c) (bare d)) (n : ℕ) (i : ArenaIndex) where
     pub drop_op_uses_done : NamesLive f an_op tb.ops n i → DropsUses f (an_op i) (forest_of d) → Step behave s (DropOpUses n) Done (session_of d tb)
     drop_op_uses_done x drops = done c tb behave room d same (DropOpUses n) (one (ops f tb) n (λ _. Unit {0}) i x tt) refl refl (record { value = i; found = x.found; holds = (drops, left c tb d same _ refl) })
 

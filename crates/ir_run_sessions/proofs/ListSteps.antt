@@ -13,13 +13,13 @@ use Rattle.ir_model.specs.Edits.{AppendBlocks, AppendOps, BlockAfter, BlockBack,
 use Rattle.ir_model.specs.Sessions.{Session, Step}
 use Rattle.ir_core_records.specs.Meaning.{closed}
 use Rattle.ir_run_tables.specs.Calls.{SameButForest}
-use Rattle.ir_run_tables.specs.State.{State, bare, forest_of, session_of}
+use Rattle.ir_run_tables.specs.State.{ContextState, bare, forest_of, session_of}
 use Rattle.ir_run_tables.specs.Named.{NamesLive}
 use Rattle.ir_run_sessions.proofs.SessionSteps.{HasRoom, no_fresh, refused, tells_memory}
 use Rattle.ir_run_sessions.proofs.EntryKinds.{blocks, not_one, not_two, one, ops, regions, the_value, two}
 use Rattle.ir_run_sessions.proofs.DoneSteps.{done, handed, left}
 
-module _ {D A K B S X L : Type 0} (c : State D A K B S X L) (tb : Tables context_ids) where
+module _ {D A K B S X L : Type 0} (c : ContextState D A K B S X L) (tb : Tables context_ids) where
   abbrev s : Session (closed A K B S X L)
   s = session_of c tb
 
@@ -57,7 +57,7 @@ module _ {D A K B S X L : Type 0} (c : State D A K B S X L) (tb : Tables context
     pub not_unlink_block : ((i : ArenaIndex) → NamesLive f a_block tb.blocks n i → IsLinked f (a_block i) → ⊥) → Condition s.state (UnlinkBlock n) → ⊥
     not_unlink_block = not_one (blocks f tb) n (λ i. IsLinked f (a_block i))
 
-  module _ (behave : Behaviour (closed A K B S X L)) (room : HasRoom (bare c) no_needs) (d : State D A K B S X L) (same : SameButForest (bare c) (bare d)) where
+  module _ (behave : Behaviour (closed A K B S X L)) (room : HasRoom (bare c) no_needs) (d : ContextState D A K B S X L) (same : SameButForest (bare c) (bare d)) where
     module _ (n : ℕ) (i : ArenaIndex) where
       pub unlink_op_done : NamesLive f an_op tb.ops n i → IsLinked f (an_op i) → forest_of d ≡ in_blocks f (without same_id i) → Step behave s (UnlinkOp n) Done (session_of d tb)
       unlink_op_done x linked e = done c tb behave room d same (UnlinkOp n) (one (ops f tb) n (λ i. IsLinked f (an_op i)) i x linked) refl refl (record { value = i; found = x.found; holds = left c tb d same _ e })

@@ -17,8 +17,8 @@ use Rattle.ir_core_records.specs.Meaning.{block_index, block_record, closed, op_
 use Rattle.ir_core_records.specs.declared.record.BasicBlock.{BasicBlock}
 use Rattle.ir_core_records.specs.declared.record.Operation.{Operation}
 use Rattle.ir_run_tables.specs.Calls.{IsBlock, IsOperation, MakesBlock, MakesOperation, MakesRegion, SameButTypes, block_needs, op_needs, region_needs}
-use Rattle.ir_run_tables.specs.State.{State, bare, forest_of, session_of, types_of}
-use Rattle.ir_run_tables.specs.SessionTables.{with_block, with_op, with_region, with_type}
+use Rattle.ir_run_tables.specs.State.{ContextState, bare, forest_of, session_of, types_of}
+use Rattle.ir_run_tables.specs.SessionTables.{with_block, with_op, with_region, with_type_entered}
 use Rattle.ir_run_tables.specs.SessionLists.{below, length-these}
 use Rattle.ir_run_sessions.proofs.SessionSteps.{HasRoom, made_so, no_fresh, passes_none, same-state}
 
@@ -42,13 +42,13 @@ put_there id put r m others is found = some-same (sym found ∙ is ∙ ap (λ b.
 pub op_asks : (a b e n m k regions : ℕ) → a ≡ n → b ≡ m → e ≡ k → op_needs a (b + e) regions ≡ op_needs n (m + k) regions
 op_asks a b e n m k regions p q r = ap (λ x. op_needs x (b + e) regions) p ∙ ap (λ x. op_needs n (x + e) regions) q ∙ ap (λ x. op_needs n (m + x) regions) r
 
-module _ {D A K B S X L : Type 0} (behave : Behaviour (closed A K B S X L)) (c : State D A K B S X L) (tb : Tables context_ids) where
+module _ {D A K B S X L : Type 0} (behave : Behaviour (closed A K B S X L)) (c : ContextState D A K B S X L) (tb : Tables context_ids) where
   abbrev s : Session (closed A K B S X L)
   s = session_of c tb
 
   -- the type is stored, or was, and stands behind the others
-  pub type_made : (key : K) → HasRoom (bare c) no_needs → (d : State D A K B S X L) → SameButTypes (bare c) (bare d) → types_of d ≡ with_key behave (types_of c) key
-      → (tc : Tables context_ids) → tc ≡ with_type tb (type_place behave (types_of c) key) → (n : ℕ) → n ≡ length tb.types → Step behave s (NewType key) (Made n) (session_of d tc)
+  pub type_made : (key : K) → HasRoom (bare c) no_needs → (d : ContextState D A K B S X L) → SameButTypes (bare c) (bare d) → types_of d ≡ with_key behave (types_of c) key
+      → (tc : Tables context_ids) → tc ≡ with_type_entered tb (type_place behave (types_of c) key) → (n : ℕ) → n ≡ length tb.types → Step behave s (NewType key) (Made n) (session_of d tc)
   type_made key room d same stored tc entered n numbered_so =
       let passes : Passes s.passed no_fresh (bare d).passed = (let P : Passed → Type 0 = λ p. Passes s.passed no_fresh p in subst P (sym same.passed) (passes_none s.passed)) in
       made tt (record { values = room.numbers.values; uses = room.numbers.uses }) (record { ops = room.slots.ops; blocks = room.slots.blocks; regions = room.slots.regions }) (ap Made numbered_so) (record {
@@ -77,7 +77,7 @@ module _ {D A K B S X L : Type 0} (behave : Behaviour (closed A K B S X L)) (c :
         operands_long
         (ap length blocked ∙ length-these tb.blocks successors (below tb.blocks (λ b. The ((forest_of c).blocks b) (λ _. Unit {0})) successors may.2))
 
-    module _ (d : State D A K B S X L) (id : ArenaIndex) (makes : MakesOperation behave.unknown (bare c) (bare d) id kind ys vs bs regions) where
+    module _ (d : ContextState D A K B S X L) (id : ArenaIndex) (makes : MakesOperation behave.unknown (bare c) (bare d) id kind ys vs bs regions) where
       abbrev made_forest : List ℕ → ℕ → List (Value context_ids) → List ArenaIndex → Forest context_ids (closed A K B S X L)
       made_forest ts n us cs =
           new_op (forest_of c) id behave.unknown kind
@@ -134,7 +134,7 @@ module _ {D A K B S X L : Type 0} (behave : Behaviour (closed A K B S X L)) (c :
     abbrev the_block : Edit (closed A K B S X L)
     the_block = NewBlock label types
 
-    module _ (d : State D A K B S X L) (id : ArenaIndex) (makes : MakesBlock behave.unknown (bare c) (bare d) id label ys) where
+    module _ (d : ContextState D A K B S X L) (id : ArenaIndex) (makes : MakesBlock behave.unknown (bare c) (bare d) id label ys) where
       -- what is entered is what was made
       block_entered : (block : BasicBlock D A K B S X L) → IsBlock (forest_of d) id block → with_block tb block ≡ record tb { blocks = tb.blocks ++ id ∷ []; values = tb.values ++ numbered (of_block id) makes.fresh.numbers }
       block_entered block is =
@@ -164,7 +164,7 @@ module _ {D A K B S X L : Type 0} (behave : Behaviour (closed A K B S X L)) (c :
 
   -- the region stands behind the others
   pub region_made : (k : ℕ) (op : ArenaIndex) → slice_get tb.ops k ≡ Some op → Condition s.state (AddRegion k) → (m : Counts) → m ≡ region_needs → HasRoom (bare c) m
-      → (d : State D A K B S X L) (id : ArenaIndex) → MakesRegion (bare c) (bare d) op id → (tc : Tables context_ids) → tc ≡ with_region tb id
+      → (d : ContextState D A K B S X L) (id : ArenaIndex) → MakesRegion (bare c) (bare d) op id → (tc : Tables context_ids) → tc ≡ with_region tb id
       → (n : ℕ) → n ≡ length tb.regions → Step behave s (AddRegion k) (Made n) (session_of d tc)
   region_made k op at may m asked room d id makes tc entered n numbered_so =
       made_so behave c tb (AddRegion k) may m asked room d tc makes.fresh region_needs refl makes.handed (record {

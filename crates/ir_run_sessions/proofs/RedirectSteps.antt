@@ -12,7 +12,7 @@ use Rattle.ir_model.specs.Edits.{Condition, ReplaceAllUses, RetargetAll, Tables,
 use Rattle.ir_model.specs.Sessions.{Session, Step}
 use Rattle.ir_core_records.specs.Meaning.{closed}
 use Rattle.ir_run_tables.specs.Calls.{SameButForest}
-use Rattle.ir_run_tables.specs.State.{State, bare, forest_of, session_of}
+use Rattle.ir_run_tables.specs.State.{ContextState, bare, forest_of, session_of}
 use Rattle.ir_run_tables.specs.Named.{NamesLive, NamesLiveValue}
 use Rattle.ir_run_tables.specs.SessionTables.{done_of}
 use Rattle.ir_run_sessions.proofs.SessionSteps.{HasRoom}
@@ -28,7 +28,7 @@ not_itself : {T E : Type 0} (P : Type 0) (result : Result T E) (e : E) → resul
 not_itself P (Ok x) e is may p = cc
 not_itself P (Err x) e is may p = let none : false ≡ true = may p in cc
 
-module _ {D A K B S X L : Type 0} (c : State D A K B S X L) (tb : Tables context_ids) where
+module _ {D A K B S X L : Type 0} (c : ContextState D A K B S X L) (tb : Tables context_ids) where
   abbrev s : Session (closed A K B S X L)
   s = session_of c tb
 
@@ -43,7 +43,7 @@ module _ {D A K B S X L : Type 0} (c : State D A K B S X L) (tb : Tables context
     pub not_retarget_all : ((i j : ArenaIndex) → NamesLive f a_block tb.blocks n i → NamesLive f a_block tb.blocks m j → UsersLinked f i → ⊥) → Condition s.state (RetargetAll n m) → ⊥
     not_retarget_all = not_two (blocks f tb) (blocks f tb) n m (λ i j. UsersLinked f i)
 
-    module _ (behave : Behaviour (closed A K B S X L)) (room : HasRoom (bare c) no_needs) (d : State D A K B S X L) {T : Type 0} (result : Result T CoreError) (memory : IfErr result (λ e. e ≡ OutOfMemory)) (err : OnErr result (d ≡ c)) (same : SameButForest (bare c) (bare d)) (a : Answer) (is : a ≡ done_of result) where
+    module _ (behave : Behaviour (closed A K B S X L)) (room : HasRoom (bare c) no_needs) (d : ContextState D A K B S X L) {T : Type 0} (result : Result T CoreError) (memory : IfErr result (λ e. e ≡ OutOfMemory)) (err : OnErr result (d ≡ c)) (same : SameButForest (bare c) (bare d)) (a : Answer) (is : a ≡ done_of result) where
       -- a call that is done, or refused for memory where it names two, and how that is answered
       pub replace_all_made : (v w : Value context_ids) → NamesLiveValue f tb.values n v → NamesLiveValue f tb.values m w → (v ≡ w → IsOk result) → OnOk result (forest_of d ≡ redirect f v w) → Step behave s (ReplaceAllUses n m) a (session_of d tb)
       replace_all_made v w x y itself made =

@@ -11,7 +11,7 @@ use Rattle.ir_model.specs.Sessions.{Passed, Passes, Session, Skips, Step, counte
 use Rattle.ir_model.specs.Soundness.{AreGone, IsCounted, Sound}
 use Rattle.ir_model.proofs.Decided.{at_most}
 use Rattle.ir_model.proofs.Supply.{above}
-use Rattle.ir_run_tables.specs.State.{State, bare, session_of}
+use Rattle.ir_run_tables.specs.State.{ContextState, bare, session_of}
 use Rattle.ir_run_tables.specs.Calls.{HandsOut, SkipsAtMost, block_needs, op_needs, region_needs}
 use Rattle.ir_core_records.specs.Meaning.{closed}
 use Rattle.ir_run_tables.specs.SessionTables.{answer_of}
@@ -103,7 +103,7 @@ pub same-state : {W : Dialect} (f g : Forest context_ids W) (st su : List (Store
 same-state f g st su tb tc p q r = ap (λ x. holds x st tb) p ∙ ap (λ x. holds g x tb) q ∙ ap (λ x. holds g su x) r
 
 -- what a call tells of room
-module _ {D A K B S X L : Type 0} (c : State D A K B S X L) (tb : Tables context_ids) where
+module _ {D A K B S X L : Type 0} (c : ContextState D A K B S X L) (tb : Tables context_ids) where
   also_counted : (gone : Counts) → AreGone (session_of c tb) gone → AreGone (bare c) gone
   also_counted gone g = record { numbers = g.numbers; uses = g.uses; ops = g.ops; blocks = g.blocks; regions = g.regions }
 
@@ -130,7 +130,7 @@ module _ {D A K B S X L : Type 0} (c : State D A K B S X L) (tb : Tables context
       slots = λ is. told_slots.0 (ap err is);
     }
 
-module _ {D A K B S X L : Type 0} (behave : Behaviour (closed A K B S X L)) (c : State D A K B S X L) (tb : Tables context_ids) where
+module _ {D A K B S X L : Type 0} (behave : Behaviour (closed A K B S X L)) (c : ContextState D A K B S X L) (tb : Tables context_ids) where
   -- what there is room for doesn't depend on the tables
   also_numbers : (n : Counts) → HasNumbers (bare c) n → HasNumbers (session_of c tb) n
   also_numbers n h = record { values = h.values; uses = h.uses }
@@ -142,7 +142,7 @@ module _ {D A K B S X L : Type 0} (behave : Behaviour (closed A K B S X L)) (c :
     abbrev s : Session (closed A K B S X L)
     s = session_of c tb
 
-    module _ (d : State D A K B S X L) (tc : Tables context_ids) (kept : tc ≡ tb) (skips : SkipsAtMost (bare c) (bare d) (needs edit)) where
+    module _ (d : ContextState D A K B S X L) (tc : Tables context_ids) (kept : tc ≡ tb) (skips : SkipsAtMost (bare c) (bare d) (needs edit)) where
       skipped : Skips s edit (session_of d tc)
       skipped = record {
         state = same-state _ _ _ _ _ _ skips.forest skips.store kept;
@@ -161,14 +161,14 @@ module _ {D A K B S X L : Type 0} (behave : Behaviour (closed A K B S X L)) (c :
 
     -- the edit is refused
     pub refused : (n : Counts) → n ≡ needs edit → (e : CoreError) → MayRunOut s.state edit → Tells (bare c) n e
-        → (d : State D A K B S X L) (tc : Tables context_ids) → tc ≡ tb → SkipsAtMost (bare c) (bare d) n → Step behave s edit (answer_of (Err e)) (session_of d tc)
+        → (d : ContextState D A K B S X L) (tc : Tables context_ids) → tc ≡ tb → SkipsAtMost (bare c) (bare d) n → Step behave s edit (answer_of (Err e)) (session_of d tc)
     refused n is e runs_out t d tc kept skips =
         let P : Counts → Type 0 = λ m. Tells (bare c) m e in
         let Q : Counts → Type 0 = λ m. SkipsAtMost (bare c) (bare d) m in
         refused_so d tc kept (subst Q is skips) e runs_out (subst P is t)
 
     -- the edit is made, with new ids and numbers that were handed out
-    pub made_so : (m : Counts) → m ≡ needs edit → HasRoom (bare c) m → (d : State D A K B S X L) (tc : Tables context_ids) (fresh : Fresh context_ids) (n : Counts) → n ≡ needs edit → HandsOut (bare c) (bare d) n fresh
+    pub made_so : (m : Counts) → m ≡ needs edit → HasRoom (bare c) m → (d : ContextState D A K B S X L) (tc : Tables context_ids) (fresh : Fresh context_ids) (n : Counts) → n ≡ needs edit → HandsOut (bare c) (bare d) n fresh
         → Change behave s.state edit fresh (session_of d tc).state → (a : Answer) → a ≡ reply s.state edit → Step behave s edit a (session_of d tc)
     made_so m asked room d tc fresh n is handed change a says =
         let P : Counts → Type 0 = λ k. HasRoom (bare c) k in

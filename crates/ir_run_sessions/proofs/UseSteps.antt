@@ -17,7 +17,7 @@ use Rattle.ir_core_records.specs.declared.record.Operation.{Operation}
 use Rattle.ir_core_records.specs.Meaning.{closed, op_record}
 use Rattle.ir_run_tables.specs.Calls.{IsOperation, SameButForest}
 use Rattle.ir_run_tables.specs.Places.{MakesUse, operand_inserted, operand_pushed, operand_replaced, successor_inserted, successor_pushed, successor_replaced}
-use Rattle.ir_run_tables.specs.State.{State, bare, forest_of, session_of}
+use Rattle.ir_run_tables.specs.State.{ContextState, bare, forest_of, session_of}
 use Rattle.ir_run_tables.specs.Named.{NamesLive, NamesLiveValue}
 use Rattle.ir_run_tables.specs.SessionTables.{done_of}
 use Rattle.ir_run_sessions.proofs.SessionSteps.{HasRoom}
@@ -32,7 +32,7 @@ module _ {D A K B S X L : Type 0} (f : Forest context_ids (closed A K B S X L)) 
   pub successor_count : length (successors_of f i) ≡ length (op_record r).successors
   successor_count = ap (λ q. length (list_of (λ (o : OpRecord context_ids (closed A K B S X L)). o.successors) q)) is.found
 
-module _ {D A K B S X L : Type 0} (c : State D A K B S X L) (tb : Tables context_ids) where
+module _ {D A K B S X L : Type 0} (c : ContextState D A K B S X L) (tb : Tables context_ids) where
   abbrev s : Session (closed A K B S X L)
   s = session_of c tb
 
@@ -78,7 +78,7 @@ module _ {D A K B S X L : Type 0} (c : State D A K B S X L) (tb : Tables context
     pub not_remove_successor : ((i : ArenaIndex) → NamesLive f an_op tb.ops n i → at < length (successors_of f i) → ⊥) → Condition s.state (RemoveSuccessor n at) → ⊥
     not_remove_successor fails t = not_one (ops f tb) n (λ i. at < length (successors_of f i)) fails (unlisted tb.ops f.ops (λ (r : Record). r.successors) (λ o ps. at < length ps) n t)
 
-  module _ (behave : Behaviour (closed A K B S X L)) (room : HasRoom (bare c) no_needs) (d : State D A K B S X L) where
+  module _ (behave : Behaviour (closed A K B S X L)) (room : HasRoom (bare c) no_needs) (d : ContextState D A K B S X L) where
     module _ (same : SameButForest (bare c) (bare d)) (n at : ℕ) (i : ArenaIndex) (x : NamesLive f an_op tb.ops n i) where
       pub remove_operand_done : at < length (operands_of f i) → forest_of d ≡ on_op f i (on_operands (λ ps. remove ps at)) → Step behave s (RemoveOperand n at) Done (session_of d tb)
       remove_operand_done there e =

@@ -12,40 +12,40 @@ use Rattle.ir_model.specs.Parent.{Adjacent, ComesAfter, IsNext, IsPrevious, firs
 use Rattle.ir_model.proofs.IdCases.{id_same, id_cases, id_differs}
 use Rattle.ir_model.proofs.Keeps.{Distinct-unmap}
 use Rattle.ir_model.proofs.Nests.{In-map, In-map_back, In-right, not_in-Absent}
-use Rattle.ir_run_sweep.specs.Going.{IsBeside, place_of, rank, way_of}
+use Rattle.ir_run_sweep.specs.Going.{IsBeside, rank_of, rank, way_of}
 
 abbrev E : Type 0
 E = Entity context_ids
 
-place_here : (o x : ArenaIndex) (xs : List ArenaIndex) → o ≡ x → place_of o (x ∷ xs) ≡ 1
-place_here o x xs e = ap (λ b. cond b 1 (suc (place_of o xs))) (subst (λ z. same_id x z ≡ true) (sym e) (id_same x))
+place_here : (o x : ArenaIndex) (xs : List ArenaIndex) → o ≡ x → rank_of o (x ∷ xs) ≡ 1
+place_here o x xs e = ap (λ b. cond b 1 (suc (rank_of o xs))) (subst (λ z. same_id x z ≡ true) (sym e) (id_same x))
 
-place_later : (o x : ArenaIndex) (xs : List ArenaIndex) → (o ≡ x → ⊥) → place_of o (x ∷ xs) ≡ suc (place_of o xs)
-place_later o x xs ne = ap (λ b. cond b 1 (suc (place_of o xs))) (id_differs x o (λ e. ne (sym e)))
+place_later : (o x : ArenaIndex) (xs : List ArenaIndex) → (o ≡ x → ⊥) → rank_of o (x ∷ xs) ≡ suc (rank_of o xs)
+place_later o x xs ne = ap (λ b. cond b 1 (suc (rank_of o xs))) (id_differs x o (λ e. ne (sym e)))
 
-pub place_first : (o : ArenaIndex) (xs : List ArenaIndex) → 1 ≤ place_of o xs
+pub place_first : (o : ArenaIndex) (xs : List ArenaIndex) → 1 ≤ rank_of o xs
 place_first o [] = omega arith
 place_first o (x ∷ xs) = by (same_id x o)
   where
-    by : (b : Bool) → 1 ≤ cond b 1 (suc (place_of o xs))
+    by : (b : Bool) → 1 ≤ cond b 1 (suc (rank_of o xs))
     by true = omega arith
     by false = omega arith
 
-pub place_within : (o : ArenaIndex) (xs : List ArenaIndex) → In o xs → place_of o xs ≤ length xs
+pub place_within : (o : ArenaIndex) (xs : List ArenaIndex) → In o xs → rank_of o xs ≤ length xs
 place_within o [] h = elim h [ ]
 place_within o (x ∷ xs) h = by (id_cases o x) h (place_within o xs)
   where
-    by : (o ≡ x) ⊎ (o ≡ x → ⊥) → In o (x ∷ xs) → (In o xs → place_of o xs ≤ length xs) → place_of o (x ∷ xs) ≤ suc (length xs)
+    by : (o ≡ x) ⊎ (o ≡ x → ⊥) → In o (x ∷ xs) → (In o xs → rank_of o xs ≤ length xs) → rank_of o (x ∷ xs) ≤ suc (length xs)
     by (inl e) k more = let p = place_here o x xs e in omega (arith, p)
     by (inr ne) (inl e) more = absurd (ne e)
     by (inr ne) (inr k) more = let p = place_later o x xs ne in let q = more k in omega (arith, p, q)
 
 -- two at one place are one
-pub place_one : (o p : ArenaIndex) (xs : List ArenaIndex) → In o xs → In p xs → place_of o xs ≡ place_of p xs → o ≡ p
+pub place_one : (o p : ArenaIndex) (xs : List ArenaIndex) → In o xs → In p xs → rank_of o xs ≡ rank_of p xs → o ≡ p
 place_one o p [] h k e = elim h [ ]
 place_one o p (x ∷ xs) h k e = by (id_cases o x) (id_cases p x) h k (place_one o p xs)
   where
-    by : (o ≡ x) ⊎ (o ≡ x → ⊥) → (p ≡ x) ⊎ (p ≡ x → ⊥) → In o (x ∷ xs) → In p (x ∷ xs) → (In o xs → In p xs → place_of o xs ≡ place_of p xs → o ≡ p) → o ≡ p
+    by : (o ≡ x) ⊎ (o ≡ x → ⊥) → (p ≡ x) ⊎ (p ≡ x → ⊥) → In o (x ∷ xs) → In p (x ∷ xs) → (In o xs → In p xs → rank_of o xs ≡ rank_of p xs → o ≡ p) → o ≡ p
     by (inl a) (inl b) i j more = a ∙ sym b
     by (inl a) (inr b) i j more = let r = place_here o x xs a in let s = place_later p x xs b in let t = place_first p xs in absurd (omega (arith, e, r, s, t))
     by (inr a) (inl b) i j more = let r = place_here p x xs b in let s = place_later o x xs a in let t = place_first o xs in absurd (omega (arith, e, r, s, t))
@@ -71,7 +71,7 @@ way_one false o p xs h k e = place_one o p xs h k e
 way_one true o p xs h k e = let a = place_within o xs h in let b = place_within p xs k in place_one o p xs h k (omega (arith, a, b, e))
 
 -- what stands at an index has the place after it
-place_at : (xs : List ArenaIndex) → Distinct xs → (k : ℕ) (t : ArenaIndex) → slice_get xs k ≡ Some t → (place_of t xs ≡ suc k) × In t xs
+place_at : (xs : List ArenaIndex) → Distinct xs → (k : ℕ) (t : ArenaIndex) → slice_get xs k ≡ Some t → (rank_of t xs ≡ suc k) × In t xs
 place_at [] d k t e = absurd cc
 place_at (x ∷ xs) d zero t e = let s : t ≡ x = cc in (place_here t x xs s, inl s)
 place_at (x ∷ xs) d (suc k) t e =
@@ -79,7 +79,7 @@ place_at (x ∷ xs) d (suc k) t e =
     let ne : t ≡ x → ⊥ = λ s. not_in-Absent x xs d.0 (subst (λ z. In z xs) s more.1) in
     (place_later t x xs ne ∙ ap suc more.0, inr more.1)
 
-in_order : (xs : List ArenaIndex) (before after : List E) (q p : ArenaIndex) → Distinct xs → map an_op xs ≡ before ++ an_op q ∷ an_op p ∷ after → suc (place_of q xs) ≡ place_of p xs
+in_order : (xs : List ArenaIndex) (before after : List E) (q p : ArenaIndex) → Distinct xs → map an_op xs ≡ before ++ an_op q ∷ an_op p ∷ after → suc (rank_of q xs) ≡ rank_of p xs
 in_order [] [] after q p d e = absurd cc
 in_order [] (c ∷ before) after q p d e = absurd cc
 in_order (x ∷ []) [] after q p d e = absurd cc
@@ -114,12 +114,12 @@ comes_after x (y ∷ xs) p (inl e) = (x, ([], map an_op xs, ap (cons_both x xs) 
 comes_after x (y ∷ xs) p (inr h) = let more = comes_after y xs p h in (more.0, (an_op x ∷ more.1.0, more.1.1, ap (λ (zs : List E). an_op x ∷ zs) more.1.2))
 
 -- what isn't the last of a list comes before another
-comes_before : (xs : List ArenaIndex) (p : ArenaIndex) → In p xs → place_of p xs < length xs → (q : ArenaIndex) × Adjacent {A = E} (an_op p) (an_op q) (map an_op xs)
+comes_before : (xs : List ArenaIndex) (p : ArenaIndex) → In p xs → rank_of p xs < length xs → (q : ArenaIndex) × Adjacent {A = E} (an_op p) (an_op q) (map an_op xs)
 comes_before [] p h lt = elim h [ ]
 comes_before (x ∷ []) p h lt = let q = place_first p (x ∷ []) in absurd (omega (arith, lt, q))
 comes_before (x ∷ y ∷ xs) p h lt = by (id_cases p x) h (comes_before (y ∷ xs) p)
   where
-    by : (p ≡ x) ⊎ (p ≡ x → ⊥) → In p (x ∷ y ∷ xs) → (In p (y ∷ xs) → place_of p (y ∷ xs) < length (y ∷ xs) → (q : ArenaIndex) × Adjacent {A = E} (an_op p) (an_op q) (map an_op (y ∷ xs))) → (q : ArenaIndex) × Adjacent {A = E} (an_op p) (an_op q) (map an_op (x ∷ y ∷ xs))
+    by : (p ≡ x) ⊎ (p ≡ x → ⊥) → In p (x ∷ y ∷ xs) → (In p (y ∷ xs) → rank_of p (y ∷ xs) < length (y ∷ xs) → (q : ArenaIndex) × Adjacent {A = E} (an_op p) (an_op q) (map an_op (y ∷ xs))) → (q : ArenaIndex) × Adjacent {A = E} (an_op p) (an_op q) (map an_op (x ∷ y ∷ xs))
     by (inl e) k more = (y, ([], map an_op xs, ap (λ (z : ArenaIndex). an_op z ∷ an_op y ∷ map an_op xs) (sym e)))
     by (inr ne) (inl e) more = absurd (ne e)
     by (inr ne) (inr k) more = let s = place_later p x (y ∷ xs) ne in let t = more k (omega (arith, s, lt)) in (t.0, (an_op x ∷ t.1.0, t.1.1, ap (λ (zs : List E). an_op x ∷ zs) t.1.2))
@@ -187,7 +187,7 @@ module _ {W : Dialect} (f : Forest context_ids W) (b : ArenaIndex) (n : Nested f
     pub previous_listed : (q : ArenaIndex) → ComesAfter f (an_op q) (an_op p) → In q (ops_of f b)
     previous_listed q c = let a = after_here (an_op q) (an_op q) c in parent_listed q (subst (λ ys. In {A = E} (an_op q) ys) (sym a.2) (In-right (an_op q) a.0 (an_op q ∷ an_op p ∷ a.1) (inl refl)))
 
-    pub previous_place : (q : ArenaIndex) → ComesAfter f (an_op q) (an_op p) → suc (place_of q (ops_of f b)) ≡ place_of p (ops_of f b)
+    pub previous_place : (q : ArenaIndex) → ComesAfter f (an_op q) (an_op p) → suc (rank_of q (ops_of f b)) ≡ rank_of p (ops_of f b)
     previous_place q c = let a = after_here (an_op q) (an_op q) c in in_order (ops_of f b) a.0 a.1 q p once a.2
 
     -- the place before
@@ -195,9 +195,9 @@ module _ {W : Dialect} (f : Forest context_ids W) (b : ArenaIndex) (n : Nested f
     rank_previous (Some q) c = previous_place q c
     rank_previous None c = by (ops_of f b) refl h
       where
-        by : (xs : List ArenaIndex) → ops_of f b ≡ xs → In p xs → 1 ≡ place_of p (ops_of f b)
+        by : (xs : List ArenaIndex) → ops_of f b ≡ xs → In p xs → 1 ≡ rank_of p (ops_of f b)
         by [] e k = elim k [ ]
-        by (x ∷ xs) e (inl s) = sym (ap (place_of p) e ∙ place_here p x xs s)
+        by (x ∷ xs) e (inl s) = sym (ap (rank_of p) e ∙ place_here p x xs s)
         by (x ∷ xs) e (inr k) =
             let at = comes_after x xs p k in
             absurd (c (an_op at.0) (a_block b, (at.1.0, at.1.1, ap (map an_op) e ∙ at.1.2)))
@@ -209,13 +209,13 @@ module _ {W : Dialect} (f : Forest context_ids W) (b : ArenaIndex) (n : Nested f
     pub next_listed : (q : ArenaIndex) → ComesAfter f (an_op p) (an_op q) → In q (ops_of f b)
     next_listed q c = let a = before_here (an_op q) c in parent_listed q (subst (λ ys. In {A = E} (an_op q) ys) (sym a.2) (In-right (an_op q) a.0 (an_op p ∷ an_op q ∷ a.1) (inr (inl refl))))
 
-    pub next_place : (q : ArenaIndex) → ComesAfter f (an_op p) (an_op q) → suc (place_of p (ops_of f b)) ≡ place_of q (ops_of f b)
+    pub next_place : (q : ArenaIndex) → ComesAfter f (an_op p) (an_op q) → suc (rank_of p (ops_of f b)) ≡ rank_of q (ops_of f b)
     next_place q c = let a = before_here (an_op q) c in in_order (ops_of f b) a.0 a.1 p q once a.2
 
     -- the place after
     pub rank_next : (m : Option ArenaIndex) → IsNext f (an_op p) (option_map an_op m) → suc (rank true m (ops_of f b)) ≡ way_of true p (ops_of f b)
     rank_next (Some q) c = let e = next_place q c in let t = place_within q (ops_of f b) (next_listed q c) in omega (arith, e, t)
-    rank_next None c = elim (tell (place_of p (ops_of f b)) (length (ops_of f b))) [
+    rank_next None c = elim (tell (rank_of p (ops_of f b)) (length (ops_of f b))) [
       | inl e ↦ omega (arith, e)
       | inr s ↦ elim s [
         | inl lt ↦ absurd (let at = comes_before (ops_of f b) p h lt in c (an_op at.0) (a_block b, at.1))
@@ -225,11 +225,11 @@ module _ {W : Dialect} (f : Forest context_ids W) (b : ArenaIndex) (n : Nested f
 
   -- what comes before an operation is another one
   pub previous_other : (p : ArenaIndex) → In p (ops_of f b) → (q : ArenaIndex) → ComesAfter f (an_op q) (an_op p) → q ≢ p
-  previous_other p h q c e = let s = previous_place p h q c in let t : place_of q (ops_of f b) ≡ place_of p (ops_of f b) = ap (λ x. place_of x (ops_of f b)) e in absurd (omega (arith, s, t))
+  previous_other p h q c e = let s = previous_place p h q c in let t : rank_of q (ops_of f b) ≡ rank_of p (ops_of f b) = ap (λ x. rank_of x (ops_of f b)) e in absurd (omega (arith, s, t))
 
   -- what comes after an operation is another one
   pub next_other : (p : ArenaIndex) → In p (ops_of f b) → (q : ArenaIndex) → ComesAfter f (an_op p) (an_op q) → q ≢ p
-  next_other p h q c e = let s = next_place p h q c in let t : place_of q (ops_of f b) ≡ place_of p (ops_of f b) = ap (λ x. place_of x (ops_of f b)) e in absurd (omega (arith, s, t))
+  next_other p h q c e = let s = next_place p h q c in let t : rank_of q (ops_of f b) ≡ rank_of p (ops_of f b) = ap (λ x. rank_of x (ops_of f b)) e in absurd (omega (arith, s, t))
 
   -- the answer of a call for what stands beside an operation on a way: it stands in the list too, is another one, and has one less left
   module _ (p : ArenaIndex) (h : In p (ops_of f b)) {P : Type 0} (index : P → ArenaIndex) where

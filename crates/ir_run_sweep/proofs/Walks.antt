@@ -12,7 +12,7 @@ use Rattle.ir_model.specs.Nesting.{In, Nested, ops_of}
 use Rattle.ir_model.specs.Parent.{first_of, last_of}
 use Rattle.ir_model.specs.SweepLaws.{NoneIsClosed}
 use Rattle.ir_model.specs.Slots.{Slot, is_taken, slot_in}
-use Rattle.ir_model.specs.Arenas.{Arena, IsLive, arena_len}
+use Rattle.ir_model.specs.Arenas.{Arena, IsLiveIn, arena_len}
 use Rattle.ir_model.proofs.Slots.{taken_at}
 use Rattle.ir_model.proofs.Arenas.{same_id}
 use Rattle.ir_model.proofs.Removal.{length-within}
@@ -99,7 +99,7 @@ module _ {T : Type 0} where
       by false there = there
 
   -- there are no more than the arena has records
-  pub live_few : (a : Arena T) (xs : List ArenaIndex) → Distinct xs → ((x : ArenaIndex) → In x xs → IsLive a x) → length xs ≤ arena_len a
+  pub live_few : (a : Arena T) (xs : List ArenaIndex) → Distinct xs → ((x : ArenaIndex) → In x xs → IsLiveIn a x) → length xs ≤ arena_len a
   live_few a xs once live =
       let most = length-within xs (live_ids 1 a.slots) once (λ x h. (let t = taken_at a.slots x (live x h) in listed_id 1 a.slots x (x.slot - 1) t.within (let g = t.numbered in omega (arith, g)) (sym t.version) t.some)) in
       let e = count_ids 1 a.slots in

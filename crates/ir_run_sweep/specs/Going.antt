@@ -10,13 +10,13 @@ use Rattle.ir_model.specs.Subtree.{IsSubtreeSize}
 use Rattle.ir_model.specs.BlockGraph.{implements, pure_interface}
 
 -- the place of an operation in a list, counted from 1
-abbrev pub place_of : ArenaIndex → List ArenaIndex → ℕ
-place_of o [] = 1
-place_of o (x ∷ xs) = if same_id x o then 1 else suc (place_of o xs)
+abbrev pub rank_of : ArenaIndex → List ArenaIndex → ℕ
+rank_of o [] = 1
+rank_of o (x ∷ xs) = if same_id x o then 1 else suc (rank_of o xs)
 
 -- how many of a list a walk passes from an operation on, this one among them: to the list's end, or to its front
 abbrev pub way_of : Bool → ArenaIndex → List ArenaIndex → ℕ
-way_of to_end o xs = if to_end then suc (length xs) - place_of o xs else place_of o xs
+way_of to_end o xs = if to_end then suc (length xs) - rank_of o xs else rank_of o xs
 
 -- the same from the operation on that there is, or 0 without one
 abbrev pub rank : Bool → Option ArenaIndex → List ArenaIndex → ℕ

@@ -14,7 +14,7 @@ use Rattle.ir_model.specs.Edits.{Tables as PlainTables, numbered}
 use Rattle.ir_core_records.specs.declared.record.Operation.{Operation}
 use Rattle.ir_core_records.specs.declared.record.BasicBlock.{BasicBlock}
 use Rattle.ir_core_records.specs.Meaning.{closed, op_index, op_record, block_index, block_record, value_of}
-use Rattle.ir_core_queries.specs.State.{State, forest_of, session_of}
+use Rattle.ir_core_queries.specs.State.{ContextState, forest_of, session_of}
 use Rattle.ir_run_tables.specs.Named.{NamesLive}
 use Rattle.ir_run_tables.specs.declared.session_tables.Tables.{Tables}
 
@@ -31,8 +31,8 @@ done_of (Ok _) = Done
 done_of (Err e) = answer_of (Err e)
 
 -- the tables with the type behind the others
-abbrev pub with_type : PlainTables context_ids → ℕ → PlainTables context_ids
-with_type t ty = record t { types = t.types ++ ty ∷ [] }
+abbrev pub with_type_entered : PlainTables context_ids → ℕ → PlainTables context_ids
+with_type_entered t ty = record t { types = t.types ++ ty ∷ [] }
 
 -- the tables with the region behind the others
 abbrev pub with_region : PlainTables context_ids → ArenaIndex → PlainTables context_ids
@@ -54,15 +54,15 @@ module _ {D A K B S X L : Type 0} where
   }
 
   -- the session that a context and its tables mean
-  abbrev pub session_in : State D A K B S X L → Tables D A K B S X L → Session (closed A K B S X L)
+  abbrev pub session_in : ContextState D A K B S X L → Tables D A K B S X L → Session (closed A K B S X L)
   session_in s t = session_of s (entries_of t)
 
   -- no two live entities have these numbers, each in the table of its kind
-  abbrev pub NoTwoLive : State D A K B S X L → Tables D A K B S X L → (ArenaIndex → Entity context_ids) → (PlainTables context_ids → List ArenaIndex) → ℕ → (ArenaIndex → Entity context_ids) → (PlainTables context_ids → List ArenaIndex) → ℕ → Type 0
+  abbrev pub NoTwoLive : ContextState D A K B S X L → Tables D A K B S X L → (ArenaIndex → Entity context_ids) → (PlainTables context_ids → List ArenaIndex) → ℕ → (ArenaIndex → Entity context_ids) → (PlainTables context_ids → List ArenaIndex) → ℕ → Type 0
   NoTwoLive s t entity column n other others m = (i j : ArenaIndex) → NamesLive (forest_of s) entity (column (entries_of t)) n i → NamesLive (forest_of s) other (others (entries_of t)) m j → ⊥
 
   -- no two live entities that have these numbers stand so to each other
-  abbrev pub NoPairLive : State D A K B S X L → Tables D A K B S X L → (ArenaIndex → Entity context_ids) → (PlainTables context_ids → List ArenaIndex) → ℕ → (ArenaIndex → Entity context_ids) → (PlainTables context_ids → List ArenaIndex) → ℕ → (Entity context_ids → Entity context_ids → Type 0) → Type 0
+  abbrev pub NoPairLive : ContextState D A K B S X L → Tables D A K B S X L → (ArenaIndex → Entity context_ids) → (PlainTables context_ids → List ArenaIndex) → ℕ → (ArenaIndex → Entity context_ids) → (PlainTables context_ids → List ArenaIndex) → ℕ → (Entity context_ids → Entity context_ids → Type 0) → Type 0
   NoPairLive s t entity column n other others m Are = (i j : ArenaIndex) → NamesLive (forest_of s) entity (column (entries_of t)) n i → NamesLive (forest_of s) other (others (entries_of t)) m j → Are (entity i) (other j) → ⊥
 
   -- whatever numbers the operation and the type have

@@ -5,7 +5,7 @@ ghost use Rattle.ir_model.specs.Forest.{of_block, of_op};
 ghost use Rattle.ir_model.specs.Edits.{numbered};
 ghost use Rattle.ir_core_records.specs.Meaning.{block_index, block_record, op_index, op_record, value_of};
 ghost use Rattle.ir_core_queries.specs.Calls.{counts_of};
-ghost use Rattle.ir_run_tables.specs.SessionTables.{entries_of, with_block, with_op, with_region, with_type, with_value, HasPlace};
+ghost use Rattle.ir_run_tables.specs.SessionTables.{entries_of, with_block, with_op, with_region, with_type_entered, with_value, HasPlace};
 
 use ir_base_dialects::{Dialects, Ptr, TypeHandle};
 use ir_core_queries::{BasicBlock, Needs, Operation, Region, Value};
@@ -68,7 +68,7 @@ impl<D: Dialects> Tables<D> {
     /// Puts the type behind the others.
     pub fn enter_type(&mut self, ty: TypeHandle)
         requires { vec_len self.old.types + 1 ≤ vec_capacity self.old.types }
-        ensures { entries_of self.new ≡ with_type (entries_of self.old) ty.place }
+        ensures { entries_of self.new ≡ with_type_entered (entries_of self.old) ty.place }
     {
         self.types.push_reserved(ty);
     }

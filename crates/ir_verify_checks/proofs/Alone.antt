@@ -4,13 +4,13 @@ use Rattle.ir_model.specs.ContextIds.{context_ids}
 use Rattle.ir_model.specs.Edits.{StoredType}
 use Rattle.ir_model.specs.Faults.{Fault, Verifier, Check, Checks}
 use Rattle.ir_model.specs.Forest.{Dialect, Definition as PlainDefinition}
-use Rattle.ir_model.specs.Nesting.{In, WellFormed, definitions_of, types_of}
+use Rattle.ir_model.specs.Nesting.{In, WellFormed, definitions_of, definition_types_of}
 use Rattle.ir_model.specs.VerifyAnswers.{fault_of}
 use Rattle.ir_model.proofs.Nests.{In-map}
 use Rattle.ir_core_records.specs.declared.record.Definer.{Definer}
 use Rattle.ir_core_records.specs.declared.record.Definition.{Definition}
 use Rattle.ir_core_records.specs.declared.records.Records.{Records}
-use Rattle.ir_core_records.specs.Meaning.{closed, definer_of, definition_of, forest_of}
+use Rattle.ir_core_records.specs.Meaning.{closed, definer_of, definition_of, forest_in}
 use Rattle.ir_core_records.specs.Meant.{definitions-meant}
 use Rattle.ir_core_records.specs.Table.{definitions_at}
 use Rattle.ir_verify_checks.specs.declared.error.VerifyErr.{VerifyErr}
@@ -34,12 +34,12 @@ module _ {W : Dialect} (checks : Checks W) (F : Fault → Type 0) where
 
 module _ {D A K B S X L : Type 0} (t : Records D A K B S X L) (d : Definer) (xs : List Definition) (is : definitions_at t d ≡ xs) where
   -- the results or arguments in the record are those of the forest
-  pub definitions-are : definitions_of (forest_of t) (definer_of d) ≡ map (definition_of {A = A} {K = K} {B = B} {S = S} {X = X} {L = L}) xs
+  pub definitions-are : definitions_of (forest_in t) (definer_of d) ≡ map (definition_of {A = A} {K = K} {B = B} {S = S} {X = X} {L = L}) xs
   definitions-are = definitions-meant t d ∙ ap (map (definition_of {A = A} {K = K} {B = B} {S = S} {X = X} {L = L})) is
 
   -- their types are known
-  pub types-known : (keys : ℕ) → WellFormed (forest_of t) keys → (x : Definition) → In x xs → x.ty < keys
+  pub types-known : (keys : ℕ) → WellFormed (forest_in t) keys → (x : Definition) → In x xs → x.ty < keys
   types-known keys formed x h =
       let plain = definition_of {A = A} {K = K} {B = B} {S = S} {X = X} {L = L} in
-      let there : In (plain x) (definitions_of (forest_of t) (definer_of d)) = subst (In (plain x)) (sym definitions-are) (In-map plain x xs h) in
-      formed.known (definer_of d) x.ty (In-map (λ (y : PlainDefinition context_ids (closed A K B S X L)). y.ty) (plain x) (definitions_of (forest_of t) (definer_of d)) there)
+      let there : In (plain x) (definitions_of (forest_in t) (definer_of d)) = subst (In (plain x)) (sym definitions-are) (In-map plain x xs h) in
+      formed.known (definer_of d) x.ty (In-map (λ (y : PlainDefinition context_ids (closed A K B S X L)). y.ty) (plain x) (definitions_of (forest_in t) (definer_of d)) there)

@@ -11,7 +11,7 @@ use Rattle.ir_model.specs.Ids.{Distinct}
 use Rattle.ir_model.specs.Nesting.{In, WellFormed, definitions_of}
 use Rattle.ir_model.proofs.Nests.{In-map, not_in-Absent}
 use Rattle.ir_core_records.specs.Found.{some_behind}
-use Rattle.ir_view_parts.specs.Values.{HasType}
+use Rattle.ir_view_parts.specs.Values.{IsOfType}
 use Rattle.ir_verify_checks.specs.declared.error.VerifyErr.{VerifyErr}
 use Rattle.ir_verify_checks.specs.Parts.{Finds, FindsAt, IsThere, NoFault, RootFault, RunsOnAttributes, RunsOnHandle, RunsOnTypes}
 use Rattle.ir_verify_checks.proofs.Pieces.{tells-whole, there-more}
@@ -73,7 +73,7 @@ one-of {W} (z ∷ zs) d x y (inr i) (inl j) e =
     absurd (not_in-Absent z.number (map (λ (q : Definition context_ids W). q.number) zs) d.0 (subst (λ n. In n (map (λ (q : Definition context_ids W). q.number) zs)) (e ∙ ap (λ (q : Definition context_ids W). q.number) j) (In-map (λ (q : Definition context_ids W). q.number) x zs i)))
 one-of (z ∷ zs) d x y (inr i) (inr j) e = one-of zs d.1 x y i j e
 
-module _ {W : Dialect} (B : Behaviour W) (f : Forest context_ids W) (store : List (StoredType W)) (checks : Checks W) (keys : ℕ) (formed : WellFormed f keys) (v : Value context_ids) (ty : ℕ) (has : HasType f v ty) (key : W.Key) (is : option_map (λ (t : StoredType W). t.key) (slice_get store ty) ≡ Some key) where
+module _ {W : Dialect} (B : Behaviour W) (f : Forest context_ids W) (store : List (StoredType W)) (checks : Checks W) (keys : ℕ) (formed : WellFormed f keys) (v : Value context_ids) (ty : ℕ) (has : IsOfType f v ty) (key : W.Key) (is : option_map (λ (t : StoredType W). t.key) (slice_get store ty) ≡ Some key) where
   value-key : (k : W.Key) → CountsType B f store (the_value v) k → key ≡ k
   value-key k h =
       let s : h.0 ≡ has.definition = one-of (definitions_of f v.definer) (formed.numbers_once v.definer) h.0 has.definition h.1 has.defined (h.2 ∙ sym has.number) in

@@ -52,22 +52,22 @@ module _ {W : Dialect} (B : Behaviour W) (f : Forest context_ids W) (store : Lis
   IsAside o b = (IsLinked f (an_op o) → ⊥) ⊎ ((a : ArenaIndex) × In o (ops_of f a) × (In b (succs B f a) → ⊥))
 
   -- the faults of the block itself
-  abbrev pub BlockFault : ArenaIndex → Fault → Type 0
-  BlockFault b (NoParent name) = IsBlockName f b name × (IsLinked f (a_block b) → ⊥)
-  BlockFault b (MissingTerminator name) = IsBlockName f b name × LacksTerminator B f store b
-  BlockFault b (EntryHasPred name) = IsBlockName f b name × IsEntry B f store b × IsNamed B f store b
-  BlockFault b OperandNotUseOfDef = IsNamedAside B f store b
-  BlockFault b fault = ⊥
+  abbrev pub FaultAtBlock : ArenaIndex → Fault → Type 0
+  FaultAtBlock b (NoParent name) = IsBlockName f b name × (IsLinked f (a_block b) → ⊥)
+  FaultAtBlock b (MissingTerminator name) = IsBlockName f b name × LacksTerminator B f store b
+  FaultAtBlock b (EntryHasPred name) = IsBlockName f b name × IsEntry B f store b × IsNamed B f store b
+  FaultAtBlock b OperandNotUseOfDef = IsNamedAside B f store b
+  FaultAtBlock b fault = ⊥
 
   -- the faults of the operation itself
-  abbrev pub OpFault : ArenaIndex → Fault → Type 0
-  OpFault o (TerminatorNotLast name) = EndsTooEarly B f store o × ((b : ArenaIndex) × In o (ops_of f b) × IsBlockName f b name)
-  OpFault o fault = ⊥
+  abbrev pub FaultAtOp : ArenaIndex → Fault → Type 0
+  FaultAtOp o (TerminatorNotLast name) = EndsTooEarly B f store o × ((b : ArenaIndex) × In o (ops_of f b) × IsBlockName f b name)
+  FaultAtOp o fault = ⊥
 
   -- the faults of the entity itself
   abbrev pub FaultAt : Entity context_ids → Fault → Type 0
-  FaultAt (an_op o) = OpFault o
-  FaultAt (a_block b) = BlockFault b
+  FaultAt (an_op o) = FaultAtOp o
+  FaultAt (a_block b) = FaultAtBlock b
   FaultAt (a_region g) = NoFault
 
 module _ {W : Dialect} (B : Behaviour W) (f : Forest context_ids W) (store : List (StoredType W)) (checks : Checks W) where

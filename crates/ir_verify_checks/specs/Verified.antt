@@ -9,13 +9,13 @@ use Rattle.ir_model.specs.VerifyAnswers.{AllIsWell, MayAnswer}
 use Rattle.ir_base_dialects.specs.declared.dialects.Dialects as dialects
 use Rattle.ir_core_records.specs.DialectAnswers.{behaviour_of, kinds_of}
 use Rattle.ir_core_records.specs.Meaning.{closed}
-use Rattle.ir_view_parts.specs.State.{State, forest_of, types_of}
+use Rattle.ir_view_parts.specs.State.{ContextState, forest_of, types_of}
 use Rattle.ir_verify_checks.specs.declared.error.VerifyErr.{VerifyErr}
 use Rattle.ir_verify_checks.specs.Parts.{FaultAt, Finds, FindsAt, NoFault, RunAt, RunsOnAttributes, RunsOnOp, RunsOnTypes}
 use Rattle.ir_verify_checks.specs.Shown.{Shown, checks_in}
 use Rattle.ir_verify_checks.specs.Told.{told}
 
-module _ {D A K B S X L : Type 0} (tables : dialects.Ghosts D A K B S X L) (same_key : K → K → Bool) (same_saved : S → S → Bool) (verifiers : Verifiers (closed A K B S X L) (Shown (closed A K B S X L))) (s : State D A K B S X L) where
+module _ {D A K B S X L : Type 0} (tables : dialects.Ghosts D A K B S X L) (same_key : K → K → Bool) (same_saved : S → S → Bool) (verifiers : Verifiers (closed A K B S X L) (Shown (closed A K B S X L))) (s : ContextState D A K B S X L) where
   -- the checks that are run in the context
   abbrev pub the_checks : Checks (closed A K B S X L)
   the_checks = checks_in (kinds_of tables same_saved) verifiers s

@@ -6,7 +6,7 @@ ghost use Rattle.ir_model.specs.Forest.{a_block, an_op, the_block};
 ghost use Rattle.ir_model.specs.Names.{IsBlockName};
 ghost use Rattle.ir_model.specs.Nesting.{In, IsLive, names_of};
 ghost use Rattle.ir_view_parts.specs.State.{forest_of, types_of};
-ghost use Rattle.ir_verify_checks.specs.Parts.{BlockFault, IsAside, Tells};
+ghost use Rattle.ir_verify_checks.specs.Parts.{FaultAtBlock, IsAside, Tells};
 ghost use Rattle.ir_core_records.specs.DialectAnswers.{behaviour_of};
 
 use crate::error::{BasicBlockVerifyErr, DefUseVerifyErr, VerifyErr};
@@ -116,7 +116,7 @@ pub(crate) fn verify_block<D: Dialects>(
     ctx: &Context<D>,
 ) -> Result<(), VerifyErr>
     requires { IsLive (forest_of ctx.now) (a_block block.index) }
-    ensures { Tells (BlockFault (behaviour_of D.Dialects D.TypeKey.eq) (forest_of ctx.now) (types_of ctx.now) block.index) result }
+    ensures { Tells (FaultAtBlock (behaviour_of D.Dialects D.TypeKey.eq) (forest_of ctx.now) (types_of ctx.now) block.index) result }
 {
     if !block.is_linked(ctx) {
         let name = name_of(block, ctx)?;

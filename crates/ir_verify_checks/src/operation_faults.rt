@@ -3,7 +3,7 @@
 ghost use Rattle.ir_model.specs.Forest.{an_op};
 ghost use Rattle.ir_model.specs.Nesting.{IsLive};
 ghost use Rattle.ir_view_parts.specs.State.{forest_of, types_of};
-ghost use Rattle.ir_verify_checks.specs.Parts.{OpFault, Tells};
+ghost use Rattle.ir_verify_checks.specs.Parts.{FaultAtOp, Tells};
 ghost use Rattle.ir_core_records.specs.DialectAnswers.{behaviour_of};
 
 use crate::block_faults::name_of;
@@ -18,7 +18,7 @@ pub(crate) fn verify_place<D: Dialects>(
     ctx: &Context<D>,
 ) -> Result<(), VerifyErr>
     requires { IsLive (forest_of ctx.now) (an_op op.index) }
-    ensures { Tells (OpFault (behaviour_of D.Dialects D.TypeKey.eq) (forest_of ctx.now) (types_of ctx.now) op.index) result }
+    ensures { Tells (FaultAtOp (behaviour_of D.Dialects D.TypeKey.eq) (forest_of ctx.now) (types_of ctx.now) op.index) result }
 {
     ctx.recall_well_formed();
     let Some(block) = op.get_parent_block(ctx) else {

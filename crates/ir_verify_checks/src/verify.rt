@@ -99,13 +99,13 @@ fn verify_value<D: Dialects, V: Verifiers<D>>(
 pub trait Verify<D: Dialects> {
     ghost use Rattle.ir_model.specs.Faults.{Root};
     ghost use Rattle.ir_core_records.specs.Meaning.{closed};
-    ghost use Rattle.ir_view_parts.specs.State.{State};
+    ghost use Rattle.ir_view_parts.specs.State.{ContextState};
 
     // It is live, or known.
-    ghost IsThere: { State D D.Attr D.TypeKey D.TypeBody D.Saved D.Aux D.Loc → Self → Type 0 };
+    ghost IsThere: { ContextState D D.Attr D.TypeKey D.TypeBody D.Saved D.Aux D.Loc → Self → Type 0 };
 
     // This is what it means to verify.
-    ghost IsRoot: { State D D.Attr D.TypeKey D.TypeBody D.Saved D.Aux D.Loc → Self → Root (closed D.Attr D.TypeKey D.TypeBody D.Saved D.Aux D.Loc) → Type 0 };
+    ghost IsRoot: { ContextState D D.Attr D.TypeKey D.TypeBody D.Saved D.Aux D.Loc → Self → Root (closed D.Attr D.TypeKey D.TypeBody D.Saved D.Aux D.Loc) → Type 0 };
 
     /// Verifies it: an operation, a block or a region with all that is inside it; of a value its type; of a type its own check and those that are listed for its kind; of the handle of a type of one kind the own check alone.
     ///

@@ -15,7 +15,7 @@ use Rattle.ir_core_records.specs.declared.record.UsePlace.{UsePlace}
 use Rattle.ir_core_records.specs.declared.record.ValueIndex.{ValueIndex}
 use Rattle.ir_core_records.specs.Meaning.{closed, block_index, block_record, op_index, op_record, operand_of, use_of, value_of}
 use Rattle.ir_core_records.specs.Values.{IsLiveBlockUse, IsLiveUse}
-use Rattle.ir_view_parts.specs.Parts.{argument_types_of, arguments_of, operand_uses_of, result_types_of, results_of, successor_uses_of, successors_of, WhereBlockLive, WhereLive}
+use Rattle.ir_view_parts.specs.Parts.{argument_types_of, arguments_of, operand_uses_of, result_types_of, results_of, successor_uses_of, successor_blocks_of, WhereBlockLive, WhereLive}
 use Rattle.ir_view_parts.proofs.Items.{all-mapped, all-read}
 
 -- the values that operands name, as the record and the forest have them
@@ -52,7 +52,7 @@ module _ {D A K B S X L : Type 0} where
         subst (All P) (sym is) (all-mapped P (λ (a : Operand context_ids). record { user = op_index op; number = a.use_number }) (op_record op).operands
         (λ k a e. leads.uses (record { user = op_index op; number = a.use_number }) k refl (ap (option_map (λ (x : Operand context_ids). x.use_number)) e)))
 
-    pub successors-live : (result : List ArenaIndex) → result ≡ successors_of op → WhereLive op (λ f known. All (λ b. IsLive f (a_block b)) result)
+    pub successors-live : (result : List ArenaIndex) → result ≡ successor_blocks_of op → WhereLive op (λ f known. All (λ b. IsLive f (a_block b)) result)
     successors-live result is f known leads =
         let P : ArenaIndex → Type 0 = λ b. IsLive f (a_block b) in
         subst (All P) (sym is) (all-mapped P (λ (a : Successor context_ids). a.block) (op_record op).successors
@@ -65,7 +65,7 @@ module _ {D A K B S X L : Type 0} where
         (λ k a e. leads.successor_uses (record { user = op_index op; number = a.use_number }) k refl (ap (option_map (λ (x : Successor context_ids). x.use_number)) e)))
 
     -- in an answer that has the blocks that the operation names
-    pub targets-live : {V E P : Type 0} (index : P → ArenaIndex) (items : V → List P) (r : Result V E) → IfOk r (λ v. map index (items v) ≡ successors_of op)
+    pub targets-live : {V E P : Type 0} (index : P → ArenaIndex) (items : V → List P) (r : Result V E) → IfOk r (λ v. map index (items v) ≡ successor_blocks_of op)
         → WhereLive op (λ f known. IfOk r (λ v. All (λ p. IsLive f (a_block (index p))) (items v)))
     targets-live index items (Ok v) is f known leads = all-read (λ b. IsLive f (a_block b)) index (items v) (successors-live (map index (items v)) is f known leads)
     targets-live index items (Err e) is f known leads = tt

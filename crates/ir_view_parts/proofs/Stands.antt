@@ -14,7 +14,7 @@ use Rattle.ir_model.proofs.TwoRuns.{lawful}
 use Rattle.ir_core_records.specs.declared.record.EntityIndex.{EntityIndex}
 use Rattle.ir_core_records.specs.declared.record.EntityIndex.TheVariants.{Op, Block, Region}
 use Rattle.ir_core_records.specs.declared.records.Records.{Records}
-use Rattle.ir_core_records.specs.Meaning.{entity_of, forest_of}
+use Rattle.ir_core_records.specs.Meaning.{entity_of, forest_in}
 
 module _ {W : Dialect} (f : Forest context_ids W) where
   -- what has an operation in its list is a block
@@ -46,29 +46,29 @@ module _ {W : Dialect} (f : Forest context_ids W) where
     | inr ne ↦ (λ t. absurd (let no = id_differs a c ne in cc), λ h. absurd (ne (one_block lawful f keys formed o a c here h)))
   ]
 
-module _ {D A K B S X L : Type 0} (s t : Records D A K B S X L) (same : s ≡ t) (o : ArenaIndex) (r : Option EntityIndex) (is : IsParent (forest_of s) (an_op o) (option_map entity_of r)) where
+module _ {D A K B S X L : Type 0} (s t : Records D A K B S X L) (same : s ≡ t) (o : ArenaIndex) (r : Option EntityIndex) (is : IsParent (forest_in s) (an_op o) (option_map entity_of r)) where
   -- the parent, where it is told, has the operation in its list
-  in-parent : (e : EntityIndex) → r ≡ Some e → In (an_op o) (children (forest_of t) (entity_of e))
-  in-parent e there = subst (λ (z : Records D A K B S X L). In (an_op o) (children (forest_of z) (entity_of e))) same (subst (λ (z : Option EntityIndex). IsParent (forest_of s) (an_op o) (option_map entity_of z)) there is)
+  in-parent : (e : EntityIndex) → r ≡ Some e → In (an_op o) (children (forest_in t) (entity_of e))
+  in-parent e there = subst (λ (z : Records D A K B S X L). In (an_op o) (children (forest_in z) (entity_of e))) same (subst (λ (z : Option EntityIndex). IsParent (forest_in s) (an_op o) (option_map entity_of z)) there is)
 
-  pub parent-block : (e : EntityIndex) (b : ArenaIndex) → r ≡ Some e → e ≡ Block b → In o (ops_of (forest_of t) b)
+  pub parent-block : (e : EntityIndex) (b : ArenaIndex) → r ≡ Some e → e ≡ Block b → In o (ops_of (forest_in t) b)
   parent-block e b there block =
-      let at = in-block (forest_of t) o (a_block b) (in-parent (Block b) (there ∙ ap Some block)) in
+      let at = in-block (forest_in t) o (a_block b) (in-parent (Block b) (there ∙ ap Some block)) in
       let e : ◌≡◌ {A = Entity context_ids} (a_block b) (a_block at.0) = at.1 in
       let s : b ≡ at.0 = cc in
-      subst (λ z. In o (ops_of (forest_of t) z)) (sym s) at.2
+      subst (λ z. In o (ops_of (forest_in t) z)) (sym s) at.2
 
   pub parent-no_op : (e : EntityIndex) (p : ArenaIndex) → r ≡ Some e → e ≡ Op p → ⊥
   parent-no_op e p there op =
-      let at = in-block (forest_of t) o (an_op p) (in-parent (Op p) (there ∙ ap Some op)) in
+      let at = in-block (forest_in t) o (an_op p) (in-parent (Op p) (there ∙ ap Some op)) in
       let e : ◌≡◌ {A = Entity context_ids} (an_op p) (a_block at.0) = at.1 in cc
 
   pub parent-no_region : (e : EntityIndex) (g : ArenaIndex) → r ≡ Some e → e ≡ Region g → ⊥
   parent-no_region e g there region =
-      let at = in-block (forest_of t) o (a_region g) (in-parent (Region g) (there ∙ ap Some region)) in
+      let at = in-block (forest_in t) o (a_region g) (in-parent (Region g) (there ∙ ap Some region)) in
       let e : ◌≡◌ {A = Entity context_ids} (a_region g) (a_block at.0) = at.1 in cc
 
-  pub parent-none : r ≡ None → (a : ArenaIndex) → In o (ops_of (forest_of t) a) → ⊥
+  pub parent-none : r ≡ None → (a : ArenaIndex) → In o (ops_of (forest_in t) a) → ⊥
   parent-none none a h =
-      let nowhere : (y : Entity context_ids) → In (an_op o) (children (forest_of s) y) → ⊥ = subst (λ (z : Option EntityIndex). IsParent (forest_of s) (an_op o) (option_map entity_of z)) none is in
-      nowhere (a_block a) (In-map an_op o (ops_of (forest_of s) a) (subst (λ (z : Records D A K B S X L). In o (ops_of (forest_of z) a)) (sym same) h))
+      let nowhere : (y : Entity context_ids) → In (an_op o) (children (forest_in s) y) → ⊥ = subst (λ (z : Option EntityIndex). IsParent (forest_in s) (an_op o) (option_map entity_of z)) none is in
+      nowhere (a_block a) (In-map an_op o (ops_of (forest_in s) a) (subst (λ (z : Records D A K B S X L). In o (ops_of (forest_in z) a)) (sym same) h))

@@ -10,10 +10,10 @@ use Rattle.ir_model.specs.Parent.{last_of}
 use Rattle.ir_model.proofs.Edges.{got_in}
 use Rattle.ir_model.proofs.Nests.{In-map}
 use Rattle.ir_base_arenas.specs.Arena.{get}
-use Rattle.ir_base_arenas.specs.Lists.{Ends, ends_of, last_or, last_of as last_from}
+use Rattle.ir_base_arenas.specs.Lists.{Ends, ends_of, last_or, last_from}
 use Rattle.ir_core_records.specs.declared.record.BasicBlock.{BasicBlock}
 use Rattle.ir_core_records.specs.declared.records.Records.{Records}
-use Rattle.ir_core_records.specs.Meaning.{closed, block_record, forest_of}
+use Rattle.ir_core_records.specs.Meaning.{closed, block_record, forest_in}
 use Rattle.ir_core_records.specs.Nested.{AreNested}
 use Rattle.ir_core_records.specs.Tree.{block_ends, ops_in, tree_of}
 
@@ -30,11 +30,11 @@ last-is (x ∷ xs) =
     sym (last-at x xs) ∙ ap (slice_get (x ∷ xs)) behind
 
 module _ {D A K B S X L : Type 0} (s t : Records D A K B S X L) (same : s ≡ t) (nested : AreNested (tree_of t)) where
-  pub tail-is : (b : ArenaIndex) (x : BasicBlock D A K B S X L) → get s.blocks b ≡ Some x → x.last ≡ last_op (forest_of t) b
+  pub tail-is : (b : ArenaIndex) (x : BasicBlock D A K B S X L) → get s.blocks b ≡ Some x → x.last ≡ last_op (forest_in t) b
   tail-is b x e =
       let at : get t.blocks b ≡ Some x = subst (λ (z : Records D A K B S X L). get z.blocks b ≡ Some x) same e in
       let ends : block_ends x ≡ ends_of (ops_in (tree_of t) b) = nested.op_lists.ends b (block_ends x) (ap (option_map block_ends) at) in
-      let listed : ops_of (forest_of t) b ≡ ops_in (tree_of t) b = ap (λ (m : Option (BasicBlock D A K B S X L)). list_of (λ (r : BlockRecord context_ids (closed A K B S X L)). r.ops) (option_map (block_record (ops_in (tree_of t) b)) m)) at in
+      let listed : ops_of (forest_in t) b ≡ ops_in (tree_of t) b = ap (λ (m : Option (BasicBlock D A K B S X L)). list_of (λ (r : BlockRecord context_ids (closed A K B S X L)). r.ops) (option_map (block_record (ops_in (tree_of t) b)) m)) at in
       ap (λ (y : Ends). y.tail) ends ∙ last-is (ops_in (tree_of t) b) ∙ ap last_of (sym listed)
 
 pub tail-live : {W : Dialect} (f : Forest context_ids W) (keys : ℕ) → WellFormed f keys → (b o : ArenaIndex) → last_op f b ≡ Some o → IsLive f (an_op o)

@@ -17,7 +17,7 @@ use Rattle.ir_core_records.specs.declared.record.UsePlace.{UsePlace}
 use Rattle.ir_core_records.specs.declared.record.ValueIndex.{ValueIndex}
 use Rattle.ir_core_records.specs.Meaning.{closed, block_record, definition_of, op_record, operand_of, value_of}
 use Rattle.ir_core_queries.specs.Calls.{LeadsToLive}
-use Rattle.ir_core_queries.specs.Values.{HasType}
+use Rattle.ir_core_queries.specs.Values.{IsOfType}
 use Rattle.ir_view_parts.specs.Parts.{argument_types_of}
 use Rattle.ir_view_parts.specs.Types.{operand_types_of, type_of}
 use Rattle.ir_view_parts.proofs.Items.{all-mapped, zip-mapped}
@@ -42,21 +42,21 @@ module _ {W : Dialect} where
 
   module _ (f : Forest context_ids W) (keys : ℕ) (formed : WellFormed f keys) where
     -- what has a type has the one that is found
-    pub type-found : (v : Value context_ids) (t : ℕ) → HasType f v t → type_of f v ≡ t
+    pub type-found : (v : Value context_ids) (t : ℕ) → IsOfType f v t → type_of f v ≡ t
     type-found v t has =
         ap (λ n. option_map_or (λ (x : Defined W). x.ty) (find (λ (x : Defined W). nat_eq x.number n) (definitions_of f v.definer)) 0) (sym has.number)
         ∙ found (definitions_of f v.definer) has.definition (formed.numbers_once v.definer) has.defined
         ∙ has.is
 
     -- a live value has the type that is found
-    pub type-live : (v : Value context_ids) → IsLiveNamed f (a_value v) → HasType f v (type_of f v)
+    pub type-live : (v : Value context_ids) → IsLiveNamed f (a_value v) → IsOfType f v (type_of f v)
     type-live v live =
         let at = In-map_back (λ (x : Defined W). x.number) v.number (definitions_of f v.definer) live in
-        let has : HasType f v at.0.ty = record { definition = at.0; defined = at.1; number = sym at.2; is = refl } in
-        subst (HasType f v) (sym (type-found v at.0.ty has)) has
+        let has : IsOfType f v at.0.ty = record { definition = at.0; defined = at.1; number = sym at.2; is = refl } in
+        subst (IsOfType f v) (sym (type-found v at.0.ty has)) has
 
     -- and that is known
-    pub type-known : (v : Value context_ids) (t : ℕ) → HasType f v t → t < keys
+    pub type-known : (v : Value context_ids) (t : ℕ) → IsOfType f v t → t < keys
     type-known v t has = formed.known v.definer t (subst (λ n. In n (map (λ (x : Defined W). x.ty) (definitions_of f v.definer))) has.is (In-map (λ (x : Defined W). x.ty) has.definition (definitions_of f v.definer) has.defined))
 
 module _ {D A K B S X L : Type 0} where
@@ -78,7 +78,7 @@ module _ {D A K B S X L : Type 0} where
 
 module _ {D A K B S X L : Type 0} (f : Forest context_ids (closed A K B S X L)) (keys : ℕ) (formed : WellFormed f keys) (op : Operation D A K B S X L) (leads : LeadsToLive f keys op) where
   -- each operand's type, where the operation leads to what is live
-  operand-type : (k : ℕ) (a : UsePlace ValueIndex) → slice_get op.operands k ≡ Some a → HasType f (value_of a.names) (type_of f (value_of a.names))
+  operand-type : (k : ℕ) (a : UsePlace ValueIndex) → slice_get op.operands k ≡ Some a → IsOfType f (value_of a.names) (type_of f (value_of a.names))
   operand-type k a e = type-live f keys formed (value_of a.names) (leads.operands a.names k (ap (option_map (λ (x : Operand context_ids). x.value)) (slice_get-map operand_of op.operands k ∙ ap (option_map operand_of) e)))
 
   -- the values that operands name, one by one
@@ -86,9 +86,9 @@ module _ {D A K B S X L : Type 0} (f : Forest context_ids (closed A K B S X L)) 
   types-named [] = refl
   types-named (x ∷ xs) = ap (λ ts. type_of f (value_of x.names) ∷ ts) (types-named xs)
 
-  pub operand-types : (result : List ℕ) → result ≡ operand_types_of f op → AllZip (λ a t. HasType f a.value t) (op_record op).operands result
+  pub operand-types : (result : List ℕ) → result ≡ operand_types_of f op → AllZip (λ a t. IsOfType f a.value t) (op_record op).operands result
   operand-types result is =
-      let R : Operand context_ids → ℕ → Type 0 = λ a t. HasType f a.value t in
+      let R : Operand context_ids → ℕ → Type 0 = λ a t. IsOfType f a.value t in
       subst (AllZip R (op_record op).operands) (sym (is ∙ types-named op.operands)) (zip-mapped R operand_of (λ (a : UsePlace ValueIndex). type_of f (value_of a.names)) op.operands operand-type)
 
   pub operand-types-known : (result : List ℕ) → result ≡ operand_types_of f op → All (λ t. t < keys) result

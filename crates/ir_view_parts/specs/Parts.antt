@@ -25,8 +25,8 @@ module _ {D A K B S X L : Type 0} where
   operand_uses_of op = map (λ a. record { user = op_index op; number = a.use_number }) (op_record op).operands
 
   -- the blocks that it names
-  abbrev pub successors_of : Operation D A K B S X L → List ArenaIndex
-  successors_of op = map (λ a. a.block) (op_record op).successors
+  abbrev pub successor_blocks_of : Operation D A K B S X L → List ArenaIndex
+  successor_blocks_of op = map (λ a. a.block) (op_record op).successors
 
   -- its successors, as uses
   abbrev pub successor_uses_of : Operation D A K B S X L → List UseIndex

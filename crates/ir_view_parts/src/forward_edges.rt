@@ -7,7 +7,7 @@ ghost use Rattle.ir_model.specs.Forest.{a_block, an_op};
 ghost use Rattle.ir_model.specs.Nesting.{In, IsLive};
 ghost use Rattle.ir_core_queries.specs.Calls.{LeadsToLive};
 ghost use Rattle.ir_core_queries.specs.State.{forest_of};
-ghost use Rattle.ir_view_parts.specs.Parts.{successors_of};
+ghost use Rattle.ir_view_parts.specs.Parts.{successor_blocks_of};
 ghost use Rattle.ir_core_records.specs.DialectAnswers.{behaviour_of};
 
 use crate::operation_parts::OperationParts;
@@ -33,7 +33,7 @@ pub(crate) fn tail<D: Dialects>(
 
 // Whether an operation names a block.
 pub(crate) fn names_block<D: Dialects>(op: &Operation<D>, block: Ptr<BasicBlock<D>>) -> bool
-    ensures { IsTrue result ↔ In block.index (successors_of op.now) }
+    ensures { IsTrue result ↔ In block.index (successor_blocks_of op.now) }
 {
     op.successors().any(|successor| successor == block)
 }
@@ -43,7 +43,7 @@ fn targets<D: Dialects>(
     op: &Operation<D>,
     alloc: Global,
 ) -> Result<Vec<Ptr<BasicBlock<D>>>, CoreError>
-    ensures exact { IfOk result (λ blocks. map (λ p. p.index) blocks.items ≡ successors_of op.now) }
+    ensures exact { IfOk result (λ blocks. map (λ p. p.index) blocks.items ≡ successor_blocks_of op.now) }
     ensures memory { IfErr result (λ e. e ≡ CoreError.OutOfMemory) }
 {
     Ok(op.successors().collect(alloc)?)

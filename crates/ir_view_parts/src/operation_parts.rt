@@ -7,8 +7,8 @@ ghost use Rattle.ir_model.specs.Nesting.{IsLive, IsLiveNamed};
 ghost use Rattle.ir_core_records.specs.Meaning.{op_record, use_of, value_of};
 ghost use Rattle.ir_core_records.specs.Values.{IsLiveBlockUse, IsLiveUse};
 ghost use Rattle.ir_core_queries.specs.State.{forest_of, types_of};
-ghost use Rattle.ir_core_queries.specs.Values.{HasType};
-ghost use Rattle.ir_view_parts.specs.Parts.{operand_uses_of, result_types_of, results_of, successor_uses_of, successors_of, WhereLive};
+ghost use Rattle.ir_core_queries.specs.Values.{IsOfType};
+ghost use Rattle.ir_view_parts.specs.Parts.{operand_uses_of, result_types_of, results_of, successor_uses_of, successor_blocks_of, WhereLive};
 
 use crate::indexed::{HasParts, Parts};
 use ir_base_dialects::{ArenaIndex, Dialects, Ptr, TypeHandle};
@@ -160,7 +160,7 @@ pub struct SuccessorsOf<'a, D: Dialects> {
 impl<'a, D: Dialects> HasParts<ArenaIndex> for SuccessorsOf<'a, D> {
     type Item = Ptr<BasicBlock<D>>;
 
-    ghost parts = { λ s. successors_of s.op.now };
+    ghost parts = { λ s. successor_blocks_of s.op.now };
 
     ghost IsReadable = { λ _. ⊤ };
 
@@ -245,12 +245,12 @@ pub trait OperationParts<D: Dialects> {
     /// The types of the values that the operands name, which are live in the context. It stands for pliron's `Operation::operand_types`.
     fn operand_types<'a>(&'a self, ctx: &'a Context<D>) -> OperandTypes<'a, D>
         requires { LeadsToLive (forest_of ctx.now) (length (types_of ctx.now)) (operation self.now) }
-        ensures exact { AllZip (λ a t. HasType (forest_of ctx.now) a.value t) (op_record (operation self.now)).operands result }
+        ensures exact { AllZip (λ a t. IsOfType (forest_of ctx.now) a.value t) (op_record (operation self.now)).operands result }
         ensures known { All (λ t. t < length (types_of ctx.now)) result };
 
     /// The blocks that the successors name. It stands for pliron's `Operation::successors`.
     fn successors(&self) -> Successors<'_, D>
-        ensures exact { result ≡ successors_of (operation self.now) }
+        ensures exact { result ≡ successor_blocks_of (operation self.now) }
         ensures live { WhereLive (operation self.now) (λ f known. All (λ b. IsLive f (a_block b)) result) };
 
     /// The successors as uses. It stands for pliron's `Operation::successors_as_uses`.

@@ -8,20 +8,20 @@ ghost use Rattle.ir_model.specs.Uses.{IsUse};
 ghost use Rattle.ir_core_records.specs.Meaning.{use_of, value_of};
 ghost use Rattle.ir_core_records.specs.Values.{IsLiveUse};
 ghost use Rattle.ir_core_queries.specs.State.{forest_of, types_of};
-ghost use Rattle.ir_core_queries.specs.Values.{HasType};
+ghost use Rattle.ir_core_queries.specs.Values.{IsOfType};
 
 use ir_base_dialects::{Dialects, TypeHandle};
 use ir_core_queries::{Context, Use, UseQueries, Value, ValueQueries};
 
 /// What has a type. It stands for pliron's trait `Typed`.
 pub trait Typed<D: Dialects> {
-    ghost use Rattle.ir_core_queries.specs.State.{State};
+    ghost use Rattle.ir_core_queries.specs.State.{ContextState};
 
     // It is live, or known.
-    ghost IsThere: { State D D.Attr D.TypeKey D.TypeBody D.Saved D.Aux D.Loc → Self → Type 0 };
+    ghost IsThere: { ContextState D D.Attr D.TypeKey D.TypeBody D.Saved D.Aux D.Loc → Self → Type 0 };
 
     // Its type is the one at this place.
-    ghost IsTyped: { State D D.Attr D.TypeKey D.TypeBody D.Saved D.Aux D.Loc → Self → ℕ → Type 0 };
+    ghost IsTyped: { ContextState D D.Attr D.TypeKey D.TypeBody D.Saved D.Aux D.Loc → Self → ℕ → Type 0 };
 
     /// Its type. It is live, or known.
     fn get_type(&self, ctx: &Context<D>) -> TypeHandle
@@ -33,7 +33,7 @@ pub trait Typed<D: Dialects> {
 impl<D: Dialects> Typed<D> for Value<D> {
     ghost IsThere = { λ s v. IsLiveNamed (forest_of s) (a_value (value_of v.index)) };
 
-    ghost IsTyped = { λ s v ty. HasType (forest_of s) (value_of v.index) ty };
+    ghost IsTyped = { λ s v ty. IsOfType (forest_of s) (value_of v.index) ty };
 
     fn get_type(&self, ctx: &Context<D>) -> TypeHandle {
         ValueQueries::get_type(*self, ctx)
@@ -43,7 +43,7 @@ impl<D: Dialects> Typed<D> for Value<D> {
 impl<D: Dialects> Typed<D> for Use<Value<D>> {
     ghost IsThere = { λ s u. IsLiveUse (forest_of s) (use_of u.index) };
 
-    ghost IsTyped = { λ s u ty. (v : PlainValue context_ids) × (IsUse (forest_of s) (a_value v) (use_of u.index)) × HasType (forest_of s) v ty };
+    ghost IsTyped = { λ s u ty. (v : PlainValue context_ids) × (IsUse (forest_of s) (a_value v) (use_of u.index)) × IsOfType (forest_of s) v ty };
 
     fn get_type(&self, ctx: &Context<D>) -> TypeHandle {
         UseQueries::get_type(*self, ctx)

@@ -2,7 +2,7 @@ use Rattle.std.proofs.Common.{is_ok, cond, List, length, sym, ap, subst, ◌∙�
 use Rattle.std.specs.List.{insert}
 use Rattle.ir_core_records.specs.declared.record.Definition.{Definition}
 use Rattle.ir_core_records.specs.Chains.{AreLinked}
-use Rattle.ir_core_records.specs.DefinitionEdits.{unused}
+use Rattle.ir_core_records.specs.DefinitionEdits.{unused_definition}
 use Rattle.ir_core_chains.proofs.Written.{keeps-written}
 use Rattle.ir_core_chains.proofs.Edits.{on_err, inserted-chains, pushed-forest, inserted-value, inserted-same}
 use Rattle.ir_core_chains.proofs.definitions.push_definition.Goals as goal
@@ -12,7 +12,7 @@ returns-in_err-insert-clause-chains g c =
     let t = c.args.records.now in
     let d = c.args.definer in
     let ok = is_ok c.insert.result in
-    let is = c.insert.ensures ∙ ap (λ (rs : List Definition). cond ok (insert rs c.len-end.result (unused c.args.number c.args.ty.place)) rs) c.definitions_mut-definitions.ensures.value in
+    let is = c.insert.ensures ∙ ap (λ (rs : List Definition). cond ok (insert rs c.len-end.result (unused_definition c.args.number c.args.ty.place)) rs) c.definitions_mut-definitions.ensures.value in
     inserted-chains t d c.requires.live ok c.len-end.result c.args.number c.args.ty.place c.requires.new_number c.insert.new.self is
 
 pub returns-in_err-insert-clause-linked : goal.returns-in_err-insert-clause-linked
@@ -26,7 +26,7 @@ returns-in_err-insert-clause-err g c =
     let t = c.args.records.now in
     let d = c.args.definer in
     let ok = is_ok c.insert.result in
-    let is = c.insert.ensures ∙ ap (λ (rs : List Definition). cond ok (insert rs c.len-end.result (unused c.args.number c.args.ty.place)) rs) c.definitions_mut-definitions.ensures.value in
+    let is = c.insert.ensures ∙ ap (λ (rs : List Definition). cond ok (insert rs c.len-end.result (unused_definition c.args.number c.args.ty.place)) rs) c.definitions_mut-definitions.ensures.value in
     on_err c.from_residual.result (λ _. inserted-same t d c.requires.live ok c.len-end.result c.args.number c.args.ty.place c.requires.new_number c.insert.new.self is (ap is_ok c.in_err-insert.was))
 
 pub returns-clause-chains : goal.returns-clause-chains
@@ -34,7 +34,7 @@ returns-clause-chains g c =
     let t = c.args.records.now in
     let d = c.args.definer in
     let ok = is_ok c.insert.result in
-    let is = c.insert.ensures ∙ ap (λ (rs : List Definition). cond ok (insert rs c.len-end.result (unused c.args.number c.args.ty.place)) rs) c.definitions_mut-definitions.ensures.value in
+    let is = c.insert.ensures ∙ ap (λ (rs : List Definition). cond ok (insert rs c.len-end.result (unused_definition c.args.number c.args.ty.place)) rs) c.definitions_mut-definitions.ensures.value in
     inserted-chains t d c.requires.live ok c.len-end.result c.args.number c.args.ty.place c.requires.new_number c.insert.new.self is
 
 pub returns-clause-linked : goal.returns-clause-linked
@@ -48,7 +48,7 @@ returns-clause-forest g c =
     let t = c.args.records.now in
     let d = c.args.definer in
     let ok = is_ok c.insert.result in
-    let is = c.insert.ensures ∙ ap (λ (rs : List Definition). cond ok (insert rs c.len-end.result (unused c.args.number c.args.ty.place)) rs) c.definitions_mut-definitions.ensures.value in
+    let is = c.insert.ensures ∙ ap (λ (rs : List Definition). cond ok (insert rs c.len-end.result (unused_definition c.args.number c.args.ty.place)) rs) c.definitions_mut-definitions.ensures.value in
     let end = c.len-end.ensures ∙ ap (λ (rs : List Definition). length rs) c.definitions_mut-definitions.ensures.value in
     pushed-forest t d c.requires.live ok c.len-end.result c.args.number c.args.ty.place c.requires.new_number c.insert.new.self is end (ap is_ok c.in_ok-insert.was)
 
@@ -57,6 +57,6 @@ returns-clause-value g c =
     let t = c.args.records.now in
     let d = c.args.definer in
     let ok = is_ok c.insert.result in
-    let is = c.insert.ensures ∙ ap (λ (rs : List Definition). cond ok (insert rs c.len-end.result (unused c.args.number c.args.ty.place)) rs) c.definitions_mut-definitions.ensures.value in
+    let is = c.insert.ensures ∙ ap (λ (rs : List Definition). cond ok (insert rs c.len-end.result (unused_definition c.args.number c.args.ty.place)) rs) c.definitions_mut-definitions.ensures.value in
     let end = c.len-end.ensures ∙ ap (λ (rs : List Definition). length rs) c.definitions_mut-definitions.ensures.value in
     inserted-value t d c.requires.live ok c.len-end.result c.args.number c.args.ty.place c.requires.new_number c.insert.new.self is (omega (arith, end)) (ap is_ok c.in_ok-insert.was)

@@ -4,7 +4,7 @@ use Rattle.std.proofs.lemmas.Option.{slice_get-get_or}
 use Rattle.ir_model.specs.Nesting.{In}
 use Rattle.ir_model.proofs.Back.{slice_get-in}
 use Rattle.ir_core_records.specs.Meaning.{use_of}
-use Rattle.ir_core_context.specs.Asked.{MayAnswer}
+use Rattle.ir_core_context.specs.Asked.{MaySay}
 use Rattle.ir_core_context.proofs.Asked.{each-more}
 use Rattle.ir_core_context.proofs.asking.answers.Goals as goal
 
@@ -24,9 +24,9 @@ loop-index-preserved g c =
     let at = slice_get-get_or c.args.kept.now c.loop-index.index-index _ c.loop-index-test.true in
     let more = c.in_ok-push.ensures.items in
     let count = c.loop-index.invariant.0 in
-    let may : MayAnswer g.P.Fn (λ s. g.C.Shown.shows s c.args.ctx.now) (λ h w. use_of h.index ≡ w) c.args.pred.now (use_of (get_or c.args.kept.now c.loop-index.index-index _)) c.pred.result =
+    let may : MaySay g.P.Fn (λ s. g.C.Shown.shows s c.args.ctx.now) (λ h w. use_of h.index ≡ w) c.args.pred.now (use_of (get_or c.args.kept.now c.loop-index.index-index _)) c.pred.result =
     record { context = c.of.result; handle = _; is_shown = c.of.ensures; is = ap use_of (c.from_index-used.ensures ∙ c.used.ensures ∙ c.index-item.is); says = c.pred.ensures } in (
       ap length more ∙ length-append c.loop-index.answers.items (c.pred.result ∷ []) ∙ ap (λ n. n + 1) count,
-      λ k u answer here there. each-more (MayAnswer g.P.Fn (λ s. g.C.Shown.shows s c.args.ctx.now) (λ h w. use_of h.index ≡ w) c.args.pred.now) c.args.kept.now c.loop-index.answers.items _ c.pred.result
+      λ k u answer here there. each-more (MaySay g.P.Fn (λ s. g.C.Shown.shows s c.args.ctx.now) (λ h w. use_of h.index ≡ w) c.args.pred.now) c.args.kept.now c.loop-index.answers.items _ c.pred.result
           (ap (λ n. slice_get c.args.kept.now n) count ∙ at) may c.loop-index.invariant.1 k u answer here (sym (ap (λ xs. slice_get xs k) more) ∙ there),
     )

@@ -5,7 +5,7 @@ use Rattle.ir_model.specs.ContextIds.{context_ids}
 use Rattle.ir_model.specs.Nesting.{In, ops_of}
 use Rattle.ir_model.specs.Uses.{Use}
 use Rattle.ir_model.proofs.Back.{slice_get-in}
-use Rattle.ir_core_context.specs.Asked.{MayAnswer}
+use Rattle.ir_core_context.specs.Asked.{MaySay}
 use Rattle.ir_core_context.specs.State.{forest_of}
 use Rattle.ir_core_context.proofs.Asked.{each-more}
 use Rattle.ir_core_context.proofs.Stands.{kept-at}
@@ -29,7 +29,7 @@ pred-requires g c =
 
 pub loop-index-preserved : goal.loop-index-preserved
 loop-index-preserved g c =
-    let may : Use context_ids → Bool → Type 0 = MayAnswer g.P.Fn (λ s. g.C.Shown.shows s c.args.ctx.now) (λ b w. In w.user (ops_of (forest_of c.args.ctx.now) (g.B.ShownBlock.index_of b))) c.args.pred.now in
+    let may : Use context_ids → Bool → Type 0 = MaySay g.P.Fn (λ s. g.C.Shown.shows s c.args.ctx.now) (λ b w. In w.user (ops_of (forest_of c.args.ctx.now) (g.B.ShownBlock.index_of b))) c.args.pred.now in
     let more = c.in_ok-push.ensures.items in
     let count = c.loop-index.invariant.0 in (
       ap length more ∙ length-append c.loop-index.answers.items (c.pred.result ∷ []) ∙ ap (λ n. n + 1) count,

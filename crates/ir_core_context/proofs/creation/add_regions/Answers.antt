@@ -3,7 +3,7 @@ use Rattle.ir_model.specs.declared.ids.ArenaIndex.{ArenaIndex}
 use Rattle.ir_model.specs.Changes.{add_region}
 use Rattle.ir_base_arenas.specs.Arena.{Arena}
 use Rattle.ir_core_records.specs.Growth.{Grows, SkipsIds}
-use Rattle.ir_core_records.specs.Meaning.{forest_of as forest_in}
+use Rattle.ir_core_records.specs.Meaning.{forest_in}
 use Rattle.ir_core_context.specs.Creation.{IsGiven}
 use Rattle.ir_core_context.proofs.Answers.{at_err, at_ok, ok_value}
 use Rattle.ir_core_context.proofs.GivenRecords.{dead-region, live-op, made-live, still-live}

@@ -1,7 +1,7 @@
 use Rattle.std.proofs.Common.{◌≡◌, ◌+◌, List, []}
 use Rattle.ir_model.specs.declared.ids.ArenaIndex.{ArenaIndex}
 use Rattle.ir_base_arenas.specs.Arena.{room, IsLive}
-use Rattle.ir_core_records.specs.Meaning.{forest_of as forest_in}
+use Rattle.ir_core_records.specs.Meaning.{forest_in}
 use Rattle.ir_core_context.specs.Creation.{Extends, HoldTogether, IsGiven}
 use Rattle.ir_core_context.proofs.creation.add_regions.Given as goal
 

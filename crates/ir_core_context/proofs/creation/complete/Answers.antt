@@ -4,7 +4,7 @@ use Rattle.ir_model.specs.Forest.{Forest, a_value, the_block}
 use Rattle.ir_model.specs.Nesting.{IsLiveNamed, operands_of, successors_of}
 use Rattle.ir_base_arenas.specs.Arena.{Arena}
 use Rattle.ir_core_records.specs.Growth.{Grows}
-use Rattle.ir_core_records.specs.Meaning.{forest_of as forest_in, operands_from, successors_from, value_of}
+use Rattle.ir_core_records.specs.Meaning.{forest_in, operands_from, successors_from, value_of}
 use Rattle.ir_core_context.specs.Creation.{AreFresh, IsGiven}
 use Rattle.ir_core_context.proofs.Answers.{at_err, at_ok}
 use Rattle.ir_core_context.proofs.GivenForests.{given-fresh, given-live, given-operands, given-successors}

@@ -1,7 +1,7 @@
 use Rattle.std.proofs.Common.{◌≡◌, All, List, [], sym, subst}
 use Rattle.ir_core_records.specs.declared.record.Definition.{Definition}
 use Rattle.ir_core_context.specs.Creation.{HoldTogether}
-use Rattle.ir_core_context.specs.State.{State}
+use Rattle.ir_core_context.specs.State.{ContextState}
 use Rattle.ir_core_context.proofs.CreatedBlock.{created-block-entities-stay, created-block-made, created-block-sound, created-block-stays}
 use Rattle.ir_core_context.proofs.MadeParts.{definitions-unused}
 use Rattle.ir_core_context.proofs.creation.create_block.Goals as goal
@@ -12,7 +12,7 @@ insert_block-requires-clause-unused g c = subst (λ (xs : List Definition). All 
 pub invariant_of-ctx-2 : goal.invariant_of-ctx-2
 invariant_of-ctx-2 g c =
     let i = c.ctx.inside in
-    let s : State _ _ _ _ _ _ _ = record { records = i.records; types = i.types; next_value = i.next_value; next_use = i.next_use; side = i.side; limits = i.limits } in
+    let s : ContextState _ _ _ _ _ _ _ = record { records = i.records; types = i.types; next_value = i.next_value; next_use = i.next_use; side = i.side; limits = i.limits } in
     let e = c.in_ok-block.ensures in
     let together : HoldTogether c.insert_block.new.records = record { linked = e.linked c.ctx.invariant.linked; nested = e.nested; own = e.own c.ctx.invariant.own } in
     created-block-sound s c.insert_block.new.records g.D.Dialects.unknown c.in_ok-block.block c.args.label c.in_ok-arguments.arguments e.grows e.forest
@@ -21,7 +21,7 @@ invariant_of-ctx-2 g c =
 pub returns-clause-made : goal.returns-clause-made
 returns-clause-made g c =
     let i = c.ctx.inside in
-    let s : State _ _ _ _ _ _ _ = record { records = i.records; types = i.types; next_value = i.next_value; next_use = i.next_use; side = i.side; limits = i.limits } in
+    let s : ContextState _ _ _ _ _ _ _ = record { records = i.records; types = i.types; next_value = i.next_value; next_use = i.next_use; side = i.side; limits = i.limits } in
     let e = c.in_ok-block.ensures in
     let together : HoldTogether c.insert_block.new.records = record { linked = e.linked c.ctx.invariant.linked; nested = e.nested; own = e.own c.ctx.invariant.own } in
     rw (sym c.ctx.view_is)
@@ -31,13 +31,13 @@ returns-clause-made g c =
 pub returns-clause-stay_live : goal.returns-clause-stay_live
 returns-clause-stay_live g c =
     let i = c.ctx.inside in
-    let s : State _ _ _ _ _ _ _ = record { records = i.records; types = i.types; next_value = i.next_value; next_use = i.next_use; side = i.side; limits = i.limits } in
+    let s : ContextState _ _ _ _ _ _ _ = record { records = i.records; types = i.types; next_value = i.next_value; next_use = i.next_use; side = i.side; limits = i.limits } in
     let e = c.in_ok-block.ensures in
     rw (sym c.ctx.view_is) (created-block-stays s c.insert_block.new.records g.D.Dialects.unknown c.in_ok-block.block c.args.label c.in_ok-arguments.arguments e.grows e.forest)
 
 pub returns-clause-entities_stay_live : goal.returns-clause-entities_stay_live
 returns-clause-entities_stay_live g c =
     let i = c.ctx.inside in
-    let s : State _ _ _ _ _ _ _ = record { records = i.records; types = i.types; next_value = i.next_value; next_use = i.next_use; side = i.side; limits = i.limits } in
+    let s : ContextState _ _ _ _ _ _ _ = record { records = i.records; types = i.types; next_value = i.next_value; next_use = i.next_use; side = i.side; limits = i.limits } in
     let e = c.in_ok-block.ensures in
     rw (sym c.ctx.view_is) (created-block-entities-stay s c.insert_block.new.records g.D.Dialects.unknown c.in_ok-block.block c.args.label c.in_ok-arguments.arguments e.grows e.forest)

@@ -1,7 +1,7 @@
 use Rattle.std.proofs.Common.{◌≡◌, ◌+◌, List, [], length, All, sym, subst}
 use Rattle.ir_core_records.specs.declared.record.Definition.{Definition}
 use Rattle.ir_core_context.specs.Calls.{op_needs}
-use Rattle.ir_core_context.specs.State.{State, bare}
+use Rattle.ir_core_context.specs.State.{ContextState, bare}
 use Rattle.ir_core_context.proofs.Answers.{err_holds}
 use Rattle.ir_core_context.proofs.CreatedOperations.{created-entities-live, created-made, created-names-live, created-sound}
 use Rattle.ir_core_context.proofs.Handed.{skipped-skips, skipped-sound, skips-nothing}
@@ -16,19 +16,19 @@ insert_whole-requires-clause-unused g c = subst (λ (rs : List Definition). All 
 
 pub invariant_of-ctx : goal.invariant_of-ctx
 invariant_of-ctx g c =
-    let s : State g.row.D.Denot g.row.D-Attr.Denot g.row.D-TypeKey.Denot g.row.D-TypeBody.Denot g.row.D-Saved.Denot g.row.D-Aux.Denot g.row.D-Loc.Denot =
+    let s : ContextState g.row.D.Denot g.row.D-Attr.Denot g.row.D-TypeKey.Denot g.row.D-TypeBody.Denot g.row.D-Saved.Denot g.row.D-Aux.Denot g.row.D-Loc.Denot =
     record { records = c.ctx.inside.records; types = c.ctx.inside.types; next_value = c.ctx.inside.next_value; next_use = c.ctx.inside.next_use; side = c.ctx.inside.side; limits = c.ctx.inside.limits } in
     skipped-sound s c.ctx.invariant c.insert_whole.new.records c.insert_whole.ensures.together c.in_err-op.ensures.same 1 0 c.args.parts.now.num_regions c.in_err-op.ensures.skipped
 
 pub returns-in_err-op-clause-refused : goal.returns-in_err-op-clause-refused
 returns-in_err-op-clause-refused g c =
-    let s : State g.row.D.Denot g.row.D-Attr.Denot g.row.D-TypeKey.Denot g.row.D-TypeBody.Denot g.row.D-Saved.Denot g.row.D-Aux.Denot g.row.D-Loc.Denot =
+    let s : ContextState g.row.D.Denot g.row.D-Attr.Denot g.row.D-TypeKey.Denot g.row.D-TypeBody.Denot g.row.D-Saved.Denot g.row.D-Aux.Denot g.row.D-Loc.Denot =
     record { records = c.ctx.inside.records; types = c.ctx.inside.types; next_value = c.ctx.inside.next_value; next_use = c.ctx.inside.next_use; side = c.ctx.inside.side; limits = c.ctx.inside.limits } in
     err_holds c.from_residual-in_err-op.result (rw (sym c.ctx.view_is) (skipped-skips s c.ctx.invariant c.insert_whole.new.records c.insert_whole.ensures.together c.in_err-op.ensures.same 1 0 c.args.parts.now.num_regions c.in_err-op.ensures.skipped (length c.args.parts.now.types.now) (length c.args.parts.now.operands.now + length c.args.parts.now.successors.now)))
 
 pub invariant_of-ctx-2 : goal.invariant_of-ctx-2
 invariant_of-ctx-2 g c =
-    let s : State g.row.D.Denot g.row.D-Attr.Denot g.row.D-TypeKey.Denot g.row.D-TypeBody.Denot g.row.D-Saved.Denot g.row.D-Aux.Denot g.row.D-Loc.Denot =
+    let s : ContextState g.row.D.Denot g.row.D-Attr.Denot g.row.D-TypeKey.Denot g.row.D-TypeBody.Denot g.row.D-Saved.Denot g.row.D-Aux.Denot g.row.D-Loc.Denot =
     record { records = c.ctx.inside.records; types = c.ctx.inside.types; next_value = c.ctx.inside.next_value; next_use = c.ctx.inside.next_use; side = c.ctx.inside.side; limits = c.ctx.inside.limits } in
     let p = c.args.parts.now in
     let known = rw (sym c.ctx.view_is) at c.requires.types in
@@ -39,7 +39,7 @@ invariant_of-ctx-2 g c =
 
 pub returns-clause-made : goal.returns-clause-made
 returns-clause-made g c =
-    let s : State g.row.D.Denot g.row.D-Attr.Denot g.row.D-TypeKey.Denot g.row.D-TypeBody.Denot g.row.D-Saved.Denot g.row.D-Aux.Denot g.row.D-Loc.Denot =
+    let s : ContextState g.row.D.Denot g.row.D-Attr.Denot g.row.D-TypeKey.Denot g.row.D-TypeBody.Denot g.row.D-Saved.Denot g.row.D-Aux.Denot g.row.D-Loc.Denot =
     record { records = c.ctx.inside.records; types = c.ctx.inside.types; next_value = c.ctx.inside.next_value; next_use = c.ctx.inside.next_use; side = c.ctx.inside.side; limits = c.ctx.inside.limits } in
     let p = c.args.parts.now in
     let known = rw (sym c.ctx.view_is) at c.requires.types in

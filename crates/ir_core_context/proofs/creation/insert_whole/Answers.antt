@@ -3,9 +3,9 @@ use Rattle.ir_model.specs.Changes.{on_op, on_operands, on_successors}
 use Rattle.ir_model.specs.Forest.{a_value}
 use Rattle.ir_base_arenas.specs.Arena.{Arena}
 use Rattle.ir_core_records.specs.Growth.{Grows, SkipsIds}
-use Rattle.ir_core_records.specs.Meaning.{definition_of, forest_of as forest_in, operands_from, successors_from, value_of}
+use Rattle.ir_core_records.specs.Meaning.{definition_of, forest_in, operands_from, successors_from, value_of}
 use Rattle.ir_core_nesting.specs.Leaves.{without_op}
-use Rattle.ir_core_context.specs.Creation.{Skips, with_regions}
+use Rattle.ir_core_context.specs.Creation.{SkipsUpTo, with_regions}
 use Rattle.ir_core_context.proofs.Answers.{at_err, at_ok, err_holds}
 use Rattle.ir_core_context.proofs.GivenRecords.{dead-op, live-there}
 use Rattle.ir_core_context.proofs.Growths.{Grows-nil, Grows-none, Grows-then, Skips-none, Skips-of}
@@ -17,7 +17,7 @@ pub returns-in_err-op-clause-skipped : goal.returns-in_err-op-clause-skipped
 returns-in_err-op-clause-skipped g c =
     let s = c.args.records.now in
     err_holds c.from_residual.result
-    (subst (λ t. Skips s t 1 0 c.args.parts.now.num_regions) (sym c.in_err-op.ensures.err) (record {
+    (subst (λ t. SkipsUpTo s t 1 0 c.args.parts.now.num_regions) (sym c.in_err-op.ensures.err) (record {
       ops = Skips-of s.ops s.ops [] 1 (Grows-none s.ops) (omega arith);
       blocks = Skips-of s.blocks s.blocks [] 0 (Grows-none s.blocks) (omega arith);
       regions = Skips-of s.regions s.regions [] c.args.parts.now.num_regions (Grows-none s.regions) (omega arith);
@@ -95,7 +95,7 @@ returns-then-is_err-clause-skipped g c =
     let refused = c.complete.new.records in
     let last = c.remove_bare_operation.new.records in
     let e = c.remove_bare_operation.ensures in
-    let skips : Skips bare refused 0 0 c.args.parts.now.num_regions = at_err c.complete.result _ denied c.complete.ensures.skipped in
+    let skips : SkipsUpTo bare refused 0 0 c.args.parts.now.num_regions = at_err c.complete.result _ denied c.complete.ensures.skipped in
     record {
       ops = Skips-of first.ops last.ops (op ∷ []) 1 (Grows-then first.ops refused.ops last.ops (op ∷ []) (Grows-nil first.ops bare.ops refused.ops (op ∷ []) c.in_ok-op.ensures.grows (Skips-none bare.ops refused.ops skips.ops)) e.cleared.passed e.cleared.limit e.cleared.last_version) (omega arith);
       blocks = subst (λ (a : Arena _). SkipsIds a last.blocks 0) c.in_ok-op.ensures.blocks (subst (λ (a : Arena _). SkipsIds bare.blocks a 0) (sym e.blocks) skips.blocks);

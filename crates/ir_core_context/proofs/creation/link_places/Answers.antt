@@ -3,7 +3,7 @@ use Rattle.std.proofs.lemmas.List.{length-map}
 use Rattle.ir_model.specs.Changes.{on_op, on_operands, on_successors}
 use Rattle.ir_model.specs.Nesting.{successors_of}
 use Rattle.ir_core_records.specs.declared.record.ValueIndex.{ValueIndex}
-use Rattle.ir_core_records.specs.Meaning.{forest_of as forest_in, operands_from, successors_from}
+use Rattle.ir_core_records.specs.Meaning.{forest_in, operands_from, successors_from}
 use Rattle.ir_core_context.specs.Creation.{AreFresh}
 use Rattle.ir_core_context.proofs.Answers.{at_err, at_ok}
 use Rattle.ir_core_context.proofs.Linking.{emptied, fresh-after, fresh-operands, fresh-successors, live-values, no_operands, no_successors, successors-stay}

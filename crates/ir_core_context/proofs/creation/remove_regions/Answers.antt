@@ -1,7 +1,7 @@
 use Rattle.std.proofs.Common.{◌≡◌, [], suc, ◌-◌, sym, ap, subst, arith}
 use Rattle.ir_base_arenas.specs.Arena.{Arena}
 use Rattle.ir_core_records.specs.Growth.{Grows}
-use Rattle.ir_core_records.specs.Meaning.{forest_of as forest_in}
+use Rattle.ir_core_records.specs.Meaning.{forest_in}
 use Rattle.ir_core_context.specs.Creation.{IsGiven}
 use Rattle.ir_core_context.proofs.Giving.{given-back, given-done, given-empty, given-last, given-once, given-some}
 use Rattle.ir_core_context.proofs.Growths.{Grows-ids, Grows-none, Grows-then}

@@ -3,7 +3,7 @@ use Rattle.ir_model.specs.declared.ids.ArenaIndex.{ArenaIndex}
 use Rattle.ir_model.specs.ContextIds.{context_ids}
 use Rattle.ir_model.specs.Forest.{Forest}
 use Rattle.ir_base_arenas.specs.Arena.{IsLive}
-use Rattle.ir_core_records.specs.Meaning.{closed, forest_of as forest_in}
+use Rattle.ir_core_records.specs.Meaning.{closed, forest_in}
 use Rattle.ir_core_context.specs.Creation.{Extends, HoldTogether, IsGiven}
 use Rattle.ir_core_context.proofs.creation.remove_regions.Given as goal
 

@@ -4,7 +4,7 @@ use Rattle.ir_model.proofs.Entries.{AddsOne-insert}
 use Rattle.ir_core_records.specs.Meaning.{definer_of}
 use Rattle.ir_core_context.specs.Definitions.{definition_inserted}
 use Rattle.ir_core_context.specs.Sound.{IsSound}
-use Rattle.ir_core_context.specs.State.{State, forest_of}
+use Rattle.ir_core_context.specs.State.{ContextState, forest_of}
 use Rattle.ir_core_context.proofs.PlacedValues.{next-value, value-count, value-placed}
 use Rattle.ir_core_context.proofs.definition_edits.insert_value.Goals as goal
 
@@ -17,7 +17,7 @@ insert_definition-requires-clause-within g c = let many = value-count c.ctx.insi
 pub invariant_of-ctx-2 : goal.invariant_of-ctx-2
 invariant_of-ctx-2 g c =
     let i = c.ctx.inside in
-    let s : State _ _ _ _ _ _ _ = record { records = i.records; types = i.types; next_value = i.next_value; next_use = i.next_use; side = i.side; limits = i.limits } in
+    let s : ContextState _ _ _ _ _ _ _ = record { records = i.records; types = i.types; next_value = i.next_value; next_use = i.next_use; side = i.side; limits = i.limits } in
     let e = c.in_ok-insert_definition.ensures in
     let d = definer_of c.args.definer in
     (value-placed {s = s} c.ctx.invariant e.keeps (e.linked c.ctx.invariant.linked) (rw (sym c.ctx.view_is) at c.in_ok-has_value_number.ensures.enough) d c.args.ty.place _ (rw (sym c.ctx.view_is) at c.requires.live) (rw (sym c.ctx.view_is) at c.requires.known)
@@ -26,7 +26,7 @@ invariant_of-ctx-2 g c =
 pub returns-clause-made : goal.returns-clause-made
 returns-clause-made g c =
     let i = c.ctx.inside in
-    let s : State _ _ _ _ _ _ _ = record { records = i.records; types = i.types; next_value = i.next_value; next_use = i.next_use; side = i.side; limits = i.limits } in
+    let s : ContextState _ _ _ _ _ _ _ = record { records = i.records; types = i.types; next_value = i.next_value; next_use = i.next_use; side = i.side; limits = i.limits } in
     let e = c.in_ok-insert_definition.ensures in
     let d = definer_of c.args.definer in
     rw (sym c.ctx.view_is) (value-placed {s = s} c.ctx.invariant e.keeps (e.linked c.ctx.invariant.linked) (rw (sym c.ctx.view_is) at c.in_ok-has_value_number.ensures.enough) d c.args.ty.place _ (rw (sym c.ctx.view_is) at c.requires.live) (rw (sym c.ctx.view_is) at c.requires.known)
@@ -35,7 +35,7 @@ returns-clause-made g c =
 pub returns-clause-stay_live : goal.returns-clause-stay_live
 returns-clause-stay_live g c =
     let i = c.ctx.inside in
-    let s : State _ _ _ _ _ _ _ = record { records = i.records; types = i.types; next_value = i.next_value; next_use = i.next_use; side = i.side; limits = i.limits } in
+    let s : ContextState _ _ _ _ _ _ _ = record { records = i.records; types = i.types; next_value = i.next_value; next_use = i.next_use; side = i.side; limits = i.limits } in
     let e = c.in_ok-insert_definition.ensures in
     let d = definer_of c.args.definer in
     rw (sym c.ctx.view_is) (value-placed {s = s} c.ctx.invariant e.keeps (e.linked c.ctx.invariant.linked) (rw (sym c.ctx.view_is) at c.in_ok-has_value_number.ensures.enough) d c.args.ty.place _ (rw (sym c.ctx.view_is) at c.requires.live) (rw (sym c.ctx.view_is) at c.requires.known)

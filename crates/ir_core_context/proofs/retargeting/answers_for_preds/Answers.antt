@@ -7,7 +7,7 @@ use Rattle.ir_core_records.specs.declared.record.UseIndex.{UseIndex}
 use Rattle.ir_core_records.specs.declared.records.Records.{Records}
 use Rattle.ir_core_records.specs.Meaning.{use_of}
 use Rattle.ir_core_records.specs.Table.{block_uses_at}
-use Rattle.ir_core_context.specs.Asked.{AreAnswers, MayAnswer}
+use Rattle.ir_core_context.specs.Asked.{AreAnswers, MaySay}
 use Rattle.ir_core_context.specs.Named.{block-use-names}
 use Rattle.ir_core_context.specs.State.{forest_of}
 use Rattle.ir_core_context.proofs.retargeting.answers_for_preds.Goals as goal
@@ -33,4 +33,4 @@ answers_for_blocks-requires-clause-callable g c context block used shown here st
 pub returns-clause-answers : goal.returns-clause-answers
 returns-clause-answers g c =
     let kept = c.as_slice.ensures ∙ c.block_uses.ensures ∙ ap (λ (t : Records _ _ _ _ _ _ _). block_uses_at t c.args.block) c.records.ensures in
-    subst (λ (us : List UseIndex). IfOk c.answers_for_blocks.result (λ answers. AreAnswers (MayAnswer g.P.Fn (λ s. g.C.Shown.shows s c.args.ctx.now) (λ b w. In w.user (ops_of (forest_of c.args.ctx.now) (g.B.ShownBlock.index_of b))) c.args.pred.now) us answers.items)) kept c.answers_for_blocks.ensures.answers
+    subst (λ (us : List UseIndex). IfOk c.answers_for_blocks.result (λ answers. AreAnswers (MaySay g.P.Fn (λ s. g.C.Shown.shows s c.args.ctx.now) (λ b w. In w.user (ops_of (forest_of c.args.ctx.now) (g.B.ShownBlock.index_of b))) c.args.pred.now) us answers.items)) kept c.answers_for_blocks.ensures.answers

@@ -3,13 +3,13 @@ use Rattle.std.proofs.lemmas.Bool.{false≢true}
 use Rattle.ir_model.specs.Forest.{an_op}
 use Rattle.ir_model.specs.Nesting.{Inside}
 use Rattle.ir_core_records.specs.declared.record.UseIndex.{UseIndex}
-use Rattle.ir_core_records.specs.Meaning.{entity_of, forest_of}
+use Rattle.ir_core_records.specs.Meaning.{entity_of, forest_in}
 use Rattle.ir_core_erasing.proofs.Users.{or-same}
 use Rattle.ir_core_erasing.proofs.closed.are_users_inside.Goals as goal
 
 pub loop-used-preserved : goal.loop-used-preserved
 loop-used-preserved g c =
-    let f = forest_of c.args.records.now in
+    let f = forest_in c.args.records.now in
     let root = entity_of c.args.root in
     let uses = c.args.uses.now in
     below_more (λ k. (d : UseIndex) → Inside f root (an_op (slice_index_or uses k d).user)) c.loop-used.used-index c.loop-used.invariant
@@ -17,7 +17,7 @@ loop-used-preserved g c =
 
 pub returns-then-not-climbs_into : goal.returns-then-not-climbs_into
 returns-then-not-climbs_into g c =
-    let f = forest_of c.args.records.now in
+    let f = forest_in c.args.records.now in
     let root = entity_of c.args.root in
     let uses = c.args.uses.now in (
       λ t. absurd (false≢true t),

@@ -3,7 +3,7 @@ use Rattle.std.specs.Option.{option_map}
 use Rattle.std.proofs.lemmas.Bool.{false≢true}
 use Rattle.ir_model.specs.Nesting.{Inside}
 use Rattle.ir_core_records.specs.declared.record.EntityIndex.{EntityIndex}
-use Rattle.ir_core_records.specs.Meaning.{entity_of, forest_of}
+use Rattle.ir_core_records.specs.Meaning.{entity_of, forest_in}
 use Rattle.ir_core_erasing.specs.Walks.{subtree}
 use Rattle.ir_core_erasing.proofs.ClosedListings.{AllClosed, all-append, closed-entity, closed-listed}
 use Rattle.ir_core_erasing.proofs.Dropped.{inside-live}
@@ -14,52 +14,52 @@ pub loop-current-init : goal.loop-current-init
 loop-current-init g c =
     let t = c.args.records.now in
     let root = entity_of c.args.entity in
-    passing-start (subtree t root) (AllClosed (forest_of t) root) (Some (entity_of c.deepest.result)) (sym c.deepest.ensures.first) tt
+    passing-start (subtree t root) (AllClosed (forest_in t) root) (Some (entity_of c.deepest.result)) (sym c.deepest.ensures.first) tt
 
 pub keeps_its_users-requires-clause-live : goal.keeps_its_users-requires-clause-live
 keeps_its_users-requires-clause-live g c =
     let t = c.args.records.now in
     let root = entity_of c.args.entity in
     let here = entity_of c.in-Some.here in
-    let w : Passing (subtree t root) (AllClosed (forest_of t) root) (Some here) = subst (λ (o : Option EntityIndex). Passing (subtree t root) (AllClosed (forest_of t) root) (option_map entity_of o)) c.in-Some.is c.loop-current.invariant in
+    let w : Passing (subtree t root) (AllClosed (forest_in t) root) (Some here) = subst (λ (o : Option EntityIndex). Passing (subtree t root) (AllClosed (forest_in t) root) (option_map entity_of o)) c.in-Some.is c.loop-current.invariant in
     let formed = c.requires.formed.1.nested in
-    let i : Inside (forest_of t) root here = ((c.subtrees_are_listed.ensures t root c.requires.nested formed).exact here).0 (passing-in (subtree t root) (AllClosed (forest_of t) root) here w) in
-    inside-live (forest_of t) formed root here c.requires.live i
+    let i : Inside (forest_in t) root here = ((c.subtrees_are_listed.ensures t root c.requires.nested formed).exact here).0 (passing-in (subtree t root) (AllClosed (forest_in t) root) here w) in
+    inside-live (forest_in t) formed root here c.requires.live i
 
 pub keeps_its_users-requires-clause-inside : goal.keeps_its_users-requires-clause-inside
 keeps_its_users-requires-clause-inside g c =
     let t = c.args.records.now in
     let root = entity_of c.args.entity in
     let here = entity_of c.in-Some.here in
-    let w : Passing (subtree t root) (AllClosed (forest_of t) root) (Some here) = subst (λ (o : Option EntityIndex). Passing (subtree t root) (AllClosed (forest_of t) root) (option_map entity_of o)) c.in-Some.is c.loop-current.invariant in
-    ((c.subtrees_are_listed.ensures t root c.requires.nested c.requires.formed.1.nested).exact here).0 (passing-in (subtree t root) (AllClosed (forest_of t) root) here w)
+    let w : Passing (subtree t root) (AllClosed (forest_in t) root) (Some here) = subst (λ (o : Option EntityIndex). Passing (subtree t root) (AllClosed (forest_in t) root) (option_map entity_of o)) c.in-Some.is c.loop-current.invariant in
+    ((c.subtrees_are_listed.ensures t root c.requires.nested c.requires.formed.1.nested).exact here).0 (passing-in (subtree t root) (AllClosed (forest_in t) root) here w)
 
 pub returns-then-not-keeps_its_users : goal.returns-then-not-keeps_its_users
 returns-then-not-keeps_its_users g c =
     let t = c.args.records.now in
     let root = entity_of c.args.entity in
     let here = entity_of c.in-Some.here in
-    let w : Passing (subtree t root) (AllClosed (forest_of t) root) (Some here) = subst (λ (o : Option EntityIndex). Passing (subtree t root) (AllClosed (forest_of t) root) (option_map entity_of o)) c.in-Some.is c.loop-current.invariant in
-    let i : Inside (forest_of t) root here = ((c.subtrees_are_listed.ensures t root c.requires.nested c.requires.formed.1.nested).exact here).0 (passing-in (subtree t root) (AllClosed (forest_of t) root) here w) in
-    (λ e. absurd (false≢true e), λ closed. absurd (false≢true (sym c.if-not-keeps_its_users.true ∙ c.keeps_its_users.ensures.1 (closed-entity (forest_of t) root here closed i))))
+    let w : Passing (subtree t root) (AllClosed (forest_in t) root) (Some here) = subst (λ (o : Option EntityIndex). Passing (subtree t root) (AllClosed (forest_in t) root) (option_map entity_of o)) c.in-Some.is c.loop-current.invariant in
+    let i : Inside (forest_in t) root here = ((c.subtrees_are_listed.ensures t root c.requires.nested c.requires.formed.1.nested).exact here).0 (passing-in (subtree t root) (AllClosed (forest_in t) root) here w) in
+    (λ e. absurd (false≢true e), λ closed. absurd (false≢true (sym c.if-not-keeps_its_users.true ∙ c.keeps_its_users.ensures.1 (closed-entity (forest_in t) root here closed i))))
 
 pub loop-current-preserved : goal.loop-current-preserved
 loop-current-preserved g c =
     let t = c.args.records.now in
     let root = entity_of c.args.entity in
     let here = entity_of c.in-Some.here in
-    let w : Passing (subtree t root) (AllClosed (forest_of t) root) (Some here) = subst (λ (o : Option EntityIndex). Passing (subtree t root) (AllClosed (forest_of t) root) (option_map entity_of o)) c.in-Some.is c.loop-current.invariant in
-    passing-step (subtree t root) (AllClosed (forest_of t) root) here w (option_map entity_of c.next_inside-current.result) c.next_inside-current.ensures (AllClosed (forest_of t) root)
-    (λ before all. (all-append (forest_of t) root before (here ∷ [])).1 (all, (c.keeps_its_users.ensures.0 c.if-not-keeps_its_users.false, tt)))
+    let w : Passing (subtree t root) (AllClosed (forest_in t) root) (Some here) = subst (λ (o : Option EntityIndex). Passing (subtree t root) (AllClosed (forest_in t) root) (option_map entity_of o)) c.in-Some.is c.loop-current.invariant in
+    passing-step (subtree t root) (AllClosed (forest_in t) root) here w (option_map entity_of c.next_inside-current.result) c.next_inside-current.ensures (AllClosed (forest_in t) root)
+    (λ before all. (all-append (forest_in t) root before (here ∷ [])).1 (all, (c.keeps_its_users.ensures.0 c.if-not-keeps_its_users.false, tt)))
 
 pub loop-current-smaller : goal.loop-current-smaller
 loop-current-smaller g c =
     let t = c.args.records.now in
     let root = entity_of c.args.entity in
     let here = entity_of c.in-Some.here in
-    let w : Passing (subtree t root) (AllClosed (forest_of t) root) (Some here) = subst (λ (o : Option EntityIndex). Passing (subtree t root) (AllClosed (forest_of t) root) (option_map entity_of o)) c.in-Some.is c.loop-current.invariant in
+    let w : Passing (subtree t root) (AllClosed (forest_in t) root) (Some here) = subst (λ (o : Option EntityIndex). Passing (subtree t root) (AllClosed (forest_in t) root) (option_map entity_of o)) c.in-Some.is c.loop-current.invariant in
     let less : remaining (subtree t root) (option_map entity_of c.next_inside-current.result) < remaining (subtree t root) (Some here) =
-    passing-smaller (subtree t root) (AllClosed (forest_of t) root) here w (option_map entity_of c.next_inside-current.result) c.next_inside-current.ensures (c.subtrees_are_listed.ensures t root c.requires.nested c.requires.formed.1.nested).once in
+    passing-smaller (subtree t root) (AllClosed (forest_in t) root) here w (option_map entity_of c.next_inside-current.result) c.next_inside-current.ensures (c.subtrees_are_listed.ensures t root c.requires.nested c.requires.formed.1.nested).once in
     let was : remaining (subtree t root) (option_map entity_of c.loop-current.current) ≡ remaining (subtree t root) (Some here) = ap (λ (o : Option EntityIndex). remaining (subtree t root) (option_map entity_of o)) c.in-Some.is in
     subst (λ n. remaining (subtree t root) (option_map entity_of c.next_inside-current.result) < n) (sym was) less
 
@@ -67,7 +67,7 @@ pub returns : goal.returns
 returns g c =
     let t = c.args.records.now in
     let root = entity_of c.args.entity in
-    let w : Passing (subtree t root) (AllClosed (forest_of t) root) None = subst (λ (o : Option EntityIndex). Passing (subtree t root) (AllClosed (forest_of t) root) (option_map entity_of o)) c.in_default.is c.loop-current.invariant in
-    let all = passing-end (subtree t root) (AllClosed (forest_of t) root) w in
+    let w : Passing (subtree t root) (AllClosed (forest_in t) root) None = subst (λ (o : Option EntityIndex). Passing (subtree t root) (AllClosed (forest_in t) root) (option_map entity_of o)) c.in_default.is c.loop-current.invariant in
+    let all = passing-end (subtree t root) (AllClosed (forest_in t) root) w in
     let lists = c.subtrees_are_listed.ensures t root c.requires.nested c.requires.formed.1.nested in
-    (λ _. (closed-listed (forest_of t) root c.requires.formed.0 c.requires.formed.1 (subtree t root) lists).1 all, λ _. refl)
+    (λ _. (closed-listed (forest_in t) root c.requires.formed.0 c.requires.formed.1 (subtree t root) lists).1 all, λ _. refl)

@@ -5,7 +5,7 @@ use Rattle.ir_model.specs.Nesting.{itself, Inside}
 use Rattle.ir_model.proofs.KeepsErase.{same_tells}
 use Rattle.ir_model.proofs.TwoRuns.{lawful}
 use Rattle.ir_core_records.specs.declared.record.EntityIndex.{EntityIndex}
-use Rattle.ir_core_records.specs.Meaning.{entity_of, forest_of}
+use Rattle.ir_core_records.specs.Meaning.{entity_of, forest_in}
 use Rattle.ir_core_nesting.specs.Climbs.{Reaches, depth}
 use Rattle.ir_core_erasing.proofs.Climbing.{climb-up, climb-less}
 use Rattle.ir_core_erasing.proofs.Steps.{differ}
@@ -13,7 +13,7 @@ use Rattle.ir_core_erasing.proofs.closed.climbs_into.Goals as goal
 
 pub returns-then-are_one : goal.returns-then-are_one
 returns-then-are_one g c =
-    let f = forest_of c.args.records.now in
+    let f = forest_in c.args.records.now in
     let root = entity_of c.args.root in
     let here : entity_of c.in-Some.entity ≡ root = same_tells context_ids lawful (entity_of c.in-Some.entity) root (sym c.are_one.ensures ∙ c.if-are_one.true) in
     let i : Inside f root (entity_of c.args.inner) ↔ Inside f root (entity_of c.in-Some.entity)
@@ -22,7 +22,7 @@ returns-then-are_one g c =
 
 pub returns-then-are_one-2 : goal.returns-then-are_one-2
 returns-then-are_one-2 g c =
-    let f = forest_of c.args.records.now in
+    let f = forest_in c.args.records.now in
     let root = entity_of c.args.root in
     let here : entity_of c.in-Some.entity ≡ entity_of c.args.home = same_tells context_ids lawful (entity_of c.in-Some.entity) (entity_of c.args.home) (sym c.are_one-in-Some.ensures ∙ c.if-are_one-2.true) in
     let i : Inside f root (entity_of c.args.inner) ↔ Inside f root (entity_of c.in-Some.entity)
@@ -38,7 +38,7 @@ loop-current-smaller g c =
 
 pub loop-current-preserved : goal.loop-current-preserved
 loop-current-preserved g c =
-    let f = forest_of c.args.records.now in
+    let f = forest_in c.args.records.now in
     let root = entity_of c.args.root in
     let i : Inside f root (entity_of c.args.inner) ↔ Inside f root (entity_of c.in-Some.entity)
     = subst (λ (o : Option EntityIndex). Inside f root (entity_of c.args.inner) ↔ Reaches f root (option_map entity_of o)) c.in-Some.is c.loop-current.invariant in

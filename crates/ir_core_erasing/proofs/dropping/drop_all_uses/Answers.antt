@@ -1,7 +1,7 @@
 use Rattle.std.proofs.Common.{◌≡◌, ◌<◌, Some, None, Option, sym, ap, subst}
 use Rattle.std.specs.Option.{option_map}
 use Rattle.ir_core_records.specs.declared.record.EntityIndex.{EntityIndex}
-use Rattle.ir_core_records.specs.Meaning.{entity_of, forest_of}
+use Rattle.ir_core_records.specs.Meaning.{entity_of, forest_in}
 use Rattle.ir_core_erasing.specs.Walks.{subtree}
 use Rattle.ir_core_erasing.proofs.Drops.{DropsListed, drops-start}
 use Rattle.ir_core_erasing.proofs.Dropped.{Dropping, dropping-end, dropping-smaller, dropping-step, formed-same, here-live, keeps-refl, keeps-trans}
@@ -12,7 +12,7 @@ pub loop-current-init : goal.loop-current-init
 loop-current-init g c =
     let t = c.args.records.now in
     record {
-      passing = passing-start (subtree t (entity_of c.args.entity)) (λ before. DropsListed (forest_of t) before (forest_of t)) (Some (entity_of c.deepest.result)) (sym c.deepest.ensures.first) (drops-start (forest_of t));
+      passing = passing-start (subtree t (entity_of c.args.entity)) (λ before. DropsListed (forest_in t) before (forest_in t)) (Some (entity_of c.deepest.result)) (sym c.deepest.ensures.first) (drops-start (forest_in t));
       keeps = keeps-refl t;
       linked = c.requires.linked;
     }

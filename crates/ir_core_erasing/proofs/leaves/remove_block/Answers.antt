@@ -9,7 +9,7 @@ use Rattle.ir_core_records.specs.declared.record.Definer.TheVariants.{Block}
 use Rattle.ir_core_records.specs.declared.record.ValueIndex.{ValueIndex}
 use Rattle.ir_core_records.specs.declared.record.BlockIndex.{BlockIndex}
 use Rattle.ir_core_records.specs.Chains.{Chains}
-use Rattle.ir_core_records.specs.Meaning.{forest_of, block_record}
+use Rattle.ir_core_records.specs.Meaning.{forest_in, block_record}
 use Rattle.ir_core_records.specs.Tree.{tree_of, ops_in}
 use Rattle.ir_core_nesting.specs.Leaves.{without_block}
 use Rattle.ir_core_erasing.proofs.LeafForests.{block-free, block-removed}
@@ -19,12 +19,12 @@ use Rattle.ir_core_erasing.proofs.leaves.remove_block.Goals as goal
 
 pub remove_bare_block-requires-clause-unlinked : goal.remove_bare_block-requires-clause-unlinked
 remove_bare_block-requires-clause-unlinked g c =
-    let f = forest_of c.args.records.now in
+    let f = forest_in c.args.records.now in
     λ h. block-free lawful f c.args.block (subst (λ k. IsLinked k (a_block c.args.block)) c.detach_block.ensures.forest h)
 
 pub remove_bare_block-requires-clause-empty : goal.remove_bare_block-requires-clause-empty
 remove_bare_block-requires-clause-empty g c =
-    ap (λ k. ops_of k c.args.block) c.detach_block.ensures.forest ∙ map-nil an_op (ops_of (forest_of c.args.records.now) c.args.block) c.requires.leaf
+    ap (λ k. ops_of k c.args.block) c.detach_block.ensures.forest ∙ map-nil an_op (ops_of (forest_in c.args.records.now) c.args.block) c.requires.leaf
 
 pub remove_bare_block-requires-clause-unused : goal.remove_bare_block-requires-clause-unused
 remove_bare_block-requires-clause-unused g c = λ number.
@@ -47,7 +47,7 @@ returns g c =
     let d = c.detach_block.ensures in
     let r = c.remove_bare_block.ensures in
     let live : IsLive mid.blocks block = (d.keeps.block_ids.live block).1 (unmap (block_record (ops_in (tree_of old) block)) (get old.blocks block) c.requires.live) in
-    block-leaf old new (a_block block) (without_block (in_regions (forest_of old) (without same_id block)) block) (block-removed lawful (forest_of old) block c.requires.leaf)
+    block-leaf old new (a_block block) (without_block (in_regions (forest_in old) (without same_id block)) block) (block-removed lawful (forest_in old) block c.requires.leaf)
     (r.forest ∙ ap (λ k. without_block k block) d.forest) r.nested (r.chains ∙ d.keeps.chains) (λ k. r.own (d.keeps.own k))
     (stays-same old.ops mid.ops new.ops (stays old.ops mid.ops d.keeps.op_ids) r.ops)
     (stays-loses old.blocks mid.blocks new.blocks (stays old.blocks mid.blocks d.keeps.block_ids) (loses mid.blocks new.blocks block live r.blocks))

@@ -8,7 +8,7 @@ use Rattle.ir_base_arenas.specs.Arena.{get, IsLive}
 use Rattle.ir_core_records.specs.declared.record.Definer.TheVariants.{Op}
 use Rattle.ir_core_records.specs.declared.record.ValueIndex.{ValueIndex}
 use Rattle.ir_core_records.specs.Chains.{Chains}
-use Rattle.ir_core_records.specs.Meaning.{forest_of, op_record}
+use Rattle.ir_core_records.specs.Meaning.{forest_in, op_record}
 use Rattle.ir_core_nesting.specs.Leaves.{without_op}
 use Rattle.ir_core_erasing.proofs.LeafForests.{op-free, op-removed}
 use Rattle.ir_core_erasing.proofs.LeafRecords.{map-nil, unmap, stays, loses, stays-loses, stays-same, op-leaf}
@@ -17,12 +17,12 @@ use Rattle.ir_core_erasing.proofs.leaves.remove_operation.Goals as goal
 
 pub remove_bare_operation-requires-clause-unlinked : goal.remove_bare_operation-requires-clause-unlinked
 remove_bare_operation-requires-clause-unlinked g c =
-    let f = forest_of c.args.records.now in
+    let f = forest_in c.args.records.now in
     λ h. op-free lawful f c.args.op (subst (λ k. IsLinked k (an_op c.args.op)) c.detach_operation.ensures.forest h)
 
 pub remove_bare_operation-requires-clause-regions : goal.remove_bare_operation-requires-clause-regions
 remove_bare_operation-requires-clause-regions g c =
-    ap (λ k. regions_of k c.args.op) c.detach_operation.ensures.forest ∙ map-nil a_region (regions_of (forest_of c.args.records.now) c.args.op) c.requires.leaf
+    ap (λ k. regions_of k c.args.op) c.detach_operation.ensures.forest ∙ map-nil a_region (regions_of (forest_in c.args.records.now) c.args.op) c.requires.leaf
 
 pub remove_bare_operation-requires-clause-operands : goal.remove_bare_operation-requires-clause-operands
 remove_bare_operation-requires-clause-operands g c = ap (λ k. operands_of k c.args.op) c.detach_operation.ensures.forest ∙ (c.requires.bare c.args.op itself).0
@@ -45,7 +45,7 @@ returns g c =
     let d = c.detach_operation.ensures in
     let r = c.remove_bare_operation.ensures in
     let live : IsLive mid.ops op = (d.keeps.op_ids.live op).1 (unmap op_record (get old.ops op) c.requires.live) in
-    op-leaf old new (an_op op) (without_op (in_blocks (forest_of old) (without same_id op)) op) (op-removed lawful (forest_of old) op c.requires.leaf)
+    op-leaf old new (an_op op) (without_op (in_blocks (forest_in old) (without same_id op)) op) (op-removed lawful (forest_in old) op c.requires.leaf)
     (r.forest ∙ ap (λ k. without_op k op) d.forest) r.nested (r.chains ∙ d.keeps.chains) (λ k. r.own (d.keeps.own k))
     (stays-loses old.ops mid.ops new.ops (stays old.ops mid.ops d.keeps.op_ids) (loses mid.ops new.ops op live r.ops))
     (stays-same old.blocks mid.blocks new.blocks (stays old.blocks mid.blocks d.keeps.block_ids) r.blocks)

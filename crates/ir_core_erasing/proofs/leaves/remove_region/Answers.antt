@@ -4,7 +4,7 @@ use Rattle.ir_model.specs.Changes.{without}
 use Rattle.ir_model.proofs.TwoRuns.{lawful}
 use Rattle.ir_base_arenas.specs.Arena.{get}
 use Rattle.ir_core_records.specs.declared.record.Region.{Region}
-use Rattle.ir_core_records.specs.Meaning.{forest_of}
+use Rattle.ir_core_records.specs.Meaning.{forest_in}
 use Rattle.ir_core_records.specs.Tree.{tree_of, blocks_in}
 use Rattle.ir_core_nesting.specs.Leaves.{in_ops, without_region}
 use Rattle.ir_core_erasing.proofs.Dropped.{same_ids-refl}
@@ -18,7 +18,7 @@ returns g c =
     let new = c.remove_empty_region.new.records in
     let region = c.args.region in
     let r = c.remove_empty_region.ensures in
-    region-leaf old new (a_region region) (without_region (in_ops (forest_of old) (without same_id region)) region) (region-removed lawful (forest_of old) region c.requires.leaf)
+    region-leaf old new (a_region region) (without_region (in_ops (forest_in old) (without same_id region)) region) (region-removed lawful (forest_in old) region c.requires.leaf)
     r.forest r.nested r.chains r.own
     (stays old.ops new.ops r.op_ids)
     (stays-same old.blocks old.blocks new.blocks (stays old.blocks old.blocks (same_ids-refl old.blocks)) r.blocks)

@@ -1,7 +1,7 @@
 use Rattle.std.proofs.Common.{sym, ap, ◌∙◌}
 use Rattle.ir_model.specs.Nesting.{blocks_of}
 use Rattle.ir_model.specs.Changes.{append_blocks}
-use Rattle.ir_core_records.specs.Meaning.{forest_of}
+use Rattle.ir_core_records.specs.Meaning.{forest_in}
 use Rattle.ir_core_records.specs.Tree.{tree_of, blocks_in}
 use Rattle.ir_core_nesting.proofs.Listed.{blocks_of-is}
 use Rattle.ir_core_nesting.proofs.ListEdits.{blocks-append}
@@ -13,7 +13,7 @@ returns-clause-forest g c =
     let donee = c.from_index.result.index in
     let donor = c.from_index-2.result.index in
     let told = blocks-append c.recall_block_lists.ensures old c.requires.nested c.append_linked_list.new.nodes c.append_linked_list.new.containers c.append_linked_list.ensures.nodes_rest c.append_linked_list.ensures.containers_rest donee donor (c.append_linked_list.ensures.lists (blocks_in (tree_of old)) c.requires.nested.block_lists) in
-    told.forest ∙ ap (append_blocks (forest_of old) donee donor) (sym (blocks_of-is old c.requires.nested donor)) ∙ (λ i. append_blocks (forest_of old) (c.from_index.ensures i) (c.from_index-2.ensures i) (blocks_of (forest_of old) (c.from_index-2.ensures i)))
+    told.forest ∙ ap (append_blocks (forest_in old) donee donor) (sym (blocks_of-is old c.requires.nested donor)) ∙ (λ i. append_blocks (forest_in old) (c.from_index.ensures i) (c.from_index-2.ensures i) (blocks_of (forest_in old) (c.from_index-2.ensures i)))
 
 pub returns-clause-nested : goal.returns-clause-nested
 returns-clause-nested g c =

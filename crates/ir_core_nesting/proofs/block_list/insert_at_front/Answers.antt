@@ -3,7 +3,7 @@ use Rattle.ir_model.specs.declared.ids.ArenaIndex.{ArenaIndex}
 use Rattle.ir_model.specs.Forest.{a_block}
 use Rattle.ir_model.specs.Nesting.{IsLinked}
 use Rattle.ir_model.specs.Changes.{on_region}
-use Rattle.ir_core_records.specs.Meaning.{forest_of}
+use Rattle.ir_core_records.specs.Meaning.{forest_in}
 use Rattle.ir_core_records.specs.Tree.{tree_of, blocks_in}
 use Rattle.ir_core_nesting.proofs.Listed.{listed-block}
 use Rattle.ir_core_nesting.proofs.ListEdits.{blocks-one}
@@ -14,14 +14,14 @@ insert_at_front-requires-clause-node_unlinked g c =
     let old = c.args.records.now in
     let n = c.from_index.result.index in
     λ k. let place = (c.lists_hold_nodes.ensures.linked old.blocks old.regions (blocks_in (tree_of old)) c.requires.nested.block_lists n).0 k in
-    c.requires.unlinked (subst (λ (u : ArenaIndex). IsLinked (forest_of old) (a_block u)) c.from_index.ensures (listed-block old c.requires.nested n place.0 place.1))
+    c.requires.unlinked (subst (λ (u : ArenaIndex). IsLinked (forest_in old) (a_block u)) c.from_index.ensures (listed-block old c.requires.nested n place.0 place.1))
 
 pub returns-clause-forest : goal.returns-clause-forest
 returns-clause-forest g c =
     let old = c.args.records.now in
     let n = c.from_index.result.index in
     let told = blocks-one c.recall_block_lists.ensures old c.requires.nested c.insert_at_front.new.nodes c.insert_at_front.new.containers c.insert_at_front.ensures.nodes_rest c.insert_at_front.ensures.containers_rest (λ bs. n ∷ bs) c.from_index-2.result.index (c.insert_at_front.ensures.lists (blocks_in (tree_of old)) c.requires.nested.block_lists) in
-    told.forest ∙ (λ i. on_region (forest_of old) (c.from_index-2.ensures i) (λ bs. c.from_index.ensures i ∷ bs))
+    told.forest ∙ (λ i. on_region (forest_in old) (c.from_index-2.ensures i) (λ bs. c.from_index.ensures i ∷ bs))
 
 pub returns-clause-nested : goal.returns-clause-nested
 returns-clause-nested g c =

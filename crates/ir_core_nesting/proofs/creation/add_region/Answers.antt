@@ -6,7 +6,7 @@ use Rattle.ir_base_arenas.specs.Lists.{SameIds}
 use Rattle.ir_core_records.specs.declared.record.Region.{Region}
 use Rattle.ir_core_records.specs.Growth.{Grows, SkipsIds}
 use Rattle.ir_core_records.specs.Chains.{AreLinked}
-use Rattle.ir_core_records.specs.Meaning.{forest_of}
+use Rattle.ir_core_records.specs.Meaning.{forest_in}
 use Rattle.ir_core_records.specs.Tree.{tree_of, blocks_in}
 use Rattle.ir_core_nesting.proofs.Readings.{found-at, edited-at}
 use Rattle.ir_core_nesting.proofs.Growths.{Grows-one, Skips-none, Skips-cut, SameIds-written, removed}
@@ -141,7 +141,7 @@ returns-clause-forest g c =
     let made : c.insert_with-inserted.new.self ≡ fill old.regions id region = h.filled ∙ ap (fill old.regions id) is in
     let added = region-added old op at.0 at.1 c.push_region.new.ops c.insert_with-inserted.new.self c.lists_are_one.ensures c.lists_are_one-2.ensures c.requires.nested id region h.new_id refl pushed made
     (c.container_changes_keep_lists.ensures.inserted old.blocks old.regions (blocks_in (tree_of old)) c.requires.nested.block_lists id region h.new_id refl) in
-    added.forest ∙ ap (add_region (forest_of old) op) (sym c.index-2.ensures)
+    added.forest ∙ ap (add_region (forest_in old) op) (sym c.index-2.ensures)
 
 pub returns-clause-op_ids : goal.returns-clause-op_ids
 returns-clause-op_ids g c =

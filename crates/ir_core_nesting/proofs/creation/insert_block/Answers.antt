@@ -4,7 +4,7 @@ use Rattle.ir_model.specs.Changes.{new_block}
 use Rattle.ir_base_arenas.specs.Arena.{Arena, fill}
 use Rattle.ir_core_records.specs.Growth.{Grows}
 use Rattle.ir_core_records.specs.Chains.{AreLinked, chains_of}
-use Rattle.ir_core_records.specs.Meaning.{forest_of, definition_of}
+use Rattle.ir_core_records.specs.Meaning.{forest_in, definition_of}
 use Rattle.ir_core_records.specs.Tree.{tree_of, ops_in, blocks_in}
 use Rattle.ir_core_nesting.specs.Bare.{bare_block}
 use Rattle.ir_core_nesting.proofs.Growths.{Grows-one}
@@ -28,7 +28,7 @@ returns-in-Ok-clause-forest g c =
     (c.container_changes_keep_lists.ensures.inserted old.ops old.blocks (ops_in (tree_of old)) c.requires.nested.op_lists id _ h.new_id refl)
     (c.node_changes_keep_lists.ensures.inserted old.blocks old.regions (blocks_in (tree_of old)) c.requires.nested.block_lists id _ h.new_id refl)
     refl refl c.requires.unused in
-    made.forest ∙ ap (λ (u : ArenaIndex). new_block (forest_of old) u g.D.Dialects.unknown c.args.label (map definition_of c.args.arguments)) (sym c.index.ensures)
+    made.forest ∙ ap (λ (u : ArenaIndex). new_block (forest_in old) u g.D.Dialects.unknown c.args.label (map definition_of c.args.arguments)) (sym c.index.ensures)
 
 pub returns-in-Ok-clause-nested : goal.returns-in-Ok-clause-nested
 returns-in-Ok-clause-nested g c =

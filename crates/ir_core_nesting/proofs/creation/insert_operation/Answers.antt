@@ -4,7 +4,7 @@ use Rattle.ir_model.specs.Changes.{new_op}
 use Rattle.ir_base_arenas.specs.Arena.{Arena, fill}
 use Rattle.ir_core_records.specs.Growth.{Grows}
 use Rattle.ir_core_records.specs.Chains.{AreLinked, chains_of}
-use Rattle.ir_core_records.specs.Meaning.{forest_of, definition_of}
+use Rattle.ir_core_records.specs.Meaning.{forest_in, definition_of}
 use Rattle.ir_core_records.specs.Tree.{tree_of, ops_in}
 use Rattle.ir_core_nesting.specs.Bare.{bare_op}
 use Rattle.ir_core_nesting.proofs.Growths.{Grows-one}
@@ -25,7 +25,7 @@ returns-in-Ok-clause-forest g c =
     let id = c.in-Ok.op.index in
     let is : h.value ≡ bare_op g.D.Dialects.unknown id c.args.kind c.args.results = search rules in
     let made = new-operation old c.insert_with-inserted.new.self id _ h.new_id (h.filled ∙ ap (fill old.ops id) is) c.lists_are_one.ensures c.requires.nested (c.node_changes_keep_lists.ensures.inserted old.ops old.blocks (ops_in (tree_of old)) c.requires.nested.op_lists id _ h.new_id refl) refl refl refl refl c.requires.unused in
-    made.forest ∙ ap (λ (u : ArenaIndex). new_op (forest_of old) u g.D.Dialects.unknown c.args.kind (map definition_of c.args.results) [] [] []) (sym c.index.ensures)
+    made.forest ∙ ap (λ (u : ArenaIndex). new_op (forest_in old) u g.D.Dialects.unknown c.args.kind (map definition_of c.args.results) [] [] []) (sym c.index.ensures)
 
 pub returns-in-Ok-clause-nested : goal.returns-in-Ok-clause-nested
 returns-in-Ok-clause-nested g c =

@@ -9,7 +9,7 @@ use Rattle.ir_core_records.specs.declared.record.Region.{Region}
 use Rattle.ir_core_records.specs.Growth.{Clears}
 use Rattle.ir_core_records.specs.Chains.{AreLinked}
 use Rattle.ir_core_records.specs.Lists.{in_record}
-use Rattle.ir_core_records.specs.Meaning.{forest_of}
+use Rattle.ir_core_records.specs.Meaning.{forest_in}
 use Rattle.ir_core_records.specs.Tree.{tree_of, blocks_in, op_regions}
 use Rattle.ir_core_nesting.specs.Leaves.{without_region}
 use Rattle.ir_core_nesting.proofs.Readings.{found-at, edited-at}
@@ -24,7 +24,7 @@ returns-clause-forest g c =
     let at = found-at old.ops op c.requires.live in
     let r = c.pop_region-region.result in
     let pop = c.pop_region-region.ensures in
-    let last : regions_of (forest_of old) op ≡ pop.0 ++ r ∷ [] = regions-read old op ∙ pop.1 in
+    let last : regions_of (forest_in old) op ≡ pop.0 ++ r ∷ [] = regions-read old op ∙ pop.1 in
     let splits : at.0.regions ≡ pop.0 ++ r ∷ [] = ap (in_record op_regions []) (sym at.1) ∙ pop.1 in
     let empty = empty-region old r (c.requires.empty pop.0 r last) in
     let popped : c.pop_region-region.new.ops ≡ fill old.ops op (record (at.0) { regions = pop.0 }) = pop.2 ∙ edited-at _ old.ops op at.0 at.1 in
@@ -34,7 +34,7 @@ returns-clause-forest g c =
     (c.container_changes_keep_lists.ensures.removed old.blocks old.regions (blocks_in (tree_of old)) c.requires.nested.block_lists r empty.0 empty.1) in
     λ rest region e.
     let same = last-same pop.0 rest r region (sym last ∙ e) in
-    left.forest ∙ (λ i. without_region (on_op (forest_of old) op (on_regions (λ _. same.0 i))) (same.1 i))
+    left.forest ∙ (λ i. without_region (on_op (forest_in old) op (on_regions (λ _. same.0 i))) (same.1 i))
 
 pub returns-clause-cleared : goal.returns-clause-cleared
 returns-clause-cleared g c =
@@ -43,7 +43,7 @@ returns-clause-cleared g c =
     let at = found-at old.ops op c.requires.live in
     let r = c.pop_region-region.result in
     let pop = c.pop_region-region.ensures in
-    let last : regions_of (forest_of old) op ≡ pop.0 ++ r ∷ [] = regions-read old op ∙ pop.1 in
+    let last : regions_of (forest_in old) op ≡ pop.0 ++ r ∷ [] = regions-read old op ∙ pop.1 in
     let splits : at.0.regions ≡ pop.0 ++ r ∷ [] = ap (in_record op_regions []) (sym at.1) ∙ pop.1 in
     let empty = empty-region old r (c.requires.empty pop.0 r last) in
     let popped : c.pop_region-region.new.ops ≡ fill old.ops op (record (at.0) { regions = pop.0 }) = pop.2 ∙ edited-at _ old.ops op at.0 at.1 in
@@ -69,7 +69,7 @@ returns-clause-nested g c =
     let at = found-at old.ops op c.requires.live in
     let r = c.pop_region-region.result in
     let pop = c.pop_region-region.ensures in
-    let last : regions_of (forest_of old) op ≡ pop.0 ++ r ∷ [] = regions-read old op ∙ pop.1 in
+    let last : regions_of (forest_in old) op ≡ pop.0 ++ r ∷ [] = regions-read old op ∙ pop.1 in
     let splits : at.0.regions ≡ pop.0 ++ r ∷ [] = ap (in_record op_regions []) (sym at.1) ∙ pop.1 in
     let empty = empty-region old r (c.requires.empty pop.0 r last) in
     let popped : c.pop_region-region.new.ops ≡ fill old.ops op (record (at.0) { regions = pop.0 }) = pop.2 ∙ edited-at _ old.ops op at.0 at.1 in
@@ -86,7 +86,7 @@ returns-clause-chains g c =
     let at = found-at old.ops op c.requires.live in
     let r = c.pop_region-region.result in
     let pop = c.pop_region-region.ensures in
-    let last : regions_of (forest_of old) op ≡ pop.0 ++ r ∷ [] = regions-read old op ∙ pop.1 in
+    let last : regions_of (forest_in old) op ≡ pop.0 ++ r ∷ [] = regions-read old op ∙ pop.1 in
     let splits : at.0.regions ≡ pop.0 ++ r ∷ [] = ap (in_record op_regions []) (sym at.1) ∙ pop.1 in
     let empty = empty-region old r (c.requires.empty pop.0 r last) in
     let popped : c.pop_region-region.new.ops ≡ fill old.ops op (record (at.0) { regions = pop.0 }) = pop.2 ∙ edited-at _ old.ops op at.0 at.1 in
@@ -106,7 +106,7 @@ returns-clause-own g c =
     let at = found-at old.ops op c.requires.live in
     let r = c.pop_region-region.result in
     let pop = c.pop_region-region.ensures in
-    let last : regions_of (forest_of old) op ≡ pop.0 ++ r ∷ [] = regions-read old op ∙ pop.1 in
+    let last : regions_of (forest_in old) op ≡ pop.0 ++ r ∷ [] = regions-read old op ∙ pop.1 in
     let splits : at.0.regions ≡ pop.0 ++ r ∷ [] = ap (in_record op_regions []) (sym at.1) ∙ pop.1 in
     let empty = empty-region old r (c.requires.empty pop.0 r last) in
     let popped : c.pop_region-region.new.ops ≡ fill old.ops op (record (at.0) { regions = pop.0 }) = pop.2 ∙ edited-at _ old.ops op at.0 at.1 in

@@ -3,7 +3,7 @@ use Rattle.ir_model.specs.declared.ids.ArenaIndex.{ArenaIndex}
 use Rattle.ir_model.specs.Forest.{an_op}
 use Rattle.ir_model.specs.Nesting.{IsLinked}
 use Rattle.ir_model.specs.Changes.{on_block, on_ops}
-use Rattle.ir_core_records.specs.Meaning.{forest_of}
+use Rattle.ir_core_records.specs.Meaning.{forest_in}
 use Rattle.ir_core_records.specs.Tree.{tree_of, ops_in}
 use Rattle.ir_core_nesting.proofs.Listed.{listed-op}
 use Rattle.ir_core_nesting.proofs.ListEdits.{ops-one}
@@ -14,14 +14,14 @@ insert_at_back-requires-clause-node_unlinked g c =
     let old = c.args.records.now in
     let n = c.from_index.result.index in
     λ k. let place = (c.lists_hold_nodes.ensures.linked old.ops old.blocks (ops_in (tree_of old)) c.requires.nested.op_lists n).0 k in
-    c.requires.unlinked (subst (λ (u : ArenaIndex). IsLinked (forest_of old) (an_op u)) c.from_index.ensures (listed-op old c.requires.nested n place.0 place.1))
+    c.requires.unlinked (subst (λ (u : ArenaIndex). IsLinked (forest_in old) (an_op u)) c.from_index.ensures (listed-op old c.requires.nested n place.0 place.1))
 
 pub returns-clause-forest : goal.returns-clause-forest
 returns-clause-forest g c =
     let old = c.args.records.now in
     let n = c.from_index.result.index in
     let told = ops-one c.recall_operation_lists.ensures old c.requires.nested c.insert_at_back.new.nodes c.insert_at_back.new.containers c.insert_at_back.ensures.nodes_rest c.insert_at_back.ensures.containers_rest (λ os. os ++ n ∷ []) c.from_index-2.result.index (c.insert_at_back.ensures.lists (ops_in (tree_of old)) c.requires.nested.op_lists) in
-    told.forest ∙ (λ i. on_block (forest_of old) (c.from_index-2.ensures i) (on_ops (λ os. os ++ c.from_index.ensures i ∷ [])))
+    told.forest ∙ (λ i. on_block (forest_in old) (c.from_index-2.ensures i) (on_ops (λ os. os ++ c.from_index.ensures i ∷ [])))
 
 pub returns-clause-nested : goal.returns-clause-nested
 returns-clause-nested g c =

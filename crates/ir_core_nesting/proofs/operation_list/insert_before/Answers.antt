@@ -5,7 +5,7 @@ use Rattle.ir_model.specs.Forest.{an_op}
 use Rattle.ir_model.specs.Nesting.{IsLinked}
 use Rattle.ir_model.specs.Changes.{in_blocks, put_before}
 use Rattle.ir_base_arenas.specs.Lists.{seen, container_of}
-use Rattle.ir_core_records.specs.Meaning.{forest_of}
+use Rattle.ir_core_records.specs.Meaning.{forest_in}
 use Rattle.ir_core_records.specs.Tree.{tree_of, ops_in, op_links}
 use Rattle.ir_core_nesting.proofs.Listed.{listed-op, list-of_op}
 use Rattle.ir_core_nesting.proofs.ListWords.{In-split}
@@ -17,13 +17,13 @@ insert_before-requires-clause-node_unlinked g c =
     let old = c.args.records.now in
     let n = c.from_index.result.index in
     λ k. let place = (c.lists_hold_nodes.ensures.linked old.ops old.blocks (ops_in (tree_of old)) c.requires.nested.op_lists n).0 k in
-    c.requires.unlinked (subst (λ (u : ArenaIndex). IsLinked (forest_of old) (an_op u)) c.from_index.ensures (listed-op old c.requires.nested n place.0 place.1))
+    c.requires.unlinked (subst (λ (u : ArenaIndex). IsLinked (forest_in old) (an_op u)) c.from_index.ensures (listed-op old c.requires.nested n place.0 place.1))
 
 pub insert_before-requires-clause-mark_linked : goal.insert_before-requires-clause-mark_linked
 insert_before-requires-clause-mark_linked g c =
     let old = c.args.records.now in
     let m = c.from_index-2.result.index in
-    let place = list-of_op old c.requires.nested m (subst (λ (u : ArenaIndex). IsLinked (forest_of old) (an_op u)) (sym c.from_index-2.ensures) c.requires.mark_linked) in
+    let place = list-of_op old c.requires.nested m (subst (λ (u : ArenaIndex). IsLinked (forest_in old) (an_op u)) (sym c.from_index-2.ensures) c.requires.mark_linked) in
     (c.lists_hold_nodes.ensures.linked old.ops old.blocks (ops_in (tree_of old)) c.requires.nested.op_lists m).1 place
 
 pub returns-clause-forest : goal.returns-clause-forest
@@ -31,18 +31,18 @@ returns-clause-forest g c =
     let old = c.args.records.now in
     let n = c.from_index.result.index in
     let m = c.from_index-2.result.index in
-    let place = list-of_op old c.requires.nested m (subst (λ (u : ArenaIndex). IsLinked (forest_of old) (an_op u)) (sym c.from_index-2.ensures) c.requires.mark_linked) in
+    let place = list-of_op old c.requires.nested m (subst (λ (u : ArenaIndex). IsLinked (forest_in old) (an_op u)) (sym c.from_index-2.ensures) c.requires.mark_linked) in
     let split = In-split m (ops_in (tree_of old) place.0) place.1 in
     let told = ops-each c.recall_operation_lists.ensures old c.requires.nested c.insert_before.new.nodes c.insert_before.new.containers c.insert_before.ensures.nodes_rest c.insert_before.ensures.containers_rest (put_before same_id n m) _ (c.insert_before.ensures.lists (ops_in (tree_of old)) place.0 split.0 split.1 c.requires.nested.op_lists split.2)
     (before-each (ops_in (tree_of old)) (container_of (seen op_links old.ops)) (c.lists_hold_nodes.ensures.container old.ops old.blocks (ops_in (tree_of old)) c.requires.nested.op_lists) (c.lists_hold_nodes.ensures.apart old.ops old.blocks (ops_in (tree_of old)) c.requires.nested.op_lists) n m place.0 split.0 split.1 split.2) in
-    told.forest ∙ (λ i. in_blocks (forest_of old) (put_before same_id (c.from_index.ensures i) (c.from_index-2.ensures i)))
+    told.forest ∙ (λ i. in_blocks (forest_in old) (put_before same_id (c.from_index.ensures i) (c.from_index-2.ensures i)))
 
 pub returns-clause-nested : goal.returns-clause-nested
 returns-clause-nested g c =
     let old = c.args.records.now in
     let n = c.from_index.result.index in
     let m = c.from_index-2.result.index in
-    let place = list-of_op old c.requires.nested m (subst (λ (u : ArenaIndex). IsLinked (forest_of old) (an_op u)) (sym c.from_index-2.ensures) c.requires.mark_linked) in
+    let place = list-of_op old c.requires.nested m (subst (λ (u : ArenaIndex). IsLinked (forest_in old) (an_op u)) (sym c.from_index-2.ensures) c.requires.mark_linked) in
     let split = In-split m (ops_in (tree_of old) place.0) place.1 in
     let told = ops-each c.recall_operation_lists.ensures old c.requires.nested c.insert_before.new.nodes c.insert_before.new.containers c.insert_before.ensures.nodes_rest c.insert_before.ensures.containers_rest (put_before same_id n m) _ (c.insert_before.ensures.lists (ops_in (tree_of old)) place.0 split.0 split.1 c.requires.nested.op_lists split.2)
     (before-each (ops_in (tree_of old)) (container_of (seen op_links old.ops)) (c.lists_hold_nodes.ensures.container old.ops old.blocks (ops_in (tree_of old)) c.requires.nested.op_lists) (c.lists_hold_nodes.ensures.apart old.ops old.blocks (ops_in (tree_of old)) c.requires.nested.op_lists) n m place.0 split.0 split.1 split.2) in
@@ -53,7 +53,7 @@ returns-clause-keeps g c =
     let old = c.args.records.now in
     let n = c.from_index.result.index in
     let m = c.from_index-2.result.index in
-    let place = list-of_op old c.requires.nested m (subst (λ (u : ArenaIndex). IsLinked (forest_of old) (an_op u)) (sym c.from_index-2.ensures) c.requires.mark_linked) in
+    let place = list-of_op old c.requires.nested m (subst (λ (u : ArenaIndex). IsLinked (forest_in old) (an_op u)) (sym c.from_index-2.ensures) c.requires.mark_linked) in
     let split = In-split m (ops_in (tree_of old) place.0) place.1 in
     let told = ops-each c.recall_operation_lists.ensures old c.requires.nested c.insert_before.new.nodes c.insert_before.new.containers c.insert_before.ensures.nodes_rest c.insert_before.ensures.containers_rest (put_before same_id n m) _ (c.insert_before.ensures.lists (ops_in (tree_of old)) place.0 split.0 split.1 c.requires.nested.op_lists split.2)
     (before-each (ops_in (tree_of old)) (container_of (seen op_links old.ops)) (c.lists_hold_nodes.ensures.container old.ops old.blocks (ops_in (tree_of old)) c.requires.nested.op_lists) (c.lists_hold_nodes.ensures.apart old.ops old.blocks (ops_in (tree_of old)) c.requires.nested.op_lists) n m place.0 split.0 split.1 split.2) in

@@ -5,7 +5,7 @@ use Rattle.ir_model.specs.Forest.{an_op}
 use Rattle.ir_model.specs.Nesting.{IsLinked}
 use Rattle.ir_model.specs.Changes.{in_blocks, without}
 use Rattle.ir_base_arenas.specs.Lists.{seen, container_of}
-use Rattle.ir_core_records.specs.Meaning.{forest_of}
+use Rattle.ir_core_records.specs.Meaning.{forest_in}
 use Rattle.ir_core_records.specs.Tree.{tree_of, ops_in, op_links}
 use Rattle.ir_core_nesting.proofs.Listed.{list-of_op}
 use Rattle.ir_core_nesting.proofs.ListWords.{In-split}
@@ -16,24 +16,24 @@ pub unlink-requires-clause-node_linked : goal.unlink-requires-clause-node_linked
 unlink-requires-clause-node_linked g c =
     let old = c.args.records.now in
     let m = c.from_index.result.index in
-    let place = list-of_op old c.requires.nested m (subst (λ (u : ArenaIndex). IsLinked (forest_of old) (an_op u)) (sym c.from_index.ensures) c.requires.linked) in
+    let place = list-of_op old c.requires.nested m (subst (λ (u : ArenaIndex). IsLinked (forest_in old) (an_op u)) (sym c.from_index.ensures) c.requires.linked) in
     (c.lists_hold_nodes.ensures.linked old.ops old.blocks (ops_in (tree_of old)) c.requires.nested.op_lists m).1 place
 
 pub returns-clause-forest : goal.returns-clause-forest
 returns-clause-forest g c =
     let old = c.args.records.now in
     let n = c.from_index.result.index in
-    let place = list-of_op old c.requires.nested n (subst (λ (u : ArenaIndex). IsLinked (forest_of old) (an_op u)) (sym c.from_index.ensures) c.requires.linked) in
+    let place = list-of_op old c.requires.nested n (subst (λ (u : ArenaIndex). IsLinked (forest_in old) (an_op u)) (sym c.from_index.ensures) c.requires.linked) in
     let split = In-split n (ops_in (tree_of old) place.0) place.1 in
     let told = ops-each c.recall_operation_lists.ensures old c.requires.nested c.unlink.new.nodes c.unlink.new.containers c.unlink.ensures.nodes_rest c.unlink.ensures.containers_rest (without same_id n) _ (c.unlink.ensures.lists (ops_in (tree_of old)) place.0 split.0 split.1 c.requires.nested.op_lists split.2)
     (without-each (ops_in (tree_of old)) (container_of (seen op_links old.ops)) (c.lists_hold_nodes.ensures.container old.ops old.blocks (ops_in (tree_of old)) c.requires.nested.op_lists) (c.lists_hold_nodes.ensures.apart old.ops old.blocks (ops_in (tree_of old)) c.requires.nested.op_lists) n place.0 split.0 split.1 split.2) in
-    told.forest ∙ (λ i. in_blocks (forest_of old) (without same_id (c.from_index.ensures i)))
+    told.forest ∙ (λ i. in_blocks (forest_in old) (without same_id (c.from_index.ensures i)))
 
 pub returns-clause-nested : goal.returns-clause-nested
 returns-clause-nested g c =
     let old = c.args.records.now in
     let n = c.from_index.result.index in
-    let place = list-of_op old c.requires.nested n (subst (λ (u : ArenaIndex). IsLinked (forest_of old) (an_op u)) (sym c.from_index.ensures) c.requires.linked) in
+    let place = list-of_op old c.requires.nested n (subst (λ (u : ArenaIndex). IsLinked (forest_in old) (an_op u)) (sym c.from_index.ensures) c.requires.linked) in
     let split = In-split n (ops_in (tree_of old) place.0) place.1 in
     let told = ops-each c.recall_operation_lists.ensures old c.requires.nested c.unlink.new.nodes c.unlink.new.containers c.unlink.ensures.nodes_rest c.unlink.ensures.containers_rest (without same_id n) _ (c.unlink.ensures.lists (ops_in (tree_of old)) place.0 split.0 split.1 c.requires.nested.op_lists split.2)
     (without-each (ops_in (tree_of old)) (container_of (seen op_links old.ops)) (c.lists_hold_nodes.ensures.container old.ops old.blocks (ops_in (tree_of old)) c.requires.nested.op_lists) (c.lists_hold_nodes.ensures.apart old.ops old.blocks (ops_in (tree_of old)) c.requires.nested.op_lists) n place.0 split.0 split.1 split.2) in
@@ -43,7 +43,7 @@ pub returns-clause-keeps : goal.returns-clause-keeps
 returns-clause-keeps g c =
     let old = c.args.records.now in
     let n = c.from_index.result.index in
-    let place = list-of_op old c.requires.nested n (subst (λ (u : ArenaIndex). IsLinked (forest_of old) (an_op u)) (sym c.from_index.ensures) c.requires.linked) in
+    let place = list-of_op old c.requires.nested n (subst (λ (u : ArenaIndex). IsLinked (forest_in old) (an_op u)) (sym c.from_index.ensures) c.requires.linked) in
     let split = In-split n (ops_in (tree_of old) place.0) place.1 in
     let told = ops-each c.recall_operation_lists.ensures old c.requires.nested c.unlink.new.nodes c.unlink.new.containers c.unlink.ensures.nodes_rest c.unlink.ensures.containers_rest (without same_id n) _ (c.unlink.ensures.lists (ops_in (tree_of old)) place.0 split.0 split.1 c.requires.nested.op_lists split.2)
     (without-each (ops_in (tree_of old)) (container_of (seen op_links old.ops)) (c.lists_hold_nodes.ensures.container old.ops old.blocks (ops_in (tree_of old)) c.requires.nested.op_lists) (c.lists_hold_nodes.ensures.apart old.ops old.blocks (ops_in (tree_of old)) c.requires.nested.op_lists) n place.0 split.0 split.1 split.2) in

@@ -8,7 +8,7 @@ use Rattle.ir_model.proofs.KeepsNew.{any_in}
 use Rattle.ir_model.proofs.TwoRuns.{id_tells}
 use Rattle.ir_base_arenas.specs.Arena.{get, fill}
 use Rattle.ir_core_records.specs.Lists.{in_record}
-use Rattle.ir_core_records.specs.Meaning.{forest_of}
+use Rattle.ir_core_records.specs.Meaning.{forest_in}
 use Rattle.ir_core_records.specs.Tree.{op_regions}
 use Rattle.ir_core_nesting.proofs.Readings.{found-at, edited-at}
 use Rattle.ir_core_nesting.proofs.MovedRegions.{err_holds, only-owner, owner-has, owner-held, regions-once, drops, kept-from, records-moved, records-kept}
@@ -24,9 +24,9 @@ returns-then-eq-clause-forest g c =
     let found_region = ap (get old.regions) (sym c.from_index.ensures) ∙ c.at.ensures in
     let has = owner-has old c.requires.nested c.requires.formed r region found_region in
     let same : from ≡ op = (id_tells from op).0 (sym c.eq.ensures ∙ c.if-eq.true) in
-    elim (any_in same_id id_tells r (regions_of (forest_of old) op)) [
-      | inl k ↦ sym (ap (λ b. cond b (forest_of old) (move_region (forest_of old) r op)) k.0)
-      | inr k ↦ absurd (k.1 (subst (λ o. In r (regions_of (forest_of old) o)) same has))
+    elim (any_in same_id id_tells r (regions_of (forest_in old) op)) [
+      | inl k ↦ sym (ap (λ b. cond b (forest_in old) (move_region (forest_in old) r op)) k.0)
+      | inr k ↦ absurd (k.1 (subst (λ o. In r (regions_of (forest_in old) o)) same has))
     ]
 
 pub returns-in_err-push_region-clause-same : goal.returns-in_err-push_region-clause-same
@@ -39,7 +39,7 @@ returns-in_err-push_region-clause-same g c =
     let found_region = ap (get old.regions) (sym c.from_index.ensures) ∙ c.at.ensures in
     let has = owner-has old c.requires.nested c.requires.formed r region found_region in
     let two : from ≡ op → ⊥ = (λ e. true≢false (sym ((id_tells from op).1 e) ∙ (sym c.eq.ensures ∙ c.if-eq.false))) in
-    let absent : In r (regions_of (forest_of old) op) → ⊥ = (λ h. two (only-owner old c.requires.nested r op region found_region h)) in
+    let absent : In r (regions_of (forest_in old) op) → ⊥ = (λ h. two (only-owner old c.requires.nested r op region found_region h)) in
     let at = found-at old.ops op c.requires.op_live in
     let denied : is_ok c.push_region.result ≡ false = ap is_ok c.in_err-push_region.was in
     let same : c.push_region.new.ops ≡ fill old.ops op (record (at.0) { regions = at.0.regions }) = c.push_region.ensures ∙ edited-at _ old.ops op at.0 at.1 ∙ ap (λ b. fill old.ops op (record (at.0) { regions = cond b (at.0.regions ++ r ∷ []) at.0.regions })) denied in
@@ -56,7 +56,7 @@ returns-in_err-push_region-clause-refused g c =
     let found_region = ap (get old.regions) (sym c.from_index.ensures) ∙ c.at.ensures in
     let has = owner-has old c.requires.nested c.requires.formed r region found_region in
     let two : from ≡ op → ⊥ = (λ e. true≢false (sym ((id_tells from op).1 e) ∙ (sym c.eq.ensures ∙ c.if-eq.false))) in
-    let absent : In r (regions_of (forest_of old) op) → ⊥ = (λ h. two (only-owner old c.requires.nested r op region found_region h)) in
+    let absent : In r (regions_of (forest_in old) op) → ⊥ = (λ h. two (only-owner old c.requires.nested r op region found_region h)) in
     let at = found-at old.ops op c.requires.op_live in
     err_holds c.from_residual.result absent
 
@@ -70,7 +70,7 @@ returns-in_err-push_region-clause-nested g c =
     let found_region = ap (get old.regions) (sym c.from_index.ensures) ∙ c.at.ensures in
     let has = owner-has old c.requires.nested c.requires.formed r region found_region in
     let two : from ≡ op → ⊥ = (λ e. true≢false (sym ((id_tells from op).1 e) ∙ (sym c.eq.ensures ∙ c.if-eq.false))) in
-    let absent : In r (regions_of (forest_of old) op) → ⊥ = (λ h. two (only-owner old c.requires.nested r op region found_region h)) in
+    let absent : In r (regions_of (forest_in old) op) → ⊥ = (λ h. two (only-owner old c.requires.nested r op region found_region h)) in
     let at = found-at old.ops op c.requires.op_live in
     let denied : is_ok c.push_region.result ≡ false = ap is_ok c.in_err-push_region.was in
     let same : c.push_region.new.ops ≡ fill old.ops op (record (at.0) { regions = at.0.regions }) = c.push_region.ensures ∙ edited-at _ old.ops op at.0 at.1 ∙ ap (λ b. fill old.ops op (record (at.0) { regions = cond b (at.0.regions ++ r ∷ []) at.0.regions })) denied in
@@ -87,7 +87,7 @@ returns-in_err-push_region-clause-keeps g c =
     let found_region = ap (get old.regions) (sym c.from_index.ensures) ∙ c.at.ensures in
     let has = owner-has old c.requires.nested c.requires.formed r region found_region in
     let two : from ≡ op → ⊥ = (λ e. true≢false (sym ((id_tells from op).1 e) ∙ (sym c.eq.ensures ∙ c.if-eq.false))) in
-    let absent : In r (regions_of (forest_of old) op) → ⊥ = (λ h. two (only-owner old c.requires.nested r op region found_region h)) in
+    let absent : In r (regions_of (forest_in old) op) → ⊥ = (λ h. two (only-owner old c.requires.nested r op region found_region h)) in
     let at = found-at old.ops op c.requires.op_live in
     let denied : is_ok c.push_region.result ≡ false = ap is_ok c.in_err-push_region.was in
     let same : c.push_region.new.ops ≡ fill old.ops op (record (at.0) { regions = at.0.regions }) = c.push_region.ensures ∙ edited-at _ old.ops op at.0 at.1 ∙ ap (λ b. fill old.ops op (record (at.0) { regions = cond b (at.0.regions ++ r ∷ []) at.0.regions })) denied in
@@ -104,7 +104,7 @@ drop_region-requires-clause-live g c =
     let found_region = ap (get old.regions) (sym c.from_index.ensures) ∙ c.at.ensures in
     let has = owner-has old c.requires.nested c.requires.formed r region found_region in
     let two : from ≡ op → ⊥ = (λ e. true≢false (sym ((id_tells from op).1 e) ∙ (sym c.eq.ensures ∙ c.if-eq.false))) in
-    let absent : In r (regions_of (forest_of old) op) → ⊥ = (λ h. two (only-owner old c.requires.nested r op region found_region h)) in
+    let absent : In r (regions_of (forest_in old) op) → ⊥ = (λ h. two (only-owner old c.requires.nested r op region found_region h)) in
     let at = found-at old.ops op c.requires.op_live in
     let at_from = found-at old.ops from (owner-held old c.requires.nested r from has) in
     let done : is_ok c.push_region.result ≡ true = ap is_ok c.in_ok-push_region.was in
@@ -121,7 +121,7 @@ drop_region-requires-clause-once g c =
     let found_region = ap (get old.regions) (sym c.from_index.ensures) ∙ c.at.ensures in
     let has = owner-has old c.requires.nested c.requires.formed r region found_region in
     let two : from ≡ op → ⊥ = (λ e. true≢false (sym ((id_tells from op).1 e) ∙ (sym c.eq.ensures ∙ c.if-eq.false))) in
-    let absent : In r (regions_of (forest_of old) op) → ⊥ = (λ h. two (only-owner old c.requires.nested r op region found_region h)) in
+    let absent : In r (regions_of (forest_in old) op) → ⊥ = (λ h. two (only-owner old c.requires.nested r op region found_region h)) in
     let at = found-at old.ops op c.requires.op_live in
     let at_from = found-at old.ops from (owner-held old c.requires.nested r from has) in
     let done : is_ok c.push_region.result ≡ true = ap is_ok c.in_ok-push_region.was in
@@ -138,7 +138,7 @@ returns-clause-forest g c =
     let found_region = ap (get old.regions) (sym c.from_index.ensures) ∙ c.at.ensures in
     let has = owner-has old c.requires.nested c.requires.formed r region found_region in
     let two : from ≡ op → ⊥ = (λ e. true≢false (sym ((id_tells from op).1 e) ∙ (sym c.eq.ensures ∙ c.if-eq.false))) in
-    let absent : In r (regions_of (forest_of old) op) → ⊥ = (λ h. two (only-owner old c.requires.nested r op region found_region h)) in
+    let absent : In r (regions_of (forest_in old) op) → ⊥ = (λ h. two (only-owner old c.requires.nested r op region found_region h)) in
     let at = found-at old.ops op c.requires.op_live in
     let at_from = found-at old.ops from (owner-held old c.requires.nested r from has) in
     let done : is_ok c.push_region.result ≡ true = ap is_ok c.in_ok-push_region.was in
@@ -147,9 +147,9 @@ returns-clause-forest g c =
     let dropped = drops old op from r at.0 at_from.0 region at.1 at_from.1 found_region refl two c.requires.nested c.lists_are_one.ensures c.lists_are_one-2.ensures c.push_region.new.ops c.drop_region.new.ops pushed c.drop_region.ensures in
     let told = records-moved old op from r at.0 at_from.0 region at.1 at_from.1 found_region refl two c.requires.nested c.lists_are_one.ensures c.lists_are_one-2.ensures c.drop_region.new.ops _ dropped
     (λ i. fill old.regions (c.from_index-2.ensures i) (record (value i) { parent = op })) in
-    elim (any_in same_id id_tells r (regions_of (forest_of old) op)) [
+    elim (any_in same_id id_tells r (regions_of (forest_in old) op)) [
       | inl k ↦ absurd (absent k.1)
-      | inr k ↦ told.forest ∙ sym (ap (λ b. cond b (forest_of old) (move_region (forest_of old) r op)) k.0)
+      | inr k ↦ told.forest ∙ sym (ap (λ b. cond b (forest_in old) (move_region (forest_in old) r op)) k.0)
     ]
 
 pub returns-clause-nested : goal.returns-clause-nested
@@ -162,7 +162,7 @@ returns-clause-nested g c =
     let found_region = ap (get old.regions) (sym c.from_index.ensures) ∙ c.at.ensures in
     let has = owner-has old c.requires.nested c.requires.formed r region found_region in
     let two : from ≡ op → ⊥ = (λ e. true≢false (sym ((id_tells from op).1 e) ∙ (sym c.eq.ensures ∙ c.if-eq.false))) in
-    let absent : In r (regions_of (forest_of old) op) → ⊥ = (λ h. two (only-owner old c.requires.nested r op region found_region h)) in
+    let absent : In r (regions_of (forest_in old) op) → ⊥ = (λ h. two (only-owner old c.requires.nested r op region found_region h)) in
     let at = found-at old.ops op c.requires.op_live in
     let at_from = found-at old.ops from (owner-held old c.requires.nested r from has) in
     let done : is_ok c.push_region.result ≡ true = ap is_ok c.in_ok-push_region.was in
@@ -183,7 +183,7 @@ returns-clause-keeps g c =
     let found_region = ap (get old.regions) (sym c.from_index.ensures) ∙ c.at.ensures in
     let has = owner-has old c.requires.nested c.requires.formed r region found_region in
     let two : from ≡ op → ⊥ = (λ e. true≢false (sym ((id_tells from op).1 e) ∙ (sym c.eq.ensures ∙ c.if-eq.false))) in
-    let absent : In r (regions_of (forest_of old) op) → ⊥ = (λ h. two (only-owner old c.requires.nested r op region found_region h)) in
+    let absent : In r (regions_of (forest_in old) op) → ⊥ = (λ h. two (only-owner old c.requires.nested r op region found_region h)) in
     let at = found-at old.ops op c.requires.op_live in
     let at_from = found-at old.ops from (owner-held old c.requires.nested r from has) in
     let done : is_ok c.push_region.result ≡ true = ap is_ok c.in_ok-push_region.was in

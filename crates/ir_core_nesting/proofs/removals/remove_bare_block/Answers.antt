@@ -3,7 +3,7 @@ use Rattle.ir_model.specs.declared.ids.ArenaIndex.{ArenaIndex}
 use Rattle.ir_base_arenas.specs.Arena.{Arena, get, cut}
 use Rattle.ir_core_records.specs.declared.record.BasicBlock.{BasicBlock}
 use Rattle.ir_core_records.specs.Lists.{in_record, uses_with}
-use Rattle.ir_core_records.specs.Meaning.{forest_of}
+use Rattle.ir_core_records.specs.Meaning.{forest_in}
 use Rattle.ir_core_records.specs.Tree.{tree_of, ops_in, blocks_in}
 use Rattle.ir_core_nesting.specs.Leaves.{without_block}
 use Rattle.ir_core_nesting.proofs.Readings.{found-at}
@@ -25,7 +25,7 @@ returns g c =
     let left = block-left old block at.0 at.1 c.lists_are_one.ensures c.lists_are_one-2.ensures c.requires.nested op_lists block_lists
     (λ n. ap (λ m. uses_with (in_record (λ x. x.arguments) [] m) n) (sym at.1) ∙ c.requires.unused n)
     (ap (in_record (λ x. x.uses) []) (sym at.1) ∙ c.requires.unnamed) in
-    let told = subst (λ (a : Arena (BasicBlock _ _ _ _ _ _ _)). Becomes old (record old { blocks = a }) (without_block (forest_of old) block)) (sym is) left in
+    let told = subst (λ (a : Arena (BasicBlock _ _ _ _ _ _ _)). Becomes old (record old { blocks = a }) (without_block (forest_in old) block)) (sym is) left in
     record {
       forest = told.forest;
       ops = refl;

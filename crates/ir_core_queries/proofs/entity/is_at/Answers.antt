@@ -6,7 +6,7 @@ use Rattle.ir_model.specs.Nesting.{In, children}
 use Rattle.ir_model.specs.Parent.{IsParent}
 use Rattle.ir_model.proofs.KeepsErase.{same_self, same_tells}
 use Rattle.ir_model.proofs.TwoRuns.{lawful}
-use Rattle.ir_core_records.specs.Meaning.{entity_of, forest_of}
+use Rattle.ir_core_records.specs.Meaning.{entity_of, forest_in}
 use Rattle.ir_core_queries.proofs.entity.is_at.Goals as goal
 
 differ : (x y : Entity context_ids) → x ≡ y → same_entity context_ids x y ≡ false → ⊥
@@ -16,7 +16,7 @@ differ x y e f =
 
 pub returns-in-Some : goal.returns-in-Some
 returns-in-Some g c =
-    let f = forest_of c.args.records.now in
+    let f = forest_in c.args.records.now in
     let inner = entity_of c.args.inner in
     let outer = entity_of c.args.outer in
     let parent = entity_of c.in-Some.parent in

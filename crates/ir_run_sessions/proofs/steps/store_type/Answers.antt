@@ -4,7 +4,7 @@ use Rattle.std.proofs.lemmas.Result.{err_from_is_err_and}
 use Rattle.ir_model.specs.declared.error.CoreError.TheVariants.{OutOfMemory}
 use Rattle.ir_model.specs.Edits.{NewType, no_needs}
 use Rattle.ir_run_tables.specs.State.{bare}
-use Rattle.ir_run_tables.specs.SessionTables.{entries_of, with_type}
+use Rattle.ir_run_tables.specs.SessionTables.{entries_of, with_type_entered}
 use Rattle.ir_run_sessions.proofs.NewEntities.{type_made}
 use Rattle.ir_run_sessions.proofs.SessionSteps.{refused, skips_none, tells_memory}
 use Rattle.ir_run_sessions.proofs.steps.store_type.Goals as goal
@@ -26,5 +26,5 @@ returns g c =
     let tables = c.reserve_type.new.self in
     let same = c.reserve_type.ensures.same in
     type_made _ c.args.ctx.now (entries_of c.args.tables.now) c.args.key (record { numbers = c.requires.numbers; slots = c.requires.slots }) c.instantiate_key.new.self c.in_ok-ty.ensures.rest c.in_ok-ty.ensures.types
-    _ (c.enter_type.ensures ∙ ap (λ e. with_type e c.in_ok-ty.ty.place) same ∙ ap (with_type (entries_of c.args.tables.now)) c.in_ok-ty.ensures.place)
+    _ (c.enter_type.ensures ∙ ap (λ e. with_type_entered e c.in_ok-ty.ty.place) same ∙ ap (with_type_entered (entries_of c.args.tables.now)) c.in_ok-ty.ensures.place)
     _ (omega (arith, c.len-number.ensures, tables.types.ok, length-map tables.types.items (λ y. y.place), ap (λ e. length e.types) same))

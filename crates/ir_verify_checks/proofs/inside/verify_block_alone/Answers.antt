@@ -8,7 +8,7 @@ use Rattle.ir_core_records.specs.Meaning.{block_record, definition_of}
 use Rattle.ir_core_records.specs.Tree.{ops_in, tree_of}
 use Rattle.ir_view_parts.specs.State.{forest_of, types_of}
 use Rattle.ir_verify_checks.specs.Shown.{checks_in}
-use Rattle.ir_verify_checks.specs.Parts.{BlockFault, IsThere, NoCheck, NoFault, RunAt, RunsOnAttributes, RunsOnOp, RunsOnTypes}
+use Rattle.ir_verify_checks.specs.Parts.{FaultAtBlock, IsThere, NoCheck, NoFault, RunAt, RunsOnAttributes, RunsOnOp, RunsOnTypes}
 use Rattle.ir_verify_checks.proofs.Alone.{and-last, and-passed, definitions-are, put-as, types-known}
 use Rattle.ir_verify_checks.proofs.Ends.{block-no_code}
 use Rattle.ir_verify_checks.proofs.Pieces.{from-tells, tells-whole}
@@ -26,7 +26,7 @@ returns-in_err-check_attributes g c =
     let f = forest_of s in
     let here = ap (option_map (block_record (ops_in (tree_of s.records) b))) (rw c.records.ensures at c.at-record.ensures) in
     let pairs = ap (list_of (λ r. r.attributes)) here ∙ sym c.attributes.ensures in
-    rw is (tells-whole ks (BlockFault B f (types_of s) b) NoFault NoFault (RunAt B f (types_of s) ks (a_block b)) (RunsOnAttributes B f (types_of s) ks c.attributes.result.now) (RunsOnAttributes B f (types_of s) ks c.attributes.result.now)
+    rw is (tells-whole ks (FaultAtBlock B f (types_of s) b) NoFault NoFault (RunAt B f (types_of s) ks (a_block b)) (RunsOnAttributes B f (types_of s) ks c.attributes.result.now) (RunsOnAttributes B f (types_of s) ks c.attributes.result.now)
     (λ y n. absurd n) (λ k run. inl (subst (λ ps. RunsOnAttributes B f (types_of s) ks ps k) (sym pairs) run)) c.in_err-check_attributes.field-0.0 c.in_err-check_attributes.ensures)
 
 pub check_types-requires : goal.check_types-requires
@@ -50,7 +50,7 @@ returns g c =
     let ds = definitions-are s.records (Block b) c.as_slice.result.now same in
     let Attrs = RunsOnAttributes B f st ks c.attributes.result.now in
     let Types = RunsOnTypes B f st ks (map definition_of c.as_slice.result.now) in
-    let F = BlockFault B f st b in
+    let F = FaultAtBlock B f st b in
     let first = from-tells ks F (block-no_code B f st b) (Ok tt) c.in_ok-verify_block.ensures in
     let second = and-passed ks F NoCheck Attrs first c.in_ok-check_attributes.ensures in
     put-as ks F (λ k. (NoCheck k ⊎ Attrs k) ⊎ Types k) (RunAt B f st ks (a_block b))

@@ -8,7 +8,7 @@ use Rattle.ir_core_records.specs.Meaning.{op_record, definition_of}
 use Rattle.ir_core_records.specs.Tree.{ops_in, tree_of}
 use Rattle.ir_view_parts.specs.State.{forest_of, types_of}
 use Rattle.ir_verify_checks.specs.Shown.{checks_in}
-use Rattle.ir_verify_checks.specs.Parts.{OpFault, IsThere, NoCheck, NoFault, RunAt, RunsOnAttributes, RunsOnOp, RunsOnTypes}
+use Rattle.ir_verify_checks.specs.Parts.{FaultAtOp, IsThere, NoCheck, NoFault, RunAt, RunsOnAttributes, RunsOnOp, RunsOnTypes}
 use Rattle.ir_verify_checks.proofs.Alone.{and-last, and-passed, definitions-are, put-as, types-known}
 use Rattle.ir_verify_checks.proofs.Ends.{op-no_code}
 use Rattle.ir_verify_checks.proofs.Pieces.{from-tells, tells-whole}
@@ -26,7 +26,7 @@ returns-in_err-check_attributes g c =
     let f = forest_of s in
     let here = ap (option_map op_record) (rw c.records.ensures at c.at-operation.ensures) in
     let pairs = ap (list_of (λ r. r.attributes)) here ∙ sym c.attributes.ensures in
-    rw is (tells-whole ks (OpFault B f (types_of s) o) NoFault NoFault (RunAt B f (types_of s) ks (an_op o)) (RunsOnAttributes B f (types_of s) ks c.attributes.result.now) (RunsOnAttributes B f (types_of s) ks c.attributes.result.now)
+    rw is (tells-whole ks (FaultAtOp B f (types_of s) o) NoFault NoFault (RunAt B f (types_of s) ks (an_op o)) (RunsOnAttributes B f (types_of s) ks c.attributes.result.now) (RunsOnAttributes B f (types_of s) ks c.attributes.result.now)
     (λ y n. absurd n) (λ k run. inr (inl (subst (λ ps. RunsOnAttributes B f (types_of s) ks ps k) (sym pairs) run))) c.in_err-check_attributes.field-0.0 c.in_err-check_attributes.ensures)
 
 pub check_types-requires : goal.check_types-requires
@@ -51,7 +51,7 @@ returns g c =
     let Ops = RunsOnOp B f st ks o in
     let Attrs = RunsOnAttributes B f st ks c.attributes.result.now in
     let Types = RunsOnTypes B f st ks (map definition_of c.as_slice.result.now) in
-    let F = OpFault B f st o in
+    let F = FaultAtOp B f st o in
     let first = from-tells ks F (op-no_code B f st o) (Ok tt) c.in_ok-verify_place.ensures in
     let second = and-passed ks F NoCheck Ops first c.in_ok-check_operation.ensures in
     let third = and-passed ks F (λ k. NoCheck k ⊎ Ops k) Attrs second c.in_ok-check_attributes.ensures in

@@ -2,7 +2,7 @@ use Rattle.std.proofs.Common.{◌≡◌, ◌+◌, sym, ap, ◌∙◌, arith}
 use Rattle.ir_model.specs.Slots.{item_under}
 use Rattle.ir_model.proofs.Slots.{find_zero}
 use Rattle.ir_base_arenas.specs.declared.arena.Slot.TheVariants.{Free}
-use Rattle.ir_base_arenas.specs.ArenaSound.{shown, held_in}
+use Rattle.ir_base_arenas.specs.ArenaSound.{slot_shown, held_in}
 use Rattle.ir_base_arenas.proofs.ArenaChain.{find-shown, find-past}
 use Rattle.ir_base_arenas.proofs.arena.Arena.get.Goals as goal
 
@@ -15,7 +15,7 @@ pub returns-in-Some : goal.returns-in-Some
 returns-in-Some g c =
     let numbered : c.args.ptr.index.slot ≡ c.in_ok-place.place + 1 = omega (arith, c.in_ok-place.ensures) in
     let read : c.in-Some.slot.now ≡ held_in c.self.inside.slots.items c.in_ok-place.place = rw c.deref.ensures.value at (c.in-Some.ensures.lookup.3.1 (Free 0 0)) in
-    rw (← c.self.view_is) (c.item.ensures ∙ ap (λ s. item_under (shown s) c.args.ptr.index.version) read ∙ sym (find-shown c.self.inside.slots.items c.args.ptr.index c.in_ok-place.place numbered))
+    rw (← c.self.view_is) (c.item.ensures ∙ ap (λ s. item_under (slot_shown s) c.args.ptr.index.version) read ∙ sym (find-shown c.self.inside.slots.items c.args.ptr.index c.in_ok-place.place numbered))
 
 pub returns-in-None : goal.returns-in-None
 returns-in-None g c =

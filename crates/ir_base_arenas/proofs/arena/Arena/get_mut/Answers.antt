@@ -2,7 +2,7 @@ use Rattle.std.proofs.Common.{◌≡◌, ◌+◌, ◌<◌, length, refl, sym, ap
 use Rattle.std.proofs.lemmas.List.{get_or_read, set-get_or}
 use Rattle.ir_model.specs.Slots.{item_under}
 use Rattle.ir_base_arenas.specs.declared.arena.Slot.TheVariants.{Free}
-use Rattle.ir_base_arenas.specs.ArenaSound.{shown}
+use Rattle.ir_base_arenas.specs.ArenaSound.{slot_shown}
 use Rattle.ir_model.proofs.Slots.{find_zero}
 use Rattle.ir_base_arenas.proofs.ArenaChain.{find-shown, find-past, laid-rewrite, fill-shown, not_below}
 use Rattle.ir_base_arenas.proofs.arena.Arena.get_mut.Goals as goal
@@ -40,8 +40,8 @@ returns g c =
     let within : c.in_ok-place.place < length c.self.inside.slots.items = omega (arith, c.in_ok-self-inside.ensures.variant.0 refl, c.self.inside.slots.ok.0) in
     let read = get_or_read c.self.inside.slots.items _ _ within c.in_ok-self-inside.ensures.value (Free 0 0) in
     let found = find-shown c.self.inside.slots.items c.args.ptr.index c.in_ok-place.place numbered in
-    let item = ap (λ s. item_under (shown s) c.args.ptr.index.version) (sym read) ∙ sym c.in_ok-record.ensures.value in
+    let item = ap (λ s. item_under (slot_shown s) c.args.ptr.index.version) (sym read) ∙ sym c.in_ok-record.ensures.value in
     rw (← c.self.view_is) (
       rw read (λ i. inl (c.in_ok-record.record.ghost_name, λ w. record { slots = fill-shown c.self.inside.slots.items c.args.ptr.index c.in_ok-place.place c.in_ok-record.record.now w numbered within item i; limit = c.self.inside.limit; last_version = c.self.inside.last_version; removals = c.self.inside.removals.count })),
-      record { writes_back = tt; value = c.in_ok-record.ensures.value ∙ ap (λ s. item_under (shown s) c.args.ptr.index.version) read ∙ sym found },
+      record { writes_back = tt; value = c.in_ok-record.ensures.value ∙ ap (λ s. item_under (slot_shown s) c.args.ptr.index.version) read ∙ sym found },
     )

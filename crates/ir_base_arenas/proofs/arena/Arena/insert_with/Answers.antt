@@ -2,7 +2,7 @@ use Rattle.std.proofs.Common.{◌≡◌, ◌+◌, ◌-◌, ◌<◌, ◌≤◌, [
 use Rattle.std.proofs.lemmas.List.{get_or_read, length-map, length_push}
 use Rattle.ir_model.specs.declared.ids.ArenaIndex.{ArenaIndex}
 use Rattle.ir_base_arenas.specs.declared.arena.Slot.TheVariants.{Full, Free}
-use Rattle.ir_base_arenas.specs.ArenaSound.{shown, held_in}
+use Rattle.ir_base_arenas.specs.ArenaSound.{slot_shown, held_in}
 use Rattle.ir_base_arenas.proofs.ArenaSound.{inserts_is}
 use Rattle.ir_base_arenas.proofs.ArenaChain.{laid-next, laid-more, laid-room, laid-whole, last_is_new, free-none, write-shown, push-shown}
 use Rattle.ir_base_arenas.proofs.arena.Arena.insert_with.Goals as goal
@@ -18,7 +18,7 @@ overflow_add-version g c =
     let k = c.self.inside.first_free - 1 in
     let next = laid-next k c.self.inside.removals.count c.self.invariant (omega (arith, c.if-self-gt0.true)) in
     let read = get_or_read c.self.inside.slots.items _ _ next.within c.index-slot.ensures (Free 0 0) in
-    let at : c.version-version.result ≡ (shown (held_in c.self.inside.slots.items k)).version = c.version-version.ensures ∙ ap (λ s. (shown s).version) read in
+    let at : c.version-version.result ≡ (slot_shown (held_in c.self.inside.slots.items k)).version = c.version-version.ensures ∙ ap (λ s. (slot_shown s).version) read in
     let fits : c.version-version.result + 2 ≤ c.self.inside.last_version = rw at next.fits in
     omega arith
 
@@ -27,9 +27,9 @@ make-item-requires g c =
     let k = c.self.inside.first_free - 1 in
     let next = laid-next k c.self.inside.removals.count c.self.invariant (omega (arith, c.if-self-gt0.true)) in
     let read = get_or_read c.self.inside.slots.items _ _ next.within c.index-slot.ensures (Free 0 0) in
-    let at : c.version-version.result ≡ (shown (held_in c.self.inside.slots.items k)).version = c.version-version.ensures ∙ ap (λ s. (shown s).version) read in
+    let at : c.version-version.result ≡ (slot_shown (held_in c.self.inside.slots.items k)).version = c.version-version.ensures ∙ ap (λ s. (slot_shown s).version) read in
     let numbered : c.self.inside.first_free ≡ k + 1 = omega (arith, c.if-self-gt0.true) in
-    let id : ArenaIndex = record { slot = k + 1; version = (shown (held_in c.self.inside.slots.items k)).version + 2 } in
+    let id : ArenaIndex = record { slot = k + 1; version = (slot_shown (held_in c.self.inside.slots.items k)).version + 2 } in
     let same : c.from_index-ptr.result.index ≡ id = c.from_index-ptr.ensures ∙ (λ i. record { slot = numbered i; version = at i + 2 }) in
     c.requires c.from_index-ptr.result (rw (← c.self.view_is, same) next.fresh)
 
@@ -44,7 +44,7 @@ invariant_of-self g c =
     let k = c.self.inside.first_free - 1 in
     let next = laid-next k c.self.inside.removals.count c.self.invariant (omega (arith, c.if-self-gt0.true)) in
     let read = get_or_read c.self.inside.slots.items _ _ next.within c.index-slot.ensures (Free 0 0) in
-    let at : c.version-version.result ≡ (shown (held_in c.self.inside.slots.items k)).version = c.version-version.ensures ∙ ap (λ s. (shown s).version) read in
+    let at : c.version-version.result ≡ (slot_shown (held_in c.self.inside.slots.items k)).version = c.version-version.ensures ∙ ap (λ s. (slot_shown s).version) read in
     rw (at, c.next-next.ensures, read) (next.more c.make-item.result)
 
 pub returns-then-self-gt0-clause-inserted : goal.returns-then-self-gt0-clause-inserted
@@ -52,9 +52,9 @@ returns-then-self-gt0-clause-inserted g c =
     let k = c.self.inside.first_free - 1 in
     let next = laid-next k c.self.inside.removals.count c.self.invariant (omega (arith, c.if-self-gt0.true)) in
     let read = get_or_read c.self.inside.slots.items _ _ next.within c.index-slot.ensures (Free 0 0) in
-    let at : c.version-version.result ≡ (shown (held_in c.self.inside.slots.items k)).version = c.version-version.ensures ∙ ap (λ s. (shown s).version) read in
+    let at : c.version-version.result ≡ (slot_shown (held_in c.self.inside.slots.items k)).version = c.version-version.ensures ∙ ap (λ s. (slot_shown s).version) read in
     let numbered : c.self.inside.first_free ≡ k + 1 = omega (arith, c.if-self-gt0.true) in
-    let id : ArenaIndex = record { slot = k + 1; version = (shown (held_in c.self.inside.slots.items k)).version + 2 } in
+    let id : ArenaIndex = record { slot = k + 1; version = (slot_shown (held_in c.self.inside.slots.items k)).version + 2 } in
     let same : c.from_index-ptr.result.index ≡ id = c.from_index-ptr.ensures ∙ (λ i. record { slot = numbered i; version = at i + 2 }) in
     let written = write-shown c.self.inside.slots.items k (Full id.version c.make-item.result) next.within in
     rw (← c.self.view_is, at) (inserts_is _ _ _ _ _ _ c.from_index-ptr.result.index id c.make-item.result next.fresh same c.make-item.ensures written)
@@ -81,7 +81,7 @@ returns-then-at-self-clause-spent g c =
     let count = c.len-at.ensures in
     let left = laid-room c.self.inside.removals.count c.self.invariant in
     let within = (laid-whole c.self.inside.removals.count c.self.invariant).within in
-    let measured = length-map c.self.inside.slots.items shown in
+    let measured = length-map c.self.inside.slots.items slot_shown in
     let spare = free-none c.self.invariant none in
     (λ e. rw (← c.self.view_is) (omega (arith, c.if-at-self.true)), λ e. refl)
 
@@ -92,7 +92,7 @@ returns-then-is_err-clause-spent g c =
     let count = c.len-at.ensures in
     let left = laid-room c.self.inside.removals.count c.self.invariant in
     let within = (laid-whole c.self.inside.removals.count c.self.invariant).within in
-    let measured = length-map c.self.inside.slots.items shown in
+    let measured = length-map c.self.inside.slots.items slot_shown in
     let spare = free-none c.self.invariant none in
     (λ e. cc, rw (← c.self.view_is) (λ e. absurd (omega (arith, c.if-at-self.false))))
 
@@ -103,7 +103,7 @@ returns-then-is_err-clause-grown g c =
     let count = c.len-at.ensures in
     let left = laid-room c.self.inside.removals.count c.self.invariant in
     let within = (laid-whole c.self.inside.removals.count c.self.invariant).within in
-    let measured = length-map c.self.inside.slots.items shown in
+    let measured = length-map c.self.inside.slots.items slot_shown in
     let spare = free-none c.self.invariant none in
     λ e. rw (← c.self.view_is) (omega arith)
 
@@ -112,7 +112,7 @@ make-item-requires-2 g c =
     let none : c.self.inside.first_free ≡ 0 = omega (arith, c.if-self-gt0.false) in
     let held = c.self.inside.slots.ok.0 in
     let count = c.len-at.ensures in
-    let below : length c.self.inside.slots.items < c.self.inside.limit = omega (arith, c.if-at-self.false, (laid-whole c.self.inside.removals.count c.self.invariant).within, length-map c.self.inside.slots.items shown) in
+    let below : length c.self.inside.slots.items < c.self.inside.limit = omega (arith, c.if-at-self.false, (laid-whole c.self.inside.removals.count c.self.invariant).within, length-map c.self.inside.slots.items slot_shown) in
     let last : c.len-at.result ≡ length c.self.inside.slots.items = omega arith in
     c.requires c.from_index-ptr-2.result (rw (← c.self.view_is, c.from_index-ptr-2.ensures, last) (last_is_new c.self.inside.removals.count c.self.invariant below))
 
@@ -121,7 +121,7 @@ invariant_of-self-2 g c =
     let none : c.self.inside.first_free ≡ 0 = omega (arith, c.if-self-gt0.false) in
     let held = c.self.inside.slots.ok.0 in
     let count = c.len-at.ensures in
-    let below : length c.self.inside.slots.items < c.self.inside.limit = omega (arith, c.if-at-self.false, (laid-whole c.self.inside.removals.count c.self.invariant).within, length-map c.self.inside.slots.items shown) in
+    let below : length c.self.inside.slots.items < c.self.inside.limit = omega (arith, c.if-at-self.false, (laid-whole c.self.inside.removals.count c.self.invariant).within, length-map c.self.inside.slots.items slot_shown) in
     rw (c.push_reserved.ensures.items, c.reserve.ensures.items) (laid-more c.make-item-2.result c.self.invariant none below)
 
 pub returns-clause-spent : goal.returns-clause-spent
@@ -131,7 +131,7 @@ returns-clause-spent g c =
     let count = c.len-at.ensures in
     let left = laid-room c.self.inside.removals.count c.self.invariant in
     let within = (laid-whole c.self.inside.removals.count c.self.invariant).within in
-    let measured = length-map c.self.inside.slots.items shown in
+    let measured = length-map c.self.inside.slots.items slot_shown in
     let spare = free-none c.self.invariant none in
     (λ e. cc, rw (← c.self.view_is) (λ e. absurd (omega (arith, c.if-at-self.false))))
 
@@ -140,7 +140,7 @@ returns-clause-inserted g c =
     let none : c.self.inside.first_free ≡ 0 = omega (arith, c.if-self-gt0.false) in
     let held = c.self.inside.slots.ok.0 in
     let count = c.len-at.ensures in
-    let below : length c.self.inside.slots.items < c.self.inside.limit = omega (arith, c.if-at-self.false, (laid-whole c.self.inside.removals.count c.self.invariant).within, length-map c.self.inside.slots.items shown) in
+    let below : length c.self.inside.slots.items < c.self.inside.limit = omega (arith, c.if-at-self.false, (laid-whole c.self.inside.removals.count c.self.invariant).within, length-map c.self.inside.slots.items slot_shown) in
     let last : c.len-at.result ≡ length c.self.inside.slots.items = omega arith in
     let written = push-shown c.self.inside.slots.items (Full 1 c.make-item-2.result) in
     rw (← c.self.view_is, c.push_reserved.ensures.items, c.reserve.ensures.items)
@@ -151,7 +151,7 @@ returns-clause-room g c =
     let none : c.self.inside.first_free ≡ 0 = omega (arith, c.if-self-gt0.false) in
     let held = c.self.inside.slots.ok.0 in
     let count = c.len-at.ensures in
-    let below : length c.self.inside.slots.items < c.self.inside.limit = omega (arith, c.if-at-self.false, (laid-whole c.self.inside.removals.count c.self.invariant).within, length-map c.self.inside.slots.items shown) in
+    let below : length c.self.inside.slots.items < c.self.inside.limit = omega (arith, c.if-at-self.false, (laid-whole c.self.inside.removals.count c.self.invariant).within, length-map c.self.inside.slots.items slot_shown) in
     let before = laid-room c.self.inside.removals.count c.self.invariant in
     let after = laid-room c.self.inside.removals.count (invariant_of-self-2 g c) in
     let longer = length_push c.self.inside.slots.items (Full 1 c.make-item-2.result) in

@@ -2,7 +2,7 @@ use Rattle.std.proofs.Common.{◌≡◌, ◌+◌, ◌-◌, ◌<◌, map, set, le
 use Rattle.std.proofs.lemmas.List.{get_or_read, set-get_or}
 use Rattle.ir_model.specs.Slots.{item_under}
 use Rattle.ir_base_arenas.specs.declared.arena.Slot.TheVariants.{Free}
-use Rattle.ir_base_arenas.specs.ArenaSound.{shown, IsLaid}
+use Rattle.ir_base_arenas.specs.ArenaSound.{slot_shown, IsLaid}
 use Rattle.ir_model.proofs.Slots.{find_zero}
 use Rattle.ir_base_arenas.proofs.ArenaChain.{find-shown, find-past, taken-shown, cut-shown, laid-listed, laid-retired, laid-some, not_below}
 use Rattle.ir_model.specs.Arenas.{get}
@@ -18,7 +18,7 @@ returns-in_err-place-clause-value g c =
 pub returns-in_err-place-clause-gone : goal.returns-in_err-place-clause-gone
 returns-in_err-place-clause-gone g c =
     let none : c.args.ptr.index.slot ≡ 0 = omega (arith, c.in_err-place.ensures) in
-    find_zero (map shown c.self.inside.slots.items) c.args.ptr.index none
+    find_zero (map slot_shown c.self.inside.slots.items) c.args.ptr.index none
 
 pub returns-in_err-get_mut-clause-value : goal.returns-in_err-get_mut-clause-value
 returns-in_err-get_mut-clause-value g c =
@@ -51,7 +51,7 @@ overflow_sub-self g c =
     let numbered : c.args.ptr.index.slot ≡ c.in_ok-place.place + 1 = omega (arith, c.in_ok-place.ensures) in
     let within : c.in_ok-place.place < length c.self.inside.slots.items = omega (arith, c.in_ok-get_mut.ensures.variant.0 refl, c.self.inside.slots.ok.0) in
     let read = get_or_read c.self.inside.slots.items _ _ within c.in_ok-get_mut.ensures.value (Free 0 0) in
-    let item = ap (λ s. item_under (shown s) c.args.ptr.index.version) (sym read) ∙ sym c.in_ok-item.ensures.value in
+    let item = ap (λ s. item_under (slot_shown s) c.args.ptr.index.version) (sym read) ∙ sym c.in_ok-item.ensures.value in
     let live = taken-shown c.self.inside.slots.items c.args.ptr.index c.in_ok-place.place c.in_ok-item.item numbered within item in
     laid-some c.args.ptr.index c.self.invariant live
 
@@ -60,7 +60,7 @@ invariant_of-self-then-has_next g c =
     let numbered : c.args.ptr.index.slot ≡ c.in_ok-place.place + 1 = omega (arith, c.in_ok-place.ensures) in
     let within : c.in_ok-place.place < length c.self.inside.slots.items = omega (arith, c.in_ok-get_mut.ensures.variant.0 refl, c.self.inside.slots.ok.0) in
     let read = get_or_read c.self.inside.slots.items _ _ within c.in_ok-get_mut.ensures.value (Free 0 0) in
-    let item = ap (λ s. item_under (shown s) c.args.ptr.index.version) (sym read) ∙ sym c.in_ok-item.ensures.value in
+    let item = ap (λ s. item_under (slot_shown s) c.args.ptr.index.version) (sym read) ∙ sym c.in_ok-item.ensures.value in
     let live = taken-shown c.self.inside.slots.items c.args.ptr.index c.in_ok-place.place c.in_ok-item.item numbered within item in
     let same : c.args.ptr.index.slot - 1 ≡ c.in_ok-place.place = omega (arith, numbered) in
     rw c.in_ok-item.ensures.left
@@ -72,7 +72,7 @@ invariant_of-self-else-has_next g c =
     let numbered : c.args.ptr.index.slot ≡ c.in_ok-place.place + 1 = omega (arith, c.in_ok-place.ensures) in
     let within : c.in_ok-place.place < length c.self.inside.slots.items = omega (arith, c.in_ok-get_mut.ensures.variant.0 refl, c.self.inside.slots.ok.0) in
     let read = get_or_read c.self.inside.slots.items _ _ within c.in_ok-get_mut.ensures.value (Free 0 0) in
-    let item = ap (λ s. item_under (shown s) c.args.ptr.index.version) (sym read) ∙ sym c.in_ok-item.ensures.value in
+    let item = ap (λ s. item_under (slot_shown s) c.args.ptr.index.version) (sym read) ∙ sym c.in_ok-item.ensures.value in
     let live = taken-shown c.self.inside.slots.items c.args.ptr.index c.in_ok-place.place c.in_ok-item.item numbered within item in
     let same : c.args.ptr.index.slot - 1 ≡ c.in_ok-place.place = omega (arith, numbered) in
     rw c.in_ok-item.ensures.left
@@ -92,7 +92,7 @@ returns-clause-cut g c =
     let numbered : c.args.ptr.index.slot ≡ c.in_ok-place.place + 1 = omega (arith, c.in_ok-place.ensures) in
     let within : c.in_ok-place.place < length c.self.inside.slots.items = omega (arith, c.in_ok-get_mut.ensures.variant.0 refl, c.self.inside.slots.ok.0) in
     let read = get_or_read c.self.inside.slots.items _ _ within c.in_ok-get_mut.ensures.value (Free 0 0) in
-    let slots = ap (λ s. map shown (set c.self.inside.slots.items c.in_ok-place.place s)) c.in_ok-item.ensures.left ∙ cut-shown c.self.inside.slots.items c.args.ptr.index c.in_ok-place.place c.self.inside.first_free numbered within in
+    let slots = ap (λ s. map slot_shown (set c.self.inside.slots.items c.in_ok-place.place s)) c.in_ok-item.ensures.left ∙ cut-shown c.self.inside.slots.items c.args.ptr.index c.in_ok-place.place c.self.inside.first_free numbered within in
     let counted = c.next-self-inside.ensures in
     rw (← c.self.view_is) (
     elim c.if-has_next.branch [

@@ -1,18 +1,18 @@
 use Rattle.std.proofs.Common.{refl, sym}
-use Rattle.ir_core_context.specs.State.{State}
+use Rattle.ir_core_context.specs.State.{ContextState}
 use Rattle.ir_core_context.proofs.WrittenBlocks.{block-lent, block-lent-attributes, block-lent-label, block-lent-loc, block-lent-sound, writes-block}
 use Rattle.ir_core_context.proofs.lending.PtrBasicBlockBlockPtrMut.deref_mut.Goals as goal
 
 pub invariant_of-ctx-lent : goal.invariant_of-ctx-lent
 invariant_of-ctx-lent g c =
     let i = c.ctx.inside in
-    let s : State _ _ _ _ _ _ _ = record { records = i.records; types = i.types; next_value = i.next_value; next_use = i.next_use; side = i.side; limits = i.limits } in
+    let s : ContextState _ _ _ _ _ _ _ = record { records = i.records; types = i.types; next_value = i.next_value; next_use = i.next_use; side = i.side; limits = i.limits } in
     block-lent-sound s c.args.ptr.index c.at_mut.result.now c.at_mut.ensures.value c.ctx.invariant
 
 pub returns : goal.returns
 returns g c =
     let i = c.ctx.inside in
-    let s : State _ _ _ _ _ _ _ = record { records = i.records; types = i.types; next_value = i.next_value; next_use = i.next_use; side = i.side; limits = i.limits } in (
+    let s : ContextState _ _ _ _ _ _ _ = record { records = i.records; types = i.types; next_value = i.next_value; next_use = i.next_use; side = i.side; limits = i.limits } in (
       (refl, λ rest. rw (sym c.ctx.view_is) (block-lent s c.args.ptr.index c.at_mut.result.now c.at_mut.ensures.value rest)),
       record {
         writes_back = tt;

@@ -1,5 +1,5 @@
 use Rattle.std.proofs.Common.{refl, sym, ap, inr}
-use Rattle.ir_core_context.specs.State.{State}
+use Rattle.ir_core_context.specs.State.{ContextState}
 use Rattle.ir_core_context.proofs.Rewritten.{lent-same}
 use Rattle.ir_core_context.proofs.WrittenBlocks.{block-lent-attributes, block-lent-label, block-lent-live, block-lent-loc, block-lent-now, block-lent-sound, block-missing, writes-block}
 use Rattle.ir_core_context.proofs.lending.PtrBasicBlockBlockPtrMut.try_deref_mut.Goals as goal
@@ -7,13 +7,13 @@ use Rattle.ir_core_context.proofs.lending.PtrBasicBlockBlockPtrMut.try_deref_mut
 pub invariant_of-ctx-lent : goal.invariant_of-ctx-lent
 invariant_of-ctx-lent g c =
     let i = c.ctx.inside in
-    let s : State _ _ _ _ _ _ _ = record { records = i.records; types = i.types; next_value = i.next_value; next_use = i.next_use; side = i.side; limits = i.limits } in
+    let s : ContextState _ _ _ _ _ _ _ = record { records = i.records; types = i.types; next_value = i.next_value; next_use = i.next_use; side = i.side; limits = i.limits } in
     block-lent-sound s c.args.ptr.index c.in-Some.block.now (sym c.in-Some.ensures.value) c.ctx.invariant
 
 pub returns-in-Some : goal.returns-in-Some
 returns-in-Some g c =
     let i = c.ctx.inside in
-    let s : State _ _ _ _ _ _ _ = record { records = i.records; types = i.types; next_value = i.next_value; next_use = i.next_use; side = i.side; limits = i.limits } in (
+    let s : ContextState _ _ _ _ _ _ _ = record { records = i.records; types = i.types; next_value = i.next_value; next_use = i.next_use; side = i.side; limits = i.limits } in (
       lent-same _ (λ rest. block-lent-now s c.args.ptr.index c.in-Some.block.now (sym c.in-Some.ensures.value) c.args.ctx.now c.ctx.view_is rest),
       record {
         writes_back = tt;
@@ -31,7 +31,7 @@ returns-in-Some g c =
 pub returns-in-None : goal.returns-in-None
 returns-in-None g c =
     let i = c.ctx.inside in
-    let s : State _ _ _ _ _ _ _ = record { records = i.records; types = i.types; next_value = i.next_value; next_use = i.next_use; side = i.side; limits = i.limits } in (
+    let s : ContextState _ _ _ _ _ _ _ = record { records = i.records; types = i.types; next_value = i.next_value; next_use = i.next_use; side = i.side; limits = i.limits } in (
       ap inr c.ctx.view_is,
       record {
         writes_back = tt;

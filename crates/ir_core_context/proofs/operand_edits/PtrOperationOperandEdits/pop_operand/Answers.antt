@@ -1,41 +1,41 @@
 use Rattle.std.proofs.Common.{sym, ◌-◌, length}
 use Rattle.ir_model.specs.Nesting.{operands_of}
 use Rattle.ir_core_records.specs.Meaning.{value_of as value_in}
-use Rattle.ir_core_context.specs.State.{State, forest_of}
+use Rattle.ir_core_context.specs.State.{ContextState, forest_of}
 use Rattle.ir_core_context.proofs.TakenUses.{last-operand-named, operand-still, operand-taken}
 use Rattle.ir_core_context.proofs.operand_edits.PtrOperationOperandEdits.pop_operand.Goals as goal
 
 pub invariant_of-ctx : goal.invariant_of-ctx
 invariant_of-ctx g c =
     let i = c.ctx.inside in
-    let s : State _ _ _ _ _ _ _ = record { records = i.records; types = i.types; next_value = i.next_value; next_use = i.next_use; side = i.side; limits = i.limits } in
+    let s : ContextState _ _ _ _ _ _ _ = record { records = i.records; types = i.types; next_value = i.next_value; next_use = i.next_use; side = i.side; limits = i.limits } in
     let e = c.pop_operand-value.ensures in
     (operand-taken {s = s} c.ctx.invariant e.keeps e.linked c.args.self.index (rw (sym c.ctx.view_is) at c.requires.live) (λ ps. length ps - 1) e.forest).sound
 
 pub returns-clause-named : goal.returns-clause-named
 returns-clause-named g c =
     let i = c.ctx.inside in
-    let s : State _ _ _ _ _ _ _ = record { records = i.records; types = i.types; next_value = i.next_value; next_use = i.next_use; side = i.side; limits = i.limits } in
+    let s : ContextState _ _ _ _ _ _ _ = record { records = i.records; types = i.types; next_value = i.next_value; next_use = i.next_use; side = i.side; limits = i.limits } in
     let e = c.pop_operand-value.ensures in
     rw (sym c.ctx.view_is, c.from_index.ensures) (last-operand-named i.records c.args.self.index c.pop_operand-value.result e.value)
 
 pub returns-clause-still_live : goal.returns-clause-still_live
 returns-clause-still_live g c =
     let i = c.ctx.inside in
-    let s : State _ _ _ _ _ _ _ = record { records = i.records; types = i.types; next_value = i.next_value; next_use = i.next_use; side = i.side; limits = i.limits } in
+    let s : ContextState _ _ _ _ _ _ _ = record { records = i.records; types = i.types; next_value = i.next_value; next_use = i.next_use; side = i.side; limits = i.limits } in
     let e = c.pop_operand-value.ensures in
     rw c.from_index.ensures (operand-still {s = s} c.ctx.invariant e.keeps e.linked c.args.self.index _ e.forest (length (operands_of (forest_of s) c.args.self.index) - 1) (value_in c.pop_operand-value.result) (last-operand-named i.records c.args.self.index c.pop_operand-value.result e.value))
 
 pub returns-clause-rest : goal.returns-clause-rest
 returns-clause-rest g c =
     let i = c.ctx.inside in
-    let s : State _ _ _ _ _ _ _ = record { records = i.records; types = i.types; next_value = i.next_value; next_use = i.next_use; side = i.side; limits = i.limits } in
+    let s : ContextState _ _ _ _ _ _ _ = record { records = i.records; types = i.types; next_value = i.next_value; next_use = i.next_use; side = i.side; limits = i.limits } in
     let e = c.pop_operand-value.ensures in
     rw (sym c.ctx.view_is) (operand-taken {s = s} c.ctx.invariant e.keeps e.linked c.args.self.index (rw (sym c.ctx.view_is) at c.requires.live) (λ ps. length ps - 1) e.forest).rest
 
 pub returns-clause-stay_live : goal.returns-clause-stay_live
 returns-clause-stay_live g c =
     let i = c.ctx.inside in
-    let s : State _ _ _ _ _ _ _ = record { records = i.records; types = i.types; next_value = i.next_value; next_use = i.next_use; side = i.side; limits = i.limits } in
+    let s : ContextState _ _ _ _ _ _ _ = record { records = i.records; types = i.types; next_value = i.next_value; next_use = i.next_use; side = i.side; limits = i.limits } in
     let e = c.pop_operand-value.ensures in
     rw (sym c.ctx.view_is) (operand-taken {s = s} c.ctx.invariant e.keeps e.linked c.args.self.index (rw (sym c.ctx.view_is) at c.requires.live) (λ ps. length ps - 1) e.forest).stay_live

@@ -5,7 +5,7 @@ use Rattle.ir_core_records.specs.Meaning.{value_of as value_in}
 use Rattle.ir_core_context.specs.Named.{live-value}
 use Rattle.ir_core_context.specs.Places.{operand_replaced}
 use Rattle.ir_core_context.specs.Sound.{IsSound}
-use Rattle.ir_core_context.specs.State.{State, forest_of}
+use Rattle.ir_core_context.specs.State.{ContextState, forest_of}
 use Rattle.ir_core_context.proofs.PlacedUses.{next-operand, operand-placed}
 use Rattle.ir_core_context.proofs.TakenUses.{operand-count}
 use Rattle.ir_core_context.proofs.operand_edits.PtrOperationOperandEdits.replace_operand.Goals as goal
@@ -29,7 +29,7 @@ invariant_of-ctx g c =
 pub invariant_of-ctx-2 : goal.invariant_of-ctx-2
 invariant_of-ctx-2 g c =
     let i = c.ctx.inside in
-    let s : State _ _ _ _ _ _ _ = record { records = i.records; types = i.types; next_value = i.next_value; next_use = i.next_use; side = i.side; limits = i.limits } in
+    let s : ContextState _ _ _ _ _ _ _ = record { records = i.records; types = i.types; next_value = i.next_value; next_use = i.next_use; side = i.side; limits = i.limits } in
     let e = c.replace_operand.ensures in
     let d = value_in c.args.value.index in
     (operand-placed {s = s} c.ctx.invariant e.keeps e.linked (rw (sym c.ctx.view_is) at c.in_ok-has_use_number.ensures.enough) (operand_replaced (forest_of s) c.args.self.index c.args.index d) c.in_ok-replace_operand.ensures.forest c.args.self.index
@@ -38,7 +38,7 @@ invariant_of-ctx-2 g c =
 pub returns-clause-made : goal.returns-clause-made
 returns-clause-made g c =
     let i = c.ctx.inside in
-    let s : State _ _ _ _ _ _ _ = record { records = i.records; types = i.types; next_value = i.next_value; next_use = i.next_use; side = i.side; limits = i.limits } in
+    let s : ContextState _ _ _ _ _ _ _ = record { records = i.records; types = i.types; next_value = i.next_value; next_use = i.next_use; side = i.side; limits = i.limits } in
     let e = c.replace_operand.ensures in
     let d = value_in c.args.value.index in
     rw (sym c.ctx.view_is) (operand-placed {s = s} c.ctx.invariant e.keeps e.linked (rw (sym c.ctx.view_is) at c.in_ok-has_use_number.ensures.enough) (operand_replaced (forest_of s) c.args.self.index c.args.index d) c.in_ok-replace_operand.ensures.forest c.args.self.index
@@ -47,7 +47,7 @@ returns-clause-made g c =
 pub returns-clause-stay_live : goal.returns-clause-stay_live
 returns-clause-stay_live g c =
     let i = c.ctx.inside in
-    let s : State _ _ _ _ _ _ _ = record { records = i.records; types = i.types; next_value = i.next_value; next_use = i.next_use; side = i.side; limits = i.limits } in
+    let s : ContextState _ _ _ _ _ _ _ = record { records = i.records; types = i.types; next_value = i.next_value; next_use = i.next_use; side = i.side; limits = i.limits } in
     let e = c.replace_operand.ensures in
     let d = value_in c.args.value.index in
     rw (sym c.ctx.view_is) (operand-placed {s = s} c.ctx.invariant e.keeps e.linked (rw (sym c.ctx.view_is) at c.in_ok-has_use_number.ensures.enough) (operand_replaced (forest_of s) c.args.self.index c.args.index d) c.in_ok-replace_operand.ensures.forest c.args.self.index

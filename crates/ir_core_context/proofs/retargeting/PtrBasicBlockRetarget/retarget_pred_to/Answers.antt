@@ -1,7 +1,7 @@
 use Rattle.std.proofs.Common.{sym}
 use Rattle.ir_core_records.specs.Meaning.{use_of as use_in}
 use Rattle.ir_core_replacing.specs.Chosen.{same_use}
-use Rattle.ir_core_context.specs.State.{State}
+use Rattle.ir_core_context.specs.State.{ContextState}
 use Rattle.ir_core_context.proofs.Redirected.{block-use-of-same, block-use-placed, some-retargeted}
 use Rattle.ir_core_context.proofs.retargeting.PtrBasicBlockRetarget.retarget_pred_to.Goals as goal
 
@@ -14,20 +14,20 @@ returns-in_err-retarget_pred-clause-itself g c same = absurd (let never = block-
 pub invariant_of-ctx-2 : goal.invariant_of-ctx-2
 invariant_of-ctx-2 g c =
     let i = c.ctx.inside in
-    let s : State _ _ _ _ _ _ _ = record { records = i.records; types = i.types; next_value = i.next_value; next_use = i.next_use; side = i.side; limits = i.limits } in
+    let s : ContextState _ _ _ _ _ _ _ = record { records = i.records; types = i.types; next_value = i.next_value; next_use = i.next_use; side = i.side; limits = i.limits } in
     let e = c.in_ok-retarget_pred.ensures in
     (some-retargeted {s = s} c.ctx.invariant e.keeps e.linked (same_use (use_in c.args.used.index)) c.args.other.index (rw (sym c.ctx.view_is) at c.requires.other_live) e.forest).sound
 
 pub returns-clause-rest : goal.returns-clause-rest
 returns-clause-rest g c =
     let i = c.ctx.inside in
-    let s : State _ _ _ _ _ _ _ = record { records = i.records; types = i.types; next_value = i.next_value; next_use = i.next_use; side = i.side; limits = i.limits } in
+    let s : ContextState _ _ _ _ _ _ _ = record { records = i.records; types = i.types; next_value = i.next_value; next_use = i.next_use; side = i.side; limits = i.limits } in
     let e = c.in_ok-retarget_pred.ensures in
     rw (sym c.ctx.view_is) (some-retargeted {s = s} c.ctx.invariant e.keeps e.linked (same_use (use_in c.args.used.index)) c.args.other.index (rw (sym c.ctx.view_is) at c.requires.other_live) e.forest).rest
 
 pub returns-clause-stay_live : goal.returns-clause-stay_live
 returns-clause-stay_live g c =
     let i = c.ctx.inside in
-    let s : State _ _ _ _ _ _ _ = record { records = i.records; types = i.types; next_value = i.next_value; next_use = i.next_use; side = i.side; limits = i.limits } in
+    let s : ContextState _ _ _ _ _ _ _ = record { records = i.records; types = i.types; next_value = i.next_value; next_use = i.next_use; side = i.side; limits = i.limits } in
     let e = c.in_ok-retarget_pred.ensures in
     rw (sym c.ctx.view_is) (some-retargeted {s = s} c.ctx.invariant e.keeps e.linked (same_use (use_in c.args.used.index)) c.args.other.index (rw (sym c.ctx.view_is) at c.requires.other_live) e.forest).stay_live

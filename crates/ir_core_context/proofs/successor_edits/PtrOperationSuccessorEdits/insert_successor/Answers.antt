@@ -3,7 +3,7 @@ use Rattle.ir_model.specs.Changes.{successor}
 use Rattle.ir_model.proofs.KeepsEntries.{insert-puts}
 use Rattle.ir_core_context.specs.Places.{successor_inserted}
 use Rattle.ir_core_context.specs.Sound.{IsSound}
-use Rattle.ir_core_context.specs.State.{State, forest_of}
+use Rattle.ir_core_context.specs.State.{ContextState, forest_of}
 use Rattle.ir_core_context.proofs.Linking.{live-block}
 use Rattle.ir_core_context.proofs.PlacedUses.{next-successor, successor-placed}
 use Rattle.ir_core_context.proofs.TakenUses.{successor-count}
@@ -28,7 +28,7 @@ invariant_of-ctx g c =
 pub invariant_of-ctx-2 : goal.invariant_of-ctx-2
 invariant_of-ctx-2 g c =
     let i = c.ctx.inside in
-    let s : State _ _ _ _ _ _ _ = record { records = i.records; types = i.types; next_value = i.next_value; next_use = i.next_use; side = i.side; limits = i.limits } in
+    let s : ContextState _ _ _ _ _ _ _ = record { records = i.records; types = i.types; next_value = i.next_value; next_use = i.next_use; side = i.side; limits = i.limits } in
     let e = c.insert_successor.ensures in
     let d = c.args.block.index in
     (successor-placed {s = s} c.ctx.invariant e.keeps e.linked (rw (sym c.ctx.view_is) at c.in_ok-has_use_number.ensures.enough) (successor_inserted (forest_of s) c.args.self.index c.args.index d) c.in_ok-insert_successor.ensures.forest c.args.self.index
@@ -37,7 +37,7 @@ invariant_of-ctx-2 g c =
 pub returns-clause-made : goal.returns-clause-made
 returns-clause-made g c =
     let i = c.ctx.inside in
-    let s : State _ _ _ _ _ _ _ = record { records = i.records; types = i.types; next_value = i.next_value; next_use = i.next_use; side = i.side; limits = i.limits } in
+    let s : ContextState _ _ _ _ _ _ _ = record { records = i.records; types = i.types; next_value = i.next_value; next_use = i.next_use; side = i.side; limits = i.limits } in
     let e = c.insert_successor.ensures in
     let d = c.args.block.index in
     rw (sym c.ctx.view_is) (successor-placed {s = s} c.ctx.invariant e.keeps e.linked (rw (sym c.ctx.view_is) at c.in_ok-has_use_number.ensures.enough) (successor_inserted (forest_of s) c.args.self.index c.args.index d) c.in_ok-insert_successor.ensures.forest c.args.self.index
@@ -46,7 +46,7 @@ returns-clause-made g c =
 pub returns-clause-stay_live : goal.returns-clause-stay_live
 returns-clause-stay_live g c =
     let i = c.ctx.inside in
-    let s : State _ _ _ _ _ _ _ = record { records = i.records; types = i.types; next_value = i.next_value; next_use = i.next_use; side = i.side; limits = i.limits } in
+    let s : ContextState _ _ _ _ _ _ _ = record { records = i.records; types = i.types; next_value = i.next_value; next_use = i.next_use; side = i.side; limits = i.limits } in
     let e = c.insert_successor.ensures in
     let d = c.args.block.index in
     rw (sym c.ctx.view_is) (successor-placed {s = s} c.ctx.invariant e.keeps e.linked (rw (sym c.ctx.view_is) at c.in_ok-has_use_number.ensures.enough) (successor_inserted (forest_of s) c.args.self.index c.args.index d) c.in_ok-insert_successor.ensures.forest c.args.self.index

@@ -3,7 +3,7 @@ use Rattle.ir_model.specs.Changes.{successor}
 use Rattle.ir_model.proofs.KeepsEntries.{push-puts}
 use Rattle.ir_core_context.specs.Places.{successor_pushed}
 use Rattle.ir_core_context.specs.Sound.{IsSound}
-use Rattle.ir_core_context.specs.State.{State, forest_of}
+use Rattle.ir_core_context.specs.State.{ContextState, forest_of}
 use Rattle.ir_core_context.proofs.Linking.{live-block}
 use Rattle.ir_core_context.proofs.PlacedUses.{next-successor, successor-placed}
 use Rattle.ir_core_context.proofs.successor_edits.PtrOperationSuccessorEdits.push_successor.Goals as goal
@@ -24,7 +24,7 @@ invariant_of-ctx g c =
 pub invariant_of-ctx-2 : goal.invariant_of-ctx-2
 invariant_of-ctx-2 g c =
     let i = c.ctx.inside in
-    let s : State _ _ _ _ _ _ _ = record { records = i.records; types = i.types; next_value = i.next_value; next_use = i.next_use; side = i.side; limits = i.limits } in
+    let s : ContextState _ _ _ _ _ _ _ = record { records = i.records; types = i.types; next_value = i.next_value; next_use = i.next_use; side = i.side; limits = i.limits } in
     let e = c.push_successor.ensures in
     let d = c.args.block.index in
     (successor-placed {s = s} c.ctx.invariant e.keeps e.linked (rw (sym c.ctx.view_is) at c.in_ok-has_use_number.ensures.enough) (successor_pushed (forest_of s) c.args.self.index d) c.in_ok-push_successor.ensures.forest c.args.self.index
@@ -33,7 +33,7 @@ invariant_of-ctx-2 g c =
 pub returns-clause-made : goal.returns-clause-made
 returns-clause-made g c =
     let i = c.ctx.inside in
-    let s : State _ _ _ _ _ _ _ = record { records = i.records; types = i.types; next_value = i.next_value; next_use = i.next_use; side = i.side; limits = i.limits } in
+    let s : ContextState _ _ _ _ _ _ _ = record { records = i.records; types = i.types; next_value = i.next_value; next_use = i.next_use; side = i.side; limits = i.limits } in
     let e = c.push_successor.ensures in
     let d = c.args.block.index in
     rw (sym c.ctx.view_is) (successor-placed {s = s} c.ctx.invariant e.keeps e.linked (rw (sym c.ctx.view_is) at c.in_ok-has_use_number.ensures.enough) (successor_pushed (forest_of s) c.args.self.index d) c.in_ok-push_successor.ensures.forest c.args.self.index
@@ -42,7 +42,7 @@ returns-clause-made g c =
 pub returns-clause-stay_live : goal.returns-clause-stay_live
 returns-clause-stay_live g c =
     let i = c.ctx.inside in
-    let s : State _ _ _ _ _ _ _ = record { records = i.records; types = i.types; next_value = i.next_value; next_use = i.next_use; side = i.side; limits = i.limits } in
+    let s : ContextState _ _ _ _ _ _ _ = record { records = i.records; types = i.types; next_value = i.next_value; next_use = i.next_use; side = i.side; limits = i.limits } in
     let e = c.push_successor.ensures in
     let d = c.args.block.index in
     rw (sym c.ctx.view_is) (successor-placed {s = s} c.ctx.invariant e.keeps e.linked (rw (sym c.ctx.view_is) at c.in_ok-has_use_number.ensures.enough) (successor_pushed (forest_of s) c.args.self.index d) c.in_ok-push_successor.ensures.forest c.args.self.index

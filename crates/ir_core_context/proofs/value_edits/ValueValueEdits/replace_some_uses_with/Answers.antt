@@ -5,7 +5,7 @@ use Rattle.ir_core_records.specs.Table.{uses_at}
 use Rattle.ir_core_replacing.specs.Chosen.{is_chosen}
 use Rattle.ir_core_context.specs.Asked.{AreAnswers}
 use Rattle.ir_core_context.specs.Named.{live-value}
-use Rattle.ir_core_context.specs.State.{State, forest_of}
+use Rattle.ir_core_context.specs.State.{ContextState, forest_of}
 use Rattle.ir_core_context.proofs.Asked.{chosen-by}
 use Rattle.ir_core_context.proofs.ExactUses.{uses-exact}
 use Rattle.ir_core_context.proofs.Redirected.{some-redirected}
@@ -25,7 +25,7 @@ replace_some_uses-requires-clause-count g c =
 pub returns-clause-forest : goal.returns-clause-forest
 returns-clause-forest g c =
     let i = c.ctx.inside in
-    let s : State _ _ _ _ _ _ _ = record { records = i.records; types = i.types; next_value = i.next_value; next_use = i.next_use; side = i.side; limits = i.limits } in
+    let s : ContextState _ _ _ _ _ _ _ = record { records = i.records; types = i.types; next_value = i.next_value; next_use = i.next_use; side = i.side; limits = i.limits } in
     let us = uses_at i.records c.args.self.index in
     let bs = c.as_slice.result.now in
     let are = rw (sym c.ctx.view_is) at c.in_ok-answers.ensures.answers in
@@ -38,20 +38,20 @@ returns-clause-forest g c =
 pub invariant_of-ctx-2 : goal.invariant_of-ctx-2
 invariant_of-ctx-2 g c =
     let i = c.ctx.inside in
-    let s : State _ _ _ _ _ _ _ = record { records = i.records; types = i.types; next_value = i.next_value; next_use = i.next_use; side = i.side; limits = i.limits } in
+    let s : ContextState _ _ _ _ _ _ _ = record { records = i.records; types = i.types; next_value = i.next_value; next_use = i.next_use; side = i.side; limits = i.limits } in
     let e = c.in_ok-replace_some_uses.ensures in
     (some-redirected {s = s} c.ctx.invariant e.keeps e.linked (is_chosen (uses_at i.records c.args.self.index) c.as_slice.result.now) (value_in c.args.other.index) (rw (sym c.ctx.view_is) at c.requires.other_live) e.forest).sound
 
 pub returns-clause-rest : goal.returns-clause-rest
 returns-clause-rest g c =
     let i = c.ctx.inside in
-    let s : State _ _ _ _ _ _ _ = record { records = i.records; types = i.types; next_value = i.next_value; next_use = i.next_use; side = i.side; limits = i.limits } in
+    let s : ContextState _ _ _ _ _ _ _ = record { records = i.records; types = i.types; next_value = i.next_value; next_use = i.next_use; side = i.side; limits = i.limits } in
     let e = c.in_ok-replace_some_uses.ensures in
     rw (sym c.ctx.view_is) (some-redirected {s = s} c.ctx.invariant e.keeps e.linked (is_chosen (uses_at i.records c.args.self.index) c.as_slice.result.now) (value_in c.args.other.index) (rw (sym c.ctx.view_is) at c.requires.other_live) e.forest).rest
 
 pub returns-clause-stay_live : goal.returns-clause-stay_live
 returns-clause-stay_live g c =
     let i = c.ctx.inside in
-    let s : State _ _ _ _ _ _ _ = record { records = i.records; types = i.types; next_value = i.next_value; next_use = i.next_use; side = i.side; limits = i.limits } in
+    let s : ContextState _ _ _ _ _ _ _ = record { records = i.records; types = i.types; next_value = i.next_value; next_use = i.next_use; side = i.side; limits = i.limits } in
     let e = c.in_ok-replace_some_uses.ensures in
     rw (sym c.ctx.view_is) (some-redirected {s = s} c.ctx.invariant e.keeps e.linked (is_chosen (uses_at i.records c.args.self.index) c.as_slice.result.now) (value_in c.args.other.index) (rw (sym c.ctx.view_is) at c.requires.other_live) e.forest).stay_live

@@ -2,7 +2,7 @@ use Rattle.std.proofs.Common.{sym}
 use Rattle.std.specs.Option.{option_map}
 use Rattle.ir_core_records.specs.Meaning.{value_of as value_in}
 use Rattle.ir_core_context.specs.Named.{live-value}
-use Rattle.ir_core_context.specs.State.{State}
+use Rattle.ir_core_context.specs.State.{ContextState}
 use Rattle.ir_core_context.proofs.Redirected.{value-renamed}
 use Rattle.ir_core_context.proofs.value_edits.ValueValueEdits.set_name.Goals as goal
 
@@ -12,7 +12,7 @@ set_name-requires g c = live-value c.ctx.inside.records c.args.self.index (rw (s
 pub invariant_of-ctx : goal.invariant_of-ctx
 invariant_of-ctx g c =
     let i = c.ctx.inside in
-    let s : State _ _ _ _ _ _ _ = record { records = i.records; types = i.types; next_value = i.next_value; next_use = i.next_use; side = i.side; limits = i.limits } in
+    let s : ContextState _ _ _ _ _ _ _ = record { records = i.records; types = i.types; next_value = i.next_value; next_use = i.next_use; side = i.side; limits = i.limits } in
     let e = c.set_name.ensures in
     (value-renamed {s = s} c.ctx.invariant e.keeps (e.linked c.ctx.invariant.linked) (value_in c.args.self.index) (option_map (λ b. b.value) c.args.name) e.forest).sound
 
@@ -22,13 +22,13 @@ returns-clause-forest g c = rw (sym c.ctx.view_is) c.set_name.ensures.forest
 pub returns-clause-rest : goal.returns-clause-rest
 returns-clause-rest g c =
     let i = c.ctx.inside in
-    let s : State _ _ _ _ _ _ _ = record { records = i.records; types = i.types; next_value = i.next_value; next_use = i.next_use; side = i.side; limits = i.limits } in
+    let s : ContextState _ _ _ _ _ _ _ = record { records = i.records; types = i.types; next_value = i.next_value; next_use = i.next_use; side = i.side; limits = i.limits } in
     let e = c.set_name.ensures in
     rw (sym c.ctx.view_is) (value-renamed {s = s} c.ctx.invariant e.keeps (e.linked c.ctx.invariant.linked) (value_in c.args.self.index) (option_map (λ b. b.value) c.args.name) e.forest).rest
 
 pub returns-clause-stay_live : goal.returns-clause-stay_live
 returns-clause-stay_live g c =
     let i = c.ctx.inside in
-    let s : State _ _ _ _ _ _ _ = record { records = i.records; types = i.types; next_value = i.next_value; next_use = i.next_use; side = i.side; limits = i.limits } in
+    let s : ContextState _ _ _ _ _ _ _ = record { records = i.records; types = i.types; next_value = i.next_value; next_use = i.next_use; side = i.side; limits = i.limits } in
     let e = c.set_name.ensures in
     rw (sym c.ctx.view_is) (value-renamed {s = s} c.ctx.invariant e.keeps (e.linked c.ctx.invariant.linked) (value_in c.args.self.index) (option_map (λ b. b.value) c.args.name) e.forest).stay_live

@@ -1,7 +1,7 @@
 use Rattle.std.proofs.Common.{sym}
 use Rattle.ir_core_records.specs.Meaning.{value_of as value_in}
 use Rattle.ir_core_context.specs.Named.{live-value}
-use Rattle.ir_core_context.specs.State.{State}
+use Rattle.ir_core_context.specs.State.{ContextState}
 use Rattle.ir_core_context.proofs.Redirected.{value-retyped}
 use Rattle.ir_core_context.proofs.value_edits.ValueValueEdits.set_type.Goals as goal
 
@@ -11,7 +11,7 @@ set_type-requires g c = live-value c.ctx.inside.records c.args.self.index (rw (s
 pub invariant_of-ctx : goal.invariant_of-ctx
 invariant_of-ctx g c =
     let i = c.ctx.inside in
-    let s : State _ _ _ _ _ _ _ = record { records = i.records; types = i.types; next_value = i.next_value; next_use = i.next_use; side = i.side; limits = i.limits } in
+    let s : ContextState _ _ _ _ _ _ _ = record { records = i.records; types = i.types; next_value = i.next_value; next_use = i.next_use; side = i.side; limits = i.limits } in
     let e = c.set_type.ensures in
     (value-retyped {s = s} c.ctx.invariant e.keeps (e.linked c.ctx.invariant.linked) (value_in c.args.self.index) c.args.ty.place (rw (sym c.ctx.view_is) at c.requires.known) e.forest).sound
 
@@ -21,13 +21,13 @@ returns-clause-forest g c = rw (sym c.ctx.view_is) c.set_type.ensures.forest
 pub returns-clause-rest : goal.returns-clause-rest
 returns-clause-rest g c =
     let i = c.ctx.inside in
-    let s : State _ _ _ _ _ _ _ = record { records = i.records; types = i.types; next_value = i.next_value; next_use = i.next_use; side = i.side; limits = i.limits } in
+    let s : ContextState _ _ _ _ _ _ _ = record { records = i.records; types = i.types; next_value = i.next_value; next_use = i.next_use; side = i.side; limits = i.limits } in
     let e = c.set_type.ensures in
     rw (sym c.ctx.view_is) (value-retyped {s = s} c.ctx.invariant e.keeps (e.linked c.ctx.invariant.linked) (value_in c.args.self.index) c.args.ty.place (rw (sym c.ctx.view_is) at c.requires.known) e.forest).rest
 
 pub returns-clause-stay_live : goal.returns-clause-stay_live
 returns-clause-stay_live g c =
     let i = c.ctx.inside in
-    let s : State _ _ _ _ _ _ _ = record { records = i.records; types = i.types; next_value = i.next_value; next_use = i.next_use; side = i.side; limits = i.limits } in
+    let s : ContextState _ _ _ _ _ _ _ = record { records = i.records; types = i.types; next_value = i.next_value; next_use = i.next_use; side = i.side; limits = i.limits } in
     let e = c.set_type.ensures in
     rw (sym c.ctx.view_is) (value-retyped {s = s} c.ctx.invariant e.keeps (e.linked c.ctx.invariant.linked) (value_in c.args.self.index) c.args.ty.place (rw (sym c.ctx.view_is) at c.requires.known) e.forest).stay_live
