@@ -5,7 +5,7 @@ use Rattle.std.proofs.lemmas.List.Sums.{sum_by-cons}
 use Rattle.std.proofs.lemmas.Option.{same_Some}
 use Rattle.ir_model.specs.declared.ids.ArenaIndex.{ArenaIndex}
 use Rattle.ir_model.specs.Slots.{Slot, is_taken, is_retired, had_version}
-use Rattle.ir_base_arenas.specs.Arena.{Arena, get, fill, cut, empty, IsLive, IsNew, is_passed, arena_len, room}
+use Rattle.ir_base_arenas.specs.Arena.{Arena, get, fill, cut, empty, IsLiveIn, IsNew, is_passed, arena_len, room}
 use Rattle.ir_model.specs.Ids.{Distinct}
 use Rattle.ir_model.specs.Nesting.{In}
 use Rattle.ir_base_arenas.specs.Lists.{seen, Links, Ends, Heap, unlinked, no_ends, ends_of, AreLists, container_in, container_of, IsInList, map_slot, map_records, SameBut, SameIds}
@@ -97,7 +97,7 @@ module _ {T : Type 0} (links : T → Links) (nodes : Arena T) (r : Heap Ends) (l
           let bad : None ≡ Some s.0 = sym none ∙ s.1 in
           cc
 
-  pub AreLists-cut_node : (id : ArenaIndex) → IsLive nodes id → (IsInList (seen links nodes) id → ⊥) → AreLists (seen links (cut nodes id)) r lists
+  pub AreLists-cut_node : (id : ArenaIndex) → IsLiveIn nodes id → (IsInList (seen links nodes) id → ⊥) → AreLists (seen links (cut nodes id)) r lists
   AreLists-cut_node id live free =
       AreLists-nodes (seen links nodes) (seen links (cut nodes id)) r lists l
       (λ c y i. same y (λ e. free (in-is_linked l c id (subst (λ z. In z (lists c)) (sym e) i))))
@@ -139,7 +139,7 @@ module _ {C : Type 0} (ends : C → Ends) (h : Heap Links) (containers : Arena C
       same : (c : ArenaIndex) → (id ≡ c → ⊥) → seen ends (fill containers id v) c ≡ seen ends containers c
       same c ne = ap (option_map ends) (get-fill_new_other containers id c v new (λ e. ne (sym e)))
 
-  pub AreLists-cut_container : (id : ArenaIndex) → IsLive containers id → lists id ≡ [] → AreLists h (seen ends (cut containers id)) lists
+  pub AreLists-cut_container : (id : ArenaIndex) → IsLiveIn containers id → lists id ≡ [] → AreLists h (seen ends (cut containers id)) lists
   AreLists-cut_container id live none = record {
     chains = l.chains;
     ends = λ c e is. elim (id_cases id c) [

@@ -5,7 +5,7 @@ use Rattle.std.specs.Option.{option_map}
 use Rattle.std.proofs.lemmas.Option.{same_Some}
 use Rattle.ir_model.specs.declared.ids.ArenaIndex.{ArenaIndex}
 use Rattle.ir_model.proofs.Nests.{In-left, In-right}
-use Rattle.ir_base_arenas.specs.Arena.{Arena, get, IsLive}
+use Rattle.ir_base_arenas.specs.Arena.{Arena, get, IsLiveIn}
 use Rattle.ir_model.specs.Nesting.{In}
 use Rattle.ir_base_arenas.specs.Lists.{seen, Links, Ends, unlinked, linked, Heap, head_or, last_or, IsChain, AreLists, AreWellFormed, container_in, container_of, IsInList}
 use Rattle.ir_base_arenas.proofs.ListChains.{chain-split, chain-at, In-split}
@@ -16,14 +16,14 @@ pub live-in : {T A : Type 0} (view : T → A) (o : Option T) (a : A) → option_
 live-in view None a e = cc
 live-in view (Some x) a e = search rules
 
-pub live-from_seen : {T A : Type 0} (view : T → A) (s : Arena T) (i : ArenaIndex) (a : A) → seen view s i ≡ Some a → IsLive s i
+pub live-from_seen : {T A : Type 0} (view : T → A) (s : Arena T) (i : ArenaIndex) (a : A) → seen view s i ≡ Some a → IsLiveIn s i
 live-from_seen view s i a e = live-in view (get s i) a e
 
 pub seen-in : {T A : Type 0} (view : T → A) (o : Option T) → IsSome o → (a : A) × (option_map view o ≡ Some a)
 seen-in view None l = absurd (grind (rules, l))
 seen-in view (Some x) l = (view x, refl)
 
-pub seen-from_live : {T A : Type 0} (view : T → A) (s : Arena T) (i : ArenaIndex) → IsLive s i → (a : A) × (seen view s i ≡ Some a)
+pub seen-from_live : {T A : Type 0} (view : T → A) (s : Arena T) (i : ArenaIndex) → IsLiveIn s i → (a : A) × (seen view s i ≡ Some a)
 seen-from_live view s i l = seen-in view (get s i) l
 
 -- a node in a list is linked
@@ -40,7 +40,7 @@ unlinked-links l x m e out = elim (l.covers x m e) [
   | inr s ↦ absurd (out (in-is_linked l s.0 x s.1))
 ]
 
-pub unlinked-node : {T : Type 0} (links : T → Links) (nodes : Arena T) (r : Heap Ends) (x : ArenaIndex) → AreWellFormed (seen links nodes) r → IsLive nodes x → (IsInList (seen links nodes) x → ⊥) → seen links nodes x ≡ Some unlinked
+pub unlinked-node : {T : Type 0} (links : T → Links) (nodes : Arena T) (r : Heap Ends) (x : ArenaIndex) → AreWellFormed (seen links nodes) r → IsLiveIn nodes x → (IsInList (seen links nodes) x → ⊥) → seen links nodes x ≡ Some unlinked
 unlinked-node links nodes r x w live out = let s = seen-from_live links nodes x live in unlinked-links w.1 x s.0 s.1 out
 
 -- where a linked node stands
@@ -100,9 +100,9 @@ linked-place {h} {r} {lists} l x k = of_links (h x) refl k
     of_links (Some m) e some = of_container m e m.container refl some
 
 -- an index that is live where there is one
-pub IfSome-live : {T A : Type 0} (view : T → A) (s : Arena T) (o : Option ArenaIndex) → ((y : ArenaIndex) → o ≡ Some y → (m : A) × (seen view s y ≡ Some m)) → IfSome o (λ i. IsLive s i)
+pub IfSome-live : {T A : Type 0} (view : T → A) (s : Arena T) (o : Option ArenaIndex) → ((y : ArenaIndex) → o ≡ Some y → (m : A) × (seen view s y ≡ Some m)) → IfSome o (λ i. IsLiveIn s i)
 IfSome-live view s None f = search rules
-IfSome-live view s (Some y) f = let t = f y refl in let k : IsLive s y = live-from_seen view s y t.0 t.1 in search (rules, k)
+IfSome-live view s (Some y) f = let t = f y refl in let k : IsLiveIn s y = live-from_seen view s y t.0 t.1 in search (rules, k)
 
 -- what was read of a node, by its place
 pub record ReadLinks (x c : ArenaIndex) (a b : List ArenaIndex) (next prev : Option ArenaIndex) (d : ArenaIndex) : Type 0 where
@@ -128,7 +128,7 @@ In-middle x a b = In-right x a (x ∷ b) (inl refl)
 pub split-after : (a b : List ArenaIndex) (x : ArenaIndex) → a ++ x ∷ b ≡ (a ++ x ∷ []) ++ b
 split-after a b x = simp append_assoc
 
-pub IfSome-same : {T U : Type 0} (s : Arena T) (t : Arena U) (o : Option ArenaIndex) → ((i : ArenaIndex) → IsLive s i → IsLive t i) → IfSome o (λ i. IsLive s i) → IfSome o (λ i. IsLive t i)
+pub IfSome-same : {T U : Type 0} (s : Arena T) (t : Arena U) (o : Option ArenaIndex) → ((i : ArenaIndex) → IsLiveIn s i → IsLiveIn t i) → IfSome o (λ i. IsLiveIn s i) → IfSome o (λ i. IsLiveIn t i)
 IfSome-same s t None f h = search rules
 IfSome-same s t (Some y) f h = f y h
 

@@ -2,7 +2,7 @@
 use Rattle.std.proofs.Common.{◌≡◌, Option, Some, None, IsSome, rules, sym, ap, ◌∙◌, subst, inl, inr}
 use Rattle.std.specs.Option.{option_map}
 use Rattle.ir_model.specs.declared.ids.ArenaIndex.{ArenaIndex}
-use Rattle.ir_base_arenas.specs.Arena.{Arena, get, fill, IsLive}
+use Rattle.ir_base_arenas.specs.Arena.{Arena, get, fill, IsLiveIn}
 use Rattle.ir_base_arenas.specs.Lists.{Links, Ends, Heap, seen, change, SameBut}
 use Rattle.ir_model.proofs.IdCases.{id_cases}
 use Rattle.ir_base_arenas.proofs.ListArena.{live-at, map_records-fill, get-map_records}
@@ -41,7 +41,7 @@ live-cases f None p e live = absurd (search (rules, live))
 live-cases f (Some x) None e live = cc
 live-cases f (Some x) (Some y) e live = search rules
 
-pub SameBut-live : {T : Type 0} (clear : T → T) (s t : Arena T) (i : ArenaIndex) → SameBut clear s t → IsLive s i → IsLive t i
+pub SameBut-live : {T : Type 0} (clear : T → T) (s t : Arena T) (i : ArenaIndex) → SameBut clear s t → IsLiveIn s i → IsLiveIn t i
 SameBut-live clear s t i same live = live-cases clear (get s i) (get t i) (SameBut-get clear s t same i) live
 
 -- a record's links, after its setters

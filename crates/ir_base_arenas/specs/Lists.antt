@@ -5,7 +5,7 @@ use Rattle.ir_model.specs.declared.ids.ArenaIndex.{ArenaIndex}
 use Rattle.ir_model.specs.ContextIds.{same_id}
 use Rattle.ir_model.specs.Nesting.{In}
 use Rattle.ir_model.specs.Slots.{Slot}
-use Rattle.ir_base_arenas.specs.Arena.{Arena, get, IsLive, is_passed, arena_len, room}
+use Rattle.ir_base_arenas.specs.Arena.{Arena, get, IsLiveIn, is_passed, arena_len, room}
 
 -- the neighbours of a node, and the container whose list it is in
 pub record Links : Type 0 where
@@ -144,7 +144,7 @@ SameBut clear old new = map_records clear new ≡ map_records clear old
 
 -- the arenas have handed out the same ids, of which the same are live, and have the same room
 pub record SameIds {T : Type 0} (old new : Arena T) : Type 0 where
-  pub live : (id : ArenaIndex) → IsLive new id ↔ IsLive old id
+  pub live : (id : ArenaIndex) → IsLiveIn new id ↔ IsLiveIn old id
   pub passed : (id : ArenaIndex) → is_passed new id ≡ is_passed old id
   pub room : room new ≡ room old
   pub len : arena_len new ≡ arena_len old

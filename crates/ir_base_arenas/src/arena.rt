@@ -7,7 +7,7 @@ ghost use Rattle.std.specs.Option.{option_copied_mut};
 ghost use Rattle.std.specs.Borrow.{LendsIf, sem};
 ghost use Rattle.ir_model.specs.Slots.{item_under};
 ghost use Rattle.ir_base_arenas.specs.declared.ptr.Ptr.{Ptr as Handle};
-ghost use Rattle.ir_base_arenas.specs.Arena.{empty, get, IsLive, IsWhole, IsNew, cut, miss, room, unused, arena_len, Inserts};
+ghost use Rattle.ir_base_arenas.specs.Arena.{empty, get, IsLiveIn, IsWhole, IsNew, cut, miss, room, unused, arena_len, Inserts};
 
 use crate::tally::Tally;
 use crate::{ArenaIndex, CoreError, Ptr};
@@ -193,7 +193,7 @@ impl<T> Arena<T> {
 
     /// Whether a record stands under `ptr`.
     pub fn is_live(&self, ptr: Ptr<T>) -> bool
-        ensures { IsTrue result ↔ IsLive self.now ptr.index }
+        ensures { IsTrue result ↔ IsLiveIn self.now ptr.index }
     {
         self.get(ptr).is_some()
     }
@@ -211,7 +211,7 @@ impl<T> Arena<T> {
 
     /// The record under a live `ptr`.
     pub fn at(&self, ptr: Ptr<T>) -> &T
-        requires { IsLive self.now ptr.index }
+        requires { IsLiveIn self.now ptr.index }
         ensures { get self.now ptr.index ≡ Some result.now }
     {
         match self.get(ptr) {
@@ -222,7 +222,7 @@ impl<T> Arena<T> {
 
     /// The record under a live `ptr`, for writing.
     pub fn at_mut(&mut self, ptr: Ptr<T>) -> &mut T
-        requires { IsLive self.old ptr.index }
+        requires { IsLiveIn self.old ptr.index }
         ensures* writes_back { sem 𝓛 (lends_record T.row self.entry ptr.index result) }
         ensures value { get self.old ptr.index ≡ Some result.now }
     {

@@ -4,7 +4,7 @@
 
 ghost use Rattle.std.specs.Prelude.{◌≡◌, ◌≢◌, ◌≤◌, ◌++◌, ◌∷◌, ◌↔◌, [], List, Option, Some, None, IfSome, IsTrue};
 ghost use Rattle.ir_model.specs.declared.ids.ArenaIndex.{ArenaIndex};
-ghost use Rattle.ir_base_arenas.specs.Arena.{get, IsLive};
+ghost use Rattle.ir_base_arenas.specs.Arena.{get, IsLiveIn};
 ghost use Rattle.ir_base_arenas.specs.Lists.{Links, Ends, unlinked, no_ends, linked, seen, change, with_next, with_prev, with_head, with_tail, unless, rehome, head_or, IsChain, AreLists, AreWellFormed, with_list, IsInList, SameBut};
 ghost use Rattle.ir_base_arenas.specs.Walks.{IsListFrom};
 
@@ -77,7 +77,7 @@ pub trait ContainsLinkedList<T> {
 
 // A link to a live record: its index has a slot.
 fn link_to<T>(records: &Arena<T>, index: ArenaIndex) -> Link
-    requires { IsLive records.now index }
+    requires { IsLiveIn records.now index }
     ensures { result ≡ Some index }
 {
     live_ids_have_slots::<T>();
@@ -92,8 +92,8 @@ fn set_next_of<T: LinkedList, C: ContainsLinkedList<T>>(
     left: Link,
     next: Link,
 )
-    requires left_live { IfSome left (λ i. IsLive nodes.old i) }
-    requires container_live { IsLive containers.old container }
+    requires left_live { IfSome left (λ i. IsLiveIn nodes.old i) }
+    requires container_live { IsLiveIn containers.old container }
     ensures links { seen T.links nodes.new ≡ change (with_next next) left (seen T.links nodes.old) }
     ensures ends { seen C.ends containers.new
         ≡ change (with_head next) (unless left container) (seen C.ends containers.old) }
@@ -114,8 +114,8 @@ fn set_prev_of<T: LinkedList, C: ContainsLinkedList<T>>(
     right: Link,
     prev: Link,
 )
-    requires right_live { IfSome right (λ i. IsLive nodes.old i) }
-    requires container_live { IsLive containers.old container }
+    requires right_live { IfSome right (λ i. IsLiveIn nodes.old i) }
+    requires container_live { IsLiveIn containers.old container }
     ensures links { seen T.links nodes.new
         ≡ change (with_prev prev) right (seen T.links nodes.old) }
     ensures ends { seen C.ends containers.new
@@ -137,7 +137,7 @@ fn set_links<T: LinkedList>(
     prev: Link,
     container: Link,
 )
-    requires { IsLive nodes.old node }
+    requires { IsLiveIn nodes.old node }
     ensures links { seen T.links nodes.new
         ≡ change (λ _. record { next = next; prev = prev; container = container }) (Some node) (seen T.links nodes.old) }
     ensures rest { SameBut (λ x. T.with_links x unlinked) nodes.old nodes.new }
@@ -157,10 +157,10 @@ fn link_between<T: LinkedList, C: ContainsLinkedList<T>>(
     left: Link,
     right: Link,
 )
-    requires node_live { IsLive nodes.old node }
-    requires left_live { IfSome left (λ i. IsLive nodes.old i) }
-    requires right_live { IfSome right (λ i. IsLive nodes.old i) }
-    requires container_live { IsLive containers.old container }
+    requires node_live { IsLiveIn nodes.old node }
+    requires left_live { IfSome left (λ i. IsLiveIn nodes.old i) }
+    requires right_live { IfSome right (λ i. IsLiveIn nodes.old i) }
+    requires container_live { IsLiveIn containers.old container }
     ensures links { seen T.links nodes.new
         ≡ change (λ _. linked left right container) (Some node)
         (change (with_next (Some node)) left
@@ -188,9 +188,9 @@ pub fn insert_at_front<T: LinkedList, C: ContainsLinkedList<T>>(
     container: Ptr<C>,
 )
     requires well_formed { AreWellFormed (seen T.links nodes.old) (seen C.ends containers.old) }
-    requires node_live { IsLive nodes.old node.index }
+    requires node_live { IsLiveIn nodes.old node.index }
     requires node_unlinked { ¬ IsInList (seen T.links nodes.old) node.index }
-    requires container_live { IsLive containers.old container.index }
+    requires container_live { IsLiveIn containers.old container.index }
     ensures lists { (lists : ArenaIndex → List ArenaIndex)
         → AreLists (seen T.links nodes.old) (seen C.ends containers.old) lists
         → AreLists (seen T.links nodes.new) (seen C.ends containers.new)
@@ -214,9 +214,9 @@ pub fn insert_at_back<T: LinkedList, C: ContainsLinkedList<T>>(
     container: Ptr<C>,
 )
     requires well_formed { AreWellFormed (seen T.links nodes.old) (seen C.ends containers.old) }
-    requires node_live { IsLive nodes.old node.index }
+    requires node_live { IsLiveIn nodes.old node.index }
     requires node_unlinked { ¬ IsInList (seen T.links nodes.old) node.index }
-    requires container_live { IsLive containers.old container.index }
+    requires container_live { IsLiveIn containers.old container.index }
     ensures lists { (lists : ArenaIndex → List ArenaIndex)
         → AreLists (seen T.links nodes.old) (seen C.ends containers.old) lists
         → AreLists (seen T.links nodes.new) (seen C.ends containers.new)
@@ -240,7 +240,7 @@ pub fn insert_after<T: LinkedList, C: ContainsLinkedList<T>>(
     mark: Ptr<T>,
 )
     requires well_formed { AreWellFormed (seen T.links nodes.old) (seen C.ends containers.old) }
-    requires node_live { IsLive nodes.old node.index }
+    requires node_live { IsLiveIn nodes.old node.index }
     requires node_unlinked { ¬ IsInList (seen T.links nodes.old) node.index }
     requires mark_linked { IsInList (seen T.links nodes.old) mark.index }
     ensures lists { (lists : ArenaIndex → List ArenaIndex) (c : ArenaIndex) (a b : List ArenaIndex)
@@ -269,7 +269,7 @@ pub fn insert_before<T: LinkedList, C: ContainsLinkedList<T>>(
     mark: Ptr<T>,
 )
     requires well_formed { AreWellFormed (seen T.links nodes.old) (seen C.ends containers.old) }
-    requires node_live { IsLive nodes.old node.index }
+    requires node_live { IsLiveIn nodes.old node.index }
     requires node_unlinked { ¬ IsInList (seen T.links nodes.old) node.index }
     requires mark_linked { IsInList (seen T.links nodes.old) mark.index }
     ensures lists { (lists : ArenaIndex → List ArenaIndex) (c : ArenaIndex) (a b : List ArenaIndex)
@@ -342,7 +342,7 @@ fn set_ends<T, C: ContainsLinkedList<T>>(
     head: Link,
     tail: Link,
 )
-    requires { IsLive containers.old container }
+    requires { IsLiveIn containers.old container }
     ensures ends { seen C.ends containers.new
         ≡ change (λ _. record { head = head; tail = tail }) (Some container) (seen C.ends containers.old) }
     ensures rest { SameBut (λ x. C.with_ends x no_ends) containers.old containers.new }
@@ -362,8 +362,8 @@ pub fn append_linked_list<T: LinkedList, C: ContainsLinkedList<T>>(
     donor: Ptr<C>,
 )
     requires well_formed { AreWellFormed (seen T.links nodes.old) (seen C.ends containers.old) }
-    requires donee_live { IsLive containers.old donee.index }
-    requires donor_live { IsLive containers.old donor.index }
+    requires donee_live { IsLiveIn containers.old donee.index }
+    requires donor_live { IsLiveIn containers.old donor.index }
     requires two { donee.index ≢ donor.index }
     ensures lists { (lists : ArenaIndex → List ArenaIndex)
         → AreLists (seen T.links nodes.old) (seen C.ends containers.old) lists
@@ -406,7 +406,7 @@ pub fn iter<'a, T: LinkedList, C: ContainsLinkedList<T>>(
     container: Ptr<C>,
 ) -> Iter<'a, T>
     requires well_formed { AreWellFormed (seen T.links nodes.now) (seen C.ends containers.now) }
-    requires container_live { IsLive containers.now container.index }
+    requires container_live { IsLiveIn containers.now container.index }
     ensures { (lists : ArenaIndex → List ArenaIndex)
         → AreLists (seen T.links nodes.now) (seen C.ends containers.now) lists
         → result ≡ lists container.index }

@@ -2,7 +2,7 @@
 
 ghost use Rattle.std.specs.Prelude.{◌≡◌, ◌↔◌, ◌++◌, ◌∷◌, [], ℕ, List, Option, Some, None};
 ghost use Rattle.ir_model.specs.declared.ids.ArenaIndex.{ArenaIndex};
-ghost use Rattle.ir_base_arenas.specs.Arena.{Arena as Records, get, fill, cut, empty, IsLive, IsNew};
+ghost use Rattle.ir_base_arenas.specs.Arena.{Arena as Records, get, fill, cut, empty, IsLiveIn, IsNew};
 ghost use Rattle.ir_model.specs.Ids.{Distinct};
 ghost use Rattle.ir_model.specs.Nesting.{In};
 ghost use Rattle.ir_base_arenas.specs.Lists.{Links, Ends, unlinked, linked, no_ends, seen, head_or, last_or, ends_of, AreLists, container_of, IsInList, SameBut, SameIds};
@@ -37,7 +37,7 @@ pub fn lists_hold_nodes<T: LinkedList, C: ContainsLinkedList<T>>()
     ensures live { (nodes : Records T) (containers : Records C) (lists : ArenaIndex → List ArenaIndex)
         → AreLists (seen T.links nodes) (seen C.ends containers) lists → (c x : ArenaIndex)
         → In x (lists c)
-        → IsLive nodes x × IsLive containers c }
+        → IsLiveIn nodes x × IsLiveIn containers c }
 {}
 
 /// The links of a node in a list are its neighbours there, and the ends of a container those of its list.
@@ -49,7 +49,7 @@ pub fn links_are_neighbours<T: LinkedList, C: ContainsLinkedList<T>>()
         → seen T.links nodes x ≡ Some (linked (last_or None a) (head_or None b) c) }
     ensures unlinked { (nodes : Records T) (containers : Records C) (lists : ArenaIndex → List ArenaIndex)
         → AreLists (seen T.links nodes) (seen C.ends containers) lists → (x : ArenaIndex)
-        → IsLive nodes x → ¬ IsInList (seen T.links nodes) x
+        → IsLiveIn nodes x → ¬ IsInList (seen T.links nodes) x
         → seen T.links nodes x ≡ Some unlinked }
     ensures ends { (nodes : Records T) (containers : Records C) (lists : ArenaIndex → List ArenaIndex)
         → AreLists (seen T.links nodes) (seen C.ends containers) lists → (c : ArenaIndex) (e : Ends)
@@ -68,7 +68,7 @@ pub fn node_changes_keep_lists<T: LinkedList, C: ContainsLinkedList<T>>()
         → AreLists (seen T.links (fill nodes id node)) (seen C.ends containers) lists }
     ensures removed { (nodes : Records T) (containers : Records C) (lists : ArenaIndex → List ArenaIndex)
         → AreLists (seen T.links nodes) (seen C.ends containers) lists → (id : ArenaIndex)
-        → IsLive nodes id → ¬ IsInList (seen T.links nodes) id
+        → IsLiveIn nodes id → ¬ IsInList (seen T.links nodes) id
         → AreLists (seen T.links (cut nodes id)) (seen C.ends containers) lists }
     ensures written { (nodes : Records T) (containers : Records C) (lists : ArenaIndex → List ArenaIndex)
         → AreLists (seen T.links nodes) (seen C.ends containers) lists
@@ -86,7 +86,7 @@ pub fn container_changes_keep_lists<T: LinkedList, C: ContainsLinkedList<T>>()
         → AreLists (seen T.links nodes) (seen C.ends (fill containers id container)) lists }
     ensures removed { (nodes : Records T) (containers : Records C) (lists : ArenaIndex → List ArenaIndex)
         → AreLists (seen T.links nodes) (seen C.ends containers) lists → (id : ArenaIndex)
-        → IsLive containers id → lists id ≡ []
+        → IsLiveIn containers id → lists id ≡ []
         → AreLists (seen T.links nodes) (seen C.ends (cut containers id)) lists }
     ensures written { (nodes : Records T) (containers : Records C) (lists : ArenaIndex → List ArenaIndex)
         → AreLists (seen T.links nodes) (seen C.ends containers) lists

@@ -156,7 +156,7 @@ fn choose(
         return Ok((base, counter));
     }
     for number in counter..usize::MAX {
-        let name = numbered_text(alloc, &base, number)?;
+        let name = numbered(alloc, &base, number)?;
         if !sources.contains_key(&name) {
             return Ok((name, number + 1));
         }
@@ -165,7 +165,7 @@ fn choose(
 }
 
 // The base, `_` and the number in decimal.
-fn numbered_text(alloc: Global, base: &Identifier, number: usize) -> Result<Identifier, CoreError>
+fn numbered(alloc: Global, base: &Identifier, number: usize) -> Result<Identifier, CoreError>
     ensures text { IfOk result (λ name. name ≡ numbered_text base.now number) }
     ensures refused { IsOkUnless result CoreError.OutOfMemory }
 {

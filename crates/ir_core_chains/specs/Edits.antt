@@ -3,7 +3,7 @@ use Rattle.std.proofs.Common.{◌≡◌, ℕ, List, [], Option, Some, None, IsSo
 use Rattle.std.specs.Option.{option_map}
 use Rattle.std.proofs.lemmas.Bool.{cases_eq}
 use Rattle.ir_model.specs.declared.ids.ArenaIndex.{ArenaIndex}
-use Rattle.ir_base_arenas.specs.Arena.{Arena, get, IsLive}
+use Rattle.ir_base_arenas.specs.Arena.{Arena, get, IsLiveIn}
 use Rattle.ir_model.proofs.IdCases.{id_cases}
 use Rattle.ir_core_records.specs.declared.record.UseIndex.{UseIndex}
 use Rattle.ir_core_records.specs.declared.record.Definition.{Definition}
@@ -22,7 +22,7 @@ module _ {T X : Type 0} (read : T → List X) (write : List X → T → T) (get_
   field-here None xs live = absurd (true≢false (sym live))
   field-here (Some x) xs live = get_put xs x
 
-  pub field-kept : AreKept {S = Arena T} IsLive (λ t o. in_record read [] (get t o)) (λ t o xs. edited (write xs) t o)
+  pub field-kept : AreKept {S = Arena T} IsLiveIn (λ t o. in_record read [] (get t o)) (λ t o xs. edited (write xs) t o)
   field-kept = record {
     here = λ t o xs live. ap (in_record read []) (get-edited (write xs) t o) ∙ field-here (get t o) xs live;
     others = λ t o xs live p ne. ap (in_record read []) (get-edited_other (write xs) t o p ne);

@@ -4,7 +4,7 @@
 
 ghost use Rattle.std.specs.Prelude.{◌≡◌, ℕ, ◌+◌, ◌-◌, ◌^◌, ◌<◌, ◌≤◌, ◌++◌, ◌∷◌, [], All, length, map, OnOk, OnErr, remove, slice_get, Some};
 ghost use Rattle.std.specs.Option.{option_map};
-ghost use Rattle.ir_base_arenas.specs.Arena.{IsLive};
+ghost use Rattle.ir_base_arenas.specs.Arena.{IsLiveIn};
 ghost use Rattle.ir_model.specs.declared.ids.ArenaIndex.{ArenaIndex};
 ghost use Rattle.ir_core_records.specs.Links.{LinkedBut, NoHole, IsFreshUse};
 ghost use Rattle.ir_core_chains.specs.Chain.{Rewrites};
@@ -19,11 +19,11 @@ use std::alloc::AllocError;
 // Takes the last place out, and its use with it. It tells what the place named.
 pub(crate) fn pop_linked<D: Dialects, N: Named<D>>(records: &mut Records<D>, user: ArenaIndex) -> N
     requires linked { LinkedBut NoHole (N.places_at records.old) (N.uses_at records.old) }
-    requires live { IsLive records.old.ops user }
+    requires live { IsLiveIn records.old.ops user }
     requires some { 0 < length (N.places_at records.old user) }
     ensures value { option_map (λ a. a.names) (slice_get (N.places_at records.old user) (length (N.places_at records.old user) - 1)) ≡ Some result }
     ensures linked { LinkedBut NoHole (N.places_at records.new) (N.uses_at records.new) }
-    ensures live { IsLive records.new.ops user }
+    ensures live { IsLiveIn records.new.ops user }
     ensures here { names_in (N.places_at records.new user) ≡ remove (names_in (N.places_at records.old user)) (length (N.places_at records.old user) - 1) }
     ensures others { (o : ArenaIndex) → ¬ (o ≡ user) → names_in (N.places_at records.new o) ≡ names_in (N.places_at records.old o) }
     ensures rest { Rewrites N.with_places N.with_uses records.old records.new }
@@ -41,11 +41,11 @@ pub(crate) fn push_linked<D: Dialects, N: Named<D>>(
     near: usize,
 ) -> Result<(), AllocError>
     requires linked { LinkedBut NoHole (N.places_at records.old) (N.uses_at records.old) }
-    requires live { IsLive records.old.ops user }
+    requires live { IsLiveIn records.old.ops user }
     requires named { N.IsNamed records.old names }
     requires fresh { IsFreshUse (N.places_at records.old) number }
     ensures linked { LinkedBut NoHole (N.places_at records.new) (N.uses_at records.new) }
-    ensures live { IsLive records.new.ops user }
+    ensures live { IsLiveIn records.new.ops user }
     ensures here { OnOk result (names_in (N.places_at records.new user) ≡ names_in (N.places_at records.old user) ++ (number, names) ∷ []) }
     ensures others { (o : ArenaIndex) → ¬ (o ≡ user) → names_in (N.places_at records.new o) ≡ names_in (N.places_at records.old o) }
     ensures rest { Rewrites N.with_places N.with_uses records.old records.new }
@@ -62,7 +62,7 @@ pub(crate) fn push_linked<D: Dialects, N: Named<D>>(
 // Takes all places of an operation out, and their uses with them.
 pub(crate) fn unlink_all<D: Dialects, N: Named<D>>(records: &mut Records<D>, user: ArenaIndex)
     requires linked { LinkedBut NoHole (N.places_at records.old) (N.uses_at records.old) }
-    requires live { IsLive records.old.ops user }
+    requires live { IsLiveIn records.old.ops user }
     ensures linked { LinkedBut NoHole (N.places_at records.new) (N.uses_at records.new) }
     ensures here { N.places_at records.new user ≡ [] }
     ensures others { (o : ArenaIndex) → ¬ (o ≡ user) → names_in (N.places_at records.new o) ≡ names_in (N.places_at records.old o) }
@@ -81,7 +81,7 @@ pub(crate) fn link_all<D: Dialects, N: Named<D>, V: Names<N>>(
     named: &[V],
 ) -> Result<(), AllocError>
     requires linked { LinkedBut NoHole (N.places_at records.old) (N.uses_at records.old) }
-    requires live { IsLive records.old.ops user }
+    requires live { IsLiveIn records.old.ops user }
     requires bare { N.places_at records.old user ≡ [] }
     requires named { All (λ v. N.IsNamed records.old (V.named v)) named.now }
     requires fresh { (n : ℕ) → first ≤ n → IsFreshUse (N.places_at records.old) n }

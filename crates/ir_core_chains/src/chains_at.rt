@@ -4,7 +4,7 @@
 
 ghost use Rattle.std.specs.Prelude.{◌≡◌, ◌<◌, ◌≤◌, length, OnOk, OnErr, insert, remove, slice_get, Some};
 ghost use Rattle.std.specs.Option.{option_map};
-ghost use Rattle.ir_base_arenas.specs.Arena.{IsLive};
+ghost use Rattle.ir_base_arenas.specs.Arena.{IsLiveIn};
 ghost use Rattle.ir_model.specs.declared.ids.ArenaIndex.{ArenaIndex};
 ghost use Rattle.ir_core_records.specs.Chains.{names_in};
 ghost use Rattle.ir_core_records.specs.Links.{LinkedBut, NoHole, IsFreshUse};
@@ -37,11 +37,11 @@ pub(crate) fn remove_linked<D: Dialects, N: Named<D>>(
     index: usize,
 ) -> N
     requires linked { LinkedBut NoHole (N.places_at records.old) (N.uses_at records.old) }
-    requires live { IsLive records.old.ops user }
+    requires live { IsLiveIn records.old.ops user }
     requires within { index < length (N.places_at records.old user) }
     ensures value { option_map (λ a. a.names) (slice_get (N.places_at records.old user) index) ≡ Some result }
     ensures linked { LinkedBut NoHole (N.places_at records.new) (N.uses_at records.new) }
-    ensures live { IsLive records.new.ops user }
+    ensures live { IsLiveIn records.new.ops user }
     ensures here { names_in (N.places_at records.new user) ≡ remove (names_in (N.places_at records.old user)) index }
     ensures others { (o : ArenaIndex) → ¬ (o ≡ user) → names_in (N.places_at records.new o) ≡ names_in (N.places_at records.old o) }
     ensures rest { Rewrites N.with_places N.with_uses records.old records.new }
@@ -60,12 +60,12 @@ pub(crate) fn insert_linked<D: Dialects, N: Named<D>>(
     names: N,
 ) -> Result<(), AllocError>
     requires linked { LinkedBut NoHole (N.places_at records.old) (N.uses_at records.old) }
-    requires live { IsLive records.old.ops user }
+    requires live { IsLiveIn records.old.ops user }
     requires within { index ≤ length (N.places_at records.old user) }
     requires named { N.IsNamed records.old names }
     requires fresh { IsFreshUse (N.places_at records.old) number }
     ensures linked { LinkedBut NoHole (N.places_at records.new) (N.uses_at records.new) }
-    ensures live { IsLive records.new.ops user }
+    ensures live { IsLiveIn records.new.ops user }
     ensures here { OnOk result (names_in (N.places_at records.new user) ≡ insert (names_in (N.places_at records.old user)) index (number, names)) }
     ensures others { (o : ArenaIndex) → ¬ (o ≡ user) → names_in (N.places_at records.new o) ≡ names_in (N.places_at records.old o) }
     ensures rest { Rewrites N.with_places N.with_uses records.old records.new }
@@ -88,12 +88,12 @@ pub(crate) fn replace_linked<D: Dialects, N: Named<D>>(
     names: N,
 ) -> Result<(), AllocError>
     requires linked { LinkedBut NoHole (N.places_at records.old) (N.uses_at records.old) }
-    requires live { IsLive records.old.ops user }
+    requires live { IsLiveIn records.old.ops user }
     requires within { index < length (N.places_at records.old user) }
     requires named { N.IsNamed records.old names }
     requires fresh { IsFreshUse (N.places_at records.old) number }
     ensures linked { LinkedBut NoHole (N.places_at records.new) (N.uses_at records.new) }
-    ensures live { IsLive records.new.ops user }
+    ensures live { IsLiveIn records.new.ops user }
     ensures here { OnOk result (names_in (N.places_at records.new user) ≡ insert (remove (names_in (N.places_at records.old user)) index) index (number, names)) }
     ensures others { (o : ArenaIndex) → ¬ (o ≡ user) → names_in (N.places_at records.new o) ≡ names_in (N.places_at records.old o) }
     ensures rest { Rewrites N.with_places N.with_uses records.old records.new }

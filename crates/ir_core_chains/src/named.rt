@@ -2,7 +2,7 @@
 
 ghost use Rattle.std.specs.Prelude.{◌≡◌, ◌<◌, ◌≤◌, ◌++◌, ◌∷◌, [], List, length, is_ok, IfOk, if◌then◌else◌, insert, remove, slice_get, slice_set, Some};
 ghost use Rattle.std.specs.List.{swap_remove};
-ghost use Rattle.ir_base_arenas.specs.Arena.{IsLive};
+ghost use Rattle.ir_base_arenas.specs.Arena.{IsLiveIn};
 ghost use Rattle.ir_model.specs.declared.ids.ArenaIndex.{ArenaIndex as Index};
 ghost use Rattle.ir_core_records.specs.declared.record.UseIndex.{UseIndex as PlainUse};
 ghost use Rattle.ir_core_records.specs.declared.record.UsePlace.{UsePlace as PlainPlace};
@@ -78,12 +78,12 @@ pub trait Named<D: Dialects>: Copy + Drop {
 
     // How many places a live operation has.
     fn place_count(records: &Records<D>, user: ArenaIndex) -> usize
-        requires live { IsLive records.now.ops user }
+        requires live { IsLiveIn records.now.ops user }
         ensures { result ≡ length (places_at records.now user) };
 
     // The place at an index of a live operation.
     fn place_at(records: &Records<D>, user: ArenaIndex, index: usize) -> UsePlace<Self>
-        requires live { IsLive records.now.ops user }
+        requires live { IsLiveIn records.now.ops user }
         requires within { index < length (places_at records.now user) }
         ensures { slice_get (places_at records.now user) index ≡ Some result };
 
@@ -93,7 +93,7 @@ pub trait Named<D: Dialects>: Copy + Drop {
         user: ArenaIndex,
         additional: usize,
     ) -> Result<(), AllocError>
-        requires { IsLive records.old.ops user }
+        requires { IsLiveIn records.old.ops user }
         ensures { records.new ≡ records.old };
 
     // Puts a place at the end.
@@ -104,7 +104,7 @@ pub trait Named<D: Dialects>: Copy + Drop {
         names: Self,
         place: usize,
     ) -> Result<(), AllocError>
-        requires live { IsLive records.old.ops user }
+        requires live { IsLiveIn records.old.ops user }
         ensures { records.new ≡ (if is_ok result then with_places records.old user (places_at records.old user ++ record { number = number; names = names; place = place } ∷ []) else records.old) };
 
     // Puts a place at an index, before the one that stands there.
@@ -116,7 +116,7 @@ pub trait Named<D: Dialects>: Copy + Drop {
         names: Self,
         place: usize,
     ) -> Result<(), AllocError>
-        requires live { IsLive records.old.ops user }
+        requires live { IsLiveIn records.old.ops user }
         requires within { index ≤ length (places_at records.old user) }
         ensures { records.new ≡ (if is_ok result then with_places records.old user (insert (places_at records.old user) index (record { number = number; names = names; place = place })) else records.old) };
 
@@ -129,21 +129,21 @@ pub trait Named<D: Dialects>: Copy + Drop {
         names: Self,
         place: usize,
     ) -> UsePlace<Self>
-        requires live { IsLive records.old.ops user }
+        requires live { IsLiveIn records.old.ops user }
         requires within { index < length (places_at records.old user) }
         ensures gone { slice_get (places_at records.old user) index ≡ Some result }
         ensures records { records.new ≡ with_places records.old user (slice_set (places_at records.old user) index (record { number = number; names = names; place = place })) };
 
     // Takes the place at an index out, and gives it back.
     fn remove_place(records: &mut Records<D>, user: ArenaIndex, index: usize) -> UsePlace<Self>
-        requires live { IsLive records.old.ops user }
+        requires live { IsLiveIn records.old.ops user }
         requires within { index < length (places_at records.old user) }
         ensures gone { slice_get (places_at records.old user) index ≡ Some result }
         ensures records { records.new ≡ with_places records.old user (remove (places_at records.old user) index) };
 
     // Gives the place of a use, which was near an index once, the index where that use stands now.
     fn set_place(records: &mut Records<D>, moved: UseIndex, near: usize, index: usize)
-        requires live { IsLive records.old.ops moved.user }
+        requires live { IsLiveIn records.old.ops moved.user }
         requires distinct { HaveDistinctUses (places_at records.old moved.user) }
         requires has { IsPlaced (places_at records.old) moved }
         ensures { records.new ≡ with_places records.old moved.user (put_place (places_at records.old moved.user) moved.number index) };

@@ -2,7 +2,7 @@
 
 ghost use Rattle.std.specs.Prelude.{◌≡◌, ℕ, ◌+◌, ◌-◌, ◌^◌, ◌<◌, ◌≤◌, ◌++◌, ◌∷◌, [], All, length, map, remove, OnOk, OnErr, slice_get, Some};
 ghost use Rattle.std.specs.Option.{option_map};
-ghost use Rattle.ir_base_arenas.specs.Arena.{IsLive};
+ghost use Rattle.ir_base_arenas.specs.Arena.{IsLiveIn};
 ghost use Rattle.ir_model.specs.Changes.{on_op, on_operands, on_successors};
 ghost use Rattle.ir_core_records.specs.Meaning.{forest_in, value_of, operands_from, successors_from};
 ghost use Rattle.ir_core_records.specs.Links.{IsFreshUse};
@@ -27,7 +27,7 @@ pub fn push_operand<D: Dialects>(
     value: ValueIndex,
 ) -> Result<(), AllocError>
     requires linked { AreLinked (chains_of records.old) }
-    requires live { IsLive records.old.ops user }
+    requires live { IsLiveIn records.old.ops user }
     requires named { IsValue records.old value }
     requires fresh { IsFreshUse (operands_at records.old) number }
     ensures linked { AreLinked (chains_of records.new) }
@@ -42,7 +42,7 @@ pub fn push_operand<D: Dialects>(
 /// Takes the last operand out, and its use with it. It tells what the operand named.
 pub fn pop_operand<D: Dialects>(records: &mut Records<D>, user: ArenaIndex) -> ValueIndex
     requires linked { AreLinked (chains_of records.old) }
-    requires live { IsLive records.old.ops user }
+    requires live { IsLiveIn records.old.ops user }
     requires some { 0 < length (operands_at records.old user) }
     ensures value { option_map (λ a. a.names) (slice_get (operands_at records.old user) (length (operands_at records.old user) - 1)) ≡ Some result }
     ensures linked { AreLinked (chains_of records.new) }
@@ -63,7 +63,7 @@ pub fn push_successor<D: Dialects>(
     block: BlockIndex,
 ) -> Result<(), AllocError>
     requires linked { AreLinked (chains_of records.old) }
-    requires live { IsLive records.old.ops user }
+    requires live { IsLiveIn records.old.ops user }
     requires named { IsLiveBlock records.old block }
     requires fresh { IsFreshUse (successors_at records.old) number }
     ensures linked { AreLinked (chains_of records.new) }
@@ -78,7 +78,7 @@ pub fn push_successor<D: Dialects>(
 /// Takes the last successor out, and its use with it. It tells what the successor named.
 pub fn pop_successor<D: Dialects>(records: &mut Records<D>, user: ArenaIndex) -> BlockIndex
     requires linked { AreLinked (chains_of records.old) }
-    requires live { IsLive records.old.ops user }
+    requires live { IsLiveIn records.old.ops user }
     requires some { 0 < length (successors_at records.old user) }
     ensures value { option_map (λ a. a.names) (slice_get (successors_at records.old user) (length (successors_at records.old user) - 1)) ≡ Some result }
     ensures linked { AreLinked (chains_of records.new) }
@@ -99,7 +99,7 @@ pub fn link_operands<D: Dialects, V: Names<ValueIndex>>(
     values: &[V],
 ) -> Result<(), AllocError>
     requires linked { AreLinked (chains_of records.old) }
-    requires live { IsLive records.old.ops user }
+    requires live { IsLiveIn records.old.ops user }
     requires bare { operands_at records.old user ≡ [] }
     requires named { All (λ v. IsValue records.old (V.named v)) values.now }
     requires fresh { (n : ℕ) → first ≤ n → IsFreshUse (operands_at records.old) n }
@@ -115,7 +115,7 @@ pub fn link_operands<D: Dialects, V: Names<ValueIndex>>(
 /// Takes all operands out, and their uses with them.
 pub fn unlink_operands<D: Dialects>(records: &mut Records<D>, user: ArenaIndex)
     requires linked { AreLinked (chains_of records.old) }
-    requires live { IsLive records.old.ops user }
+    requires live { IsLiveIn records.old.ops user }
     ensures linked { AreLinked (chains_of records.new) }
     ensures keeps { KeepsTree records.old records.new }
     ensures forest { forest_in records.new ≡ on_op (forest_in records.old) user (on_operands (λ _. [])) }
@@ -134,7 +134,7 @@ pub fn link_successors<D: Dialects, V: Names<BlockIndex>>(
     blocks: &[V],
 ) -> Result<(), AllocError>
     requires linked { AreLinked (chains_of records.old) }
-    requires live { IsLive records.old.ops user }
+    requires live { IsLiveIn records.old.ops user }
     requires bare { successors_at records.old user ≡ [] }
     requires named { All (λ v. IsLiveBlock records.old (V.named v)) blocks.now }
     requires fresh { (n : ℕ) → first ≤ n → IsFreshUse (successors_at records.old) n }
@@ -150,7 +150,7 @@ pub fn link_successors<D: Dialects, V: Names<BlockIndex>>(
 /// Takes all successors out, and their uses with them.
 pub fn unlink_successors<D: Dialects>(records: &mut Records<D>, user: ArenaIndex)
     requires linked { AreLinked (chains_of records.old) }
-    requires live { IsLive records.old.ops user }
+    requires live { IsLiveIn records.old.ops user }
     ensures linked { AreLinked (chains_of records.new) }
     ensures keeps { KeepsTree records.old records.new }
     ensures forest { forest_in records.new ≡ on_op (forest_in records.old) user (on_successors (λ _. [])) }

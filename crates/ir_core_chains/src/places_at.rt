@@ -2,7 +2,7 @@
 
 ghost use Rattle.std.specs.Prelude.{◌≡◌, ◌<◌, ◌≤◌, length, insert, remove, OnOk, OnErr, slice_get, Some};
 ghost use Rattle.std.specs.Option.{option_map};
-ghost use Rattle.ir_base_arenas.specs.Arena.{IsLive};
+ghost use Rattle.ir_base_arenas.specs.Arena.{IsLiveIn};
 ghost use Rattle.ir_model.specs.Changes.{on_op, on_operands, on_successors};
 ghost use Rattle.ir_core_records.specs.Meaning.{forest_in, value_of};
 ghost use Rattle.ir_core_records.specs.Links.{IsFreshUse};
@@ -27,7 +27,7 @@ pub fn insert_operand<D: Dialects>(
     value: ValueIndex,
 ) -> Result<(), AllocError>
     requires linked { AreLinked (chains_of records.old) }
-    requires live { IsLive records.old.ops user }
+    requires live { IsLiveIn records.old.ops user }
     requires within { index ≤ length (operands_at records.old user) }
     requires named { IsValue records.old value }
     requires fresh { IsFreshUse (operands_at records.old) number }
@@ -46,7 +46,7 @@ pub fn remove_operand<D: Dialects>(
     index: usize,
 ) -> ValueIndex
     requires linked { AreLinked (chains_of records.old) }
-    requires live { IsLive records.old.ops user }
+    requires live { IsLiveIn records.old.ops user }
     requires within { index < length (operands_at records.old user) }
     ensures value { option_map (λ a. a.names) (slice_get (operands_at records.old user) index) ≡ Some result }
     ensures linked { AreLinked (chains_of records.new) }
@@ -68,7 +68,7 @@ pub fn replace_operand<D: Dialects>(
     value: ValueIndex,
 ) -> Result<(), AllocError>
     requires linked { AreLinked (chains_of records.old) }
-    requires live { IsLive records.old.ops user }
+    requires live { IsLiveIn records.old.ops user }
     requires within { index < length (operands_at records.old user) }
     requires named { IsValue records.old value }
     requires fresh { IsFreshUse (operands_at records.old) number }
@@ -92,7 +92,7 @@ pub fn insert_successor<D: Dialects>(
     block: BlockIndex,
 ) -> Result<(), AllocError>
     requires linked { AreLinked (chains_of records.old) }
-    requires live { IsLive records.old.ops user }
+    requires live { IsLiveIn records.old.ops user }
     requires within { index ≤ length (successors_at records.old user) }
     requires named { IsLiveBlock records.old block }
     requires fresh { IsFreshUse (successors_at records.old) number }
@@ -111,7 +111,7 @@ pub fn remove_successor<D: Dialects>(
     index: usize,
 ) -> BlockIndex
     requires linked { AreLinked (chains_of records.old) }
-    requires live { IsLive records.old.ops user }
+    requires live { IsLiveIn records.old.ops user }
     requires within { index < length (successors_at records.old user) }
     ensures value { option_map (λ a. a.names) (slice_get (successors_at records.old user) index) ≡ Some result }
     ensures linked { AreLinked (chains_of records.new) }
@@ -133,7 +133,7 @@ pub fn replace_successor<D: Dialects>(
     block: BlockIndex,
 ) -> Result<(), AllocError>
     requires linked { AreLinked (chains_of records.old) }
-    requires live { IsLive records.old.ops user }
+    requires live { IsLiveIn records.old.ops user }
     requires within { index < length (successors_at records.old user) }
     requires named { IsLiveBlock records.old block }
     requires fresh { IsFreshUse (successors_at records.old) number }

@@ -6,7 +6,7 @@ use Rattle.ir_model.specs.declared.ids.Limits.{Limits}
 use Rattle.ir_model.specs.Nesting.{In}
 use Rattle.ir_model.specs.Sessions.{IsNewId}
 use Rattle.ir_model.proofs.Nests.{In-append, In-left, In-right, Distinct-append}
-use Rattle.ir_base_arenas.specs.Arena.{Arena, get, IsLive, is_passed}
+use Rattle.ir_base_arenas.specs.Arena.{Arena, get, IsLiveIn, is_passed}
 use Rattle.ir_base_arenas.specs.Lists.{SameIds}
 use Rattle.ir_core_records.specs.Growth.{Grows, SkipsIds}
 
@@ -39,18 +39,18 @@ module _ {T : Type 0} where
   Grows-ids a b c xs g same = Grows-then a b c xs g same.passed same.limit same.last_version
 
   -- an id that is new after some were handed out was new before
-  before : (limits : Limits) (a b : Arena T) (xs : List ArenaIndex) → Grows a b xs → ((i : ArenaIndex) → IsLive a i → IsLive b i) → ((i : ArenaIndex) → In i xs → IsLive b i)
-      → (i : ArenaIndex) → IsNewId limits (is_passed b) (IsLive b) i → IsNewId limits (is_passed a) (IsLive a) i
+  before : (limits : Limits) (a b : Arena T) (xs : List ArenaIndex) → Grows a b xs → ((i : ArenaIndex) → IsLiveIn a i → IsLiveIn b i) → ((i : ArenaIndex) → In i xs → IsLiveIn b i)
+      → (i : ArenaIndex) → IsNewId limits (is_passed b) (IsLiveIn b) i → IsNewId limits (is_passed a) (IsLiveIn a) i
   before limits a b xs g still made i next = (next.0, next.1, next.2, by_version next.3)
     where
       earlier : (j : ArenaIndex) → IsTrue (is_passed a j) → IsTrue (is_passed b j)
       earlier j had = (g.passed j).1 (inl had)
 
       by_version : ((i.version ≡ 1) × ((j : ArenaIndex) → IsTrue (is_passed b j) → j.slot ≢ i.slot))
-          ⊎ ((l : ArenaIndex) × (l.slot ≡ i.slot) × (i.version ≡ l.version + 2) × IsTrue (is_passed b l) × (IsLive b l → ⊥)
+          ⊎ ((l : ArenaIndex) × (l.slot ≡ i.slot) × (i.version ≡ l.version + 2) × IsTrue (is_passed b l) × (IsLiveIn b l → ⊥)
           × ((j : ArenaIndex) → IsTrue (is_passed b j) → j.slot ≡ i.slot → j.version ≤ l.version))
           → ((i.version ≡ 1) × ((j : ArenaIndex) → IsTrue (is_passed a j) → j.slot ≢ i.slot))
-          ⊎ ((l : ArenaIndex) × (l.slot ≡ i.slot) × (i.version ≡ l.version + 2) × IsTrue (is_passed a l) × (IsLive a l → ⊥)
+          ⊎ ((l : ArenaIndex) × (l.slot ≡ i.slot) × (i.version ≡ l.version + 2) × IsTrue (is_passed a l) × (IsLiveIn a l → ⊥)
           × ((j : ArenaIndex) → IsTrue (is_passed a j) → j.slot ≡ i.slot → j.version ≤ l.version))
       by_version (inl first) = inl (first.0, λ j had. first.1 j (earlier j had))
       by_version (inr (l, slot, version, passed, dead, greatest)) =
@@ -60,7 +60,7 @@ module _ {T : Type 0} where
           ]
 
   -- and so on, where nothing is lost between
-  pub Grows-join : (a b c : Arena T) (xs ys : List ArenaIndex) → Grows a b xs → ((i : ArenaIndex) → IsLive a i → IsLive b i) → ((i : ArenaIndex) → In i xs → IsLive b i) → Grows b c ys → Grows a c (xs ++ ys)
+  pub Grows-join : (a b c : Arena T) (xs ys : List ArenaIndex) → Grows a b xs → ((i : ArenaIndex) → IsLiveIn a i → IsLiveIn b i) → ((i : ArenaIndex) → In i xs → IsLiveIn b i) → Grows b c ys → Grows a c (xs ++ ys)
   Grows-join a b c xs ys f still made g = record {
     distinct = Distinct-append xs ys f.distinct g.distinct apart;
     dead = λ i k. elim (In-append i xs ys k) [
@@ -96,7 +96,7 @@ module _ {T : Type 0} where
           by (Some x) e = absurd (true≢false (sym (still i (ap is_some e)) ∙ ap is_some gone))
 
   -- some were handed out, at most so many skipped after them
-  pub Skips-join : (a b c : Arena T) (xs : List ArenaIndex) (n m : ℕ) → Grows a b xs → ((i : ArenaIndex) → IsLive a i → IsLive b i) → ((i : ArenaIndex) → In i xs → IsLive b i) → SkipsIds b c n → length xs + n ≤ m → SkipsIds a c m
+  pub Skips-join : (a b c : Arena T) (xs : List ArenaIndex) (n m : ℕ) → Grows a b xs → ((i : ArenaIndex) → IsLiveIn a i → IsLiveIn b i) → ((i : ArenaIndex) → In i xs → IsLiveIn b i) → SkipsIds b c n → length xs + n ≤ m → SkipsIds a c m
   Skips-join a b c xs n m f still made g few = record {
     skipped = xs ++ g.skipped;
     few = omega (arith, length-append xs g.skipped, g.few, few);

@@ -10,7 +10,7 @@ use Rattle.ir_model.specs.Ids.{Fresh, Counts}
 use Rattle.ir_model.specs.Forest.{Definer, Dialect}
 use Rattle.ir_model.specs.Nesting.{In, WellFormed, numbers_of, use_numbers_of}
 use Rattle.ir_model.specs.Sessions.{IsNewId, Session, live_op, live_block, live_region}
-use Rattle.ir_base_arenas.specs.Arena.{Arena, get, IsLive, is_passed}
+use Rattle.ir_base_arenas.specs.Arena.{Arena, get, IsLiveIn, is_passed}
 use Rattle.ir_core_records.specs.declared.records.Records.{Records}
 use Rattle.ir_core_records.specs.Growth.{Grows, SkipsIds}
 use Rattle.ir_core_records.specs.Meaning.{op_record, block_record, forest_in}
@@ -39,7 +39,7 @@ keeps-grown limits a b made keeps grows = record { limit = grows.limit ∙ keeps
 new-meant : {T R : Type 0} (f : ArenaIndex → T → R) (limits : Limits) (a b : Arena T) (made : List ArenaIndex) → Keeps limits a → Grows a b made
     → (i : ArenaIndex) → In i made → IsNewId limits (is_passed a) (λ j. IsSome (option_map (f j) (get a j))) i
 new-meant f limits a b made keeps grows i h =
-    IsNewId-fewer limits (is_passed a) (IsLive a) (λ j. IsSome (option_map (f j) (get a j))) i (λ j. some-map (f j) (get a j)) (grows.are_new limits (sym keeps.limit) (sym keeps.last_version) i h)
+    IsNewId-fewer limits (is_passed a) (IsLiveIn a) (λ j. IsSome (option_map (f j) (get a j))) i (λ j. some-map (f j) (get a j)) (grows.are_new limits (sym keeps.limit) (sym keeps.last_version) i h)
 
 none-more : {U : Type 0} (passed : U → Bool) (i : U) → IsTrue (passed i) ↔ (IsTrue (passed i) ⊎ In i [])
 none-more passed i = (λ h. inl h, λ h. elim h [ inl p ↦ p | inr k ↦ absurd k ])

@@ -12,7 +12,7 @@ use Rattle.ir_model.proofs.Back.{slice_get-in}
 use Rattle.ir_model.proofs.Keeps.{rewrite_at}
 use Rattle.ir_model.proofs.Nests.{In-append, In-left, In-map, In-map_back, In-right}
 use Rattle.ir_model.proofs.TwoRuns.{id_tells}
-use Rattle.ir_base_arenas.specs.Arena.{get, IsLive}
+use Rattle.ir_base_arenas.specs.Arena.{get, IsLiveIn}
 use Rattle.ir_core_records.specs.declared.record.BlockIndex.{BlockIndex}
 use Rattle.ir_core_records.specs.declared.record.UsePlace.{UsePlace}
 use Rattle.ir_core_records.specs.declared.record.ValueIndex.{ValueIndex}
@@ -70,7 +70,7 @@ module _ {D A K B S X L : Type 0} (t : Records D A K B S X L) where
   pub live-values : {V : Type 0} (index : V → ValueIndex) (vs : List V) → All (λ v. IsLiveNamed (forest_in t) (a_value (value_of (index v)))) vs → All (λ v. IsValue t (index v)) vs
   live-values index vs live k d within = live-value t _ (live k d within)
 
-  pub live-block : (b : ArenaIndex) → IsLiveNamed (forest_in t) (the_block b) → IsLive t.blocks b
+  pub live-block : (b : ArenaIndex) → IsLiveNamed (forest_in t) (the_block b) → IsLiveIn t.blocks b
   live-block b h = some-map (block_record (ops_in (tree_of t) b)) (get t.blocks b) h
 
 -- an operation was given operands that begin at a number

@@ -12,7 +12,7 @@ use Rattle.ir_model.proofs.Arenas.{passed-fill_live}
 use Rattle.ir_model.proofs.ArenaRoom.{len-fill_live, room-fill_live}
 use Rattle.ir_model.proofs.Keeps.{rewrite_at}
 use Rattle.ir_model.proofs.TwoRuns.{id_tells}
-use Rattle.ir_base_arenas.specs.Arena.{Arena, IsLive, get}
+use Rattle.ir_base_arenas.specs.Arena.{Arena, IsLiveIn, get}
 use Rattle.ir_base_arenas.specs.Lists.{SameIds}
 use Rattle.ir_core_records.specs.declared.records.Records.{Records}
 use Rattle.ir_core_records.specs.Chains.{AreLinked, chains_of}
@@ -31,7 +31,7 @@ module _ {T : Type 0} (change : T → T) (a : Arena T) (id : ArenaIndex) where
   ids_by =
       edited-by (λ b. ((i : ArenaIndex) → is_some (get b i) ≡ is_some (get a i)) → SameIds a b) change a id
       (λ none stays. record { live = λ i. (λ h. h, λ h. h); passed = λ i. refl; room = refl; len = refl; limit = refl; last_version = refl; removals = refl })
-      (λ x at stays. let live : IsLive a id = ap is_some at in record {
+      (λ x at stays. let live : IsLiveIn a id = ap is_some at in record {
         live = λ i. (λ h. sym (stays i) ∙ h, λ h. stays i ∙ h);
         passed = λ i. passed-fill_live a id i (change x) live;
         room = room-fill_live a id (change x) live;

@@ -8,7 +8,7 @@ use Rattle.ir_model.specs.declared.ids.Limits.{Limits}
 use Rattle.ir_model.specs.Ids.{Absent, Distinct}
 use Rattle.ir_model.specs.Nesting.{In}
 use Rattle.ir_model.specs.Sessions.{Number, TakesSlot}
-use Rattle.ir_base_arenas.specs.Arena.{Arena, get, IsLive, IsWhole, is_passed, room}
+use Rattle.ir_base_arenas.specs.Arena.{Arena, get, IsLiveIn, IsWhole, is_passed, room}
 use Rattle.ir_model.proofs.ArenaRoom.{takes-number, room-splits}
 use Rattle.ir_core_context.specs.Calls.{Left}
 use Rattle.ir_core_context.specs.Sound.{Keeps}
@@ -59,7 +59,7 @@ pub Left-below : (n count : ℕ) → n ≤ count → Left count (λ m. IsTrue (n
 Left-below n count h = record { gone = n; number = Number-below n; whole = omega arith }
 
 -- the slots that are taken
-pub Left-taken : {T : Type 0} (limits : Limits) (a : Arena T) → Keeps limits a → IsWhole a → Left limits.slots (TakesSlot limits (is_passed a) (IsLive a)) (room a)
+pub Left-taken : {T : Type 0} (limits : Limits) (a : Arena T) → Keeps limits a → IsWhole a → Left limits.slots (TakesSlot limits (is_passed a) (IsLiveIn a)) (room a)
 Left-taken limits a keeps whole = record { gone = a.limit - room a; number = takes-number limits a (sym keeps.last_version) whole; whole = omega (arith, room-splits a whole, keeps.limit) }
 
 module _ {T R : Type 0} (f : ArenaIndex → T → R) (limits : Limits) (a : Arena T) (keeps : Keeps limits a) (whole : IsWhole a) where

@@ -7,7 +7,7 @@ ghost use Rattle.ir_model.specs.declared.ids.ArenaIndex.{ArenaIndex};
 ghost use Rattle.ir_model.specs.ContextIds.{context_ids};
 ghost use Rattle.ir_model.specs.Forest.{Forest, a_value, an_op, the_block};
 ghost use Rattle.ir_model.specs.Nesting.{IsLive as IsLiveEntity, IsLiveNamed, WellFormed, operands_of, regions_of, successors_of};
-ghost use Rattle.ir_base_arenas.specs.Arena.{room, IsLive};
+ghost use Rattle.ir_base_arenas.specs.Arena.{room, IsLiveIn};
 ghost use Rattle.ir_core_records.specs.Frames.{KeepsTree};
 ghost use Rattle.ir_core_records.specs.Meaning.{closed, definition_of, forest_in, value_of};
 ghost use Rattle.ir_core_context.specs.Calls.{EntitiesStayLive, HasAll, MakesBlock, MakesOperation, MakesRegion, SkipsAtMost, StayLive, block_needs, region_needs, needs_of};
@@ -41,10 +41,10 @@ pub(crate) struct Parts<'a, D: Dialects> {
 // Takes back so many regions, all that an operation was given. It takes no memory.
 fn remove_regions<D: Dialects>(records: &mut Records<D>, op: ArenaIndex, count: usize)
     requires together { HoldTogether records.old }
-    requires live { IsLive records.old.ops op }
+    requires live { IsLiveIn records.old.ops op }
     requires given { (f : Forest context_ids (closed D.Attr D.TypeKey D.TypeBody D.Saved D.Aux D.Loc)) × (rs : List ArenaIndex) × IsGiven f op rs count (forest_in records.old) }
     ensures together { HoldTogether records.new }
-    ensures live { IsLive records.new.ops op }
+    ensures live { IsLiveIn records.new.ops op }
     ensures forest { (f : Forest context_ids (closed D.Attr D.TypeKey D.TypeBody D.Saved D.Aux D.Loc)) (rs : List ArenaIndex) → IsGiven f op rs count (forest_in records.old) → forest_in records.new ≡ f }
     ensures passed { Extends records.old records.new [] [] [] }
 {
@@ -65,11 +65,11 @@ fn add_regions<D: Dialects>(
     count: usize,
 ) -> Result<(), AllocError>
     requires together { HoldTogether records.old }
-    requires live { IsLive records.old.ops op }
+    requires live { IsLiveIn records.old.ops op }
     requires bare { regions_of (forest_in records.old) op ≡ [] }
     requires room { count ≤ room records.old.regions }
     ensures together { HoldTogether records.new }
-    ensures live { IsLive records.new.ops op }
+    ensures live { IsLiveIn records.new.ops op }
     ensures given { OnOk result ((rs : List ArenaIndex) × IsGiven (forest_in records.old) op rs count (forest_in records.new) × Extends records.old records.new [] [] rs) }
     ensures same { OnErr result (forest_in records.new ≡ forest_in records.old) }
     ensures skipped { OnErr result (SkipsUpTo records.old records.new 0 0 count) }
@@ -94,7 +94,7 @@ fn link_places<D: Dialects>(
     parts: &Parts<'_, D>,
 ) -> Result<(), AllocError>
     requires together { HoldTogether records.old }
-    requires live { IsLive records.old.ops op }
+    requires live { IsLiveIn records.old.ops op }
     requires no_operands { operands_of (forest_in records.old) op ≡ [] }
     requires no_successors { successors_of (forest_in records.old) op ≡ [] }
     requires operands { All (λ v. IsLiveNamed (forest_in records.old) (a_value (value_of v.index))) parts.now.operands.now }
@@ -126,7 +126,7 @@ fn complete<D: Dialects>(
     parts: &Parts<'_, D>,
 ) -> Result<(), AllocError>
     requires together { HoldTogether records.old }
-    requires live { IsLive records.old.ops op }
+    requires live { IsLiveIn records.old.ops op }
     requires no_regions { regions_of (forest_in records.old) op ≡ [] }
     requires no_operands { operands_of (forest_in records.old) op ≡ [] }
     requires no_successors { successors_of (forest_in records.old) op ≡ [] }
@@ -136,7 +136,7 @@ fn complete<D: Dialects>(
     requires numbers { first_use + (length parts.now.operands.now + length parts.now.successors.now) < 2 ^ 64 }
     requires room { parts.now.num_regions ≤ room records.old.regions }
     ensures together { HoldTogether records.new }
-    ensures live { IsLive records.new.ops op }
+    ensures live { IsLiveIn records.new.ops op }
     ensures made { OnOk result (Completes records.old records.new op first_use (map (λ v. v.index) parts.now.operands.now) (first_use + length parts.now.operands.now) (map (λ b. record { index = b.index }) parts.now.successors.now) parts.now.num_regions) }
     ensures same { OnErr result (forest_in records.new ≡ forest_in records.old) }
     ensures skipped { OnErr result (SkipsUpTo records.old records.new 0 0 parts.now.num_regions) }

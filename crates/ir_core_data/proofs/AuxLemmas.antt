@@ -17,7 +17,7 @@ use Rattle.ir_model.proofs.Arenas.{get-cut, get-cut_other, get-fill_live, get-fi
 use Rattle.ir_model.proofs.IdCases.{id_cases, id_differs, id_same}
 use Rattle.ir_model.proofs.StepTells.{one_count}
 use Rattle.ir_model.specs.Sessions.{TakesSlot}
-use Rattle.ir_base_arenas.specs.Arena.{Arena, IsLive, IsNew, IsWhole, cut, fill, get, is_passed, miss, room}
+use Rattle.ir_base_arenas.specs.Arena.{Arena, IsLiveIn, IsNew, IsWhole, cut, fill, get, is_passed, miss, room}
 use Rattle.ir_core_data.specs.declared.side_data.SideData.{SideData}
 use Rattle.ir_core_data.specs.Side.{Keeps, beside_in, with_written}
 
@@ -48,7 +48,7 @@ module _ {T : Type 0} (a : Arena T) (i : ArenaIndex) where
       (λ h. elim ((passed-fill_new a i j v new).0 h) [ inl was ↦ was | inr e ↦ absurd (ne e) ])
       (λ h. (passed-fill_new a i j v new).1 (inl h))))
 
-  get-live_fill : (v : T) → IsLive a i → get (fill a i v) ≡ rewrite same_id i (λ _. v) (get a)
+  get-live_fill : (v : T) → IsLiveIn a i → get (fill a i v) ≡ rewrite same_id i (λ _. v) (get a)
   get-live_fill v live =
       fun_ext (λ j. by_id i j (get (fill a i v) j) (option_map (λ _. v) (get a j)) (get a j)
       (λ e. ap (get (fill a i v)) e ∙ get-fill_live a i v live ∙ sym (set (get a j) (subst (λ k. IsSome (get a k)) (sym e) live)))
@@ -58,7 +58,7 @@ module _ {T : Type 0} (a : Arena T) (i : ArenaIndex) where
       set None h = absurd (cc)
       set (Some x) h = refl
 
-  get-taken : IsLive a i → get (cut a i) ≡ (λ j. if same_id j i then None else get a j)
+  get-taken : IsLiveIn a i → get (cut a i) ≡ (λ j. if same_id j i then None else get a j)
   get-taken live =
       fun_ext (λ j. by_id i j (get (cut a i) j) None (get a j) (λ e. ap (get (cut a i)) e ∙ get-cut a i live) (λ ne. get-cut_other a i j live ne))
 
@@ -74,10 +74,10 @@ module _ {D A K B S X L : Type 0} (s : SideData D A K B S X L) (i : ArenaIndex) 
   }
 
   -- data that is written where there is some
-  pub writes : IsLive s.aux i → (v : X) → beside_in (with_written s i v) ≡ write_aux (beside_in s) i v
+  pub writes : IsLiveIn s.aux i → (v : X) → beside_in (with_written s i v) ≡ write_aux (beside_in s) i v
   writes live v t = record (beside_in s) { aux = get-live_fill s.aux i v live t; aux_passed = λ j. passed-fill_live s.aux i j v live t }
 
-  taken : IsLive s.aux i → beside_in (record s { aux = cut s.aux i }) ≡ without_aux (beside_in s) i
+  taken : IsLiveIn s.aux i → beside_in (record s { aux = cut s.aux i }) ≡ without_aux (beside_in s) i
   taken live t = record (beside_in s) { aux = get-taken s.aux i live t; aux_passed = λ j. passed-cut s.aux i j live t }
 
   missed : get s.aux i ≡ None → beside_in (record s { aux = miss s.aux }) ≡ without_aux (beside_in s) i
@@ -105,7 +105,7 @@ module _ {D A K B S X L : Type 0} (s : SideData D A K B S X L) where
       by lacks zero is = is
       by lacks (suc left) is =
           let has = has-room limits s.aux 1 (sym keeps.limit) (sym keeps.last_version) whole (omega (arith, is)) in
-          let same = one_count (TakesSlot limits (is_passed s.aux) (IsLive s.aux)) has.0 lacks.0 has.1 lacks.1 in
+          let same = one_count (TakesSlot limits (is_passed s.aux) (IsLiveIn s.aux)) has.0 lacks.0 has.1 lacks.1 in
           absurd (omega (arith, has.2, lacks.2, same))
 
 -- a refusal that is handed on is one for slots exactly where it was

@@ -1,4 +1,4 @@
-//! NameTable of auxiliary data.
+//! Names of auxiliary data.
 //!
 //! A name leads to an index, whether or not there is still data under it.
 

@@ -7,7 +7,7 @@ use Rattle.ir_model.specs.Forest.{Entity, Forest}
 use Rattle.ir_model.specs.Changes.{Removes}
 use Rattle.ir_model.proofs.Arenas.{passed-cut}
 use Rattle.ir_model.proofs.ArenaRoom.{len-cut}
-use Rattle.ir_base_arenas.specs.Arena.{Arena, arena_len, cut, IsLive}
+use Rattle.ir_base_arenas.specs.Arena.{Arena, arena_len, cut, IsLiveIn}
 use Rattle.ir_base_arenas.specs.Lists.{SameIds}
 use Rattle.ir_core_records.specs.declared.records.Records.{Records}
 use Rattle.ir_core_records.specs.Chains.{chains_of}
@@ -46,7 +46,7 @@ module _ {T : Type 0} where
     same = s.len;
   }
 
-  pub loses : (old new : Arena T) (id : ArenaIndex) → IsLive old id → new ≡ cut old id → Loses old new
+  pub loses : (old new : Arena T) (id : ArenaIndex) → IsLiveIn old id → new ≡ cut old id → Loses old new
   loses old new id live is = subst (Loses old) (sym is) (record {
     ids = record { passed = λ i. passed-cut old id i live; limit = refl; last_version = refl };
     counted = refl;

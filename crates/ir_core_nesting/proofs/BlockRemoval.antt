@@ -5,7 +5,7 @@ use Rattle.std.specs.Option.{option_map}
 use Rattle.ir_model.specs.declared.ids.ArenaIndex.{ArenaIndex}
 use Rattle.ir_model.proofs.IdCases.{id_cases}
 use Rattle.ir_model.proofs.Arenas.{get-cut, get-cut_other}
-use Rattle.ir_base_arenas.specs.Arena.{get, IsLive, cut}
+use Rattle.ir_base_arenas.specs.Arena.{get, IsLiveIn, cut}
 use Rattle.ir_base_arenas.specs.Lists.{AreLists}
 use Rattle.ir_core_records.specs.declared.record.BasicBlock.{BasicBlock}
 use Rattle.ir_core_records.specs.declared.record.Region.{Region}
@@ -25,7 +25,7 @@ module _ {D A K B S X L : Type 0} (old : Records D A K B S X L) (block : ArenaIn
   abbrev left : Records D A K B S X L
   left = record old { blocks = cut old.blocks block }
 
-  live : IsLive old.blocks block
+  live : IsLiveIn old.blocks block
   live = live-of old.blocks block x found
 
   left-chains : ((n : ℕ) → uses_with x.arguments n ≡ []) → x.uses ≡ [] → chains_of left ≡ chains_of old

@@ -6,7 +6,7 @@ use Rattle.ir_model.specs.Sessions.{IsNewId}
 use Rattle.ir_model.proofs.Arenas.{get-new, get-cut, get-cut_other, passed-fill_new, passed-fill_live, passed-cut, new-is_new, get-fill_live, get-fill_live_other, get-fill_new}
 use Rattle.ir_model.proofs.ArenaRoom.{len-fill_live, room-fill_live}
 use Rattle.ir_model.proofs.IdCases.{id_cases}
-use Rattle.ir_base_arenas.specs.Arena.{Arena, get, IsLive, IsNew, is_passed, fill, cut}
+use Rattle.ir_base_arenas.specs.Arena.{Arena, get, IsLiveIn, IsNew, is_passed, fill, cut}
 use Rattle.ir_base_arenas.specs.Lists.{SameIds}
 use Rattle.ir_core_records.specs.Growth.{Grows, SkipsIds, Clears}
 
@@ -32,7 +32,7 @@ module _ {T : Type 0} where
   Grows-one a id v is_new = record {
     distinct = (tt, tt);
     dead = λ i k. ap (get a) (the id i k) ∙ get-new a id is_new;
-    are_new = λ limits slots last i k. subst (IsNewId limits (is_passed a) (IsLive a)) (sym (the id i k)) (new-is_new limits a id slots last is_new);
+    are_new = λ limits slots last i k. subst (IsNewId limits (is_passed a) (IsLiveIn a)) (sym (the id i k)) (new-is_new limits a id slots last is_new);
     passed = λ i. (
       λ p. elim ((passed-fill_new a id i v is_new).0 p) [ inl q ↦ inl q | inr e ↦ inr (inl e) ],
       λ p. (passed-fill_new a id i v is_new).1 (elim p [ inl q ↦ inl q | inr k ↦ inr (the id i k) ]),
@@ -60,7 +60,7 @@ module _ {T : Type 0} where
     grows = Grows-then a (fill a id v) (cut (fill a id v) id) (id ∷ []) (Grows-one a id v is_new) (λ i. passed-cut (fill a id v) id i (ap is_some (get-fill_new a id v is_new))) refl refl;
   }
 
-  pub Clears-cut : (a : Arena T) (id : ArenaIndex) → IsLive a id → Clears a (cut a id) (id ∷ [])
+  pub Clears-cut : (a : Arena T) (id : ArenaIndex) → IsLiveIn a id → Clears a (cut a id) (id ∷ [])
   Clears-cut a id live = record {
     gone = λ i k. ap (get (cut a id)) (the id i k) ∙ get-cut a id live;
     kept = λ i k. get-cut_other a id i live (λ e. k (inl e));
@@ -80,7 +80,7 @@ module _ {T : Type 0} where
     removals = refl;
   }
 
-  pub SameIds-written : (a : Arena T) (id : ArenaIndex) (v : T) → IsLive a id → SameIds a (fill a id v)
+  pub SameIds-written : (a : Arena T) (id : ArenaIndex) (v : T) → IsLiveIn a id → SameIds a (fill a id v)
   SameIds-written a id v live = record {
     live = λ i. elim (id_cases i id) [
       | inl e ↦ (λ h. ap (λ z. is_some (get a z)) e ∙ live, λ h. ap (λ z. is_some (get (fill a id v) z)) e ∙ ap is_some (get-fill_live a id v live))
@@ -95,6 +95,6 @@ module _ {T : Type 0} where
   }
 
   -- a removal that found its record
-  pub removed : (a b : Arena T) (id : ArenaIndex) (r : Option T) → IsLive a id → r ≡ get a id → OnSome r (b ≡ cut a id) → b ≡ cut a id
+  pub removed : (a b : Arena T) (id : ArenaIndex) (r : Option T) → IsLiveIn a id → r ≡ get a id → OnSome r (b ≡ cut a id) → b ≡ cut a id
   removed a b id None live is h = absurd (true≢false (sym live ∙ ap is_some (sym is)))
   removed a b id (Some v) live is h = h

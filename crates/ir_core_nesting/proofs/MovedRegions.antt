@@ -18,7 +18,7 @@ use Rattle.ir_model.proofs.Nests.{In-append, not_in-Absent}
 use Rattle.ir_model.proofs.Relinks.{without_absent}
 use Rattle.ir_model.proofs.TwoRuns.{id_tells}
 use Rattle.ir_model.proofs.Arenas.{get-fill_live, get-fill_live_other}
-use Rattle.ir_base_arenas.specs.Arena.{Arena, get, IsLive, fill}
+use Rattle.ir_base_arenas.specs.Arena.{Arena, get, IsLiveIn, fill}
 use Rattle.ir_base_arenas.specs.Lists.{AreLists, SameIds}
 use Rattle.ir_core_records.specs.declared.record.Operation.{Operation}
 use Rattle.ir_core_records.specs.declared.record.Region.{Region}
@@ -86,7 +86,7 @@ module _ {D A K B S X L : Type 0} (t : Records D A K B S X L) (nested : AreNeste
       let at = formed.regions_linked r live in
       subst (λ o. In r (regions_of (forest_in t) o)) (sym (only-owner r at.0 region found at.1)) at.1
 
-  pub owner-held : (r o : ArenaIndex) → In r (regions_of (forest_in t) o) → IsLive t.ops o
+  pub owner-held : (r o : ArenaIndex) → In r (regions_of (forest_in t) o) → IsLiveIn t.ops o
   owner-held r o h = by (get t.ops o) h
     where
       by : (m : Option (Operation D A K B S X L)) → In r (list_of (λ (r : OpRecord context_ids (closed A K B S X L)). r.regions) (option_map op_record m)) → IsSome m
@@ -116,13 +116,13 @@ module _ {D A K B S X L : Type 0} (old : Records D A K B S X L) (op from r : Are
   abbrev pub moved : Records D A K B S X L
   moved = record { ops = fill pushed from given; blocks = old.blocks; regions = fill old.regions r (record region { parent = op }) }
 
-  live : IsLive old.ops op
+  live : IsLiveIn old.ops op
   live = live-of old.ops op x found
 
   still_from : get pushed from ≡ Some y
   still_from = get-fill_live_other old.ops op from taken live two ∙ found_from
 
-  live_from : IsLive pushed from
+  live_from : IsLiveIn pushed from
   live_from = live-of pushed from y still_from
 
   -- whatever does not see the regions

@@ -6,13 +6,13 @@ use Rattle.ir_model.specs.ContextIds.{same_id}
 use Rattle.ir_model.specs.Changes.{put, rewrite}
 use Rattle.ir_model.proofs.IdCases.{id_cases, id_same, id_differs}
 use Rattle.ir_model.proofs.Arenas.{get-new, get-fill_new, get-fill_new_other, get-fill_live, get-fill_live_other, get-cut, get-cut_other}
-use Rattle.ir_base_arenas.specs.Arena.{Arena, get, IsLive, IsNew, fill, cut}
+use Rattle.ir_base_arenas.specs.Arena.{Arena, get, IsLiveIn, IsNew, fill, cut}
 use Rattle.ir_core_records.specs.Lists.{edited}
 
-pub live-of : {T : Type 0} (a : Arena T) (id : ArenaIndex) (x : T) → get a id ≡ Some x → IsLive a id
+pub live-of : {T : Type 0} (a : Arena T) (id : ArenaIndex) (x : T) → get a id ≡ Some x → IsLiveIn a id
 live-of a id x found = ap is_some found
 
-pub found-at : {T : Type 0} (a : Arena T) (id : ArenaIndex) → IsLive a id → (x : T) × (get a id ≡ Some x)
+pub found-at : {T : Type 0} (a : Arena T) (id : ArenaIndex) → IsLiveIn a id → (x : T) × (get a id ≡ Some x)
 found-at {T} a id live = by (get a id) live
   where
     by : (m : Option T) → IsSome m → (x : T) × (m ≡ Some x)
@@ -59,7 +59,7 @@ module _ {T Y : Type 0} (a : Arena T) (f : T → Y) (id : ArenaIndex) where
   ]
 
   -- one entry is gone
-  pub seen-cut : IsLive a id → (i : ArenaIndex) → option_map f (get (cut a id) i) ≡ cond (same_id i id) None (option_map f (get a i))
+  pub seen-cut : IsLiveIn a id → (i : ArenaIndex) → option_map f (get (cut a id) i) ≡ cond (same_id i id) None (option_map f (get a i))
   seen-cut live i = elim (id_cases i id) [
     | inl e ↦ ap (λ z. option_map f (get (cut a id) z)) e ∙ ap (option_map f) (get-cut a id live)
         ∙ sym (ap (λ b. cond b None (option_map f (get a i))) (ap (λ z. same_id z id) e ∙ id_same id))

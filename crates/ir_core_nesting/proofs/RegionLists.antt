@@ -13,7 +13,7 @@ use Rattle.ir_model.specs.Nesting.{In, list_of, regions_of}
 use Rattle.ir_model.proofs.IdCases.{id_cases, id_same, id_differs}
 use Rattle.ir_model.proofs.Nests.{In-append, In-left, In-right, not_in-Absent}
 use Rattle.ir_model.proofs.Arenas.{get-fill_new, get-fill_new_other, get-new, get-cut, get-cut_other, get-fill_live, get-fill_live_other}
-use Rattle.ir_base_arenas.specs.Arena.{Arena, get, IsLive, IsNew, fill, cut}
+use Rattle.ir_base_arenas.specs.Arena.{Arena, get, IsLiveIn, IsNew, fill, cut}
 use Rattle.ir_base_arenas.specs.Lists.{AreLists, seen}
 use Rattle.ir_core_records.specs.declared.record.Operation.{Operation}
 use Rattle.ir_core_records.specs.declared.record.Region.{Region}
@@ -167,7 +167,7 @@ module _ {D A K B S X L : Type 0} (old : Records D A K B S X L) (op : ArenaIndex
     }
 
   -- the last region is taken back
-  module _ (rest : List ArenaIndex) (r : ArenaIndex) (splits : x.regions ≡ rest ++ r ∷ []) (live : IsLive old.regions r) where
+  module _ (rest : List ArenaIndex) (r : ArenaIndex) (splits : x.regions ≡ rest ++ r ∷ []) (live : IsLiveIn old.regions r) where
     abbrev pub left : Records D A K B S X L
     left = with_regions old op x found rest (cut old.regions r)
 
@@ -230,7 +230,7 @@ module _ {D A K B S X L : Type 0} (old : Records D A K B S X L) (op : ArenaIndex
         own = relisted-own old op x found x.regions all;
       })
 
-  pub region-left : (rest : List ArenaIndex) (r : ArenaIndex) → x.regions ≡ rest ++ r ∷ [] → Distinct x.regions → IsLive old.regions r
+  pub region-left : (rest : List ArenaIndex) (r : ArenaIndex) → x.regions ≡ rest ++ r ∷ [] → Distinct x.regions → IsLiveIn old.regions r
       → ops ≡ fill old.ops op (record x { regions = rest }) → regions ≡ cut old.regions r
       → AreLists (seen block_links old.blocks) (seen region_ends (cut old.regions r)) (blocks_in (tree_of old))
       → Becomes old now (without_region (on_op (forest_in old) op (on_regions (λ _. rest))) r)
@@ -251,9 +251,9 @@ regions-read {D} {A} {K} {B} {S} {X} {L} t op = by (get t.ops op)
     by (Some y) = refl
 
 -- a region that is empty in the forest is live, and the walk finds nothing
-pub empty-region : {D A K B S X L : Type 0} (t : Records D A K B S X L) (r : ArenaIndex) → (forest_in t).regions r ≡ Some [] → IsLive t.regions r × (blocks_in (tree_of t) r ≡ [])
+pub empty-region : {D A K B S X L : Type 0} (t : Records D A K B S X L) (r : ArenaIndex) → (forest_in t).regions r ≡ Some [] → IsLiveIn t.regions r × (blocks_in (tree_of t) r ≡ [])
 empty-region t r e = by (get t.regions r) refl e
   where
-    by : (m : Option Region) → get t.regions r ≡ m → option_map (λ (_ : Region). blocks_in (tree_of t) r) m ≡ Some [] → IsLive t.regions r × (blocks_in (tree_of t) r ≡ [])
+    by : (m : Option Region) → get t.regions r ≡ m → option_map (λ (_ : Region). blocks_in (tree_of t) r) m ≡ Some [] → IsLiveIn t.regions r × (blocks_in (tree_of t) r ≡ [])
     by None is h = absurd cc
     by (Some x) is h = (ap is_some is, same_Some _ _ h)

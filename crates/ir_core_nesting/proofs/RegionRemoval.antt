@@ -12,7 +12,7 @@ use Rattle.ir_model.proofs.Filters.{In-filter}
 use Rattle.ir_model.proofs.Relinks.{without_absent}
 use Rattle.ir_model.proofs.TwoRuns.{id_tells}
 use Rattle.ir_model.proofs.Arenas.{get-cut_other}
-use Rattle.ir_base_arenas.specs.Arena.{Arena, get, IsLive, fill, cut}
+use Rattle.ir_base_arenas.specs.Arena.{Arena, get, IsLiveIn, fill, cut}
 use Rattle.ir_base_arenas.specs.Lists.{AreLists, seen}
 use Rattle.ir_core_records.specs.declared.record.Operation.{Operation}
 use Rattle.ir_core_records.specs.declared.record.Region.{Region}
@@ -35,7 +35,7 @@ module _ {D A K B S X L : Type 0} (old : Records D A K B S X L) (op r : ArenaInd
   abbrev left : Records D A K B S X L
   left = with_regions old op x found kept (cut old.regions r)
 
-  live : IsLive old.regions r
+  live : IsLiveIn old.regions r
   live = live-of old.regions r region found_region
 
   owned : option_map region_parent (get old.regions r) ≡ Some op

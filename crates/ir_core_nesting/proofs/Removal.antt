@@ -8,7 +8,7 @@ use Rattle.ir_model.specs.Forest.{OpRecord}
 use Rattle.ir_model.specs.Nesting.{In, list_of}
 use Rattle.ir_model.proofs.IdCases.{id_cases}
 use Rattle.ir_model.proofs.Arenas.{get-cut, get-cut_other}
-use Rattle.ir_base_arenas.specs.Arena.{Arena, get, IsLive, cut}
+use Rattle.ir_base_arenas.specs.Arena.{Arena, get, IsLiveIn, cut}
 use Rattle.ir_base_arenas.specs.Lists.{AreLists, seen}
 use Rattle.ir_core_records.specs.declared.record.Operation.{Operation}
 use Rattle.ir_core_records.specs.declared.records.Records.{Records}
@@ -31,7 +31,7 @@ module _ {D A K B S X L : Type 0} (old : Records D A K B S X L) (op : ArenaIndex
   abbrev pub left : Records D A K B S X L
   left = record old { ops = cut old.ops op }
 
-  live : IsLive old.ops op
+  live : IsLiveIn old.ops op
   live = live-of old.ops op x found
 
   pub left-chains : x.operands ≡ [] → x.successors ≡ [] → ((n : ℕ) → uses_with x.results n ≡ []) → chains_of left ≡ chains_of old

@@ -8,7 +8,7 @@ ghost use Rattle.ir_model.specs.Forest.{an_op};
 ghost use Rattle.ir_model.specs.Ids.{Distinct};
 ghost use Rattle.ir_model.specs.Nesting.{IsLinked, regions_of, operands_of, successors_of};
 ghost use Rattle.ir_model.specs.Changes.{new_op as with_op, new_block as with_block, add_region as with_region, on_op, on_regions};
-ghost use Rattle.ir_base_arenas.specs.Arena.{get, room, cut, IsLive};
+ghost use Rattle.ir_base_arenas.specs.Arena.{get, room, cut, IsLiveIn};
 ghost use Rattle.ir_base_arenas.specs.Lists.{SameIds};
 ghost use Rattle.ir_core_records.specs.declared.record.Definer.TheVariants.{Op};
 ghost use Rattle.ir_core_records.specs.Chains.{chains_of, AreLinked};
@@ -166,7 +166,7 @@ pub(crate) fn push_region<D: Dialects>(
     op: ArenaIndex,
     region: ArenaIndex,
 ) -> Result<(), AllocError>
-    requires { IsLive ops.old op }
+    requires { IsLiveIn ops.old op }
     ensures { ops.new ≡ edited (λ x. record x { regions = if is_ok result then x.regions ++ region ∷ [] else x.regions }) ops.old op }
 {
     ops.at_mut(Ptr::from_index(op)).regions.push(region)
@@ -174,7 +174,7 @@ pub(crate) fn push_region<D: Dialects>(
 
 // Takes the last region out of the list of a live operation.
 fn pop_region<D: Dialects>(ops: &mut Arena<Operation<D>>, op: ArenaIndex) -> ArenaIndex
-    requires live { IsLive ops.old op }
+    requires live { IsLiveIn ops.old op }
     requires some { ¬ (in_record op_regions [] (get ops.old op) ≡ []) }
     ensures { (rest : List ArenaIndex) × (in_record op_regions [] (get ops.old op) ≡ rest ++ result ∷ []) × (ops.new ≡ edited (λ x. record x { regions = rest }) ops.old op) }
 {
@@ -190,7 +190,7 @@ pub fn add_region<D: Dialects>(
     op: ArenaIndex,
 ) -> Result<ArenaIndex, AllocError>
     requires nested { AreNested (tree_of records.old) }
-    requires live { IsLive records.old.ops op }
+    requires live { IsLiveIn records.old.ops op }
     requires room { 0 < room records.old.regions }
     ensures grows { IfOk result (λ region. Grows records.old.regions records.new.regions (region ∷ [])) }
     ensures room { OnOk result (room records.new.regions + 1 ≡ room records.old.regions) }
@@ -232,7 +232,7 @@ pub fn add_region<D: Dialects>(
 /// Takes back a live operation that stands in no block, has no regions, operands and successors, and of which no result is used. It takes no memory.
 pub fn remove_bare_operation<D: Dialects>(records: &mut Records<D>, op: ArenaIndex)
     requires nested { AreNested (tree_of records.old) }
-    requires live { IsLive records.old.ops op }
+    requires live { IsLiveIn records.old.ops op }
     requires unlinked { ¬ IsLinked (forest_in records.old) (an_op op) }
     requires regions { regions_of (forest_in records.old) op ≡ [] }
     requires operands { operands_of (forest_in records.old) op ≡ [] }
@@ -257,7 +257,7 @@ pub fn remove_bare_operation<D: Dialects>(records: &mut Records<D>, op: ArenaInd
 /// Takes back the last region of a live operation, which is empty. It takes no memory.
 pub fn remove_last_region<D: Dialects>(records: &mut Records<D>, op: ArenaIndex)
     requires nested { AreNested (tree_of records.old) }
-    requires live { IsLive records.old.ops op }
+    requires live { IsLiveIn records.old.ops op }
     requires some { ¬ (regions_of (forest_in records.old) op ≡ []) }
     requires once { Distinct (regions_of (forest_in records.old) op) }
     requires empty { (rest : List ArenaIndex) (region : ArenaIndex) → regions_of (forest_in records.old) op ≡ rest ++ region ∷ []

@@ -5,7 +5,7 @@ ghost use Rattle.ir_model.specs.ContextIds.{same_id};
 ghost use Rattle.ir_model.specs.Forest.{an_op};
 ghost use Rattle.ir_model.specs.Nesting.{IsLinked, ops_of};
 ghost use Rattle.ir_model.specs.Changes.{on_block, on_ops, in_blocks, without, put_before, put_after, append_ops};
-ghost use Rattle.ir_base_arenas.specs.Arena.{IsLive};
+ghost use Rattle.ir_base_arenas.specs.Arena.{IsLiveIn};
 ghost use Rattle.ir_core_records.specs.Meaning.{forest_in};
 ghost use Rattle.ir_core_records.specs.Nested.{AreNested};
 ghost use Rattle.ir_core_records.specs.Tree.{tree_of};
@@ -19,8 +19,8 @@ use ir_core_records::{BasicBlock, Operation, Records};
 /// Puts an operation that stands in no list at the front of a block's. It stands for pliron's `insert_at_front`.
 pub fn insert_at_front<D: Dialects>(records: &mut Records<D>, op: ArenaIndex, block: ArenaIndex)
     requires nested { AreNested (tree_of records.old) }
-    requires live { IsLive records.old.ops op }
-    requires block_live { IsLive records.old.blocks block }
+    requires live { IsLiveIn records.old.ops op }
+    requires block_live { IsLiveIn records.old.blocks block }
     requires unlinked { ¬ IsLinked (forest_in records.old) (an_op op) }
     ensures forest { forest_in records.new ≡ on_block (forest_in records.old) block (on_ops (λ os. op ∷ os)) }
     ensures nested { AreNested (tree_of records.new) }
@@ -39,8 +39,8 @@ pub fn insert_at_front<D: Dialects>(records: &mut Records<D>, op: ArenaIndex, bl
 /// Puts an operation that stands in no list at the back of a block's. It stands for pliron's `insert_at_back`.
 pub fn insert_at_back<D: Dialects>(records: &mut Records<D>, op: ArenaIndex, block: ArenaIndex)
     requires nested { AreNested (tree_of records.old) }
-    requires live { IsLive records.old.ops op }
-    requires block_live { IsLive records.old.blocks block }
+    requires live { IsLiveIn records.old.ops op }
+    requires block_live { IsLiveIn records.old.blocks block }
     requires unlinked { ¬ IsLinked (forest_in records.old) (an_op op) }
     ensures forest { forest_in records.new ≡ on_block (forest_in records.old) block (on_ops (λ os. os ++ op ∷ [])) }
     ensures nested { AreNested (tree_of records.new) }
@@ -59,7 +59,7 @@ pub fn insert_at_back<D: Dialects>(records: &mut Records<D>, op: ArenaIndex, blo
 /// Puts an operation that stands in no list right before one that stands in one. It stands for pliron's `insert_before`.
 pub fn insert_before<D: Dialects>(records: &mut Records<D>, op: ArenaIndex, mark: ArenaIndex)
     requires nested { AreNested (tree_of records.old) }
-    requires live { IsLive records.old.ops op }
+    requires live { IsLiveIn records.old.ops op }
     requires unlinked { ¬ IsLinked (forest_in records.old) (an_op op) }
     requires mark_linked { IsLinked (forest_in records.old) (an_op mark) }
     ensures forest { forest_in records.new ≡ in_blocks (forest_in records.old) (put_before same_id op mark) }
@@ -79,7 +79,7 @@ pub fn insert_before<D: Dialects>(records: &mut Records<D>, op: ArenaIndex, mark
 /// Puts an operation that stands in no list right behind one that stands in one. It stands for pliron's `insert_after`.
 pub fn insert_after<D: Dialects>(records: &mut Records<D>, op: ArenaIndex, mark: ArenaIndex)
     requires nested { AreNested (tree_of records.old) }
-    requires live { IsLive records.old.ops op }
+    requires live { IsLiveIn records.old.ops op }
     requires unlinked { ¬ IsLinked (forest_in records.old) (an_op op) }
     requires mark_linked { IsLinked (forest_in records.old) (an_op mark) }
     ensures forest { forest_in records.new ≡ in_blocks (forest_in records.old) (put_after same_id op mark) }
@@ -112,8 +112,8 @@ pub fn unlink<D: Dialects>(records: &mut Records<D>, op: ArenaIndex)
 /// Moves the operations of the donor to the back of the donee's list, and leaves the donor empty. It stands for pliron's `append_linked_list`.
 pub fn append<D: Dialects>(records: &mut Records<D>, donee: ArenaIndex, donor: ArenaIndex)
     requires nested { AreNested (tree_of records.old) }
-    requires donee_live { IsLive records.old.blocks donee }
-    requires donor_live { IsLive records.old.blocks donor }
+    requires donee_live { IsLiveIn records.old.blocks donee }
+    requires donor_live { IsLiveIn records.old.blocks donor }
     requires two { donee ≢ donor }
     ensures forest { forest_in records.new ≡ append_ops (forest_in records.old) donee donor (ops_of (forest_in records.old) donor) }
     ensures nested { AreNested (tree_of records.new) }

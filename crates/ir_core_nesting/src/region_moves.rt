@@ -6,7 +6,7 @@ ghost use Rattle.ir_model.specs.ContextIds.{same_id};
 ghost use Rattle.ir_model.specs.Ids.{Distinct};
 ghost use Rattle.ir_model.specs.Nesting.{In, Nested, regions_of};
 ghost use Rattle.ir_model.specs.Changes.{move_region as moved, without};
-ghost use Rattle.ir_base_arenas.specs.Arena.{get, IsLive};
+ghost use Rattle.ir_base_arenas.specs.Arena.{get, IsLiveIn};
 ghost use Rattle.ir_core_records.specs.Lists.{edited, in_record};
 ghost use Rattle.ir_core_records.specs.Meaning.{forest_in};
 ghost use Rattle.ir_core_records.specs.Nested.{AreNested};
@@ -40,7 +40,7 @@ pub(crate) fn drop_region<D: Dialects>(
     op: ArenaIndex,
     region: ArenaIndex,
 )
-    requires live { IsLive ops.old op }
+    requires live { IsLiveIn ops.old op }
     requires once { Distinct (in_record op_regions [] (get ops.old op)) }
     ensures { ops.new ≡ edited (λ x. record x { regions = without same_id region x.regions }) ops.old op }
 {
@@ -58,8 +58,8 @@ pub fn move_region<D: Dialects>(
 ) -> Result<(), AllocError>
     requires nested { AreNested (tree_of records.old) }
     requires formed { Nested (forest_in records.old) }
-    requires region_live { IsLive records.old.regions region }
-    requires op_live { IsLive records.old.ops op }
+    requires region_live { IsLiveIn records.old.regions region }
+    requires op_live { IsLiveIn records.old.ops op }
     ensures forest { OnOk result (forest_in records.new
         ≡ (if list_any (λ g. same_id g region) (regions_of (forest_in records.old) op) then forest_in records.old else moved (forest_in records.old) region op)) }
     ensures same { OnErr result (forest_in records.new ≡ forest_in records.old) }

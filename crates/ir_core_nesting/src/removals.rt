@@ -7,7 +7,7 @@ ghost use Rattle.ir_model.specs.ContextIds.{same_id};
 ghost use Rattle.ir_model.specs.Changes.{without};
 ghost use Rattle.ir_model.specs.Forest.{a_block};
 ghost use Rattle.ir_model.specs.Nesting.{IsLinked, Nested, ops_of};
-ghost use Rattle.ir_base_arenas.specs.Arena.{cut, IsLive};
+ghost use Rattle.ir_base_arenas.specs.Arena.{cut, IsLiveIn};
 ghost use Rattle.ir_base_arenas.specs.Lists.{SameIds};
 ghost use Rattle.ir_core_records.specs.declared.record.Definer.TheVariants.{Block};
 ghost use Rattle.ir_core_records.specs.Chains.{chains_of};
@@ -27,7 +27,7 @@ use ir_core_records::{BasicBlock, Operation, Records, Region};
 /// Removes a live block that stands in no region and has no operations, of which no argument is used, and which is no successor. It takes no memory.
 pub fn remove_bare_block<D: Dialects>(records: &mut Records<D>, block: ArenaIndex)
     requires nested { AreNested (tree_of records.old) }
-    requires live { IsLive records.old.blocks block }
+    requires live { IsLiveIn records.old.blocks block }
     requires unlinked { ¬ IsLinked (forest_in records.old) (a_block block) }
     requires empty { ops_of (forest_in records.old) block ≡ [] }
     requires unused { (number : ℕ) → uses_at records.old (record { definer = Block block; number = number }) ≡ [] }

@@ -4,7 +4,7 @@ use Rattle.std.specs.Option.{option_map}
 use Rattle.std.proofs.lemmas.List.{set-set, set-get_or, length-set}
 use Rattle.ir_model.specs.declared.ids.ArenaIndex.{ArenaIndex}
 use Rattle.ir_model.specs.Slots.{Slot, never, slot_in}
-use Rattle.ir_base_arenas.specs.Arena.{Arena, get, IsLive, fill}
+use Rattle.ir_base_arenas.specs.Arena.{Arena, get, IsLiveIn, fill}
 use Rattle.ir_model.proofs.Slots.{taken_at, put-set}
 use Rattle.ir_model.proofs.Arenas.{get-fill_live, get-fill_live_other}
 use Rattle.ir_model.proofs.IdCases.{id_cases}
@@ -33,7 +33,7 @@ module _ {T : Type 0} where
       let item : (slot_in a.slots (id.slot - 1)).item ≡ Some x = sym taken.found ∙ e in
       λ i. record { version = taken.version i; item = item i }
 
-  as_set : (a : Arena T) (id : ArenaIndex) (v : T) → IsLive a id → (fill a id v).slots ≡ set a.slots (id.slot - 1) (record { version = id.version; item = Some v })
+  as_set : (a : Arena T) (id : ArenaIndex) (v : T) → IsLiveIn a id → (fill a id v).slots ≡ set a.slots (id.slot - 1) (record { version = id.version; item = Some v })
   as_set a id v live =
       let taken = taken_at a.slots id live in
       put-set a.slots id.slot (record { version = id.version; item = Some v }) taken.numbered taken.within
@@ -47,7 +47,7 @@ module _ {T : Type 0} where
       with_slots a (fill a id v).slots a.slots
       (as_set a id v (ap is_some e) ∙ ap (set a.slots (id.slot - 1)) (sym (slot_under a id v e)) ∙ set-get_or a.slots (id.slot - 1) never)
 
-  fill-twice : (a : Arena T) (id : ArenaIndex) (v w : T) → IsLive a id → fill (fill a id v) id w ≡ fill a id w
+  fill-twice : (a : Arena T) (id : ArenaIndex) (v w : T) → IsLiveIn a id → fill (fill a id v) id w ≡ fill a id w
   fill-twice a id v w live =
       let first = as_set a id v live in
       let second = as_set (fill a id v) id w (ap is_some (get-fill_live a id v live)) in
@@ -100,7 +100,7 @@ module _ {T : Type 0} where
       by_item None = refl
       by_item (Some x) = same x
 
-  pub edited-live : (change : T → T) (t : Arena T) (o p : ArenaIndex) → IsLive t p → IsLive (edited change t o) p
+  pub edited-live : (change : T → T) (t : Arena T) (o p : ArenaIndex) → IsLiveIn t p → IsLiveIn (edited change t o) p
   edited-live change t o p live = edited-kept is_some change (λ x. refl) t o p ∙ live
 
   pub edited-self : (change : T → T) (t : Arena T) (o : ArenaIndex) → ((x : T) → get t o ≡ Some x → change x ≡ x) → edited change t o ≡ t
@@ -112,7 +112,7 @@ module _ {T : Type 0} where
         | inl none ↦ ap (λ (s : Arena T). edited g s o) (edited-none f t o none) ∙ edited-none g t o none ∙ sym (edited-none h t o none)
         | inr some ↦
             let x = some.0 in
-            let live : IsLive t o = ap is_some some.1 in
+            let live : IsLiveIn t o = ap is_some some.1 in
             ap (λ (s : Arena T). edited g s o) (edited-filled f t o x some.1)
             ∙ edited-filled g (fill t o (f x)) o (f x) (get-fill_live t o (f x) live)
             ∙ fill-twice t o (f x) (g (f x)) live

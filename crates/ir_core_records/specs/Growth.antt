@@ -5,14 +5,14 @@ use Rattle.ir_model.specs.declared.ids.Limits.{Limits}
 use Rattle.ir_model.specs.Ids.{Distinct}
 use Rattle.ir_model.specs.Nesting.{In}
 use Rattle.ir_model.specs.Sessions.{IsNewId}
-use Rattle.ir_base_arenas.specs.Arena.{Arena, get, is_passed, IsLive}
+use Rattle.ir_base_arenas.specs.Arena.{Arena, get, is_passed, IsLiveIn}
 
 module _ {T : Type 0} where
   -- the second arena has handed out these ids besides those of the first, in which nothing stood under them
   pub record Grows (old new : Arena T) (made : List ArenaIndex) : Type 0 where
     pub distinct : Distinct made
     pub dead : (i : ArenaIndex) → In i made → get old i ≡ None
-    pub are_new : (limits : Limits) → limits.slots ≡ old.limit → limits.last_version ≡ old.last_version → (i : ArenaIndex) → In i made → IsNewId limits (is_passed old) (IsLive old) i
+    pub are_new : (limits : Limits) → limits.slots ≡ old.limit → limits.last_version ≡ old.last_version → (i : ArenaIndex) → In i made → IsNewId limits (is_passed old) (IsLiveIn old) i
     pub passed : (i : ArenaIndex) → IsTrue (is_passed new i) ↔ (IsTrue (is_passed old i) ⊎ In i made)
     pub limit : new.limit ≡ old.limit
     pub last_version : new.last_version ≡ old.last_version

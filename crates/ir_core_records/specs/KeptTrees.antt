@@ -5,7 +5,7 @@ use Rattle.std.proofs.lemmas.Option.{same_Some}
 use Rattle.ir_model.specs.declared.ids.ArenaIndex.{ArenaIndex}
 use Rattle.ir_model.proofs.Arenas.{passed-fill_live}
 use Rattle.ir_model.proofs.ArenaRoom.{len-fill_live, room-fill_live}
-use Rattle.ir_base_arenas.specs.Arena.{Arena, get, IsLive}
+use Rattle.ir_base_arenas.specs.Arena.{Arena, get, IsLiveIn}
 use Rattle.ir_base_arenas.specs.Lists.{seen, SameIds}
 use Rattle.ir_core_records.specs.declared.record.Operation.{Operation}
 use Rattle.ir_core_records.specs.declared.record.BasicBlock.{BasicBlock}
@@ -35,7 +35,7 @@ module _ {T : Type 0} where
   same_ids-edited change t o =
       edited-by (λ s. ((i : ArenaIndex) → is_some (get s i) ≡ is_some (get t i)) → SameIds t s) change t o
       (λ none stays. same_ids-refl t)
-      (λ x at stays. let live : IsLive t o = ap is_some at in record {
+      (λ x at stays. let live : IsLiveIn t o = ap is_some at in record {
         live = λ i. (λ h. sym (stays i) ∙ h, λ h. stays i ∙ h);
         passed = λ i. passed-fill_live t o i (change x) live;
         room = room-fill_live t o (change x) live;

@@ -1,7 +1,7 @@
 -- The lists of all records, read and written by index and number.
 use Rattle.std.specs.Prelude.{◌≡◌, ℕ, List, [], Some}
 use Rattle.ir_model.specs.declared.ids.ArenaIndex.{ArenaIndex}
-use Rattle.ir_base_arenas.specs.Arena.{get, IsLive}
+use Rattle.ir_base_arenas.specs.Arena.{get, IsLiveIn}
 use Rattle.ir_core_records.specs.declared.record.Definer.{Definer}
 use Rattle.ir_core_records.specs.declared.record.Definer.TheVariants.{Op, Block}
 use Rattle.ir_core_records.specs.declared.record.ValueIndex.{ValueIndex}
@@ -17,11 +17,11 @@ use Rattle.ir_core_records.specs.Lists.{uses_with, put_uses, HasNumber, in_recor
 module _ {D A K B S X L : Type 0} where
   -- the operation is live
   abbrev pub IsOp : Records D A K B S X L → ArenaIndex → Type 0
-  IsOp t o = IsLive t.ops o
+  IsOp t o = IsLiveIn t.ops o
 
   -- the block is live
   abbrev pub IsLiveBlock : Records D A K B S X L → BlockIndex → Type 0
-  IsLiveBlock t b = IsLive t.blocks b.index
+  IsLiveBlock t b = IsLiveIn t.blocks b.index
 
   abbrev pub operands_at : Records D A K B S X L → ArenaIndex → List (UsePlace ValueIndex)
   operands_at t o = in_record (λ op. op.operands) [] (get t.ops o)

@@ -147,7 +147,7 @@ impl Definitions {
         }
     }
 
-    /// Puts an unused_definition and unnamed definition with this number and type at `index`, before the one that stands there.
+    /// Puts an unused and unnamed definition with this number and type at `index`, before the one that stands there.
     ///
     /// # Errors
     /// Where the list had to grow and couldn't. Then the definitions are as before.

@@ -1,7 +1,7 @@
 //! What places name and the lists of uses, written anew.
 
 ghost use Rattle.std.specs.Prelude.{◌≡◌, ◌↔◌, IsTrue};
-ghost use Rattle.ir_base_arenas.specs.Arena.{IsLive};
+ghost use Rattle.ir_base_arenas.specs.Arena.{IsLiveIn};
 ghost use Rattle.ir_core_records.specs.Links.{IsPlaced};
 ghost use Rattle.ir_core_records.specs.Lists.{HaveDistinctUses};
 ghost use Rattle.ir_core_replacing.specs.Renamed.{put_name, IsPlaceOf};
@@ -21,7 +21,7 @@ pub(crate) trait Renames<D: Dialects>: Named<D> {
 
     // The place of a use, and the index where it stands.
     fn place_of(records: &Records<D>, used: UseIndex) -> (UsePlace<Self>, usize)
-        requires live { IsLive records.now.ops used.user }
+        requires live { IsLiveIn records.now.ops used.user }
         requires distinct { HaveDistinctUses (Self.places_at records.now used.user) }
         requires has { IsPlaced (Self.places_at records.now) used }
         ensures { IsPlaceOf (Self.places_at records.now) used result.0 };
@@ -34,7 +34,7 @@ pub(crate) trait Renames<D: Dialects>: Named<D> {
         names: Self,
         place: usize,
     )
-        requires live { IsLive records.old.ops used.user }
+        requires live { IsLiveIn records.old.ops used.user }
         requires distinct { HaveDistinctUses (Self.places_at records.old used.user) }
         requires has { IsPlaced (Self.places_at records.old) used }
         ensures { records.new ≡ Self.with_places records.old used.user (put_name (Self.places_at records.old used.user) used.number names place) };

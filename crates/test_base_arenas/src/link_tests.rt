@@ -1,7 +1,7 @@
 //! Links as records keep them: a caller that is proved from their contracts alone, then tests that run.
 
 ghost use Rattle.std.specs.Prelude.{◌≡◌, Some};
-ghost use Rattle.ir_base_arenas.specs.Arena.{IsLive};
+ghost use Rattle.ir_base_arenas.specs.Arena.{IsLiveIn};
 
 use crate::same::expect_same;
 use ir_base_arenas::arena_laws::live_ids_have_slots;
@@ -17,7 +17,7 @@ struct Step {
 
 /// A link to a live record: its index has a slot, as a law says.
 fn link_to(steps: &Arena<Step>, step: Ptr<Step>) -> Link
-    requires { IsLive steps.now step.index }
+    requires { IsLiveIn steps.now step.index }
     ensures { result ≡ Some step.index }
 {
     live_ids_have_slots::<Step>();

@@ -4,7 +4,7 @@ use Rattle.ir_model.specs.Forest.{a_block, an_op}
 use Rattle.ir_model.specs.Changes.{in_regions, without}
 use Rattle.ir_model.specs.Nesting.{IsLinked, itself, ops_of}
 use Rattle.ir_model.proofs.TwoRuns.{lawful}
-use Rattle.ir_base_arenas.specs.Arena.{get, IsLive}
+use Rattle.ir_base_arenas.specs.Arena.{get, IsLiveIn}
 use Rattle.ir_core_records.specs.declared.record.Definer.TheVariants.{Block}
 use Rattle.ir_core_records.specs.declared.record.ValueIndex.{ValueIndex}
 use Rattle.ir_core_records.specs.declared.record.BlockIndex.{BlockIndex}
@@ -46,7 +46,7 @@ returns g c =
     let block = c.args.block in
     let d = c.detach_block.ensures in
     let r = c.remove_bare_block.ensures in
-    let live : IsLive mid.blocks block = (d.keeps.block_ids.live block).1 (unmap (block_record (ops_in (tree_of old) block)) (get old.blocks block) c.requires.live) in
+    let live : IsLiveIn mid.blocks block = (d.keeps.block_ids.live block).1 (unmap (block_record (ops_in (tree_of old) block)) (get old.blocks block) c.requires.live) in
     block-leaf old new (a_block block) (without_block (in_regions (forest_in old) (without same_id block)) block) (block-removed lawful (forest_in old) block c.requires.leaf)
     (r.forest ∙ ap (λ k. without_block k block) d.forest) r.nested (r.chains ∙ d.keeps.chains) (λ k. r.own (d.keeps.own k))
     (stays-same old.ops mid.ops new.ops (stays old.ops mid.ops d.keeps.op_ids) r.ops)

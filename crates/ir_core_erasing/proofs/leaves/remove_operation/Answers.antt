@@ -4,7 +4,7 @@ use Rattle.ir_model.specs.Forest.{an_op, a_region}
 use Rattle.ir_model.specs.Changes.{in_blocks, without}
 use Rattle.ir_model.specs.Nesting.{IsLinked, itself, operands_of, regions_of, successors_of}
 use Rattle.ir_model.proofs.TwoRuns.{lawful}
-use Rattle.ir_base_arenas.specs.Arena.{get, IsLive}
+use Rattle.ir_base_arenas.specs.Arena.{get, IsLiveIn}
 use Rattle.ir_core_records.specs.declared.record.Definer.TheVariants.{Op}
 use Rattle.ir_core_records.specs.declared.record.ValueIndex.{ValueIndex}
 use Rattle.ir_core_records.specs.Chains.{Chains}
@@ -44,7 +44,7 @@ returns g c =
     let op = c.args.op in
     let d = c.detach_operation.ensures in
     let r = c.remove_bare_operation.ensures in
-    let live : IsLive mid.ops op = (d.keeps.op_ids.live op).1 (unmap op_record (get old.ops op) c.requires.live) in
+    let live : IsLiveIn mid.ops op = (d.keeps.op_ids.live op).1 (unmap op_record (get old.ops op) c.requires.live) in
     op-leaf old new (an_op op) (without_op (in_blocks (forest_in old) (without same_id op)) op) (op-removed lawful (forest_in old) op c.requires.leaf)
     (r.forest ∙ ap (λ k. without_op k op) d.forest) r.nested (r.chains ∙ d.keeps.chains) (λ k. r.own (d.keeps.own k))
     (stays-loses old.ops mid.ops new.ops (stays old.ops mid.ops d.keeps.op_ids) (loses mid.ops new.ops op live r.ops))

@@ -1,7 +1,7 @@
 use Rattle.std.proofs.Common.{◌≡◌, ◌∷◌, ◌++◌, [], None, true, false, not, cond, is_ok, is_some, refl, sym, ap, subst, ◌∙◌, rules}
 use Rattle.ir_model.specs.declared.ids.ArenaIndex.{ArenaIndex}
 use Rattle.ir_model.specs.Changes.{add_region}
-use Rattle.ir_base_arenas.specs.Arena.{Arena, IsLive, fill, cut}
+use Rattle.ir_base_arenas.specs.Arena.{Arena, IsLiveIn, fill, cut}
 use Rattle.ir_base_arenas.specs.Lists.{SameIds}
 use Rattle.ir_core_records.specs.declared.record.Region.{Region}
 use Rattle.ir_core_records.specs.Growth.{Grows, SkipsIds}
@@ -29,7 +29,7 @@ returns-then-is_err-clause-op_ids g c =
     let denied : is_ok c.push_region.result ≡ false = c.is_err.ensures.negation ∙ ap not c.if-is_err.true in
     let pushed : c.push_region.new.ops ≡ fill old.ops op (record (at.0) { regions = at.0.regions }) = c.push_region.ensures ∙ edited-at _ old.ops op at.0 at.1 ∙ ap (λ b. fill old.ops op (record (at.0) { regions = cond b (at.0.regions ++ c.index.result ∷ []) at.0.regions })) denied in
     let made : c.insert_with-inserted.new.self ≡ fill old.regions id region = h.filled ∙ ap (fill old.regions id) is in
-    let live : IsLive c.insert_with-inserted.new.self id = ap is_some h.found in
+    let live : IsLiveIn c.insert_with-inserted.new.self id = ap is_some h.found in
     let cleared : c.remove.new.self ≡ cut (fill old.regions id region) id = removed c.insert_with-inserted.new.self c.remove.new.self id c.remove.result live c.remove.ensures.value c.remove.ensures.cut ∙ ap (λ a. cut a id) made in
     subst (λ a. SameIds old.ops a) (sym pushed) (SameIds-written old.ops op _ c.requires.live)
 
@@ -45,7 +45,7 @@ returns-then-is_err-clause-nested g c =
     let denied : is_ok c.push_region.result ≡ false = c.is_err.ensures.negation ∙ ap not c.if-is_err.true in
     let pushed : c.push_region.new.ops ≡ fill old.ops op (record (at.0) { regions = at.0.regions }) = c.push_region.ensures ∙ edited-at _ old.ops op at.0 at.1 ∙ ap (λ b. fill old.ops op (record (at.0) { regions = cond b (at.0.regions ++ c.index.result ∷ []) at.0.regions })) denied in
     let made : c.insert_with-inserted.new.self ≡ fill old.regions id region = h.filled ∙ ap (fill old.regions id) is in
-    let live : IsLive c.insert_with-inserted.new.self id = ap is_some h.found in
+    let live : IsLiveIn c.insert_with-inserted.new.self id = ap is_some h.found in
     let cleared : c.remove.new.self ≡ cut (fill old.regions id region) id = removed c.insert_with-inserted.new.self c.remove.new.self id c.remove.result live c.remove.ensures.value c.remove.ensures.cut ∙ ap (λ a. cut a id) made in
     let undone = region-undone old op at.0 at.1 c.push_region.new.ops c.remove.new.self c.lists_are_one.ensures c.lists_are_one-2.ensures c.requires.nested id region h.new_id pushed cleared in
     undone.nested
@@ -62,7 +62,7 @@ returns-then-is_err-clause-chains g c =
     let denied : is_ok c.push_region.result ≡ false = c.is_err.ensures.negation ∙ ap not c.if-is_err.true in
     let pushed : c.push_region.new.ops ≡ fill old.ops op (record (at.0) { regions = at.0.regions }) = c.push_region.ensures ∙ edited-at _ old.ops op at.0 at.1 ∙ ap (λ b. fill old.ops op (record (at.0) { regions = cond b (at.0.regions ++ c.index.result ∷ []) at.0.regions })) denied in
     let made : c.insert_with-inserted.new.self ≡ fill old.regions id region = h.filled ∙ ap (fill old.regions id) is in
-    let live : IsLive c.insert_with-inserted.new.self id = ap is_some h.found in
+    let live : IsLiveIn c.insert_with-inserted.new.self id = ap is_some h.found in
     let cleared : c.remove.new.self ≡ cut (fill old.regions id region) id = removed c.insert_with-inserted.new.self c.remove.new.self id c.remove.result live c.remove.ensures.value c.remove.ensures.cut ∙ ap (λ a. cut a id) made in
     let undone = region-undone old op at.0 at.1 c.push_region.new.ops c.remove.new.self c.lists_are_one.ensures c.lists_are_one-2.ensures c.requires.nested id region h.new_id pushed cleared in
     undone.chains
@@ -82,7 +82,7 @@ returns-then-is_err-clause-own g c =
     let denied : is_ok c.push_region.result ≡ false = c.is_err.ensures.negation ∙ ap not c.if-is_err.true in
     let pushed : c.push_region.new.ops ≡ fill old.ops op (record (at.0) { regions = at.0.regions }) = c.push_region.ensures ∙ edited-at _ old.ops op at.0 at.1 ∙ ap (λ b. fill old.ops op (record (at.0) { regions = cond b (at.0.regions ++ c.index.result ∷ []) at.0.regions })) denied in
     let made : c.insert_with-inserted.new.self ≡ fill old.regions id region = h.filled ∙ ap (fill old.regions id) is in
-    let live : IsLive c.insert_with-inserted.new.self id = ap is_some h.found in
+    let live : IsLiveIn c.insert_with-inserted.new.self id = ap is_some h.found in
     let cleared : c.remove.new.self ≡ cut (fill old.regions id region) id = removed c.insert_with-inserted.new.self c.remove.new.self id c.remove.result live c.remove.ensures.value c.remove.ensures.cut ∙ ap (λ a. cut a id) made in
     let undone = region-undone old op at.0 at.1 c.push_region.new.ops c.remove.new.self c.lists_are_one.ensures c.lists_are_one-2.ensures c.requires.nested id region h.new_id pushed cleared in
     undone.own
@@ -99,7 +99,7 @@ returns-then-is_err-clause-same g c =
     let denied : is_ok c.push_region.result ≡ false = c.is_err.ensures.negation ∙ ap not c.if-is_err.true in
     let pushed : c.push_region.new.ops ≡ fill old.ops op (record (at.0) { regions = at.0.regions }) = c.push_region.ensures ∙ edited-at _ old.ops op at.0 at.1 ∙ ap (λ b. fill old.ops op (record (at.0) { regions = cond b (at.0.regions ++ c.index.result ∷ []) at.0.regions })) denied in
     let made : c.insert_with-inserted.new.self ≡ fill old.regions id region = h.filled ∙ ap (fill old.regions id) is in
-    let live : IsLive c.insert_with-inserted.new.self id = ap is_some h.found in
+    let live : IsLiveIn c.insert_with-inserted.new.self id = ap is_some h.found in
     let cleared : c.remove.new.self ≡ cut (fill old.regions id region) id = removed c.insert_with-inserted.new.self c.remove.new.self id c.remove.result live c.remove.ensures.value c.remove.ensures.cut ∙ ap (λ a. cut a id) made in
     let undone = region-undone old op at.0 at.1 c.push_region.new.ops c.remove.new.self c.lists_are_one.ensures c.lists_are_one-2.ensures c.requires.nested id region h.new_id pushed cleared in
     undone.forest
@@ -116,7 +116,7 @@ returns-then-is_err-clause-skipped g c =
     let denied : is_ok c.push_region.result ≡ false = c.is_err.ensures.negation ∙ ap not c.if-is_err.true in
     let pushed : c.push_region.new.ops ≡ fill old.ops op (record (at.0) { regions = at.0.regions }) = c.push_region.ensures ∙ edited-at _ old.ops op at.0 at.1 ∙ ap (λ b. fill old.ops op (record (at.0) { regions = cond b (at.0.regions ++ c.index.result ∷ []) at.0.regions })) denied in
     let made : c.insert_with-inserted.new.self ≡ fill old.regions id region = h.filled ∙ ap (fill old.regions id) is in
-    let live : IsLive c.insert_with-inserted.new.self id = ap is_some h.found in
+    let live : IsLiveIn c.insert_with-inserted.new.self id = ap is_some h.found in
     let cleared : c.remove.new.self ≡ cut (fill old.regions id region) id = removed c.insert_with-inserted.new.self c.remove.new.self id c.remove.result live c.remove.ensures.value c.remove.ensures.cut ∙ ap (λ a. cut a id) made in
     subst (λ (a : Arena Region). SkipsIds old.regions a 1) (sym cleared) (Skips-cut old.regions id region h.new_id)
 

@@ -2,7 +2,7 @@ use Rattle.std.proofs.Common.{◌≡◌, OnSome, refl, sym, ap, subst, ◌∙◌
 use Rattle.ir_model.specs.declared.ids.ArenaIndex.{ArenaIndex}
 use Rattle.ir_model.specs.ContextIds.{same_id}
 use Rattle.ir_model.specs.Changes.{without}
-use Rattle.ir_base_arenas.specs.Arena.{get, fill, cut, IsLive}
+use Rattle.ir_base_arenas.specs.Arena.{get, fill, cut, IsLiveIn}
 use Rattle.ir_base_arenas.specs.Lists.{SameIds}
 use Rattle.ir_core_records.specs.Tree.{tree_of, blocks_in}
 use Rattle.ir_core_nesting.proofs.Readings.{found-at, live-of, edited-at}
@@ -13,7 +13,7 @@ use Rattle.ir_core_nesting.proofs.RegionRemoval.{region-removed}
 use Rattle.ir_core_nesting.proofs.removals.remove_empty_region.Goals as goal
 
 pub at-requires : goal.at-requires
-at-requires g c = subst (λ (u : ArenaIndex). IsLive c.args.records.now.regions u) (sym c.from_index.ensures) (empty-region c.args.records.now c.args.region c.requires.empty).0
+at-requires g c = subst (λ (u : ArenaIndex). IsLiveIn c.args.records.now.regions u) (sym c.from_index.ensures) (empty-region c.args.records.now c.args.region c.requires.empty).0
 
 pub drop_region-requires : goal.drop_region-requires
 drop_region-requires g c =
