@@ -1,6 +1,6 @@
 //! The def-use chains: from definitions to their uses and back, edited, with results and arguments put in, taken out and given other types and names.
 //!
-//! Each call of uses asks for records in which uses and places name each other (`AreLinked`), and keeps that. Each call is one equation on the forest that the records mean (`forest_of`). None of them changes who stands in whom (`KeepsTree`). A definition that comes in has no uses, and none goes that has some.
+//! Each call of uses asks for records in which uses and places name each other (`AreLinked`), and keeps that. Each call is one equation on the forest that the records mean (`forest_in`). None of them changes who stands in whom (`KeepsTree`). A definition that comes in has no uses, and none goes that has some.
 #![tactic(auto)]
 
 mod chains;

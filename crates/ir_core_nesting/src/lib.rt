@@ -1,6 +1,6 @@
 //! Who stands in whom: operations in blocks, blocks in regions, regions in operations.
 //!
-//! The calls here make bare operations, blocks and regions, and take them back where a larger call is refused. Each asks for records whose links, ends and parents agree (`AreNested`), keeps that, and is one equation on the forest that the records mean (`forest_of`). None of them changes what is used by whom.
+//! The calls here make bare operations, blocks and regions, and take them back where a larger call is refused. Each asks for records whose links, ends and parents agree (`AreNested`), keeps that, and is one equation on the forest that the records mean (`forest_in`). None of them changes what is used by whom.
 #![tactic(auto)]
 
 pub mod block_list;

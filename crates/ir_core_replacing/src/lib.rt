@@ -1,6 +1,6 @@
 //! Uses of one definition come to name another, under their old numbers.
 //!
-//! Each call asks for records in which uses and places name each other (`AreLinked`), keeps that, and is one equation on the forest that the records mean (`forest_of`). None of them changes who stands in whom (`KeepsTree`).
+//! Each call asks for records in which uses and places name each other (`AreLinked`), keeps that, and is one equation on the forest that the records mean (`forest_in`). None of them changes who stands in whom (`KeepsTree`).
 #![tactic(auto)]
 
 mod moves;
