@@ -5,7 +5,7 @@ use Rattle.std.specs.Prelude.{◌↔◌, IsTrue, slice_get, codes, ◌==◌}
 use Rattle.std.specs.Option.{option_map}
 use Rattle.ir_model.specs.declared.ids.ArenaIndex.{ArenaIndex}
 use Rattle.ir_model.specs.ContextIds.{same_id}
-use Rattle.ir_model.specs.Forest.{OpRecord, Definition, Successor, Forest, of_op, the_block}
+use Rattle.ir_model.specs.Forest.{Text, OpRecord, Definition, Successor, Forest, of_op, the_block}
 use Rattle.ir_model.specs.Nesting.{In, ops_of, regions_of, definitions_of}
 use Rattle.ir_model.specs.Edits.{The, StoredType}
 use Rattle.ir_model.specs.Uses.{Use, IsUse, AreUses}
@@ -13,10 +13,11 @@ use Rattle.ir_model.specs.Sessions.{TakesSlot}
 use Rattle.ir_model.specs.Calls.{set_type, set_name}
 use Rattle.ir_model.specs.Kinds.{dominance}
 use Rattle.ir_model.specs.AuxData.{live_aux}
+use Rattle.ir_model.specs.VerifierLists.{DifferBelow, IsFirstRepeat}
 use Rattle.ir_model.specs.SmallForests.{Small, n0, n1, n2, n3, n4, n5, small_ids, bare, result, operation}
 use Rattle.ir_model.specs.IdForests.{first}
 use Rattle.ir_model.specs.WorkedRows.{use_}
-use Rattle.ir_model.specs.CallRows.{SavedRows, BodyRows, HandleRows, DominanceRows, ParentRows, PredecessorRows, PartRows, AuxRows, VerifierRows, asks, no_first, two_owners, nested_block, two_ways, spoken, named_value, with_data, taken_out, one_slot}
+use Rattle.ir_model.specs.CallRows.{SavedRows, BodyRows, HandleRows, DominanceRows, ParentRows, PredecessorRows, PartRows, AuxRows, VerifierRows, KeyRows, repeated_keys, asks, no_first, two_owners, nested_block, two_ways, spoken, named_value, with_data, taken_out, one_slot}
 use Rattle.ir_model.proofs.TwoRuns.{lawful}
 use Rattle.ir_model.proofs.WorkedRows.{both_uses}
 
@@ -244,3 +245,43 @@ aux_rows = record {
 
 pub verifier_rows : VerifierRows
 verifier_rows = record { one_owner = refl; two_owners = refl }
+
+-- the first letter of a key
+letter : Option Text → ℕ
+letter None = 0
+letter (Some []) = 0
+letter (Some (c ∷ cs)) = c
+
+keys_differ : Some (codes "a") ≡ Some (codes "b") → ⊥
+unfolding letter
+keys_differ e = (let h : 97 ≡ 98 = ap letter e in omega (arith, h))
+
+-- the places below two differ
+two_differ : (rest : List Text) → DifferBelow (codes "a" ∷ codes "b" ∷ rest) 2
+two_differ rest zero (suc zero) lt within e = keys_differ e
+two_differ rest (suc m) (suc zero) lt within e = (let h : suc m < 1 = lt in omega (arith, h))
+two_differ rest m zero lt within e = (let h : m < 0 = lt in omega (arith, h))
+two_differ rest m (suc (suc n)) lt within e = (let h : suc (suc n) < 2 = within in omega (arith, h))
+
+two_of_repeated : DifferBelow repeated_keys 2
+two_of_repeated = two_differ (codes "a" ∷ codes "b" ∷ codes "a" ∷ [])
+
+pub key_rows : KeyRows
+key_rows = record {
+  told = λ m n. (told m n, λ h. subst (λ k. IsFirstRepeat repeated_keys k n) (sym h.0) (subst (IsFirstRepeat repeated_keys 0) (sym h.1) these));
+  differ = two_of_repeated;
+  not_below_three = λ d. d 0 2 (omega arith) (omega arith) refl;
+  none_told = λ m n r. two_differ [] m n r.in_order r.within r.same;
+  all_differ = two_differ [];
+}
+  where
+    these : IsFirstRepeat repeated_keys 0 2
+    these = record { in_order = omega arith; within = omega arith; same = refl; least = two_of_repeated }
+
+    told : (m n : ℕ) → IsFirstRepeat repeated_keys m n → (m ≡ 0) × (n ≡ 2)
+    told zero (suc (suc zero)) r = (refl, refl)
+    told (suc zero) (suc (suc zero)) r = absurd (keys_differ (sym r.same))
+    told (suc (suc m)) (suc (suc zero)) r = (let h : suc (suc m) < 2 = r.in_order in omega (arith, h))
+    told m zero r = (let h : m < 0 = r.in_order in omega (arith, h))
+    told m (suc zero) r = absurd (two_of_repeated m 1 r.in_order (omega arith) r.same)
+    told m (suc (suc (suc n))) r = absurd (r.least 0 2 (omega arith) (omega arith) refl)

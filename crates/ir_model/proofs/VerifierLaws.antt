@@ -1,6 +1,7 @@
 -- What verification tells, and what is run for handles and attributes.
 use mathlib.Core.Path.{◌≡◌, refl, subst}
 use Rattle.std.proofs.Common.{ℕ, inl, inr, Some, None, List, []}
+use Rattle.std.specs.Prelude.{◌↔◌, IsTrue}
 use Rattle.ir_model.specs.ContextIds.{context_ids}
 use Rattle.ir_model.specs.Forest.{Dialect, Behaviour, Forest}
 use Rattle.ir_model.specs.Nesting.{In}
@@ -9,7 +10,7 @@ use Rattle.ir_model.specs.Faults.{Fault, NamesBlock, NoParent, MissingTerminator
 use Rattle.ir_model.specs.Kinds.{Kinds}
 use Rattle.ir_model.specs.Verifiers.{Verifiers, CodeStands, MemoryStands, checks_of}
 use Rattle.ir_model.specs.VerifyAnswers.{VerifyErr, block_fault, missing_terminator, terminator_not_last, no_parent, entry_has_pred, operand_not_use_of_def, verifier_fault, out_of_memory, fault_of}
-use Rattle.ir_model.specs.VerifierLaws.{FaultsAreTold, OwnOrListed, RunsOwnAndListed, KindsSettle}
+use Rattle.ir_model.specs.VerifierLaws.{FaultsAreTold, Tests, tested, TestsDecide, OwnOrListed, RunsOwnAndListed, KindsSettle}
 
 -- the answer that tells the fault
 abbrev pub told : Fault → VerifyErr
@@ -48,6 +49,26 @@ memory_alone out_of_memory e = refl
 
 pub faults_are_told : FaultsAreTold
 faults_are_told = record { one = λ fault. (told fault, told_back fault, told_once fault); memory = memory_alone }
+
+module _ {W : Dialect} {S : Type 0} (tests : Tests W S) (kinds : Kinds W) (state : S) where
+  by_its_code : (check : Check W) (code : ℕ) → CodeStands kinds (tested tests) state check code ↔ IsTrue (tests.code check state code)
+  by_its_code (op_list n o) code = (λ h. h, λ h. h)
+  by_its_code (op_own o) code = (λ h. h, λ h. h)
+  by_its_code (attr_list n a) code = (λ h. h, λ h. h)
+  by_its_code (attr_own a) code = (λ h. h, λ h. h)
+  by_its_code (type_list n key) code = (λ h. h, λ h. h)
+  by_its_code (type_own key) code = (λ h. h, λ h. h)
+
+  by_its_memory : (check : Check W) → MemoryStands kinds (tested tests) state check ↔ IsTrue (tests.memory check state)
+  by_its_memory (op_list n o) = (λ h. h, λ h. h)
+  by_its_memory (op_own o) = (λ h. h, λ h. h)
+  by_its_memory (attr_list n a) = (λ h. h, λ h. h)
+  by_its_memory (attr_own a) = (λ h. h, λ h. h)
+  by_its_memory (type_list n key) = (λ h. h, λ h. h)
+  by_its_memory (type_own key) = (λ h. h, λ h. h)
+
+  pub tests_decide : TestsDecide tests kinds state
+  tests_decide = record { told = by_its_code; memory = by_its_memory }
 
 module _ {W : Dialect} {S : Type 0} (B : Behaviour W) (kinds : Kinds W) (verifiers : Verifiers W S) (state : S) (f : Forest context_ids W) (store : List (StoredType W)) where
   -- the checks that are run are the own one and those that are listed, and no fault names a block

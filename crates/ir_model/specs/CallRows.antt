@@ -1,5 +1,5 @@
 -- Worked examples of the calls beside the edits, each beside a neighbour that is refused.
-use Rattle.std.specs.Prelude.{◌≡◌, ◌≢◌, ℕ, Bool, true, false, not, if◌then◌else◌, List, [], ◌∷◌, Option, Some, None, codes, bytes_eq, nat_eq, ◌==◌}
+use Rattle.std.specs.Prelude.{◌≡◌, ◌≢◌, ◌↔◌, ℕ, Bool, true, false, not, if◌then◌else◌, List, [], ◌∷◌, Option, Some, None, codes, bytes_eq, nat_eq, ◌==◌}
 use Rattle.ir_model.specs.declared.ids.Limits.{Limits}
 use Rattle.ir_model.specs.Forest.{Text, Dialect, Behaviour, Value, of_block, Forest}
 use Rattle.ir_model.specs.Nesting.{operands_of}
@@ -14,7 +14,7 @@ use Rattle.ir_model.specs.ValueParents.{IsParentBlock, IsParentRegion}
 use Rattle.ir_model.specs.Kinds.{Kinds, region_kind_interface, IsDominance, IsOtherKind, Implements, LacksInterface, HasKind}
 use Rattle.ir_model.specs.Saved.{saved_place, with_saved, set_body}
 use Rattle.ir_model.specs.AuxData.{IsNewAux, InsertsAux, HasAuxSlot, LacksAuxSlot, aux_by_name}
-use Rattle.ir_model.specs.VerifierLists.{deduplicated}
+use Rattle.ir_model.specs.VerifierLists.{deduplicated, DifferBelow, IsFirstRepeat}
 use Rattle.ir_model.specs.SmallForests.{Small, n0, n1, n2, same_small, small_ids, bare, behaviour, result, operand, successor, definition, operation, block, forest}
 use Rattle.ir_model.specs.IdForests.{first, second, first_again}
 use Rattle.ir_model.specs.WorkedRows.{use_, twice_named}
@@ -216,3 +216,22 @@ pub record AuxRows : Type 0 where
 pub record VerifierRows : Type 0 where
   pub one_owner : deduplicated ((7, 1 ∷ 2 ∷ []) ∷ (7, 1 ∷ 3 ∷ []) ∷ (7, 2 ∷ 4 ∷ []) ∷ []) ≡ (7, 1 ∷ 2 ∷ 3 ∷ 4 ∷ []) ∷ []
   pub two_owners : deduplicated ((7, 1 ∷ 2 ∷ []) ∷ (8, 1 ∷ []) ∷ (7, 1 ∷ 3 ∷ []) ∷ []) ≡ (7, 1 ∷ 2 ∷ 3 ∷ []) ∷ (8, 1 ∷ []) ∷ []
+
+-- ## Keys of dictionaries
+
+-- two keys
+abbrev pub different_keys : List Text
+different_keys = codes "a" ∷ codes "b" ∷ []
+
+-- the first key stands at three places, and the second at two
+abbrev pub repeated_keys : List Text
+repeated_keys = codes "a" ∷ codes "b" ∷ codes "a" ∷ codes "b" ∷ codes "a" ∷ []
+
+-- the first place whose key stood earlier is told, with the place where it stood, and no other two places are
+pub record KeyRows : Type 0 where
+  pub told : (earlier later : ℕ) → IsFirstRepeat repeated_keys earlier later ↔ ((earlier ≡ 0) × (later ≡ 2))
+  pub differ : DifferBelow repeated_keys 2
+  pub not_below_three : DifferBelow repeated_keys 3 → ⊥
+  -- of different keys none are told
+  pub none_told : (earlier later : ℕ) → IsFirstRepeat different_keys earlier later → ⊥
+  pub all_differ : DifferBelow different_keys 2

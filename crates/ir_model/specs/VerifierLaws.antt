@@ -43,6 +43,11 @@ module _ {W : Dialect} {S : Type 0} (tests : Tests W S) where
     type_itself = answers_by type_own;
   }
 
+  -- what verification takes a check to answer is what the check's own test says
+  pub record TestsDecide (kinds : Kinds W) (state : S) : Type 0 where
+    pub told : (check : Check W) (code : ℕ) → (checks_of kinds tested state).Stands check code ↔ IsTrue (tests.code check state code)
+    pub memory : (check : Check W) → (checks_of kinds tested state).MayRunOut check ↔ IsTrue (tests.memory check state)
+
 module _ {W : Dialect} {S : Type 0} (B : Behaviour W) (kinds : Kinds W) (verifiers : Verifiers W S) (state : S) where
   -- an own check, or that of a number that is listed, has P
   abbrev pub OwnOrListed : (Check W → Type 0) → Check W → List ℕ → (ℕ → Check W) → Type 0

@@ -5,7 +5,7 @@ ghost use Rattle.ir_model.specs.ContextIds.{context_ids};
 ghost use Rattle.ir_model.specs.Forest.{Behaviour, Forest};
 ghost use Rattle.ir_model.specs.Edits.{StoredType};
 ghost use Rattle.ir_model.specs.Kinds.{Kinds};
-ghost use Rattle.ir_model.specs.VerifierLaws.{FaultsAreTold, Tests, tested, KindsSettle};
+ghost use Rattle.ir_model.specs.VerifierLaws.{FaultsAreTold, Tests, tested, TestsDecide, KindsSettle};
 ghost use Rattle.ir_model.specs.AnswerRows.{AnswerRows};
 ghost use Rattle.ir_model.specs.VerifierRows.{VerifierRows};
 
@@ -22,9 +22,10 @@ pub fn faults_are_told()
     ensures { FaultsAreTold }
 {}
 
-/// What is told of a type or an attribute is told by its own check or by one of a number that is listed for its kind, and of a handle of one kind by the own check.
+/// What is told of a type or an attribute is told by its own check or by one of a number that is listed for its kind, and of a handle of one kind by the own check. Each check, also of an operation, answers what its own test says.
 ///
 /// So for every choice of kinds, of lists, of tests that decide what a check may answer, and of what checks are shown.
 pub fn kinds_settle<Key, Body, Attr, Saved, Aux, Loc, Shown>()
-    ensures { (behaviour : Behaviour (record { Key = Key; Body = Body; Attr = Attr; Saved = Saved; Aux = Aux; Loc = Loc })) (kinds : Kinds _) (tests : Tests _ Shown) (shown : Shown) (f : Forest context_ids _) (store : List (StoredType _)) → KindsSettle behaviour kinds (tested tests) shown f store }
+    ensures tests { (kinds : Kinds (record { Key = Key; Body = Body; Attr = Attr; Saved = Saved; Aux = Aux; Loc = Loc })) (tests : Tests _ Shown) (shown : Shown) → TestsDecide tests kinds shown }
+    ensures kinds { (behaviour : Behaviour (record { Key = Key; Body = Body; Attr = Attr; Saved = Saved; Aux = Aux; Loc = Loc })) (kinds : Kinds _) (tests : Tests _ Shown) (shown : Shown) (f : Forest context_ids _) (store : List (StoredType _)) → KindsSettle behaviour kinds (tested tests) shown f store }
 {}

@@ -1,4 +1,4 @@
-use Rattle.ir_model.proofs.CallRows.{saved_rows, body_rows, handle_rows, dominance_rows, parent_rows, predecessor_rows, part_rows, aux_rows, verifier_rows}
+use Rattle.ir_model.proofs.CallRows.{saved_rows, body_rows, handle_rows, dominance_rows, parent_rows, predecessor_rows, part_rows, aux_rows, verifier_rows, key_rows}
 use Rattle.ir_model.proofs.call_examples.call_rows.Goals as goal
 
 pub returns-clause-saved : goal.returns-clause-saved
@@ -27,3 +27,6 @@ returns-clause-aux c = aux_rows
 
 pub returns-clause-verifiers : goal.returns-clause-verifiers
 returns-clause-verifiers c = verifier_rows
+
+pub returns-clause-keys : goal.returns-clause-keys
+returns-clause-keys c = key_rows
