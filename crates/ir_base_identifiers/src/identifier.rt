@@ -288,6 +288,8 @@ impl fmt::Display for Identifier {
 }
 
 impl fmt::Debug for Identifier {
+    ghost debug_output = { λ identifier. Some identifier };
+
     fn fmt<W: fmt::Write>(&self, f: &mut fmt::Formatter<W>) -> fmt::Result {
         f.write_str(Identifier::as_str(self))
     }

@@ -49,8 +49,9 @@ fn identifier_join(rt: HostRuntime) -> Result<(), Fail> {
 // Whether an identifier is this text, by each way to read it.
 fn is_text(alloc: Global, identifier: Identifier, text: &str) -> Result<bool, CoreError> {
     let same = identifier.clone()? == identifier && identifier.as_str() == text;
-    let printed = format!(in alloc; "{identifier}")?;
-    Ok(same && printed.as_str() == text && identifier.into_text(alloc)?.as_str() == text)
+    let printed = format!(in alloc; "{identifier}")?.as_str() == text;
+    let shown = format!(in alloc; "{identifier:?}")?.as_str() == text;
+    Ok(same && printed && shown && identifier.into_text(alloc)?.as_str() == text)
 }
 
 #[test]
