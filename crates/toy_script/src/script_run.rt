@@ -9,7 +9,6 @@ use ir_base_dialects::Limits;
 use ir_run_sessions::Session;
 use std::alloc::Global;
 use std::io::{Read, Write};
-use std::str::from_utf8;
 use toy_checks::Toy;
 use toy_script_text::{
     Part, ScriptError, finish, parse_script, read_script, write_answers, write_text,
@@ -41,7 +40,9 @@ pub fn run_script_with_limits<R: Read, W: Write, F: Write>(
     requires versions { 1 ≤ limits.last_version }
     ensures { result ≤ 3 }
 {
-    finish(answer_script(alloc, limits, input, output), fault)
+    let outcome = answer_script(alloc, limits, input, output);
+    // Where the reason can't be written, the status alone tells it.
+    finish(outcome, fault).status
 }
 
 // Reads a script, carries it out and prints.
@@ -54,11 +55,8 @@ fn answer_script<R: Read, W: Write>(
     requires slots { limits.slots < 4294967295 }
     requires versions { 1 ≤ limits.last_version }
 {
-    let bytes = read_script(alloc, input)?;
-    let Ok(text) = from_utf8(bytes.as_slice()) else {
-        return Err(ScriptError::Unreadable);
-    };
-    let parts = parse_script(alloc, text)?;
+    let script = read_script(alloc, input)?;
+    let parts = parse_script(alloc, script.as_str())?;
     let mut session = Session::new(alloc, limits);
     let mut text = String::new(alloc);
     for part in parts {
