@@ -1,1 +1,2 @@
+mod AnswerLines
 mod Telling

@@ -1,7 +1,7 @@
 -- What is told of a script that wasn't done is why it wasn't, and the end of a line.
 use mathlib.Core.Path.{◌≡◌, refl, sym, ap, subst}
 use mathlib.Core.List.{append_assoc}
-use Rattle.std.proofs.Common.{rules, arith, ℕ, ◌≢◌, List, [], ◌∷◌, ◌++◌, length, Option, Result, Ok, Err, OnOk, codes, decimal}
+use Rattle.std.proofs.Common.{ℕ, ◌≢◌, List, [], ◌∷◌, ◌++◌, Option, Result, Err, OnOk, codes, decimal}
 use Rattle.std.specs.Io.KnownBytes.{Appends}
 use Rattle.toy_script_text.specs.declared.script_error.ScriptError.{ScriptError}
 use Rattle.toy_script_text.specs.declared.script_error.ScriptError.TheVariants.{OutOfMemory, Unreadable, Unwritable, Malformed}

@@ -8,6 +8,4 @@ mod script_print;
 
 pub use script_error::ScriptError;
 pub use script_parse::{Letter, Part, parse_script};
-pub use script_print::{
-    Ending, finish, read_script, refusal_line, write_answers, write_text,
-};
+pub use script_print::{Ending, finish, read_script, refusal_line, write_answers, write_text};

@@ -2,7 +2,8 @@
 //!
 //! A script is lines that are ended by LF, which the last may lack; a CR before an LF is dropped. A line that is empty, that has spaces alone, or whose first character is `#` is skipped and counted. Other lines are fields with spaces between them.
 
-ghost use Rattle.std.specs.Prelude.{◌≡◌, ◌<◌, ◌≤◌, IfErr};
+ghost use Rattle.std.specs.Prelude.{◌≡◌, ◌<◌, ◌≤◌, IfErr, Some};
+ghost use Rattle.toy_script_text.specs.Lines.{letter_text};
 ghost use Rattle.toy_script_text.specs.Outcomes.{IsOfReading};
 ghost use Rattle.toy_script_text.specs.declared.script_parse.LineError.TheVariants.{OutOfMemory};
 
@@ -32,6 +33,8 @@ pub enum Letter {
 }
 
 impl fmt::Display for Letter {
+    ghost output = { λ letter. Some (letter_text letter) };
+
     fn fmt<W: fmt::Write>(&self, f: &mut fmt::Formatter<W>) -> fmt::Result {
         f.write_str(match self {
             Letter::Type => "t",

@@ -1,8 +1,8 @@
 //! What the program reads and writes around a session: the text of a script, the lines of the answers, and the status.
-ghost use Rattle.std.specs.Prelude.{◌≡◌, ◌≢◌, ◌⊎◌, [], OnOk, IfOk, IfErr, IfSome, IsOk, string_bytes};
+ghost use Rattle.std.specs.Prelude.{◌≡◌, ◌≢◌, ◌↔◌, ◌⊎◌, [], ◌++◌, OnOk, IfOk, IfErr, IfSome, IsOk, string_bytes};
 ghost use Rattle.std.specs.IoError.{error_kind};
 ghost use Rattle.std.specs.Io.KnownBytes.{Keeps, Appends};
-ghost use Rattle.toy_script_text.specs.Lines.{refusal_line as line_of};
+ghost use Rattle.toy_script_text.specs.Lines.{refusal_line as line_of, answer_line, answer_lines};
 ghost use Rattle.toy_script_text.specs.Outcomes.{status_of, told_of};
 
 use crate::script_error::ScriptError;
@@ -23,18 +23,18 @@ pub fn read_script<R: Read>(alloc: Global, input: &mut R) -> Result<String, Scri
     let mut text = String::new(alloc);
     match input.read_to_string(&mut text) {
         Ok(_) => Ok(text),
-        Err(error) => Err(unreadable(error)),
+        Err(error) => Err(stream_error(error, ScriptError::Unreadable)),
     }
 }
 
-// What a refused read means. A reader, or what it is read into, may lack memory.
-fn unreadable(error: io::Error) -> ScriptError
+// What a failed read or write means: that memory was wanting, to what is read or written or to where it goes, or else this.
+fn stream_error(error: io::Error, otherwise: ScriptError) -> ScriptError
     ensures memory { error_kind error ≡ ErrorKind.OutOfMemory → result ≡ ScriptError.OutOfMemory }
-    ensures other { error_kind error ≢ ErrorKind.OutOfMemory → result ≡ ScriptError.Unreadable }
+    ensures other { error_kind error ≢ ErrorKind.OutOfMemory → result ≡ otherwise }
 {
     match error.kind() {
         ErrorKind::OutOfMemory => ScriptError::OutOfMemory,
-        _ => ScriptError::Unreadable,
+        _ => otherwise,
     }
 }
 
@@ -48,7 +48,7 @@ pub fn write_text<W: Write>(output: &mut W, text: &str) -> Result<(), ScriptErro
 {
     match write_all(output, text) {
         Ok(()) => Ok(()),
-        Err(error) => Err(unwritable(error)),
+        Err(error) => Err(stream_error(error, ScriptError::Unwritable)),
     }
 }
 
@@ -60,17 +60,6 @@ fn write_all<W: Write>(output: &mut W, text: &str) -> io::Result<()>
     output.flush()
 }
 
-// What a refused write means. A writer that grows in memory may lack it.
-fn unwritable(error: io::Error) -> ScriptError
-    ensures memory { error_kind error ≡ ErrorKind.OutOfMemory → result ≡ ScriptError.OutOfMemory }
-    ensures other { error_kind error ≢ ErrorKind.OutOfMemory → result ≡ ScriptError.Unwritable }
-{
-    match error.kind() {
-        ErrorKind::OutOfMemory => ScriptError::OutOfMemory,
-        _ => ScriptError::Unwritable,
-    }
-}
-
 /// Writes the answers, one a line. The letters say what each edit makes.
 ///
 /// # Errors
@@ -79,7 +68,9 @@ pub fn write_answers(
     text: &mut String,
     letters: &[Letter],
     answers: &[Answer],
-) -> Result<(), AllocError> {
+) -> Result<(), AllocError>
+    ensures lines { OnOk result (string_bytes text.new ≡ string_bytes text.old ++ answer_lines letters.now answers.now) }
+{
     for (letter, answer) in letters.iter().zip(answers.iter()) {
         write_answer(text, *letter, *answer)?;
     }
@@ -87,7 +78,9 @@ pub fn write_answers(
 }
 
 // Writes an answer as a line. The letter says what its edit makes.
-fn write_answer(text: &mut String, letter: Letter, answer: Answer) -> Result<(), AllocError> {
+fn write_answer(text: &mut String, letter: Letter, answer: Answer) -> Result<(), AllocError>
+    ensures line { OnOk result (string_bytes text.new ≡ string_bytes text.old ++ answer_line letter answer) }
+{
     match answer {
         Answer::Made(number) => {
             writeln!(text, "made {letter}{number}")?;
@@ -119,11 +112,11 @@ pub struct Ending {
     pub told: io::Result<()>,
 }
 
-/// Ends the program: it says why its script wasn't done, but for output that can't be written.
+/// Ends the program: it says why its script wasn't done, but for output that can't be written. What it says stands on the writer for faults exactly where that took it.
 pub fn finish<F: Write>(outcome: Result<(), ScriptError>, fault: &mut F) -> Ending
     ensures status { result.status ≡ status_of outcome }
     ensures told { OnOk result.told (Appends (F.contents fault.old) (F.contents fault.new) (told_of outcome)) }
-    ensures silent { told_of outcome ≡ [] → IsOk result.told × Keeps (F.contents fault.old) (F.contents fault.new) }
+    ensures silent { (result.status ≡ 0) ⊎ (result.status ≡ 3) → IsOk result.told × Keeps (F.contents fault.old) (F.contents fault.new) }
 {
     Ending {
         status: status(outcome),

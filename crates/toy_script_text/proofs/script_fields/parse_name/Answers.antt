@@ -1,6 +1,5 @@
-use Rattle.std.proofs.Common.{rules, ◌<◌, SomeIff, ◌≡◌, ℕ}
+use Rattle.std.proofs.Common.{rules}
 use Rattle.std.proofs.lemmas.Str.Pattern.{strip_prefix_char}
-use Rattle.toy_script_text.specs.Fields.{IsNumber, number_of, IsName, name_of}
 use Rattle.toy_script_text.proofs.script_fields.parse_name.Goals as goal
 
 -- src/script_fields.rt:20:18
