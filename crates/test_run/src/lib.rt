@@ -10,6 +10,10 @@ mod model_tests;
 #[cfg(test)]
 mod script_change_tests;
 #[cfg(test)]
+mod script_ending_tests;
+#[cfg(test)]
+mod script_form_tests;
+#[cfg(test)]
 mod script_memory_tests;
 #[cfg(test)]
 mod script_outcome;

@@ -29,10 +29,17 @@ pub(crate) fn expect(
     Ok(())
 }
 
-/// Runs each of these lines as a script of its own, and asserts that it is malformed.
-pub(crate) fn expect_malformed(rt: &impl Abort, alloc: Global, lines: &[&str]) -> Result<(), Fail> {
-    for line in lines {
-        expect(rt, alloc, line.as_bytes(), 2, "", "line 1: malformed\n")?;
+/// Runs each of these lines as a script of its own, and asserts the status and what stands on the output and on the fault's writer.
+pub(crate) fn expect_each(
+    rt: &impl Abort,
+    alloc: Global,
+    lines: &str,
+    status: u8,
+    output: &str,
+    fault: &str,
+) -> Result<(), Fail> {
+    for line in lines.lines() {
+        expect(rt, alloc, line.as_bytes(), status, output, fault)?;
     }
     Ok(())
 }
@@ -42,8 +49,8 @@ fn is_beginning(told: &[u8], fault: &str) -> bool {
     told.len() < fault.len() && fault.as_bytes().starts_with(told)
 }
 
-// Asserts that this text was written.
-fn expect_written(rt: &impl Abort, written: &[u8], text: &str) {
+/// Asserts that this text was written.
+pub(crate) fn expect_written(rt: &impl Abort, written: &[u8], text: &str) {
     assert!(rt; written == text.as_bytes());
 }
 

@@ -1,34 +1,10 @@
 //! Scripts over memory, with what the program prints for them and its status.
 
-use crate::script_outcome::{expect, expect_malformed, is_refused_memory};
+use crate::script_outcome::{expect, is_refused_memory};
 use std::alloc::Global;
-use std::io;
-use std::io::{ErrorKind, Read, Write};
 use std::process::Abort;
 use std::test::Fail;
-use toy_script::{
-    Answer, Edit, Limits, Refused, Session, Toy, ToyType, run_script, run_script_with_limits,
-};
-
-/// Reads and writes that fail.
-#[derive(Drop)]
-struct Broken;
-
-impl Read for Broken {
-    fn read(&mut self, _buf: &mut [u8]) -> io::Result<usize> {
-        Err(io::Error::from(ErrorKind::BrokenPipe))
-    }
-}
-
-impl Write for Broken {
-    fn write(&mut self, _buf: &[u8]) -> io::Result<usize> {
-        Err(io::Error::from(ErrorKind::BrokenPipe))
-    }
-
-    fn flush(&mut self) -> io::Result<()> {
-        Ok(())
-    }
-}
+use toy_script::{Answer, Edit, Limits, Refused, Session, Toy, ToyType, run_script_with_limits};
 
 #[test]
 fn two_uses(rt: HostRuntime) -> Result<(), Fail> {
@@ -132,34 +108,6 @@ fn spent_counters_and_slots(rt: HostRuntime) -> Result<(), Fail> {
 }
 
 #[test]
-fn script_lexis(rt: HostRuntime) -> Result<(), Fail> {
-    expect(&rt, rt.alloc(), b"type 4294967295", 0, "made t0\n", "")?;
-    expect(&rt, rt.alloc(), b"type 007", 0, "made t0\n", "")?;
-    let script = b"type 32\r\nop 0 t0 - - 0\r\n";
-    expect(&rt, rt.alloc(), script, 0, "made t0\nmade o0\nv0:\n", "")?;
-    let script = b"# x\n\nfoo\n";
-    expect(&rt, rt.alloc(), script, 2, "", "line 3: malformed\n")?;
-    expect(
-        &rt,
-        rt.alloc(),
-        b"type 1\n\xff\n",
-        2,
-        "",
-        "unreadable input\n",
-    )?;
-    Ok(())
-}
-
-// Numbers may begin with zeros, however many.
-#[test]
-fn numbers_with_zeros(rt: HostRuntime) -> Result<(), Fail> {
-    let script = b"type 00000000000032\ntype 32\nop 0 t1 - - 0";
-    let output = "made t0\nmade t1\nmade o0\nv0:\n";
-    expect(&rt, rt.alloc(), script, 0, output, "")?;
-    Ok(())
-}
-
-#[test]
 fn blocks_and_successors(rt: HostRuntime) -> Result<(), Fail> {
     let script = b"type 32\nblock -\nblock t0,t0\nop 3 - v1,v0 b1,b0,b1 0\nop 3 - v0 b1 0";
     let output =
@@ -175,66 +123,6 @@ fn blocks_that_never_were(rt: HostRuntime) -> Result<(), Fail> {
     let script = b"block t0\nblock -\nop 3 - - b1 0\nop 3 - - b0 0";
     let output = "refused condition\nmade b0\nrefused condition\nmade o0\nb0: o0.0\n";
     expect(&rt, rt.alloc(), script, 0, output, "")?;
-    Ok(())
-}
-
-#[test]
-fn script_blanks(rt: HostRuntime) -> Result<(), Fail> {
-    let script = b"# first\n\n   \n\r\n  type   32  \n\n";
-    expect(&rt, rt.alloc(), script, 0, "made t0\n", "")?;
-    expect(&rt, rt.alloc(), b"type 1\r", 2, "", "line 1: malformed\n")?;
-    expect(&rt, rt.alloc(), b" # x\n", 2, "", "line 1: malformed\n")?;
-    Ok(())
-}
-
-// Lines with an unknown kind, with a number, a name or a list of another form, or with too few or too many words.
-const MALFORMED_LINES: [&str; 10] = [
-    "op 8 - - - 0",
-    "type 4294967296",
-    "type",
-    "type +1",
-    "type 1 2",
-    "erase b0",
-    "push o0 v",
-    "op 0 t0,,t0 - - 0",
-    "op 0 - - - 0 x",
-    "type\t1",
-];
-
-#[test]
-fn script_malformed(rt: HostRuntime) -> Result<(), Fail> {
-    expect_malformed(&rt, rt.alloc(), &MALFORMED_LINES)?;
-    Ok(())
-}
-
-// Lists of names with another letter, or with no number.
-const MALFORMED_NAMES: [&str; 21] = [
-    "op 0 t - - 0",
-    "op 0 - t0 - 0",
-    "op 0 v0 - - 0",
-    "block",
-    "block t0 t0",
-    "block b0",
-    "blocks -",
-    "back o0",
-    "back b0 o0",
-    "backb b0 r",
-    "backb b0 b0",
-    "unlink o0 b0",
-    "unlink",
-    "move o0 r0",
-    "move r0 o0,o1",
-    "rauw v0",
-    "rauw v0 b0",
-    "rauw v0 v1 v2",
-    "rauw v0,v1 v2",
-    "set o0 v0",
-    "succ o0 v0",
-];
-
-#[test]
-fn malformed_names(rt: HostRuntime) -> Result<(), Fail> {
-    expect_malformed(&rt, rt.alloc(), &MALFORMED_NAMES)?;
     Ok(())
 }
 
@@ -277,45 +165,5 @@ fn types_again(rt: HostRuntime) -> Result<(), Fail> {
     let output = "made t0\nmade t1\nmade o0\nv0:\n";
     expect(&rt, rt.alloc(), script, 0, output, "")?;
     make_same_type_twice(&rt, rt.alloc())?;
-    Ok(())
-}
-
-#[test]
-fn unwritable_output(rt: HostRuntime) -> Result<(), Fail> {
-    let mut input = b"type 1".as_slice();
-    let mut told = Vec::new(rt.alloc());
-    let status = run_script(rt.alloc(), &mut input, &mut Broken, &mut told);
-    if status == 1 {
-        return Err("out of memory")?;
-    }
-    assert!(rt; status == 3);
-    assert!(rt; told.is_empty());
-    Ok(())
-}
-
-#[test]
-fn unreadable_input(rt: HostRuntime) -> Result<(), Fail> {
-    let mut printed = Vec::new(rt.alloc());
-    let mut told = Vec::new(rt.alloc());
-    let status = run_script(rt.alloc(), &mut Broken, &mut printed, &mut told);
-    let wanted = b"unreadable input\n";
-    if status == 1 || told.len() < wanted.len() {
-        return Err("out of memory")?;
-    }
-    assert!(rt; status == 2);
-    assert!(rt; printed.is_empty());
-    assert!(rt; told.as_slice() == wanted.as_slice());
-    Ok(())
-}
-
-#[test]
-fn fault_unwritable(rt: HostRuntime) -> Result<(), Fail> {
-    let mut input = b"foo".as_slice();
-    let mut printed = Vec::new(rt.alloc());
-    let status = run_script(rt.alloc(), &mut input, &mut printed, &mut Broken);
-    if status == 1 {
-        return Err("out of memory")?;
-    }
-    assert!(rt; status == 2);
     Ok(())
 }

@@ -1,6 +1,6 @@
 //! Scripts that verify operations.
 
-use crate::script_outcome::{expect, expect_malformed};
+use crate::script_outcome::{expect, expect_each};
 use std::test::Fail;
 
 #[test]
@@ -85,20 +85,20 @@ fn verified_between_edits(rt: HostRuntime) -> Result<(), Fail> {
 }
 
 // Lines that verify, with no name, with a name that isn't one of an operation, or with more than a name.
-const MALFORMED_VERIFICATIONS: [&str; 7] = [
-    "verify",
-    "verify b0",
-    "verify o0 o0",
-    "verify o",
-    "verify o0,o1",
-    "verify -",
-    "verifyo0",
-];
+const MALFORMED_VERIFICATIONS: &str = "verify
+verify b0
+verify o0 o0
+verify o
+verify o0,o1
+verify -
+verifyo0
+";
 
 // A line that verifies has one name, that of an operation. Where a later line is malformed, nothing is done.
 #[test]
 fn malformed_verifications(rt: HostRuntime) -> Result<(), Fail> {
-    expect_malformed(&rt, rt.alloc(), &MALFORMED_VERIFICATIONS)?;
+    let told = "line 1: malformed\n";
+    expect_each(&rt, rt.alloc(), MALFORMED_VERIFICATIONS, 2, "", told)?;
     let script = b"verify o0\nop 5 - - - 0\nverify o0\nverify\n";
     expect(&rt, rt.alloc(), script, 2, "", "line 4: malformed\n")?;
     Ok(())

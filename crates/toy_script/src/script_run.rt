@@ -1,7 +1,10 @@
 //! The program `ircore`: it reads a script, carries its edits out over the dialect Toy with default limits, verifies the operations that it asks for in between, and prints the answers, and then the uses of each live value and block.
 //!
 //! The whole script is read before anything is done.
-ghost use Rattle.std.specs.Prelude.{◌<◌, ◌≤◌};
+ghost use Rattle.std.specs.Prelude.{◌≡◌, ◌<◌, ◌≤◌, ◌⊎◌, IfErr};
+ghost use Rattle.std.specs.Io.KnownBytes.{Keeps};
+ghost use Rattle.toy_script_text.specs.Outcomes.{status_of};
+ghost use Rattle.toy_script_text.specs.declared.script_error.ScriptError.TheVariants.{OutOfMemory, Unwritable};
 
 use crate::script_uses::uses_text;
 use crate::script_verify::write_found;
@@ -9,7 +12,6 @@ use ir_base_dialects::Limits;
 use ir_run_sessions::Session;
 use std::alloc::Global;
 use std::io::{Read, Write};
-use std::str::from_utf8;
 use toy_checks::Toy;
 use toy_script_text::{
     Part, ScriptError, finish, parse_script, read_script, write_answers, write_text,
@@ -24,7 +26,9 @@ pub fn run_script<R: Read, W: Write, F: Write>(
     output: &mut W,
     fault: &mut F,
 ) -> u8
-    ensures { result ≤ 3 }
+    ensures bounded { result ≤ 3 }
+    ensures nothing_done { result ≡ 2 → output.new ≡ output.old }
+    ensures nothing_told { (result ≡ 0) ⊎ (result ≡ 3) → Keeps (F.contents fault.old) (F.contents fault.new) }
 {
     run_script_with_limits(alloc, Limits::default(), input, output, fault)
 }
@@ -39,9 +43,13 @@ pub fn run_script_with_limits<R: Read, W: Write, F: Write>(
 ) -> u8
     requires slots { limits.slots < 4294967295 }
     requires versions { 1 ≤ limits.last_version }
-    ensures { result ≤ 3 }
+    ensures bounded { result ≤ 3 }
+    ensures nothing_done { result ≡ 2 → output.new ≡ output.old }
+    ensures nothing_told { (result ≡ 0) ⊎ (result ≡ 3) → Keeps (F.contents fault.old) (F.contents fault.new) }
 {
-    finish(answer_script(alloc, limits, input, output), fault)
+    let outcome = answer_script(alloc, limits, input, output);
+    // Where the reason can't be written, the status alone tells it.
+    finish(outcome, fault).status
 }
 
 // Reads a script, carries it out and prints.
@@ -53,12 +61,24 @@ fn answer_script<R: Read, W: Write>(
 ) -> Result<(), ScriptError>
     requires slots { limits.slots < 4294967295 }
     requires versions { 1 ≤ limits.last_version }
+    ensures nothing_done { status_of result ≡ 2 → output.new ≡ output.old }
 {
-    let bytes = read_script(alloc, input)?;
-    let Ok(text) = from_utf8(bytes.as_slice()) else {
-        return Err(ScriptError::Unreadable);
-    };
-    let parts = parse_script(alloc, text)?;
+    let script = read_script(alloc, input)?;
+    let parts = parse_script(alloc, script.as_str())?;
+    answer_parts(alloc, limits, parts, output)
+}
+
+// Carries the parts out, and prints the answers, and then what is live, with its uses.
+fn answer_parts<W: Write>(
+    alloc: Global,
+    limits: Limits,
+    parts: Vec<Part>,
+    output: &mut W,
+) -> Result<(), ScriptError>
+    requires slots { limits.slots < 4294967295 }
+    requires versions { 1 ≤ limits.last_version }
+    ensures error { IfErr result (λ e. (e ≡ OutOfMemory) ⊎ (e ≡ Unwritable)) }
+{
     let mut session = Session::new(alloc, limits);
     let mut text = String::new(alloc);
     for part in parts {
@@ -74,7 +94,9 @@ fn answer_part(
     text: &mut String,
     session: &mut Session<Toy>,
     part: Part,
-) -> Result<(), ScriptError> {
+) -> Result<(), ScriptError>
+    ensures memory { IfErr result (λ e. e ≡ OutOfMemory) }
+{
     let answers = session.run(part.edits)?;
     write_answers(text, part.letters.as_slice(), answers.as_slice())?;
     if let Some(op) = part.verified {

@@ -6,10 +6,9 @@ use ir_base_dialects::Ptr;
 use ir_run_sessions::{
     BasicBlock, BlockPtr, Operation, OperationPtr, Session, Value, ValueQueries,
 };
-use std::alloc::Global;
+use std::alloc::{AllocError, Global};
 use std::collections::HashMap;
 use toy_checks::Toy;
-use toy_script_text::ScriptError;
 
 // A place that names a value or a block: the number of what it names, the number of the operation, and its index there.
 type Naming = (usize, usize, usize);
@@ -21,7 +20,7 @@ type Numbers = (
 );
 
 /// The live values by number, and then the live blocks by number, one a line, each with its uses by operation and index.
-pub(crate) fn uses_text(alloc: Global, session: &Session<Toy>) -> Result<String, ScriptError> {
+pub(crate) fn uses_text(alloc: Global, session: &Session<Toy>) -> Result<String, AllocError> {
     let (operands, successors) = namings(alloc, session)?;
     let mut text = String::new(alloc);
     write_values(&mut text, session, operands.as_slice())?;
@@ -34,7 +33,7 @@ fn write_values(
     text: &mut String,
     session: &Session<Toy>,
     uses: &[Naming],
-) -> Result<(), ScriptError> {
+) -> Result<(), AllocError> {
     let mut left = uses;
     for number in 0..usize::MAX {
         let Some(value) = session.value(number) else {
@@ -52,7 +51,7 @@ fn write_blocks(
     text: &mut String,
     session: &Session<Toy>,
     uses: &[Naming],
-) -> Result<(), ScriptError> {
+) -> Result<(), AllocError> {
     let mut left = uses;
     for number in 0..usize::MAX {
         let Some(block) = session.block(number) else {
@@ -71,7 +70,7 @@ fn write_uses<'a>(
     letter: char,
     number: usize,
     left: &'a [Naming],
-) -> Result<&'a [Naming], ScriptError> {
+) -> Result<&'a [Naming], AllocError> {
     let (uses, left) = left.split_at(left.partition_point(|naming| naming.0 <= number));
     write!(text, "{letter}{number}:")?;
     for (_, op, index) in uses {
@@ -85,7 +84,7 @@ fn write_uses<'a>(
 fn namings(
     alloc: Global,
     session: &Session<Toy>,
-) -> Result<(Vec<Naming>, Vec<Naming>), ScriptError> {
+) -> Result<(Vec<Naming>, Vec<Naming>), AllocError> {
     let numbers = (
         value_numbers(alloc, session)?,
         block_numbers(alloc, session)?,
@@ -104,7 +103,7 @@ fn push_all(
     successors: &mut Vec<Naming>,
     session: &Session<Toy>,
     numbers: &Numbers,
-) -> Result<(), ScriptError> {
+) -> Result<(), AllocError> {
     for number in 0..usize::MAX {
         let Some(op) = session.op(number) else {
             break;
@@ -123,7 +122,7 @@ fn push_operands(
     values: &HashMap<Value<Toy>, usize>,
     number: usize,
     op: &Operation<Toy>,
-) -> Result<(), ScriptError> {
+) -> Result<(), AllocError> {
     for index in 0..op.get_num_operands() {
         if let Some(value) = values.get(&op.get_operand(index)) {
             namings.push((*value, number, index))?;
@@ -138,7 +137,7 @@ fn push_successors(
     blocks: &HashMap<Ptr<BasicBlock<Toy>>, usize>,
     number: usize,
     op: &Operation<Toy>,
-) -> Result<(), ScriptError> {
+) -> Result<(), AllocError> {
     for index in 0..op.get_num_successors() {
         if let Some(block) = blocks.get(&op.get_successor(index)) {
             namings.push((*block, number, index))?;
@@ -151,7 +150,7 @@ fn push_successors(
 fn value_numbers(
     alloc: Global,
     session: &Session<Toy>,
-) -> Result<HashMap<Value<Toy>, usize>, ScriptError> {
+) -> Result<HashMap<Value<Toy>, usize>, AllocError> {
     let mut numbers = HashMap::new(alloc);
     for number in 0..usize::MAX {
         let Some(value) = session.value(number) else {
@@ -166,7 +165,7 @@ fn value_numbers(
 fn block_numbers(
     alloc: Global,
     session: &Session<Toy>,
-) -> Result<HashMap<Ptr<BasicBlock<Toy>>, usize>, ScriptError> {
+) -> Result<HashMap<Ptr<BasicBlock<Toy>>, usize>, AllocError> {
     let mut numbers = HashMap::new(alloc);
     for number in 0..usize::MAX {
         let Some(block) = session.block(number) else {
