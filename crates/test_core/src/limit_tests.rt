@@ -1,10 +1,11 @@
 //! Operations that are refused: for numbers and slots, in contexts of small limits, and for memory.
 
 use crate::contexts::{COUNTER_SPENT, SLOTS_SPENT, expect_same};
-use crate::core_tests::two_uses;
+use crate::core_tests::{TwoUses, two_uses};
 use ir_base_dialects::{Dialects, Limits};
 use ir_checked::{
-    CheckedErr, Context, OperationPtr, Value, end, new_op, new_type, num_uses, with_limits,
+    CheckedErr, Context, OperationPtr, Value, end, erase_op, new_op, new_type, num_uses,
+    with_limits,
 };
 use std::panic::Expect;
 use std::process::Abort;
@@ -94,7 +95,14 @@ fn make_or_stay<D: Dialects>(
     Ok(())
 }
 
-// Makes the two operations, and then a third that may be refused.
+// Erases the two operations, after which nothing is left.
+fn expect_no_more<D: Dialects>(rt: &impl Abort, ctx: &mut Context<D>, made: &TwoUses<D>) {
+    let erased = [erase_op(ctx, made.user), erase_op(ctx, made.maker)];
+    expect_same(rt, erased, [Ok(()), Ok(())], "the erasures");
+    expect_same(rt, ctx.is_ir_empty(), true, "the context without them");
+}
+
+// Makes the two operations, and then a third that may be refused. Where it is, nothing of it is left.
 fn make_or_stay_after<D: Dialects>(
     rt: &impl Abort,
     ctx: &mut Context<D>,
@@ -102,7 +110,11 @@ fn make_or_stay_after<D: Dialects>(
 ) -> Result<(), CheckedErr> {
     let ty = new_type(ctx, key)?;
     let made = two_uses(ctx, ty)?;
-    make_or_stay(rt, ctx, made.value)
+    let third = make_or_stay(rt, ctx, made.value);
+    if third.is_err() {
+        expect_no_more(rt, ctx, &made);
+    }
+    third
 }
 
 // Want of memory is an error here, for those who refuse each request in turn.

@@ -70,34 +70,39 @@ fn replace_all(rt: HostRuntime) {
     end(ctx, ());
 }
 
-// Whether the value is live and has three uses.
-fn has_three_uses<D: Dialects>(ctx: &Context<D>, value: Value<D>) -> bool {
-    value.is_live(ctx) && value.num_uses(ctx) == 3
+// Whether the value is live and has so many uses.
+fn has_uses<D: Dialects>(ctx: &Context<D>, value: Value<D>, count: usize) -> bool {
+    value.is_live(ctx) && value.num_uses(ctx) == count
 }
 
-// Those uses of the value come to name the other one for which it has three uses in the context that is handed in.
+// Those uses of the value come to name the other one for which it has so many uses in the context that is handed in; with `first`, that of the first operand as well.
 fn replace_by_count<D: Dialects>(
     ctx: &mut Context<D>,
-    value: Value<D>,
-    other: Value<D>,
+    [value, other]: [Value<D>; 2],
+    count: usize,
+    first: bool,
 ) -> Result<(), CheckedErr> {
     if !value.is_live(ctx) || !other.is_live(ctx) {
         return Err(CheckedErr::Condition);
     }
     value.replace_some_uses_with(
         ctx,
-        |shown: &Context<D>, _used: Use<Value<D>>| has_three_uses(shown, value),
+        |shown: &Context<D>, used: Use<Value<D>>| {
+            has_uses(shown, value, count) || first && used.try_find_index(shown) == Ok(0)
+        },
         other,
     )?;
     Ok(())
 }
 
-// The operands v, v, v. The predicate is asked on the context before, so that all three uses move.
+// The operands v, v, v. The predicate is asked on the context before, so that all three uses move; and once for each use, so that the two stay that w has when the first one has moved back.
 fn replace_three<D: Dialects>(rt: &impl Abort, ctx: &mut Context<D>, key: D::TypeKey) {
     let [v, w] = new_values(ctx, key).expect(rt, "the values");
     let op = new_user(ctx, v, v).expect(rt, "the user");
-    expect_done(rt, replace_by_count(ctx, v, w));
+    expect_done(rt, replace_by_count(ctx, [v, w], 3, false));
     expect_operands(rt, ctx, op, &[w, w, w]);
+    expect_done(rt, replace_by_count(ctx, [w, v], 2, true));
+    expect_operands(rt, ctx, op, &[v, w, w]);
 }
 
 #[test]

@@ -35,13 +35,15 @@ fn chosen_successors<D: Dialects>(rt: &impl Abort, ctx: &mut Context<D>) {
     expect_preds_of_both(rt, ctx, [target, other], [1, 2]);
 }
 
-// A block names itself twice. The predicate is asked on the context before, so that both uses move.
+// A block names itself twice, and the other one names it once. The predicate is asked on the context before, in which nothing names the other block, so that the two uses from the block itself move, and the third stays.
 fn old_state<D: Dialects>(rt: &impl Abort, ctx: &mut Context<D>) {
     let [target, other] = two_blocks(rt, ctx);
-    let op = branch(rt, ctx, target, &[target, target]);
+    let twice = branch(rt, ctx, target, &[target, target]);
+    let once = branch(rt, ctx, other, &[target]);
     done(rt, retarget_some(ctx, target, None, other));
-    expect_successors(rt, ctx, op, &[other, other]);
-    expect_preds_of_both(rt, ctx, [target, other], [0, 2]);
+    expect_successors(rt, ctx, twice, &[other, other]);
+    expect_successors(rt, ctx, once, &[target]);
+    expect_preds_of_both(rt, ctx, [target, other], [1, 2]);
 }
 
 // All successors move, also those that name the other block's own; from a block to itself nothing changes.

@@ -6,7 +6,7 @@ use crate::same::expect_same;
 use ir_base_dialects::{CoreError, Dialects, Ptr, TypeHandle};
 use ir_checked::{
     BasicBlock, CheckedErr, Context, Operation, OperationPtr, Use, UseQueries, Value, ValueQueries,
-    end, new_op, num_uses,
+    end, erase_block, erase_op, new_op, num_uses,
 };
 use ir_view_parts::{OperationParts, ResultUses};
 use std::process::Abort;
@@ -127,16 +127,33 @@ fn make_or_stay<D: Dialects>(
     Ok(())
 }
 
-// A value and a block are each named once, and then by an operation that may be refused.
+// Erases the operations and then the block, after which nothing is left.
+fn expect_no_more<D: Dialects>(
+    rt: &impl Abort,
+    ctx: &mut Context<D>,
+    [user, maker]: [Ptr<Operation<D>>; 2],
+    block: Ptr<BasicBlock<D>>,
+) {
+    expect_same(rt, erase_op(ctx, user), Ok(()));
+    expect_same(rt, erase_op(ctx, maker), Ok(()));
+    expect_same(rt, erase_block(ctx, block), Ok(()));
+    expect_same(rt, ctx.is_ir_empty(), true);
+}
+
+// A value and a block are each named once, and then by an operation that may be refused. Where it is, nothing of it is left.
 fn name_or_stay<D: Dialects>(
     rt: &impl Abort,
     ctx: &mut Context<D>,
     ty: TypeHandle,
 ) -> Result<(), CheckedErr> {
-    let (_maker, value) = op_with_result(ctx, ty)?;
+    let (maker, value) = op_with_result(ctx, ty)?;
     let block = bare_block(ctx)?;
-    new_op(ctx, 3, &[], &[value], &[block], 0)?;
-    make_or_stay(rt, ctx, value, block)
+    let user = new_op(ctx, 3, &[], &[value], &[block], 0)?;
+    let made = make_or_stay(rt, ctx, value, block);
+    if made.is_err() {
+        expect_no_more(rt, ctx, [user, maker], block);
+    }
+    made
 }
 
 // The same over the dialect Toy, with an integer type.
