@@ -4,7 +4,7 @@ use ir_base::attribute::{
     AttrInterfaceMarker, Attribute, AttributeDict, OutlinedAttr, TypedAttrInterface, attr_impls,
     attr_impls_static, attr_should_outline, attr_type,
 };
-use ir_base::context::Dialects;
+use ir_base::prelude::*;
 use std::collections::hash_map::DefaultHasher;
 use std::hash::Hash;
 

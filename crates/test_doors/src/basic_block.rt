@@ -1,10 +1,11 @@
 //! `ir_core::basic_block` and `ir_view::basic_block`.
 
-use ir_base::context::{Dialects, Ptr};
-use ir_core::basic_block::{ArgumentEdits, BasicBlock, BlockPlace, NewBlock};
-use ir_core::common_traits::Named;
-use ir_core::operation::{DropUses, Erase};
-use ir_view::basic_block::{ArgumentTypes, Arguments, BlockParts, BlockSuccessors};
+use ir_base::context::Ptr;
+use ir_base::prelude::*;
+use ir_core::basic_block::BasicBlock;
+use ir_core::prelude::*;
+use ir_view::basic_block::{ArgumentTypes, Arguments};
+use ir_view::prelude::*;
 
 /// How a block is made and changed.
 pub fn changed<D: Dialects>() {

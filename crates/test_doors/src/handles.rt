@@ -1,9 +1,11 @@
 //! What the handles of operations, blocks and regions are asked of their records.
 
-use ir_base::context::{Dialects, Ptr};
-use ir_core::basic_block::{BasicBlock, BasicBlockMut, BlockPtr, BlockPtrMut};
-use ir_core::operation::{Operation, OperationMut, OperationPtr, OperationPtrMut};
-use ir_core::region::{Region, RegionPtr};
+use ir_base::context::Ptr;
+use ir_base::prelude::*;
+use ir_core::basic_block::{BasicBlock, BasicBlockMut};
+use ir_core::operation::{Operation, OperationMut};
+use ir_core::prelude::*;
+use ir_core::region::Region;
 
 /// Records under handles.
 pub fn records<D: Dialects>() {

@@ -1,12 +1,13 @@
 //! `ir_base::linked_list` and `ir_core::linked_list`.
 
-use ir_base::context::{Dialects, Ptr};
+use ir_base::context::Ptr;
 use ir_base::linked_list;
 use ir_base::linked_list::{ContainsLinkedList, Iter, LinkedList};
-use ir_core::basic_block::{BasicBlock, BlockPlace};
-use ir_core::linked_list::{BlockContainer, BlockList, OperationContainer, OperationList};
-use ir_core::operation::{Operation, OperationPlace};
-use ir_core::region::{Region, RegionPlace};
+use ir_base::prelude::*;
+use ir_core::basic_block::BasicBlock;
+use ir_core::operation::Operation;
+use ir_core::prelude::*;
+use ir_core::region::Region;
 
 /// Lists over arenas.
 pub fn over_arenas<T: LinkedList, C: ContainsLinkedList<T>>() {

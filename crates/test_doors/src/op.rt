@@ -1,10 +1,10 @@
 //! `ir_base::op` and `ir_view::op`.
 
-use ir_base::context::Dialects;
 use ir_base::op::{
     IsTerminatorInterface, NoTerminatorInterface, OpInterfaceMarker, PureOpInterface,
     RegionKindInterface,
 };
+use ir_base::prelude::*;
 use ir_view::op::{Op, OpObj, op_impls, op_impls_static};
 use std::collections::hash_map::DefaultHasher;
 use std::hash::Hash;

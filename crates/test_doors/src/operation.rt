@@ -1,15 +1,13 @@
 //! `ir_core::operation` and `ir_view::operation`.
 
-use ir_base::context::{Dialects, Ptr};
-use ir_core::operation::{
-    AddRegion, DropUses, Erase, EraseRegion, NewOperation, OperandEdits, Operation, OperationPlace,
-    OperationUses, ResultEdits, ResultUses, SuccessorEdits,
-};
-use ir_view::op::Op;
+use ir_base::context::Ptr;
+use ir_base::prelude::*;
+use ir_core::operation::{Operation, OperationUses};
+use ir_core::prelude::*;
 use ir_view::operation::{
-    OperandTypes, OperandUses, Operands, OperationKind, OperationParts, Regions, ResultTypes,
-    Results, SuccessorUses, Successors,
+    OperandTypes, OperandUses, Operands, Regions, ResultTypes, Results, SuccessorUses, Successors,
 };
+use ir_view::prelude::*;
 
 /// How an operation is made and changed.
 pub fn changed<D: Dialects>() {

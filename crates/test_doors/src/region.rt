@@ -1,8 +1,9 @@
 //! `ir_core::region`.
 
-use ir_base::context::{Dialects, Ptr};
-use ir_core::operation::DropUses;
-use ir_core::region::{Region, RegionMoves, RegionPlace, RegionPtr};
+use ir_base::context::Ptr;
+use ir_base::prelude::*;
+use ir_core::prelude::*;
+use ir_core::region::Region;
 
 /// How a region is changed, and what it is asked.
 pub fn regions<D: Dialects>() {

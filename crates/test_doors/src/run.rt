@@ -1,6 +1,6 @@
 //! `ir_run`.
 
-use ir_base::context::Dialects;
+use ir_base::prelude::*;
 use ir_run::dead::sweep;
 use ir_run::ircore::run_script;
 use ir_run::run::{Answer, Edit, Refused, Session, choices_unseen};

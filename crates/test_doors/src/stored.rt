@@ -1,6 +1,7 @@
 //! `ir_base::storage_uniquer`, and `ir_core::uniqued_any`.
 
-use ir_base::context::{Dialects, SavedValue};
+use ir_base::context::SavedValue;
+use ir_base::prelude::*;
 use ir_base::storage_uniquer::UniqueStore;
 use ir_core::uniqued_any;
 use ir_core::uniqued_any::{Uniqued, UniquedKey};

@@ -1,8 +1,9 @@
 //! `ir_base::types` and `ir_view::types`, with the calls of a context on types.
 
-use ir_base::context::Dialects;
+use ir_base::prelude::*;
 use ir_base::types::{TypeHandle, TypeInterfaceMarker};
-use ir_core::context::{Context, TypeQueries};
+use ir_core::context::Context;
+use ir_core::prelude::*;
 use ir_core::value::{Use, Value};
 use ir_view::types::{
     IrType, TypeImplsInterface, TypeInterfaceHandle, TypeInterfaceHandleErr, TypeSig, Typed,

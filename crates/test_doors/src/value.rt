@@ -1,14 +1,13 @@
 //! `ir_core::value`, with the names of values and blocks.
 
-use ir_base::context::{Dialects, Ptr};
-use ir_core::basic_block::{BasicBlock, BlockPlace};
+use ir_base::context::Ptr;
+use ir_base::prelude::*;
+use ir_core::basic_block::BasicBlock;
 use ir_core::common_traits::Named;
 use ir_core::context::Context;
-use ir_core::value::{
-    BlockUseQueries, BlockUses, DefiningEntity, IndexErr, Retarget, Use, UseError, UseQueries,
-    Value, ValueEdits, ValueError, ValuePlace, ValueQueries,
-};
-use ir_view::value::BlockPredecessors;
+use ir_core::prelude::*;
+use ir_core::value::{DefiningEntity, IndexErr, Use, UseError, Value, ValueError};
+use ir_view::prelude::*;
 
 /// What a value is asked.
 pub fn asked<D: Dialects>() {

@@ -1,7 +1,8 @@
 //! `ir_verify::verify`.
 
-use ir_base::context::{Dialects, Ptr};
-use ir_base::types::{TypeHandle, TypeInterfaceMarker};
+use ir_base::context::Ptr;
+use ir_base::prelude::*;
+use ir_base::types::TypeHandle;
 use ir_core::basic_block::BasicBlock;
 use ir_core::operation::Operation;
 use ir_core::region::Region;
@@ -10,7 +11,8 @@ use ir_verify::verify::{
     BasicBlockVerifyErr, CheckErr, DefUseVerifyErr, VerifierErr, Verifiers, Verify, VerifyErr,
     verify_attr, verify_op, verify_operation, verify_type,
 };
-use ir_view::types::{IrType, TypeInterfaceHandle, TypedHandle};
+use ir_view::prelude::*;
+use ir_view::types::{TypeInterfaceHandle, TypedHandle};
 
 /// What is verified.
 pub fn verified<D: Dialects, V: Verifiers<D>, T: IrType<D>, I: TypeInterfaceMarker>() {
