@@ -76,8 +76,16 @@ pub fn limits(room: Room) -> Limits {
 
 /// Dictionary keys, and lists of verifiers.
 pub fn lists(key: &DictKeyId, twice: DuplicateKey) {
-    let _ = (&key.id, key.file, key.line, key.column);
-    let _ = (twice.first, twice.second);
+    let DictKeyId {
+        id: _,
+        file: _,
+        line: _,
+        column: _,
+    } = key;
+    let DuplicateKey {
+        first: _,
+        second: _,
+    } = twice;
     let _ = verify_dict_keys;
     let _ = collect_deduped_interface_verifiers;
 }

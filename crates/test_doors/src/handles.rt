@@ -26,8 +26,8 @@ pub fn records<D: Dialects>() {
 
 /// The parts of records that are lent to be written.
 pub fn lent<D: Dialects>(op: &mut OperationMut<D>, block: &mut BasicBlockMut<D>) {
-    let _ = &mut op.attributes;
-    let _ = &mut block.attributes;
+    let OperationMut { attributes: _, .. } = op;
+    let BasicBlockMut { attributes: _, .. } = block;
     let _ = OperationMut::<D>::set_loc;
     let _ = BasicBlockMut::<D>::set_loc;
     let _ = BasicBlockMut::<D>::set_label;

@@ -62,7 +62,16 @@ pub fn typed<'a, D: Dialects, T: Typed<D>>() {
 
 /// Signatures, and why the handle of a type isn't given.
 pub fn fields(signature: &TypeSig, kind: TypedHandleErr, interface: TypeInterfaceHandleErr) {
-    let _ = (&signature.arguments, &signature.results);
-    let _ = (kind.expected, kind.provided);
-    let _ = (interface.interface, interface.provided);
+    let TypeSig {
+        arguments: _,
+        results: _,
+    } = signature;
+    let TypedHandleErr {
+        expected: _,
+        provided: _,
+    } = kind;
+    let TypeInterfaceHandleErr {
+        interface: _,
+        provided: _,
+    } = interface;
 }

@@ -31,7 +31,7 @@ pub fn verified<D: Dialects, V: Verifiers<D>, T: IrType<D>, I: TypeInterfaceMark
 
 /// What is told, and what a check answers.
 pub fn told(code: VerifierErr) {
-    let _ = code.code;
+    let VerifierErr { code: _ } = code;
     let _ = BasicBlockVerifyErr::MissingTerminator;
     let _ = BasicBlockVerifyErr::TerminatorNotLast;
     let _ = BasicBlockVerifyErr::NoParent;
