@@ -4,7 +4,6 @@ use ir_base::context::Ptr;
 use ir_base::prelude::*;
 use ir_core::basic_block::BasicBlock;
 use ir_core::common_traits::Named;
-use ir_core::context::Context;
 use ir_core::prelude::*;
 use ir_core::value::{DefiningEntity, IndexErr, Use, UseError, Value, ValueError};
 use ir_view::prelude::*;
@@ -34,10 +33,6 @@ pub fn asked<D: Dialects>() {
 /// How a value is changed, and what names it.
 pub fn changed<D: Dialects>() {
     let _ = <Value<D> as ValueEdits<D>>::set_type;
-    let _ = <Value<D> as ValueEdits<D>>::replace_some_uses_with::<
-        Context<D>,
-        fn(&Context<D>, Use<Value<D>>) -> bool,
-    >;
     let _ = <Value<D> as ValueEdits<D>>::replace_all_uses_with;
     let _ = <Value<D> as ValueEdits<D>>::replace_use_with;
 }
@@ -65,13 +60,20 @@ pub fn predecessors<D: Dialects>() {
     let _ = <Ptr<BasicBlock<D>> as BlockPredecessors<D>>::preds;
     let _ = <Ptr<BasicBlock<D>> as BlockPredecessors<D>>::get_pred;
     let _ = <Ptr<BasicBlock<D>> as BlockPredecessors<D>>::is_succ_of;
-    let _ = <Ptr<BasicBlock<D>> as Retarget<D>>::retarget_some_preds_to::<
-        Context<D>,
-        Ptr<BasicBlock<D>>,
-        fn(&Context<D>, Ptr<BasicBlock<D>>) -> bool,
-    >;
     let _ = <Ptr<BasicBlock<D>> as Retarget<D>>::retarget_all_preds_to;
     let _ = <Ptr<BasicBlock<D>> as Retarget<D>>::retarget_pred_to;
+}
+
+/// What is changed where a predicate says so.
+pub fn by_predicate<
+    D: Dialects,
+    C: Shown<D>,
+    B: ShownBlock<D>,
+    P: Fn(&C, Use<Value<D>>) -> bool,
+    Q: Fn(&C, B) -> bool,
+>() {
+    let _ = <Value<D> as ValueEdits<D>>::replace_some_uses_with::<C, P>;
+    let _ = <Ptr<BasicBlock<D>> as Retarget<D>>::retarget_some_preds_to::<C, B, Q>;
 }
 
 /// Why an index isn't found.
