@@ -1,0 +1,20 @@
+//! The five doors and nothing else: each item that callers are promised is named at the door that gives it out, so that the check refuses a door that lacks one.
+//!
+//! A call is named by its path, which asks nothing of its arguments and so costs next to nothing to prove.
+#![tactic(auto)]
+
+mod attribute;
+mod basic_block;
+mod contexts;
+mod handles;
+mod identifier;
+mod lists;
+mod op;
+mod operation;
+mod preludes;
+mod region;
+mod run;
+mod stored;
+mod types;
+mod value;
+mod verify;
