@@ -159,6 +159,7 @@ module _ (D A K B S X L : Type 0) (l : Limits) where
     own = record {
       ops = λ i op e. absurd (let n : get {T = Operation D A K B S X L} (empty l.slots l.last_version) i ≡ None = get-empty _ l.slots l.last_version i in cc);
       blocks = λ i b e. absurd (let n : get {T = BasicBlock D A K B S X L} (empty l.slots l.last_version) i ≡ None = get-empty _ l.slots l.last_version i in cc);
+      regions = λ i r e. absurd (let n : get {T = Region} (empty l.slots l.last_version) i ≡ None = get-empty _ l.slots l.last_version i in cc);
     };
     formed = nothing-formed (forest_of nothing) no_op no_block no_region 0;
     counted = record {

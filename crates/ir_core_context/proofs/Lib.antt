@@ -42,3 +42,5 @@ pub mod Redirected
 pub mod Asked
 pub mod Stands
 pub mod Aside
+pub mod Ends
+pub mod Standing

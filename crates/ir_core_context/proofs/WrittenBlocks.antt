@@ -64,7 +64,7 @@ module _ {D A K B S X L : Type 0} where
     }
 
     block_own : KnowOwn s.records → KnowOwn t
-    block_own own = record { ops = own.ops; blocks = own-edited (λ (x : BasicBlock D A K B S X L). x.index) change (λ x. refl) s.records.blocks b own.blocks }
+    block_own own = record { ops = own.ops; blocks = own-edited (λ (x : BasicBlock D A K B S X L). x.index) change (λ x. refl) s.records.blocks b own.blocks; regions = own.regions }
 
     abbrev labelled : Forest context_ids (closed A K B S X L)
     labelled = set_label f b rest.label

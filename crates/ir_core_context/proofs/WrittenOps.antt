@@ -64,7 +64,7 @@ module _ {D A K B S X L : Type 0} where
     }
 
     op_own : KnowOwn s.records → KnowOwn t
-    op_own own = record { ops = own-edited (λ (op : Operation D A K B S X L). op.index) change (λ x. refl) s.records.ops o own.ops; blocks = own.blocks }
+    op_own own = record { ops = own-edited (λ (op : Operation D A K B S X L). op.index) change (λ x. refl) s.records.ops o own.ops; blocks = own.blocks; regions = own.regions }
 
     op_found : (p : ArenaIndex) → option_map op_record (get t.ops p) ≡ (written_op f o rest).ops p
     op_found p = elim (id_cases p o) [

@@ -6,7 +6,8 @@ use Rattle.ir_model.specs.declared.ids.ArenaIndex.{ArenaIndex}
 use Rattle.ir_model.specs.ContextIds.{context_ids}
 use Rattle.ir_model.specs.Ids.{Fresh, Counts, counts, FreshDistinct}
 use Rattle.ir_model.specs.Forest.{Dialect, Behaviour, Definer as DefinedBy, Forest, Named, Text, Value, Entity, a_block, a_region, a_value, an_op}
-use Rattle.ir_model.specs.Nesting.{In, IsLive, IsLiveNamed, numbers_of, ops_of, regions_of, use_numbers_of}
+use Rattle.ir_model.specs.Nesting.{In, IsLive, IsLiveNamed, blocks_of, numbers_of, ops_of, regions_of, use_numbers_of}
+use Rattle.ir_model.specs.Parent.{first_of, last_of}
 use Rattle.ir_model.specs.AuxData.{live_aux}
 use Rattle.ir_model.specs.Edits.{StoredType, no_needs}
 use Rattle.ir_model.specs.Changes.{definition, operand, successor, new_op, new_block, add_region}
@@ -19,7 +20,7 @@ use Rattle.ir_core_records.specs.declared.record.Region.{Region}
 use Rattle.ir_core_records.specs.declared.record.Definer.TheVariants.{Op, Block}
 use Rattle.ir_core_records.specs.declared.record.UseIndex.{UseIndex}
 use Rattle.ir_core_records.specs.declared.record.ValueIndex.{ValueIndex}
-use Rattle.ir_core_records.specs.Meaning.{closed, op_index, op_record, block_index, block_record, use_of, value_of}
+use Rattle.ir_core_records.specs.Meaning.{closed, op_index, op_record, block_index, block_record, region_index, use_of, value_of}
 use Rattle.ir_core_records.specs.Values.{IsLiveUse, IsLiveBlockUse}
 use Rattle.ir_core_context.specs.declared.needs.Needs.{Needs}
 use Rattle.ir_core_context.specs.State.{ContextState}
@@ -173,11 +174,14 @@ module _ {W : Dialect} where
     pub passed : Passes old.passed skipped new.passed
 
 module _ {W : Dialect} where
-  -- the region of the record stands among those of its operation, which is live
+  -- the region's record stands under the index, and knows it; the region stands among those of the operation that it names, which is live; its ends are those of its list of blocks
   pub record IsRegion (f : Forest context_ids W) (index : ArenaIndex) (r : Region) : Type 0 where
     pub live : IsLive f (a_region index)
+    pub own : region_index r ≡ index
     pub parent : In index (regions_of f r.parent)
     pub parent_live : IsLive f (an_op r.parent)
+    pub first : r.first ≡ first_of (blocks_of f index)
+    pub last : r.last ≡ last_of (blocks_of f index)
 
 module _ {D A K B S X L : Type 0} where
   -- the record stands under the index, and knows it
@@ -185,10 +189,12 @@ module _ {D A K B S X L : Type 0} where
     pub found : f.ops index ≡ Some (op_record op)
     pub own : op_index op ≡ index
 
-  -- the block's record stands under the index, and knows it
+  -- the block's record stands under the index, and knows it; its ends are those of its list of operations
   pub record IsBlock (f : Forest context_ids (closed A K B S X L)) (index : ArenaIndex) (b : BasicBlock D A K B S X L) : Type 0 where
     pub found : f.blocks index ≡ Some (block_record (ops_of f index) b)
     pub own : block_index b ≡ index
+    pub first : b.ops_list.first ≡ first_of (ops_of f index)
+    pub last : b.ops_list.last ≡ last_of (ops_of f index)
 
   -- what the operation gives is live: its results, operands, uses, successors, their uses, and regions; its types are among so many known ones
   pub record LeadsToLive (f : Forest context_ids (closed A K B S X L)) (known : ℕ) (op : Operation D A K B S X L) : Type 0 where

@@ -3,6 +3,7 @@
 //! It gives out what its callers need of the crates below.
 #![tactic(auto)]
 
+mod arena_obj;
 mod argument_edits;
 mod asking;
 mod aux_data;
@@ -27,6 +28,7 @@ mod successor_edits;
 mod types;
 mod value_edits;
 
+pub use arena_obj::ArenaObj;
 pub use argument_edits::ArgumentEdits;
 pub use asking::{Shown, ShownBlock};
 pub use block::BlockPtr;
@@ -41,7 +43,7 @@ pub use ir_base_dialects::{
 pub use ir_core_data::AuxDataIndex;
 pub use ir_core_records::{
     BasicBlock, BasicBlockMut, BlockIndex, Definer, DefiningEntity, Operation, OperationMut,
-    Region, Use, UseIndex, Value, ValueIndex,
+    OpsInBlock, Region, Use, UseIndex, Value, ValueIndex,
 };
 pub use ir_model::ArenaIndex;
 pub use lending::{BlockPtrMut, OperationPtrMut};

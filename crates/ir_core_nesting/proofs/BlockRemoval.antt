@@ -43,6 +43,7 @@ module _ {D A K B S X L : Type 0} (old : Records D A K B S X L) (block : ArenaIn
       | inl e ↦ absurd (let none : get left.blocks i ≡ None = ap (get left.blocks) e ∙ get-cut old.blocks block live in cc)
       | inr ne ↦ know.blocks i p (sym (get-cut_other old.blocks block i live ne) ∙ is)
     ];
+    regions = know.regions;
   }
 
   module _ (found_ops : OpsFound D A K B S X L) (found_blocks : BlocksFound D A K B S X L) (nested : AreNested (tree_of old))

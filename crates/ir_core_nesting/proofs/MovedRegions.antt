@@ -24,7 +24,7 @@ use Rattle.ir_core_records.specs.declared.record.Operation.{Operation}
 use Rattle.ir_core_records.specs.declared.record.Region.{Region}
 use Rattle.ir_core_records.specs.declared.records.Records.{Records}
 use Rattle.ir_core_records.specs.Lists.{in_record, uses_with, edited}
-use Rattle.ir_core_records.specs.Meaning.{closed, forest_in, op_record, block_record}
+use Rattle.ir_core_records.specs.Meaning.{closed, forest_in, op_record, block_record, region_index}
 use Rattle.ir_core_records.specs.Nested.{AreNested}
 use Rattle.ir_core_records.specs.Tree.{tree_of, ops_in, blocks_in, op_links, op_regions, region_ends, region_parent}
 use Rattle.ir_core_nesting.specs.Edits.{EditsTo}
@@ -234,6 +234,7 @@ module _ {D A K B S X L : Type 0} (old : Records D A K B S X L) (op from r : Are
       own = λ know. record {
         ops = own-read (λ z. z.index) old.ops moved.ops (op_rest (option_map (λ z. z.index)) (λ z rs. refl)) know.ops;
         blocks = know.blocks;
+        regions = own-read region_index old.regions moved.regions (region_rest (option_map region_index) (λ z p. refl)) know.regions;
       };
     };
   }
@@ -284,6 +285,7 @@ module _ {D A K B S X L : Type 0} (old : Records D A K B S X L) (op : ArenaIndex
       own = λ know. record {
         ops = own-read (λ z. z.index) old.ops after.ops (rest (option_map (λ z. z.index))) know.ops;
         blocks = know.blocks;
+        regions = know.regions;
       };
     };
   }

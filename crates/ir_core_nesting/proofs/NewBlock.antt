@@ -42,6 +42,7 @@ module _ {D A K B S X L : Type 0} (old : Records D A K B S X L) (id : ArenaIndex
       | inl e ↦ ap (λ (b : BasicBlock D A K B S X L). b.index) (sym (same_Some _ _ (sym (ap (get (fill old.blocks id block)) e ∙ get-fill_new old.blocks id block is_new) ∙ found))) ∙ own ∙ sym e
       | inr ne ↦ know.blocks i p (sym (get-fill_new_other old.blocks id i block is_new ne) ∙ found)
     ];
+    regions = know.regions;
   }
 
   module _ (found_ops : OpsFound D A K B S X L) (found_blocks : BlocksFound D A K B S X L)

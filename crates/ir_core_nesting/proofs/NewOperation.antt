@@ -43,6 +43,7 @@ module _ {D A K B S X L : Type 0} (old : Records D A K B S X L) (id : ArenaIndex
       | inr ne ↦ know.ops i p (sym (get-fill_new_other old.ops id i op is_new ne) ∙ found)
     ];
     blocks = know.blocks;
+    regions = know.regions;
   }
 
   module _ (found : OpsFound D A K B S X L) (lists : AreLists (tree_of new).ops (tree_of new).block_ends (ops_in (tree_of old))) where

@@ -1,6 +1,7 @@
 -- What a change of one record leaves of whatever is read of each.
 use Rattle.std.proofs.Common.{◌≡◌, inl, inr, cond, Option, Some, None, IsSome, is_some, refl, sym, ap, ◌∙◌}
 use Rattle.std.specs.Option.{option_map}
+use Rattle.std.proofs.lemmas.Option.{same_Some}
 use Rattle.ir_model.specs.declared.ids.ArenaIndex.{ArenaIndex}
 use Rattle.ir_model.specs.ContextIds.{same_id}
 use Rattle.ir_model.specs.Changes.{put, rewrite}
@@ -18,6 +19,25 @@ found-at {T} a id live = by (get a id) live
     by : (m : Option T) → IsSome m → (x : T) × (m ≡ Some x)
     by None h = absurd cc
     by (Some x) h = (x, refl)
+
+-- each record knows its own place
+abbrev pub KnowPlaces : {T : Type 0} → (T → ArenaIndex) → Arena T → Type 0
+KnowPlaces {T} index a = (i : ArenaIndex) (x : T) → get a i ≡ Some x → index x ≡ i
+
+module _ {T : Type 0} (index : T → ArenaIndex) (a : Arena T) (id : ArenaIndex) where
+  -- a new one that knows its place is put beside them
+  pub places-new : (v : T) → IsNew a id → index v ≡ id → KnowPlaces index a → KnowPlaces index (fill a id v)
+  places-new v is_new own know i x found = elim (id_cases i id) [
+    | inl e ↦ ap index (sym (same_Some _ _ (sym (ap (get (fill a id v)) e ∙ get-fill_new a id v is_new) ∙ found))) ∙ own ∙ sym e
+    | inr ne ↦ know i x (sym (get-fill_new_other a id i v is_new ne) ∙ found)
+  ]
+
+  -- one of them is taken away
+  pub places-cut : IsLiveIn a id → KnowPlaces index a → KnowPlaces index (cut a id)
+  places-cut live know i x found = elim (id_cases i id) [
+    | inl e ↦ absurd (let none : get (cut a id) i ≡ None = ap (get (cut a id)) e ∙ get-cut a id live in cc)
+    | inr ne ↦ know i x (sym (get-cut_other a id i live ne) ∙ found)
+  ]
 
 module _ {T Y : Type 0} (a : Arena T) (id : ArenaIndex) (read : Option T → Y) where
   pub read-new : (v : T) → IsNew a id → read (Some v) ≡ read None → (i : ArenaIndex) → read (get (fill a id v) i) ≡ read (get a i)

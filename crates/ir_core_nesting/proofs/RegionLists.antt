@@ -23,9 +23,9 @@ use Rattle.ir_core_records.specs.Chains.{chains_of}
 use Rattle.ir_core_records.specs.Table.{KnowOwn}
 use Rattle.ir_core_records.specs.Tree.{tree_of, ops_in, blocks_in, op_links, block_links, op_regions, region_ends, region_parent}
 use Rattle.ir_core_records.specs.Nested.{AreNested}
-use Rattle.ir_core_records.specs.Meaning.{closed, forest_in, op_record, block_record}
+use Rattle.ir_core_records.specs.Meaning.{closed, forest_in, op_record, block_record, region_index}
 use Rattle.ir_core_nesting.specs.Leaves.{without_region}
-use Rattle.ir_core_nesting.proofs.Readings.{live-of, read-written, seen-written, seen-cut}
+use Rattle.ir_core_nesting.proofs.Readings.{KnowPlaces, live-of, places-cut, places-new, read-written, seen-written, seen-cut}
 use Rattle.ir_core_nesting.proofs.Kept.{OpsFound, BlocksFound, Becomes, ops-are, blocks-are, nested-still}
 use Rattle.ir_core_nesting.proofs.Chained.{chains-same}
 
@@ -57,13 +57,14 @@ module _ {D A K B S X L : Type 0} (old : Records D A K B S X L) (op : ArenaIndex
       (λ b n. refl)
       (λ b. refl)
 
-  pub relisted-own : KnowOwn old → KnowOwn with_regions
-  relisted-own know = record {
+  pub relisted-own : (KnowPlaces region_index old.regions → KnowPlaces region_index regions) → KnowOwn old → KnowOwn with_regions
+  relisted-own places know = record {
     ops = λ i p is. elim (id_cases i op) [
       | inl e ↦ ap (λ (o : Operation D A K B S X L). o.index) (sym (same_Some _ _ (sym (ap (get with_regions.ops) e ∙ get-fill_live old.ops op (record x { regions = rs }) (live-of old.ops op x found)) ∙ is))) ∙ know.ops op x found ∙ sym e
       | inr ne ↦ know.ops i p (sym (get-fill_live_other old.ops op i (record x { regions = rs }) (live-of old.ops op x found) ne) ∙ is)
     ];
     blocks = know.blocks;
+    regions = places know.regions;
   }
 
   relisted-ops : AreNested (tree_of old) → AreLists (tree_of with_regions).ops (tree_of old).block_ends (ops_in (tree_of old))
@@ -205,16 +206,16 @@ module _ {D A K B S X L : Type 0} (old : Records D A K B S X L) (op : ArenaIndex
   now-is : (rs : List ArenaIndex) (all : Arena Region) → ops ≡ fill old.ops op (record x { regions = rs }) → regions ≡ all → now ≡ with_regions old op x found rs all
   now-is rs all e f = λ i. record { ops = e i; blocks = old.blocks; regions = f i }
 
-  pub region-added : (r : ArenaIndex) (region : Region) → IsNew old.regions r → region.parent ≡ op
+  pub region-added : (r : ArenaIndex) (region : Region) → IsNew old.regions r → region.index ≡ r → region.parent ≡ op
       → ops ≡ fill old.ops op (record x { regions = x.regions ++ r ∷ [] }) → regions ≡ fill old.regions r region
       → AreLists (seen block_links old.blocks) (seen region_ends (fill old.regions r region)) (blocks_in (tree_of old))
       → Becomes old now (add_region (forest_in old) op r)
-  region-added r region is_new knows e f lists =
+  region-added r region is_new own knows e f lists =
       subst (λ (t : Records D A K B S X L). Becomes old t (add_region (forest_in old) op r)) (sym (now-is (x.regions ++ r ∷ []) (fill old.regions r region) e f)) (record {
         forest = added-forest old op x found found_ops found_blocks nested r region is_new lists;
         nested = added-nested old op x found found_ops found_blocks nested r region is_new lists knows;
         chains = relisted-chains old op x found (x.regions ++ r ∷ []) (fill old.regions r region);
-        own = relisted-own old op x found (x.regions ++ r ∷ []) (fill old.regions r region);
+        own = relisted-own old op x found (x.regions ++ r ∷ []) (fill old.regions r region) (places-new region_index old.regions r region is_new own);
       })
 
   pub region-undone : (r : ArenaIndex) (region : Region) → IsNew old.regions r
@@ -227,7 +228,7 @@ module _ {D A K B S X L : Type 0} (old : Records D A K B S X L) (op : ArenaIndex
         forest = undone-forest old op x found found_ops found_blocks nested all same;
         nested = undone-nested old op x found found_ops found_blocks nested all same;
         chains = relisted-chains old op x found x.regions all;
-        own = relisted-own old op x found x.regions all;
+        own = relisted-own old op x found x.regions all (λ know i g is. know i g (sym (same i) ∙ is));
       })
 
   pub region-left : (rest : List ArenaIndex) (r : ArenaIndex) → x.regions ≡ rest ++ r ∷ [] → Distinct x.regions → IsLiveIn old.regions r
@@ -239,7 +240,7 @@ module _ {D A K B S X L : Type 0} (old : Records D A K B S X L) (op : ArenaIndex
         forest = left-forest old op x found found_ops found_blocks nested rest r splits live lists;
         nested = left-nested old op x found found_ops found_blocks nested rest r splits live lists once;
         chains = relisted-chains old op x found rest (cut old.regions r);
-        own = relisted-own old op x found rest (cut old.regions r);
+        own = relisted-own old op x found rest (cut old.regions r) (places-cut region_index old.regions r live);
       })
 
 -- the regions of an operation in the forest are those of its record

@@ -18,10 +18,10 @@ use Rattle.ir_core_records.specs.declared.record.Operation.{Operation}
 use Rattle.ir_core_records.specs.declared.record.Region.{Region}
 use Rattle.ir_core_records.specs.declared.records.Records.{Records}
 use Rattle.ir_core_records.specs.Nested.{AreNested}
-use Rattle.ir_core_records.specs.Meaning.{forest_in, op_record}
+use Rattle.ir_core_records.specs.Meaning.{forest_in, op_record, region_index}
 use Rattle.ir_core_records.specs.Tree.{tree_of, blocks_in, block_links, region_ends, region_parent}
 use Rattle.ir_core_nesting.specs.Leaves.{in_ops, without_region}
-use Rattle.ir_core_nesting.proofs.Readings.{live-of, seen-cut}
+use Rattle.ir_core_nesting.proofs.Readings.{live-of, places-cut, seen-cut}
 use Rattle.ir_core_nesting.proofs.Kept.{OpsFound, BlocksFound, Becomes}
 use Rattle.ir_core_nesting.proofs.RegionLists.{with_regions, relisted-chains, relisted-own, relisted-nested, relisted-forest, owned-by}
 
@@ -75,7 +75,7 @@ module _ {D A K B S X L : Type 0} (old : Records D A K B S X L) (op r : ArenaInd
     nested = relisted-nested old op x found kept (cut old.regions r) found_ops found_blocks nested lists here
         (λ o g ne h. still g o (λ e. ne (same_Some _ _ (sym (nested.parents o g h) ∙ ap (λ z. option_map region_parent (get old.regions z)) e ∙ owned))) (nested.parents o g h));
     chains = relisted-chains old op x found kept (cut old.regions r);
-    own = relisted-own old op x found kept (cut old.regions r);
+    own = relisted-own old op x found kept (cut old.regions r) (places-cut region_index old.regions r live);
   }
 
   -- as the records are written

@@ -13,7 +13,7 @@ use Rattle.ir_core_records.specs.declared.record.BasicBlock.{BasicBlock}
 use Rattle.ir_core_records.specs.declared.record.Region.{Region}
 use Rattle.ir_core_records.specs.declared.records.Records.{Records}
 use Rattle.ir_core_records.specs.Lists.{in_record, uses_with}
-use Rattle.ir_core_records.specs.Meaning.{forest_in, op_record, block_record}
+use Rattle.ir_core_records.specs.Meaning.{forest_in, op_record, block_record, region_index}
 use Rattle.ir_core_records.specs.Nested.{AreNested}
 use Rattle.ir_core_records.specs.Tree.{tree_of, ops_in, blocks_in, op_links, block_links, block_ends, region_ends, op_regions, region_parent}
 use Rattle.ir_core_nesting.specs.Edits.{no_op_links, no_block_links, no_block_ends, no_region_ends, with_op_lists, with_block_lists, EditsTo, OpListsTell, BlockListsTell}
@@ -106,6 +106,7 @@ module _ {D A K B S X L : Type 0} (found_ops : OpsFound D A K B S X L) (found_bl
           own = λ know. record {
             ops = own-read (λ x. x.index) old.ops ops (op_rest (option_map (λ x. x.index)) (λ x. refl)) know.ops;
             blocks = own-read (λ x. x.index) old.blocks blocks (block_rest (option_map (λ x. x.index)) (λ x. refl)) know.blocks;
+            regions = know.regions;
           };
         };
       }
@@ -171,6 +172,7 @@ module _ {D A K B S X L : Type 0} (found_ops : OpsFound D A K B S X L) (found_bl
           own = λ know. record {
             ops = know.ops;
             blocks = own-read (λ x. x.index) old.blocks blocks (links_rest (option_map (λ x. x.index)) (λ x. refl)) know.blocks;
+            regions = own-read region_index old.regions regions (region_rest (option_map region_index) (λ x. refl)) know.regions;
           };
         };
       }

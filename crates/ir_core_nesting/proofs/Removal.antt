@@ -49,6 +49,7 @@ module _ {D A K B S X L : Type 0} (old : Records D A K B S X L) (op : ArenaIndex
       | inr ne ↦ know.ops i p (sym (get-cut_other old.ops op i live ne) ∙ is)
     ];
     blocks = know.blocks;
+    regions = know.regions;
   }
 
   module _ (found_ops : OpsFound D A K B S X L) (nested : AreNested (tree_of old)) (lists : AreLists (tree_of left).ops (tree_of left).block_ends (ops_in (tree_of old))) where

@@ -31,7 +31,6 @@ module _ {D A K B S X L : Type 0} where
     next = None;
     prev = None;
     parent = None;
-    first = None;
-    last = None;
+    ops_list = record { first = None; last = None };
     rest = record { attributes = []; label = label; loc = loc };
   }

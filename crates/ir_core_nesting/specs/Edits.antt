@@ -41,7 +41,7 @@ module _ {D A K B S X L : Type 0} where
 
   -- a block that forgets its list
   abbrev pub no_block_ends : BasicBlock D A K B S X L → BasicBlock D A K B S X L
-  no_block_ends x = record x { first = None; last = None }
+  no_block_ends x = record x { ops_list = record { first = None; last = None } }
 
   -- the same is used at the same places, no id was handed out and none has gone, and records know their places as before
   pub record KeepsChains (old new : Records D A K B S X L) : Type 0 where

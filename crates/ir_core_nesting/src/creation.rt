@@ -28,7 +28,7 @@ use ir_base_dialects::list_laws::{
 };
 use ir_base_dialects::{Arena, ArenaIndex, Dialects, Identifier, Ptr, Seq, ShortSeq, unknown_loc};
 use ir_core_records::{
-    BasicBlock, BasicBlockMut, Definitions, Operation, OperationMut, Records, Region,
+    BasicBlock, BasicBlockMut, Definitions, Operation, OperationMut, OpsInBlock, Records, Region,
 };
 use std::alloc::{AllocError, Global};
 
@@ -74,8 +74,10 @@ fn new_block<D: Dialects>(
         next: Link::none(),
         prev: Link::none(),
         parent: Link::none(),
-        first: Link::none(),
-        last: Link::none(),
+        ops_list: OpsInBlock {
+            first: Link::none(),
+            last: Link::none(),
+        },
         rest: BasicBlockMut {
             attributes: AttributeDict::new(alloc),
             label,
@@ -209,10 +211,11 @@ pub fn add_region<D: Dialects>(
     container_changes_keep_lists::<BasicBlock<D>, Region>();
     lists_are_one::<BasicBlock<D>, Region>();
     let inserted = records.regions.insert_with(
-        move |_: Ptr<Region>|
-            ensures { result ≡ record { parent = op; first = None; last = None } }
+        move |made: Ptr<Region>|
+            ensures { result ≡ record { index = made.index; parent = op; first = None; last = None } }
         {
             Region {
+                index: made.index,
                 parent: op,
                 first: Link::none(),
                 last: Link::none(),

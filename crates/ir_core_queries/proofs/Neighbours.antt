@@ -6,11 +6,12 @@ use Rattle.ir_model.specs.declared.ids.ArenaIndex.{ArenaIndex}
 use Rattle.ir_model.specs.ContextIds.{context_ids}
 use Rattle.ir_model.specs.Forest.{Dialect, Entity, Forest}
 use Rattle.ir_model.specs.Nesting.{In, IsLive, Nested, children}
-use Rattle.ir_model.specs.Parent.{ComesAfter, FindsOne, IsIn, IsNext, IsParent, IsPrevious, last_of as last_in}
+use Rattle.ir_model.specs.Parent.{ComesAfter, FindsOne, IsIn, IsNext, IsParent, IsPrevious}
 use Rattle.ir_model.proofs.Back.{slice_get-in}
 use Rattle.ir_model.proofs.Nests.{In-map, In-map_back}
 use Rattle.ir_model.proofs.Relinks.{Adjacent-first, Adjacent-second}
-use Rattle.ir_base_arenas.specs.Lists.{Links, Ends, Heap, unlinked, linked, head_or, last_or, last_from, ends_of}
+use Rattle.ir_base_arenas.specs.Lists.{Links, Ends, Heap, unlinked, linked, head_or, last_or, ends_of}
+use Rattle.ir_core_context.proofs.Ends.{head-is, tail-is}
 use Rattle.ir_core_queries.specs.Neighbours.{EndsTell, IsLiveLink, LinksTell}
 use Rattle.ir_core_queries.proofs.Listed.{AreListed}
 use Rattle.ir_core_queries.proofs.Live.{owner-live}
@@ -190,18 +191,6 @@ module _ {W : Dialect} (f : Forest context_ids W) (nested : Nested f) (node cont
         previous_live = if-found (λ y. ComesAfter f y (node x)) (IsLive f) (λ y h. nested.live y h.0 (Adjacent-first y (node x) _ h.1)) node l.prev previous;
       }
 
-head-first : (xs : List ArenaIndex) → head_or None xs ≡ slice_get xs 0
-head-first [] = refl
-head-first (x ∷ xs) = refl
-
-last-got : (x : ArenaIndex) (xs : List ArenaIndex) → Some (last_from x xs) ≡ slice_get (x ∷ xs) (length xs)
-last-got x [] = refl
-last-got x (y ∷ ys) = last-got y ys
-
-last-last : (xs : List ArenaIndex) → last_or None xs ≡ last_in xs
-last-last [] = refl
-last-last (x ∷ xs) = last-got x xs ∙ ap (slice_get (x ∷ xs)) (let e : length xs ≡ length (x ∷ xs) - 1 = omega arith in e)
-
 module _ {W : Dialect} (f : Forest context_ids W) (nested : Nested f) (node : ArenaIndex → Entity context_ids) (y : Entity context_ids) (list : List ArenaIndex) (listed : children f y ≡ map node list) where
   pub each-live : (x : ArenaIndex) → In x list → IsLive f (node x)
   each-live x h = nested.live (node x) y (subst (In (node x)) (sym listed) (In-map node x list h))
@@ -213,6 +202,6 @@ module _ {W : Dialect} (f : Forest context_ids W) (nested : Nested f) (node : Ar
   -- the ends of the list of y
   pub ends-tell : (ends : Ends) → ends ≡ ends_of list → EndsTell f node list ends
   ends-tell ends e =
-      let first : ends.head ≡ slice_get list 0 = ap (λ (k : Ends). k.head) e ∙ head-first list in
-      let last : ends.tail ≡ slice_get list (length list - 1) = ap (λ (k : Ends). k.tail) e ∙ last-last list in
+      let first : ends.head ≡ slice_get list 0 = head-is ends list e in
+      let last : ends.tail ≡ slice_get list (length list - 1) = tail-is ends list e in
       record { first = first; first_live = live-at 0 ends.head first; last = last; last_live = live-at (length list - 1) ends.tail last }

@@ -11,6 +11,7 @@ ghost use Rattle.ir_core_queries.specs.Above.{IsAbove};
 
 use crate::entity::is_linked;
 use crate::links::{block, handle};
+use crate::operation::OperationPlace;
 use crate::users::{all_linked, kept_uses};
 use ir_base_dialects::{Dialects, Iter, Ptr, linked_list};
 use ir_core_context::{Context, RegionPtr};
@@ -33,6 +34,12 @@ pub trait BlockPlace<D: Dialects> {
         requires { IsLive (forest_of ctx.now) (a_block (index_of self)) }
         ensures above { IsAbove (forest_of ctx.now) 2 (a_block (index_of self)) (option_map (λ p. an_op p.index) result) }
         ensures live { IfSome result (λ p. IsLive (forest_of ctx.now) (an_op p.index)) };
+
+    /// The block that the operation of the live block's region stands in, if there is one. It stands for pliron's `BasicBlock::get_parent_block`.
+    fn get_parent_block(self, ctx: &Context<D>) -> Option<Ptr<BasicBlock<D>>>
+        requires { IsLive (forest_of ctx.now) (a_block (index_of self)) }
+        ensures above { IsAbove (forest_of ctx.now) 3 (a_block (index_of self)) (option_map (λ p. a_block p.index) result) }
+        ensures live { IfSome result (λ p. IsLive (forest_of ctx.now) (a_block p.index)) };
 
     /// Whether the block stands in a region. It doesn't where the handle is dead. It stands for pliron's `is_linked`.
     fn is_linked(self, ctx: &Context<D>) -> bool
@@ -87,6 +94,13 @@ impl<D: Dialects> BlockPlace<D> for Ptr<BasicBlock<D>> {
         Some(region.get_parent_op(ctx))
     }
 
+    fn get_parent_block(self, ctx: &Context<D>) -> Option<Ptr<BasicBlock<D>>> {
+        ctx.recall_well_formed();
+        let region = self.get_parent_region(ctx)?;
+        let op = region.get_parent_op(ctx);
+        op.get_parent_block(ctx)
+    }
+
     fn is_linked(self, ctx: &Context<D>) -> bool {
         is_linked(ctx, EntityIndex::Block(self.index()))
     }
@@ -104,11 +118,11 @@ impl<D: Dialects> BlockPlace<D> for Ptr<BasicBlock<D>> {
     }
 
     fn get_head(self, ctx: &Context<D>) -> Option<Ptr<Operation<D>>> {
-        handle(block(ctx, self).first)
+        handle(block(ctx, self).ops_list.first)
     }
 
     fn get_tail(self, ctx: &Context<D>) -> Option<Ptr<Operation<D>>> {
-        handle(block(ctx, self).last)
+        handle(block(ctx, self).ops_list.last)
     }
 
     fn iter(self, ctx: &Context<D>) -> Iter<'_, Operation<D>> {

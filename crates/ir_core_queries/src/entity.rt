@@ -60,7 +60,7 @@ fn is_childless<D: Dialects>(records: &Records<D>, entity: EntityIndex) -> bool
             None => true,
         },
         EntityIndex::Block(block) => match records.blocks.get(Ptr::from_index(block)) {
-            Some(block) => block.first.get().is_none(),
+            Some(block) => block.ops_list.first.get().is_none(),
             None => true,
         },
         EntityIndex::Region(region) => match records.regions.get(Ptr::from_index(region)) {

@@ -24,7 +24,7 @@ pub use entity::{Entity, can_erase, is_inside};
 pub use error::{IndexErr, UseError, ValueError};
 pub use ir_base_dialects::Iter;
 pub use ir_core_context::{
-    AddRegion, ArgumentEdits, BasicBlock, BasicBlockMut, BlockContainer, BlockIndex, BlockList,
+    AddRegion, ArenaObj, ArgumentEdits, BasicBlock, BasicBlockMut, BlockContainer, BlockIndex, BlockList,
     BlockPtr, BlockPtrMut, Context, DanglingPtrDerefError, Definer, DefiningEntity, DropUses,
     Erase, EraseRegion, Needs, NewBlock, NewOperation, OperandEdits, Operation, OperationContainer,
     OperationList, OperationMut, OperationPtr, OperationPtrMut, Region, RegionMoves, RegionPtr,

@@ -84,6 +84,7 @@ module _ {D A K B S X L : Type 0} where
     own = λ own. record {
       ops = λ i op at. own_kept (λ (x : Operation D A K B S X L). x.index) i op (get t.ops i) (get (edited change t.ops o) i) (edited-kept (option_map (λ (x : Operation D A K B S X L). x.index)) change (λ x. ap Some (index x)) t.ops o i) at (own.ops i);
       blocks = own.blocks;
+      regions = own.regions;
     };
   }
 
@@ -107,5 +108,6 @@ module _ {D A K B S X L : Type 0} where
     own = λ own. record {
       ops = own.ops;
       blocks = λ i x at. own_kept (λ (y : BasicBlock D A K B S X L). y.index) i x (get t.blocks i) (get (edited change t.blocks b) i) (edited-kept (option_map (λ (y : BasicBlock D A K B S X L). y.index)) change (λ y. ap Some (index y)) t.blocks b i) at (own.blocks i);
+      regions = own.regions;
     };
   }

@@ -17,6 +17,7 @@ use Rattle.ir_core_records.specs.declared.record.UsePlace.{UsePlace}
 use Rattle.ir_core_records.specs.declared.record.Definition.{Definition}
 use Rattle.ir_core_records.specs.declared.record.Operation.{Operation}
 use Rattle.ir_core_records.specs.declared.record.BasicBlock.{BasicBlock}
+use Rattle.ir_core_records.specs.declared.record.Region.{Region}
 use Rattle.ir_core_records.specs.declared.records.Records.{Records}
 use Rattle.ir_core_records.specs.Tree.{tree_of, ops_in, blocks_in}
 
@@ -57,6 +58,10 @@ operands_from n (v ∷ vs) = record { use_number = n; value = value_of v } ∷ o
 abbrev pub successors_from : ℕ → List BlockIndex → List (Successor context_ids)
 successors_from n [] = []
 successors_from n (b ∷ bs) = record { use_number = n; block = b.index } ∷ successors_from (n + 1) bs
+
+-- the index that a region knows as its own
+abbrev pub region_index : Region → ArenaIndex
+region_index r = r.index
 
 module _ {A K B S X L : Type 0} where
   abbrev pub definition_of : Definition → PlainDefinition context_ids (closed A K B S X L)

@@ -11,6 +11,7 @@ use Rattle.ir_core_records.specs.declared.record.UsePlace.{UsePlace}
 use Rattle.ir_core_records.specs.declared.record.Definition.{Definition}
 use Rattle.ir_core_records.specs.declared.record.Operation.{Operation}
 use Rattle.ir_core_records.specs.declared.record.BasicBlock.{BasicBlock}
+use Rattle.ir_core_records.specs.declared.record.Region.{Region}
 use Rattle.ir_core_records.specs.declared.records.Records.{Records}
 use Rattle.ir_core_records.specs.Lists.{uses_with, put_uses, HasNumber, in_record, edited}
 
@@ -62,7 +63,8 @@ module _ {D A K B S X L : Type 0} where
   abbrev pub with_uses : Records D A K B S X L → ValueIndex → List UseIndex → Records D A K B S X L
   with_uses t v us = with_uses_by t v.definer v.number us
 
-  -- each operation and each block knows its own place
+  -- each operation, each block and each region knows its own place
   pub record KnowOwn (t : Records D A K B S X L) : Type 0 where
     pub ops : (i : ArenaIndex) (op : Operation D A K B S X L) → get t.ops i ≡ Some op → op.index ≡ i
     pub blocks : (i : ArenaIndex) (b : BasicBlock D A K B S X L) → get t.blocks i ≡ Some b → b.index ≡ i
+    pub regions : (i : ArenaIndex) (r : Region) → get t.regions i ≡ Some r → r.index ≡ i

@@ -46,7 +46,7 @@ module _ {D A K B S X L : Type 0} where
 
   -- a block as a container
   abbrev pub block_ends : BasicBlock D A K B S X L → Ends
-  block_ends b = record { head = b.first; tail = b.last }
+  block_ends b = record { head = b.ops_list.first; tail = b.ops_list.last }
 
   -- the regions of an operation
   abbrev pub op_regions : Operation D A K B S X L → List ArenaIndex

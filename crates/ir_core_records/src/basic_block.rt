@@ -7,18 +7,11 @@ ghost use Rattle.std.specs.Prelude.{◌≡◌, ◌<◌, [], length, Some, slice_
 use crate::handles::Value;
 use crate::record::{BasicBlock, BasicBlockMut, Definer, ValueIndex};
 use ir_base_dialects::attribute::AttributeDict;
-use ir_base_dialects::{Dialects, Identifier, Ptr};
+use ir_base_dialects::{Dialects, Identifier};
 
 impl<D: Dialects> BasicBlock<D> {
     ghost use Rattle.std.specs.Option.{option_copied, option_map};
     ghost use Rattle.ir_core_records.specs.Meaning.{block_index, block_record};
-
-    /// The block's own handle.
-    pub fn get_self_ptr(&self) -> Ptr<BasicBlock<D>>
-        ensures { result.index ≡ block_index self.now }
-    {
-        Ptr::from_index(self.index)
-    }
 
     /// How many arguments there are.
     pub fn get_num_arguments(&self) -> usize

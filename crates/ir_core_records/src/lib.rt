@@ -21,6 +21,6 @@ pub use kept_use::KeptUse;
 pub use reads::{block_uses, definition, find_place, find_place_near, uses};
 pub use record::{
     BasicBlock, BasicBlockMut, BlockIndex, Definer, Definition, EntityIndex, Operands, Operation,
-    OperationMut, Region, Successors, UseIndex, UsePlace, Uses, ValueIndex,
+    OperationMut, OpsInBlock, Region, Successors, UseIndex, UsePlace, Uses, ValueIndex,
 };
 pub use records::Records;

@@ -50,7 +50,7 @@ impl<D: Dialects> ContainsLinkedList<Operation<D>> for BasicBlock<D> {
 
     ghost ends = { block_ends };
 
-    ghost with_ends = { λ x e. record x { first = e.head; last = e.tail } };
+    ghost with_ends = { λ x e. record x { ops_list = record { first = e.head; last = e.tail } } };
 
     ghost get_put = { λ x e. refl };
 
@@ -59,18 +59,18 @@ impl<D: Dialects> ContainsLinkedList<Operation<D>> for BasicBlock<D> {
     ghost put_get = { λ x. refl };
 
     fn get_head(&self) -> Link {
-        self.first
+        self.ops_list.first
     }
 
     fn get_tail(&self) -> Link {
-        self.last
+        self.ops_list.last
     }
 
     fn set_head(&mut self, head: Link) {
-        self.first = head;
+        self.ops_list.first = head;
     }
 
     fn set_tail(&mut self, tail: Link) {
-        self.last = tail;
+        self.ops_list.last = tail;
     }
 }

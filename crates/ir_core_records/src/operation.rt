@@ -19,13 +19,6 @@ impl<D: Dialects> Operation<D> {
         self.kind
     }
 
-    /// The operation's own handle.
-    pub fn get_self_ptr(&self) -> Ptr<Operation<D>>
-        ensures { result.index ≡ op_index self.now }
-    {
-        Ptr::from_index(self.index)
-    }
-
     /// How many results there are.
     pub fn get_num_results(&self) -> usize
         ensures { result ≡ length (op_record self.now).results }

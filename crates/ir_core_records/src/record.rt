@@ -133,6 +133,15 @@ pub struct BasicBlockMut<D: Dialects> {
     pub loc: D::Loc,
 }
 
+/// The operations of a block, by the ends of their list. It stands for pliron's `OpsInBlock`.
+#[derive(Clone, Copy, Drop)]
+pub struct OpsInBlock {
+    /// The first of them.
+    pub first: Link,
+    /// The last of them.
+    pub last: Link,
+}
+
 /// A basic block: its arguments, the list of its operations, and its uses as a successor. It stands for pliron's `BasicBlock`.
 #[derive(Drop)]
 pub struct BasicBlock<D: Dialects> {
@@ -148,10 +157,8 @@ pub struct BasicBlock<D: Dialects> {
     pub prev: Link,
     /// The region that it stands in.
     pub parent: Link,
-    /// The first of its operations.
-    pub first: Link,
-    /// The last of its operations.
-    pub last: Link,
+    /// The ends of the list of its operations.
+    pub ops_list: OpsInBlock,
     /// Its attributes, label and location.
     pub rest: BasicBlockMut<D>,
 }
@@ -159,6 +166,8 @@ pub struct BasicBlock<D: Dialects> {
 /// A region: the operation that it belongs to, and the list of its blocks. It stands for pliron's `Region`.
 #[derive(Drop)]
 pub struct Region {
+    /// Its own place in the arena.
+    pub index: ArenaIndex,
     /// The operation whose list has it.
     pub parent: ArenaIndex,
     /// The first of its blocks.

@@ -80,7 +80,7 @@ impl<D: Dialects> Tables<D> {
         requires values { vec_len self.old.values + length (op_record op.now).results ≤ vec_capacity self.old.values }
         ensures { entries_of self.new ≡ with_op (entries_of self.old) op.now }
     {
-        self.ops.push_reserved(op.get_self_ptr());
+        self.ops.push_reserved(Ptr::from_index(op.index));
         enter_regions(&mut self.regions, op);
         enter_results(&mut self.values, op);
     }
@@ -91,7 +91,7 @@ impl<D: Dialects> Tables<D> {
         requires values { vec_len self.old.values + length (block_record [] block.now).arguments ≤ vec_capacity self.old.values }
         ensures { entries_of self.new ≡ with_block (entries_of self.old) block.now }
     {
-        self.blocks.push_reserved(block.get_self_ptr());
+        self.blocks.push_reserved(Ptr::from_index(block.index));
         enter_arguments(&mut self.values, block);
     }
 

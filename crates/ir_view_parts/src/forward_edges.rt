@@ -27,7 +27,7 @@ pub(crate) fn tail<D: Dialects>(
 {
     ctx.recall_holds_together();
     ctx.recall_well_formed();
-    let last = ctx.records().blocks.at(block).last.get()?;
+    let last = ctx.records().blocks.at(block).ops_list.last.get()?;
     Some(Ptr::from_index(last))
 }
 

@@ -17,7 +17,7 @@ pub use block_parts::{ArgumentTypes, ArgumentTypesOf, Arguments, ArgumentsOf, Bl
 pub use forward_edges::BlockSuccessors;
 pub use indexed::{HasParts, Parts};
 pub use ir_core_queries::{
-    AddRegion, ArgumentEdits, BasicBlock, BasicBlockMut, BlockContainer, BlockIndex, BlockList,
+    AddRegion, ArenaObj, ArgumentEdits, BasicBlock, BasicBlockMut, BlockContainer, BlockIndex, BlockList,
     BlockPlace, BlockPtr, BlockPtrMut, BlockUseQueries, BlockUses, Context, DanglingPtrDerefError,
     Definer, DefiningEntity, DropUses, Entity, Erase, EraseRegion, IndexErr, Needs, NewBlock,
     NewOperation, OperandEdits, Operation, OperationContainer, OperationList, OperationMut,

@@ -2,7 +2,7 @@
 
 use ir_base_dialects::{Dialects, Ptr};
 use ir_checked::{BasicBlock, BlockPtr, CheckedErr, Context, Operation, OperationPtr, Use};
-use ir_view_parts::{BlockUseQueries, BlockUses};
+use ir_view_parts::{ArenaObj, BlockUseQueries, BlockUses};
 
 /// What a block tells of itself: its own handle, its label, how many arguments it has, and whether it has no attributes.
 pub(crate) type BlockFacts<'a, D> = (Ptr<BasicBlock<D>>, &'a str, usize, bool);
@@ -20,7 +20,7 @@ pub(crate) fn block_facts<D: Dialects>(
     };
     let _loc = record.loc();
     Ok((
-        record.get_self_ptr(),
+        record.get_self_ptr(ctx),
         label.as_str(),
         record.get_num_arguments(),
         record.attributes().is_empty(),

@@ -1,6 +1,8 @@
 //! Calls on what earlier calls gave, none of which is asked first whether it is live.
 
-ghost use Rattle.std.specs.Prelude.{length};
+ghost use Rattle.std.specs.Prelude.{◌≡◌, length};
+ghost use Rattle.ir_model.specs.Forest.{a_block, a_region, an_op};
+ghost use Rattle.ir_model.specs.Nesting.{IsLive};
 ghost use Rattle.ir_view_parts.specs.Calls.{LeadsToLive};
 ghost use Rattle.ir_view_parts.specs.State.{forest_of, types_of};
 
@@ -8,10 +10,10 @@ use crate::contexts::expect_same;
 use crate::core_tests::two_uses;
 use ir_base_dialects::{CoreError, Dialects, Ptr};
 use ir_checked::{
-    Context, Operation, OperationPtr, RegionPtr, TypeQueries, UseQueries, ValueQueries, end,
-    new_op, new_type,
+    BasicBlock, BlockPtr, Context, Operation, OperationPtr, Region, RegionPtr, TypeQueries,
+    UseQueries, ValueQueries, end, new_op, new_type,
 };
-use ir_view_parts::{NewOperation, ResultUses};
+use ir_view_parts::{ArenaObj, NewOperation, ResultUses};
 use std::panic::Expect;
 use std::process::Abort;
 use toy_dialect::{Toy, ToyType};
@@ -86,6 +88,30 @@ fn walk<D: Dialects>(ctx: &Context<D>, op: &Operation<D>) -> usize
     walk_to_named(ctx, op, 0);
     walk_to_user(ctx, op, 0);
     walk_to_uses(ctx, op, 0)
+}
+
+// From the handle of a live operation to its record, and back.
+fn back_to_op<D: Dialects>(ctx: &Context<D>, op: Ptr<Operation<D>>) -> Ptr<Operation<D>>
+    requires { IsLive (forest_of ctx.now) (an_op op.index) }
+    ensures { result.index ≡ op.index }
+{
+    op.deref(ctx).get_self_ptr(ctx)
+}
+
+// From the handle of a live block to its record, and back.
+fn back_to_block<D: Dialects>(ctx: &Context<D>, block: Ptr<BasicBlock<D>>) -> Ptr<BasicBlock<D>>
+    requires { IsLive (forest_of ctx.now) (a_block block.index) }
+    ensures { result.index ≡ block.index }
+{
+    block.deref(ctx).get_self_ptr(ctx)
+}
+
+// From the handle of a live region to its record, and back.
+fn back_to_region<D: Dialects>(ctx: &Context<D>, region: Ptr<Region>) -> Ptr<Region>
+    requires { IsLive (forest_of ctx.now) (a_region region.index) }
+    ensures { result.index ≡ region.index }
+{
+    region.deref(ctx).get_self_ptr(ctx)
 }
 
 // Makes an operation that uses a value for the third time, and walks from there.

@@ -2,7 +2,7 @@
 
 use ir_base_dialects::{Dialects, Ptr};
 use ir_checked::{CheckedErr, Context, Operation, OperationPtr, Region, RegionPtr, Use, Value};
-use ir_view_parts::ResultUses;
+use ir_view_parts::{ArenaObj, ResultUses};
 
 /// What an operation tells of itself: its own handle, its kind, and how many results, operands, successors and regions it has.
 pub(crate) type OpFacts<D> = (Ptr<Operation<D>>, u32, [usize; 4]);
@@ -22,7 +22,7 @@ pub(crate) fn op_facts<D: Dialects>(
         record.get_num_successors(),
         record.num_regions(),
     ];
-    Ok((record.get_self_ptr(), record.kind(), counts))
+    Ok((record.get_self_ptr(ctx), record.kind(), counts))
 }
 
 /// The place of the type of the result at the index.

@@ -26,7 +26,7 @@ pub(crate) const IDENTIFIERS: [&str; 19] = [
 ];
 
 /// Of arenas, handles, contexts, auxiliary data, dictionary keys and nesting.
-pub(crate) const CONTEXT: [&str; 41] = [
+pub(crate) const CONTEXT: [&str; 45] = [
     "Arena::new",
     "Arena::get",
     "Arena::get_mut",
@@ -55,6 +55,10 @@ pub(crate) const CONTEXT: [&str; 41] = [
     "attributes of BasicBlock",
     "get_self_ptr of Operation",
     "get_self_ptr of BasicBlock",
+    "get_self_ptr of Region",
+    "get_arena of Operation",
+    "get_arena of BasicBlock",
+    "get_arena of Region",
     "Context::new",
     "Context::with_limits",
     "is_ir_empty",
@@ -183,7 +187,7 @@ pub(crate) const OPERATIONS: [&str; 44] = [
 ];
 
 /// Of blocks and regions.
-pub(crate) const BLOCKS: [&str; 26] = [
+pub(crate) const BLOCKS: [&str; 27] = [
     "pop_argument",
     "remove_argument",
     "get_argument",
@@ -194,6 +198,7 @@ pub(crate) const BLOCKS: [&str; 26] = [
     "loc of BasicBlock",
     "get_parent_region of Ptr<BasicBlock>",
     "get_parent_op of Ptr<BasicBlock>",
+    "get_parent_block of Ptr<BasicBlock>",
     "has_succ",
     "is_succ",
     "get_succ",

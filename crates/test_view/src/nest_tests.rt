@@ -58,7 +58,8 @@ fn tell_inner_parents<D: Dialects>(rt: &impl Abort, ctx: &Context<D>, nest: &Nes
     let region = Some(inner.region);
     expect_op_in(rt, ctx, nest.maker, block, region, Some(inner.op));
     expect_value_in(rt, ctx, nest.value, block, region);
-    expect_block_in(rt, ctx, inner.block, region, Some(inner.op));
+    let outer = Some(nest.outer.block);
+    expect_block_in(rt, ctx, inner.block, region, Some(inner.op), outer);
     let second = result(ctx, nest.maker, 1);
     expect_same(rt, second, Err(CheckedErr::Condition));
 }
@@ -71,7 +72,7 @@ fn tell_outer_parents<D: Dialects>(rt: &impl Abort, ctx: &Context<D>, nest: &Nes
     let region = Some(outer.region);
     expect_region_in(rt, ctx, inner.region, inner.op, block, region);
     expect_op_in(rt, ctx, inner.op, block, region, Some(outer.op));
-    expect_block_in(rt, ctx, outer.block, region, Some(outer.op));
+    expect_block_in(rt, ctx, outer.block, region, Some(outer.op), None);
     expect_region_in(rt, ctx, outer.region, outer.op, None, None);
     expect_op_in(rt, ctx, outer.op, None, None, None);
 }

@@ -24,17 +24,19 @@ pub(crate) fn expect_op_in<D: Dialects>(
     expect_same(rt, op.get_parent_op(ctx), parent);
 }
 
-/// Asserts in which region and operation the block stands.
+/// Asserts in which region, operation and block the block stands.
 pub(crate) fn expect_block_in<D: Dialects>(
     rt: &impl Abort,
     ctx: &Context<D>,
     block: Ptr<BasicBlock<D>>,
     region: Option<Ptr<Region>>,
     parent: Option<Ptr<Operation<D>>>,
+    outer: Option<Ptr<BasicBlock<D>>>,
 ) {
     assert!(rt; block.is_live(ctx));
     expect_same(rt, block.get_parent_region(ctx), region);
     expect_same(rt, block.get_parent_op(ctx), parent);
+    expect_same(rt, block.get_parent_block(ctx), outer);
 }
 
 /// Asserts to which operation the region belongs, and in which block and region that one stands.

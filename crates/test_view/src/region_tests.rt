@@ -8,12 +8,12 @@ use ir_checked::{
     CheckedErr, Context, Operation, OperationPtr, Region, RegionPlace, RegionPtr, end, move_region,
     region,
 };
-use ir_view_parts::OperationParts;
+use ir_view_parts::{ArenaObj, OperationParts};
 use std::process::Abort;
 use std::test::Fail;
 use toy_dialect::Toy;
 
-// Asserts where the region stands among those of its operation, which is this one.
+// Asserts where the region stands among those of its operation, which is this one, and that its handle leads to itself.
 fn expect_place<D: Dialects>(
     rt: &impl Abort,
     ctx: &Context<D>,
@@ -24,6 +24,7 @@ fn expect_place<D: Dialects>(
     assert!(rt; region.is_live(ctx));
     expect_same(rt, region.find_index_in_parent(ctx), index);
     expect_same(rt, region.get_parent_op(ctx), op);
+    expect_same(rt, region.deref(ctx).get_self_ptr(ctx), region);
 }
 
 // Asserts that the operation has exactly these regions in this order, and that each knows its index.

@@ -7,7 +7,7 @@ use ir_base_dialects::Ptr;
 use ir_checked::{
     BasicBlock, BlockPlace, BlockPtr, CheckedErr, Context, argument, block_head, block_tail,
 };
-use ir_view_parts::{BlockParts, BlockPredecessors, BlockPtrMut, BlockSuccessors, BlockUses};
+use ir_view_parts::{ArenaObj, BlockParts, BlockPredecessors, BlockPtrMut, BlockSuccessors, BlockUses};
 use testkit_toy_forest::Forest;
 use toy_dialect::{Toy, ToyLoc};
 
@@ -71,6 +71,7 @@ impl QuietCall for BlockReading {
                 "deref of Ptr<BasicBlock>",
                 "try_deref of Ptr<BasicBlock>",
                 "get_self_ptr of BasicBlock",
+                "get_arena of BasicBlock",
             ],
             BlockReading::Lent => &[
                 "deref_mut of Ptr<BasicBlock>",
@@ -91,6 +92,7 @@ impl QuietCall for BlockReading {
             BlockReading::Parents => &[
                 "get_parent_region of Ptr<BasicBlock>",
                 "get_parent_op of Ptr<BasicBlock>",
+                "get_parent_block of Ptr<BasicBlock>",
             ],
             BlockReading::Operations => &[
                 "get_head of Ptr<BasicBlock>",
@@ -129,9 +131,10 @@ fn handle(ctx: &Context<Toy>, block: Ptr<BasicBlock<Toy>>) -> bool {
     if !block.is_live(ctx) {
         return false;
     }
-    block.deref(ctx).get_self_ptr() == block
+    block.deref(ctx).get_self_ptr(ctx) == block
         && block.index().version == 1
         && block.try_deref(ctx).is_ok()
+        && BasicBlock::get_arena(ctx).is_live(block)
 }
 
 // Whether it is lent for writing, both ways.
@@ -184,6 +187,7 @@ fn parents(ctx: &Context<Toy>, forest: &Forest) -> bool {
     }
     block.get_parent_region(ctx) == Some(forest.body)
         && block.get_parent_op(ctx) == Some(forest.module)
+        && block.get_parent_block(ctx).is_none()
 }
 
 // A walk over the operations begun twice, the second time from both ends: there are four.

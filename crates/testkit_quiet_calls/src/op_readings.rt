@@ -8,7 +8,7 @@ use ir_checked::{
     CheckedErr, Context, Operation, OperationPlace, OperationPtr, operand, region, result,
     successor,
 };
-use ir_view_parts::{OperationKind, OperationParts, OperationPtrMut, ResultUses};
+use ir_view_parts::{ArenaObj, OperationKind, OperationParts, OperationPtrMut, ResultUses};
 use testkit_toy_forest::{Constant, Forest};
 use toy_dialect::{Toy, ToyLoc};
 
@@ -77,6 +77,7 @@ impl QuietCall for OpReading {
                 "is_live of Ptr<Operation>",
                 "deref of Ptr<Operation>",
                 "get_self_ptr of Operation",
+                "get_arena of Operation",
             ],
             OpReading::Lent => &[
                 "deref_mut of Ptr<Operation>",
@@ -153,7 +154,10 @@ fn handle(ctx: &Context<Toy>, op: Ptr<Operation<Toy>>) -> bool {
     if !op.is_live(ctx) {
         return false;
     }
-    op.deref(ctx).get_self_ptr() == op && op.index().version == 1 && op.try_deref(ctx).is_ok()
+    op.deref(ctx).get_self_ptr(ctx) == op
+        && op.index().version == 1
+        && op.try_deref(ctx).is_ok()
+        && Operation::get_arena(ctx).is_live(op)
 }
 
 // Whether it is lent for writing, both ways.

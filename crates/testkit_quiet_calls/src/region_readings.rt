@@ -8,6 +8,7 @@ use ir_checked::{
     CheckedErr, Context, Entity, Region, RegionPlace, RegionPtr, can_erase, is_inside, region_head,
     region_tail,
 };
+use ir_view_parts::ArenaObj;
 use testkit_toy_forest::Forest;
 use toy_dialect::Toy;
 
@@ -52,6 +53,8 @@ impl QuietCall for RegionReading {
                 "is_live of Ptr<Region>",
                 "deref of Ptr<Region>",
                 "try_deref of Ptr<Region>",
+                "get_self_ptr of Region",
+                "get_arena of Region",
             ],
             RegionReading::Parents => &[
                 "get_parent_op of Ptr<Region>",
@@ -86,6 +89,8 @@ fn handle(ctx: &Context<Toy>, region: Ptr<Region>) -> bool {
     }
     let record = RegionPtr::<Toy>::deref(region, ctx);
     record.first.get().is_some()
+        && record.get_self_ptr(ctx) == region
+        && Region::get_arena(ctx).is_live(region)
         && RegionPtr::<Toy>::try_deref(region, ctx).is_ok()
         && region.index().version == 1
 }

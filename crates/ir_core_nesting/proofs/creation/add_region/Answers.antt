@@ -23,7 +23,7 @@ returns-then-is_err-clause-op_ids g c =
     let op = c.args.op in
     let id = c.in-Ok.region.index in
     let h = c.in-Ok.ensures.inserted in
-    let region : Region = record { parent = op; first = None; last = None } in
+    let region : Region = record { index = id; parent = op; first = None; last = None } in
     let is : h.value ≡ region = search rules in
     let at = found-at old.ops op c.requires.live in
     let denied : is_ok c.push_region.result ≡ false = c.is_err.ensures.negation ∙ ap not c.if-is_err.true in
@@ -39,7 +39,7 @@ returns-then-is_err-clause-nested g c =
     let op = c.args.op in
     let id = c.in-Ok.region.index in
     let h = c.in-Ok.ensures.inserted in
-    let region : Region = record { parent = op; first = None; last = None } in
+    let region : Region = record { index = id; parent = op; first = None; last = None } in
     let is : h.value ≡ region = search rules in
     let at = found-at old.ops op c.requires.live in
     let denied : is_ok c.push_region.result ≡ false = c.is_err.ensures.negation ∙ ap not c.if-is_err.true in
@@ -56,7 +56,7 @@ returns-then-is_err-clause-chains g c =
     let op = c.args.op in
     let id = c.in-Ok.region.index in
     let h = c.in-Ok.ensures.inserted in
-    let region : Region = record { parent = op; first = None; last = None } in
+    let region : Region = record { index = id; parent = op; first = None; last = None } in
     let is : h.value ≡ region = search rules in
     let at = found-at old.ops op c.requires.live in
     let denied : is_ok c.push_region.result ≡ false = c.is_err.ensures.negation ∙ ap not c.if-is_err.true in
@@ -76,7 +76,7 @@ returns-then-is_err-clause-own g c =
     let op = c.args.op in
     let id = c.in-Ok.region.index in
     let h = c.in-Ok.ensures.inserted in
-    let region : Region = record { parent = op; first = None; last = None } in
+    let region : Region = record { index = id; parent = op; first = None; last = None } in
     let is : h.value ≡ region = search rules in
     let at = found-at old.ops op c.requires.live in
     let denied : is_ok c.push_region.result ≡ false = c.is_err.ensures.negation ∙ ap not c.if-is_err.true in
@@ -93,7 +93,7 @@ returns-then-is_err-clause-same g c =
     let op = c.args.op in
     let id = c.in-Ok.region.index in
     let h = c.in-Ok.ensures.inserted in
-    let region : Region = record { parent = op; first = None; last = None } in
+    let region : Region = record { index = id; parent = op; first = None; last = None } in
     let is : h.value ≡ region = search rules in
     let at = found-at old.ops op c.requires.live in
     let denied : is_ok c.push_region.result ≡ false = c.is_err.ensures.negation ∙ ap not c.if-is_err.true in
@@ -110,7 +110,7 @@ returns-then-is_err-clause-skipped g c =
     let op = c.args.op in
     let id = c.in-Ok.region.index in
     let h = c.in-Ok.ensures.inserted in
-    let region : Region = record { parent = op; first = None; last = None } in
+    let region : Region = record { index = id; parent = op; first = None; last = None } in
     let is : h.value ≡ region = search rules in
     let at = found-at old.ops op c.requires.live in
     let denied : is_ok c.push_region.result ≡ false = c.is_err.ensures.negation ∙ ap not c.if-is_err.true in
@@ -133,13 +133,13 @@ returns-clause-forest g c =
     let op = c.args.op in
     let id = c.in-Ok.region.index in
     let h = c.in-Ok.ensures.inserted in
-    let region : Region = record { parent = op; first = None; last = None } in
+    let region : Region = record { index = id; parent = op; first = None; last = None } in
     let is : h.value ≡ region = search rules in
     let at = found-at old.ops op c.requires.live in
     let done : is_ok c.push_region.result ≡ true = c.is_err.ensures.negation ∙ ap not c.if-is_err.false in
     let pushed : c.push_region.new.ops ≡ fill old.ops op (record (at.0) { regions = at.0.regions ++ id ∷ [] }) = c.push_region.ensures ∙ edited-at _ old.ops op at.0 at.1 ∙ ap (λ b. fill old.ops op (record (at.0) { regions = cond b (at.0.regions ++ c.index.result ∷ []) at.0.regions })) done ∙ ap (λ i. fill old.ops op (record (at.0) { regions = at.0.regions ++ i ∷ [] })) c.index.ensures in
     let made : c.insert_with-inserted.new.self ≡ fill old.regions id region = h.filled ∙ ap (fill old.regions id) is in
-    let added = region-added old op at.0 at.1 c.push_region.new.ops c.insert_with-inserted.new.self c.lists_are_one.ensures c.lists_are_one-2.ensures c.requires.nested id region h.new_id refl pushed made
+    let added = region-added old op at.0 at.1 c.push_region.new.ops c.insert_with-inserted.new.self c.lists_are_one.ensures c.lists_are_one-2.ensures c.requires.nested id region h.new_id refl refl pushed made
     (c.container_changes_keep_lists.ensures.inserted old.blocks old.regions (blocks_in (tree_of old)) c.requires.nested.block_lists id region h.new_id refl) in
     added.forest ∙ ap (add_region (forest_in old) op) (sym c.index-2.ensures)
 
@@ -149,7 +149,7 @@ returns-clause-op_ids g c =
     let op = c.args.op in
     let id = c.in-Ok.region.index in
     let h = c.in-Ok.ensures.inserted in
-    let region : Region = record { parent = op; first = None; last = None } in
+    let region : Region = record { index = id; parent = op; first = None; last = None } in
     let is : h.value ≡ region = search rules in
     let at = found-at old.ops op c.requires.live in
     let done : is_ok c.push_region.result ≡ true = c.is_err.ensures.negation ∙ ap not c.if-is_err.false in
@@ -163,13 +163,13 @@ returns-clause-nested g c =
     let op = c.args.op in
     let id = c.in-Ok.region.index in
     let h = c.in-Ok.ensures.inserted in
-    let region : Region = record { parent = op; first = None; last = None } in
+    let region : Region = record { index = id; parent = op; first = None; last = None } in
     let is : h.value ≡ region = search rules in
     let at = found-at old.ops op c.requires.live in
     let done : is_ok c.push_region.result ≡ true = c.is_err.ensures.negation ∙ ap not c.if-is_err.false in
     let pushed : c.push_region.new.ops ≡ fill old.ops op (record (at.0) { regions = at.0.regions ++ id ∷ [] }) = c.push_region.ensures ∙ edited-at _ old.ops op at.0 at.1 ∙ ap (λ b. fill old.ops op (record (at.0) { regions = cond b (at.0.regions ++ c.index.result ∷ []) at.0.regions })) done ∙ ap (λ i. fill old.ops op (record (at.0) { regions = at.0.regions ++ i ∷ [] })) c.index.ensures in
     let made : c.insert_with-inserted.new.self ≡ fill old.regions id region = h.filled ∙ ap (fill old.regions id) is in
-    let added = region-added old op at.0 at.1 c.push_region.new.ops c.insert_with-inserted.new.self c.lists_are_one.ensures c.lists_are_one-2.ensures c.requires.nested id region h.new_id refl pushed made
+    let added = region-added old op at.0 at.1 c.push_region.new.ops c.insert_with-inserted.new.self c.lists_are_one.ensures c.lists_are_one-2.ensures c.requires.nested id region h.new_id refl refl pushed made
     (c.container_changes_keep_lists.ensures.inserted old.blocks old.regions (blocks_in (tree_of old)) c.requires.nested.block_lists id region h.new_id refl) in
     added.nested
 
@@ -179,13 +179,13 @@ returns-clause-chains g c =
     let op = c.args.op in
     let id = c.in-Ok.region.index in
     let h = c.in-Ok.ensures.inserted in
-    let region : Region = record { parent = op; first = None; last = None } in
+    let region : Region = record { index = id; parent = op; first = None; last = None } in
     let is : h.value ≡ region = search rules in
     let at = found-at old.ops op c.requires.live in
     let done : is_ok c.push_region.result ≡ true = c.is_err.ensures.negation ∙ ap not c.if-is_err.false in
     let pushed : c.push_region.new.ops ≡ fill old.ops op (record (at.0) { regions = at.0.regions ++ id ∷ [] }) = c.push_region.ensures ∙ edited-at _ old.ops op at.0 at.1 ∙ ap (λ b. fill old.ops op (record (at.0) { regions = cond b (at.0.regions ++ c.index.result ∷ []) at.0.regions })) done ∙ ap (λ i. fill old.ops op (record (at.0) { regions = at.0.regions ++ i ∷ [] })) c.index.ensures in
     let made : c.insert_with-inserted.new.self ≡ fill old.regions id region = h.filled ∙ ap (fill old.regions id) is in
-    let added = region-added old op at.0 at.1 c.push_region.new.ops c.insert_with-inserted.new.self c.lists_are_one.ensures c.lists_are_one-2.ensures c.requires.nested id region h.new_id refl pushed made
+    let added = region-added old op at.0 at.1 c.push_region.new.ops c.insert_with-inserted.new.self c.lists_are_one.ensures c.lists_are_one-2.ensures c.requires.nested id region h.new_id refl refl pushed made
     (c.container_changes_keep_lists.ensures.inserted old.blocks old.regions (blocks_in (tree_of old)) c.requires.nested.block_lists id region h.new_id refl) in
     added.chains
 
@@ -198,12 +198,12 @@ returns-clause-own g c =
     let op = c.args.op in
     let id = c.in-Ok.region.index in
     let h = c.in-Ok.ensures.inserted in
-    let region : Region = record { parent = op; first = None; last = None } in
+    let region : Region = record { index = id; parent = op; first = None; last = None } in
     let is : h.value ≡ region = search rules in
     let at = found-at old.ops op c.requires.live in
     let done : is_ok c.push_region.result ≡ true = c.is_err.ensures.negation ∙ ap not c.if-is_err.false in
     let pushed : c.push_region.new.ops ≡ fill old.ops op (record (at.0) { regions = at.0.regions ++ id ∷ [] }) = c.push_region.ensures ∙ edited-at _ old.ops op at.0 at.1 ∙ ap (λ b. fill old.ops op (record (at.0) { regions = cond b (at.0.regions ++ c.index.result ∷ []) at.0.regions })) done ∙ ap (λ i. fill old.ops op (record (at.0) { regions = at.0.regions ++ i ∷ [] })) c.index.ensures in
     let made : c.insert_with-inserted.new.self ≡ fill old.regions id region = h.filled ∙ ap (fill old.regions id) is in
-    let added = region-added old op at.0 at.1 c.push_region.new.ops c.insert_with-inserted.new.self c.lists_are_one.ensures c.lists_are_one-2.ensures c.requires.nested id region h.new_id refl pushed made
+    let added = region-added old op at.0 at.1 c.push_region.new.ops c.insert_with-inserted.new.self c.lists_are_one.ensures c.lists_are_one-2.ensures c.requires.nested id region h.new_id refl refl pushed made
     (c.container_changes_keep_lists.ensures.inserted old.blocks old.regions (blocks_in (tree_of old)) c.requires.nested.block_lists id region h.new_id refl) in
     added.own
