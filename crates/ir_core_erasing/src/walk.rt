@@ -30,7 +30,12 @@ fn last_in_record<D: Dialects>(records: &Records<D>, entity: EntityIndex) -> Opt
             Some(EntityIndex::Region(last))
         }
         EntityIndex::Block(block) => {
-            let last = records.blocks.get(Ptr::from_index(block))?.ops_list.last.get()?;
+            let last = records
+                .blocks
+                .get(Ptr::from_index(block))?
+                .ops_list
+                .last
+                .get()?;
             Some(EntityIndex::Op(last))
         }
         EntityIndex::Region(region) => {

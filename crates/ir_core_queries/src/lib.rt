@@ -24,12 +24,12 @@ pub use entity::{Entity, can_erase, is_inside};
 pub use error::{IndexErr, UseError, ValueError};
 pub use ir_base_dialects::Iter;
 pub use ir_core_context::{
-    AddRegion, ArenaObj, ArgumentEdits, BasicBlock, BasicBlockMut, BlockContainer, BlockIndex, BlockList,
-    BlockPtr, BlockPtrMut, Context, DanglingPtrDerefError, Definer, DefiningEntity, DropUses,
-    Erase, EraseRegion, Needs, NewBlock, NewOperation, OperandEdits, Operation, OperationContainer,
-    OperationList, OperationMut, OperationPtr, OperationPtrMut, Region, RegionMoves, RegionPtr,
-    ResultEdits, Retarget, SuccessorEdits, TypeQueries, Use, UseIndex, Value, ValueEdits,
-    ValueIndex,
+    AddRegion, ArenaObj, ArgumentEdits, BasicBlock, BasicBlockMut, BlockContainer, BlockIndex,
+    BlockList, BlockPtr, BlockPtrMut, Context, DanglingPtrDerefError, Definer, DefiningEntity,
+    DropUses, Erase, EraseRegion, Needs, NewBlock, NewOperation, OperandEdits, Operation,
+    OperationContainer, OperationList, OperationMut, OperationPtr, OperationPtrMut, Region,
+    RegionMoves, RegionPtr, ResultEdits, Retarget, SuccessorEdits, TypeQueries, Use, UseIndex,
+    Value, ValueEdits, ValueIndex,
 };
 pub use named::Named;
 pub use operation::OperationPlace;

@@ -17,14 +17,14 @@ pub use block_parts::{ArgumentTypes, ArgumentTypesOf, Arguments, ArgumentsOf, Bl
 pub use forward_edges::BlockSuccessors;
 pub use indexed::{HasParts, Parts};
 pub use ir_core_queries::{
-    AddRegion, ArenaObj, ArgumentEdits, BasicBlock, BasicBlockMut, BlockContainer, BlockIndex, BlockList,
-    BlockPlace, BlockPtr, BlockPtrMut, BlockUseQueries, BlockUses, Context, DanglingPtrDerefError,
-    Definer, DefiningEntity, DropUses, Entity, Erase, EraseRegion, IndexErr, Needs, NewBlock,
-    NewOperation, OperandEdits, Operation, OperationContainer, OperationList, OperationMut,
-    OperationPlace, OperationPtr, OperationPtrMut, OperationUses, Region, RegionMoves, RegionPlace,
-    RegionPtr, ResultEdits, ResultUses, Retarget, SuccessorEdits, TypeQueries, Use, UseError,
-    UseIndex, UseQueries, Value, ValueEdits, ValueError, ValueIndex, ValuePlace, ValueQueries,
-    can_erase, is_inside,
+    AddRegion, ArenaObj, ArgumentEdits, BasicBlock, BasicBlockMut, BlockContainer, BlockIndex,
+    BlockList, BlockPlace, BlockPtr, BlockPtrMut, BlockUseQueries, BlockUses, Context,
+    DanglingPtrDerefError, Definer, DefiningEntity, DropUses, Entity, Erase, EraseRegion, IndexErr,
+    Needs, NewBlock, NewOperation, OperandEdits, Operation, OperationContainer, OperationList,
+    OperationMut, OperationPlace, OperationPtr, OperationPtrMut, OperationUses, Region,
+    RegionMoves, RegionPlace, RegionPtr, ResultEdits, ResultUses, Retarget, SuccessorEdits,
+    TypeQueries, Use, UseError, UseIndex, UseQueries, Value, ValueEdits, ValueError, ValueIndex,
+    ValuePlace, ValueQueries, can_erase, is_inside,
 };
 pub use op_queries::OperationKind;
 pub use operation_parts::{

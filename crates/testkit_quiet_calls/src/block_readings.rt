@@ -7,7 +7,9 @@ use ir_base_dialects::Ptr;
 use ir_checked::{
     BasicBlock, BlockPlace, BlockPtr, CheckedErr, Context, argument, block_head, block_tail,
 };
-use ir_view_parts::{ArenaObj, BlockParts, BlockPredecessors, BlockPtrMut, BlockSuccessors, BlockUses};
+use ir_view_parts::{
+    ArenaObj, BlockParts, BlockPredecessors, BlockPtrMut, BlockSuccessors, BlockUses,
+};
 use testkit_toy_forest::Forest;
 use toy_dialect::{Toy, ToyLoc};
 
