@@ -5,7 +5,7 @@ use Rattle.std.proofs.lemmas.Bool.Decides.{eqb_tells, leb_tells}
 use Rattle.std.proofs.lemmas.List.{length-map, map-set, map-append, get_or-set_same, get_or-set_other, set-get_or}
 use Rattle.std.proofs.lemmas.List.Sums.{sum_by-cons}
 use Rattle.ir_model.specs.declared.ids.ArenaIndex.{ArenaIndex}
-use Rattle.ir_model.specs.Slots.{slot_in, slot_at, find, item_under, put_in, put}
+use Rattle.ir_model.specs.Slots.{slot_in, slot_at, find, item_under, put_in, put_slot}
 use Rattle.ir_model.specs.Arenas.{IsNew, IsWhole, room}
 use Rattle.ir_model.proofs.Slots.{IsTaken, taken_at, slot_at-next, find_past, put-next, put_in-set, put_in-push, item_under_cases}
 use Rattle.ir_base_arenas.specs.declared.arena.Slot.{Slot as Held}
@@ -156,11 +156,11 @@ module _ {T : Type 0} where
   laid-some {slots} {first} {free} {len} {limit} {last} id laid live = taken_counts (map slot_shown slots) laid.places len limit last (id.slot - 1) laid.sound live.within live.some
 
   -- one slot that is written is one that contracts see written
-  pub write-shown : (slots : List (Held T)) (k : ℕ) (s : Held T) → k < length slots → map slot_shown (set slots k s) ≡ put (map slot_shown slots) (k + 1) (slot_shown s)
+  pub write-shown : (slots : List (Held T)) (k : ℕ) (s : Held T) → k < length slots → map slot_shown (set slots k s) ≡ put_slot (map slot_shown slots) (k + 1) (slot_shown s)
   write-shown slots k s within =
       map-set slot_shown slots k s ∙ sym (put-next (map slot_shown slots) k (slot_shown s) ∙ put_in-set (map slot_shown slots) k (slot_shown s) (omega (arith, within, length-map slots slot_shown)))
 
-  pub push-shown : (slots : List (Held T)) (s : Held T) → map slot_shown (slots ++ s ∷ []) ≡ put (map slot_shown slots) (length slots + 1) (slot_shown s)
+  pub push-shown : (slots : List (Held T)) (s : Held T) → map slot_shown (slots ++ s ∷ []) ≡ put_slot (map slot_shown slots) (length slots + 1) (slot_shown s)
   push-shown slots s =
       map-append slot_shown slots (s ∷ []) ∙ sym (put_in-push (map slot_shown slots) (slot_shown s)) ∙ ap (λ k. put_in (map slot_shown slots) k (slot_shown s)) (length-map slots slot_shown) ∙ sym (put-next (map slot_shown slots) (length slots) (slot_shown s))
 
@@ -168,13 +168,13 @@ module _ {T : Type 0} where
   pub taken-shown : (slots : List (Held T)) (id : ArenaIndex) (k : ℕ) (x : T) → id.slot ≡ k + 1 → k < length slots → item_under (slot_shown (held_in slots k)) id.version ≡ Some x → IsTaken (map slot_shown slots) id
   taken-shown slots id k x is within has = taken_at (map slot_shown slots) id (ap is_some (find-shown slots id k is ∙ has))
 
-  pub fill-shown : (slots : List (Held T)) (id : ArenaIndex) (k : ℕ) (x w : T) → id.slot ≡ k + 1 → k < length slots → item_under (slot_shown (held_in slots k)) id.version ≡ Some x → map slot_shown (set slots k (with_item (held_in slots k) w)) ≡ put (map slot_shown slots) id.slot (record { version = id.version; item = Some w })
+  pub fill-shown : (slots : List (Held T)) (id : ArenaIndex) (k : ℕ) (x w : T) → id.slot ≡ k + 1 → k < length slots → item_under (slot_shown (held_in slots k)) id.version ≡ Some x → map slot_shown (set slots k (with_item (held_in slots k) w)) ≡ put_slot (map slot_shown slots) id.slot (record { version = id.version; item = Some w })
   fill-shown slots id k x w is within has = by_slot (held_in slots k) refl has
     where
-      by_slot : (s : Held T) → held_in slots k ≡ s → item_under (slot_shown s) id.version ≡ Some x → map slot_shown (set slots k (with_item s w)) ≡ put (map slot_shown slots) id.slot (record { version = id.version; item = Some w })
+      by_slot : (s : Held T) → held_in slots k ≡ s → item_under (slot_shown s) id.version ≡ Some x → map slot_shown (set slots k (with_item s w)) ≡ put_slot (map slot_shown slots) id.slot (record { version = id.version; item = Some w })
       by_slot (Full v y) same found =
           elim (item_under_cases (slot_shown (Full v y)) id.version) [
-            | inl eq ↦ write-shown slots k (Full v w) within ∙ (λ i. put (map slot_shown slots) (sym is i) (record { version = eq.0 i; item = Some w }))
+            | inl eq ↦ write-shown slots k (Full v w) within ∙ (λ i. put_slot (map slot_shown slots) (sym is i) (record { version = eq.0 i; item = Some w }))
             | inr ne ↦ absurd (true≢false (sym (ap is_some found) ∙ ap is_some ne.1))
           ]
       by_slot (Free v n) same found =
@@ -183,8 +183,8 @@ module _ {T : Type 0} where
             | inr ne ↦ absurd (true≢false (sym (ap is_some found) ∙ ap is_some ne.1))
           ]
 
-  pub cut-shown : (slots : List (Held T)) (id : ArenaIndex) (k next : ℕ) → id.slot ≡ k + 1 → k < length slots → map slot_shown (set slots k (Free id.version next)) ≡ put (map slot_shown slots) id.slot (record { version = id.version; item = None })
-  cut-shown slots id k next is within = write-shown slots k (Free id.version next) within ∙ ap (λ n. put (map slot_shown slots) n (record { version = id.version; item = None })) (sym is)
+  pub cut-shown : (slots : List (Held T)) (id : ArenaIndex) (k next : ℕ) → id.slot ≡ k + 1 → k < length slots → map slot_shown (set slots k (Free id.version next)) ≡ put_slot (map slot_shown slots) id.slot (record { version = id.version; item = None })
+  cut-shown slots id k next is within = write-shown slots k (Free id.version next) within ∙ ap (λ n. put_slot (map slot_shown slots) n (record { version = id.version; item = None })) (sym is)
 
 -- a test that is false at each number below b
 pub not_below : (a b : ℕ) → (a < b → false ≡ true) → b ≤ a

@@ -7,7 +7,7 @@ use Rattle.std.proofs.Math.ListN.{get_or-append}
 use Rattle.std.proofs.Math.Seq.{get_or-append_seam}
 use Rattle.std.proofs.lemmas.List.Sums.{sum_by-set, sum_by_push, sum_by-cons}
 use Rattle.ir_model.specs.declared.ids.ArenaIndex.{ArenaIndex}
-use Rattle.ir_model.specs.Slots.{Slot, is_taken, is_reusable, is_retired, never, slot_in, find, put}
+use Rattle.ir_model.specs.Slots.{Slot, is_taken, is_reusable, is_retired, never, slot_in, find, put_slot}
 use Rattle.ir_model.specs.Arenas.{IsInRange, IsNextVersion, IsNew, IsWhole, Inserts, room}
 use Rattle.ir_base_arenas.specs.ArenaSound.{SlotsAreSound}
 use Rattle.ir_model.proofs.Slots.{IsTaken, slot_at-next, at_past, find-put_same}
@@ -212,7 +212,7 @@ module _ {T : Type 0} where
 
   -- the slots of an arena after a write at a new id
   pub inserts_is : (made : T → Type 0) (slots written : List (Slot T)) (limit last n : ℕ) (id at : ArenaIndex) (v : T) → IsNew (record { slots = slots; limit = limit; last_version = last; removals = n }) at → id ≡ at → made v
-      → written ≡ put slots at.slot (record { version = at.version; item = Some v })
+      → written ≡ put_slot slots at.slot (record { version = at.version; item = Some v })
       → Inserts made (record { slots = slots; limit = limit; last_version = last; removals = n }) (record { slots = written; limit = limit; last_version = last; removals = n }) id
   inserts_is made slots written limit last n id at v new same by_make wrote =
       subst (λ i. Inserts made (record { slots = slots; limit = limit; last_version = last; removals = n }) (record { slots = written; limit = limit; last_version = last; removals = n }) i) (sym same)

@@ -6,7 +6,7 @@ use Rattle.std.proofs.lemmas.Bool.{cases_eq, ne_eqb}
 use Rattle.std.proofs.lemmas.List.{length-map}
 use Rattle.std.specs.Option.{option_map}
 use Rattle.ir_model.specs.declared.ids.ArenaIndex.{ArenaIndex}
-use Rattle.ir_model.specs.Slots.{Slot, slot_in, slot_at, find, put_in, put}
+use Rattle.ir_model.specs.Slots.{Slot, slot_in, slot_at, find, put_in, put_slot}
 use Rattle.ir_base_arenas.specs.Arena.{Arena, get, fill, IsLiveIn}
 use Rattle.ir_model.specs.Ids.{Absent, Distinct}
 use Rattle.ir_model.specs.Nesting.{In}
@@ -35,7 +35,7 @@ module _ {T : Type 0} where
       let old : Slot T = slot_in a.slots (id.slot - 1) in
       let item : Some (clear w) ≡ option_map clear old.item = ap Some same ∙ ap (option_map clear) (sym e ∙ t.found) in
       let slot : map_slot clear s ≡ map_slot clear old = λ i. record { version = sym t.version i; item = item i } in
-      let slots : map (map_slot clear) (put a.slots id.slot s) ≡ map (map_slot clear) a.slots =
+      let slots : map (map_slot clear) (put_slot a.slots id.slot s) ≡ map (map_slot clear) a.slots =
       ap (map (map_slot clear)) (put-place a.slots id.slot s t.numbered) ∙ map-put_in (map_slot clear) a.slots (id.slot - 1) s t.within slot in
       λ i. record a { slots = slots i }
 

@@ -148,7 +148,7 @@ pub replaced-IsIdentifier : (cs : List ℕ) → IsIdentifier (replaced cs)
 replaced-IsIdentifier [] = refl
 replaced-IsIdentifier (c ∷ cs) = rw (stand_in-can_start c) (stand_ins-can_continue cs)
 
--- a numbered_text identifier is one
+-- a numbered identifier is one
 pub numbered-IsIdentifier : (text : List ℕ) (n : ℕ) → IsIdentifier text → n < 2 ^ 64 → IsIdentifier (numbered_text text n)
 numbered-IsIdentifier text n valid fits = is_identifier-append text (95 ∷ decimal n) valid (decimal-can_continue n fits)
 

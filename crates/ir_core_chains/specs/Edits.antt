@@ -34,29 +34,29 @@ module _ {T X : Type 0} (read : T → List X) (write : List X → T → T) (get_
 
 -- the uses of the definitions of each record, by index and number
 module _ {T : Type 0} (read : T → List Definition) (write : List Definition → T → T) (get_put : (l : List Definition) (x : T) → read (write l x) ≡ l) (put_get : (x : T) → write (read x) x ≡ x) (put_put : (l m : List Definition) (x : T) → write m (write l x) ≡ write m x) where
-  abbrev change : ℕ → List UseIndex → T → T
-  change n us x = write (put_uses (read x) n us) x
+  abbrev rewritten : ℕ → List UseIndex → T → T
+  rewritten n us x = write (put_uses (read x) n us) x
 
-  numbered-here : (x : Option T) (n : ℕ) (us : List UseIndex) → HasNumber (in_record read [] x) n → uses_with (in_record read [] (option_map (change n us) x)) n ≡ us
+  numbered-here : (x : Option T) (n : ℕ) (us : List UseIndex) → HasNumber (in_record read [] x) n → uses_with (in_record read [] (option_map (rewritten n us) x)) n ≡ us
   numbered-here None n us h = absurd (cc (h.2))
   numbered-here (Some x) n us h = ap (λ (ds : List Definition). uses_with ds n) (get_put (put_uses (read x) n us) x) ∙ uses_with-put_same (read x) n h.0 h.1 us h.2 h.3
 
-  numbered-keeps : (x : Option T) (n : ℕ) (us : List UseIndex) (m : ℕ) → HasNumber (in_record read [] x) m → HasNumber (in_record read [] (option_map (change n us) x)) m
+  numbered-keeps : (x : Option T) (n : ℕ) (us : List UseIndex) (m : ℕ) → HasNumber (in_record read [] x) m → HasNumber (in_record read [] (option_map (rewritten n us) x)) m
   numbered-keeps None n us m h = h
   numbered-keeps (Some x) n us m h = subst (λ (ds : List Definition). HasNumber ds m) (sym (get_put (put_uses (read x) n us) x)) (put_uses-number (read x) n us m h)
 
   pub numbered-kept : AreKept {S = Arena T} {K = ArenaIndex × ℕ} (λ t k. HasNumber (in_record read [] (get t k.0)) k.1) (λ t k. uses_with (in_record read [] (get t k.0)) k.1) (λ t k us. edited (λ x. write (put_uses (read x) k.1 us) x) t k.0)
   numbered-kept = record {
-    here = λ t k us h. ap (λ (x : Option T). uses_with (in_record read [] x) k.1) (get-edited (change k.1 us) t k.0) ∙ numbered-here (get t k.0) k.1 us h;
+    here = λ t k us h. ap (λ (x : Option T). uses_with (in_record read [] x) k.1) (get-edited (rewritten k.1 us) t k.0) ∙ numbered-here (get t k.0) k.1 us h;
     others = λ t k us h j ne.
         elim (cases_eq j.1 k.1) [
-          | inl q ↦ ap (λ (x : Option T). uses_with (in_record read [] x) j.1) (get-edited_other (change k.1 us) t k.0 j.0 (λ r. ne (λ i. (r i, q i))))
-          | inr q ↦ edited-kept (λ x. uses_with (in_record read [] x) j.1) (change k.1 us) (λ x. ap (λ (ds : List Definition). uses_with ds j.1) (get_put (put_uses (read x) k.1 us) x) ∙ uses_with-put_other (read x) k.1 j.1 us q) t k.0 j.0
+          | inl q ↦ ap (λ (x : Option T). uses_with (in_record read [] x) j.1) (get-edited_other (rewritten k.1 us) t k.0 j.0 (λ r. ne (λ i. (r i, q i))))
+          | inr q ↦ edited-kept (λ x. uses_with (in_record read [] x) j.1) (rewritten k.1 us) (λ x. ap (λ (ds : List Definition). uses_with ds j.1) (get_put (put_uses (read x) k.1 us) x) ∙ uses_with-put_other (read x) k.1 j.1 us q) t k.0 j.0
         ];
-    self = λ t k. edited-self (change k.1 (uses_with (in_record read [] (get t k.0)) k.1)) t k.0
+    self = λ t k. edited-self (rewritten k.1 (uses_with (in_record read [] (get t k.0)) k.1)) t k.0
         (λ x e. ap (λ (y : Option T). write (put_uses (read x) k.1 (uses_with (in_record read [] y) k.1)) x) e ∙ ap (λ (ds : List Definition). write ds x) (put_uses-self (read x) k.1) ∙ put_get x);
-    twice = λ t k us vs h. edited-twice (change k.1 us) (change k.1 vs) (change k.1 vs)
-        (λ x. ap (λ (ds : List Definition). write (put_uses ds k.1 vs) (change k.1 us x)) (get_put (put_uses (read x) k.1 us) x)
+    twice = λ t k us vs h. edited-twice (rewritten k.1 us) (rewritten k.1 vs) (rewritten k.1 vs)
+        (λ x. ap (λ (ds : List Definition). write (put_uses ds k.1 vs) (rewritten k.1 us x)) (get_put (put_uses (read x) k.1 us) x)
         ∙ put_put (put_uses (read x) k.1 us) (put_uses (put_uses (read x) k.1 us) k.1 vs) x
         ∙ ap (λ (ds : List Definition). write ds x) (put_uses-twice (read x) k.1 us vs)) t k.0;
     has = λ t k i u h. used_with (in_record read [] (get t k.0)) k.1 i u h;
@@ -64,11 +64,11 @@ module _ {T : Type 0} (read : T → List Definition) (write : List Definition �
         elim (id_cases j.0 k.0) [
           | inl q ↦
               let P : Option T → Type 0 = λ x. HasNumber (in_record read [] x) j.1 in
-              subst (λ (p : ArenaIndex). P (get (edited (change k.1 us) t k.0) p)) (sym q)
-              (subst P (sym (get-edited (change k.1 us) t k.0)) (numbered-keeps (get t k.0) k.1 us j.1 (subst (λ (p : ArenaIndex). P (get t p)) q h)))
+              subst (λ (p : ArenaIndex). P (get (edited (rewritten k.1 us) t k.0) p)) (sym q)
+              (subst P (sym (get-edited (rewritten k.1 us) t k.0)) (numbered-keeps (get t k.0) k.1 us j.1 (subst (λ (p : ArenaIndex). P (get t p)) q h)))
           | inr ne ↦
               let P : Option T → Type 0 = λ x. HasNumber (in_record read [] x) j.1 in
-              subst P (sym (get-edited_other (change k.1 us) t k.0 j.0 ne)) h
+              subst P (sym (get-edited_other (rewritten k.1 us) t k.0 j.0 ne)) h
         ];
   }
 

@@ -52,36 +52,36 @@ successors-named n (b ∷ bs) = ap (λ (os : List (Successor context_ids)). reco
 
 -- lists of places mean what their names mean
 module _ {N P : Type 0} (of_name : ℕ × N → P) where
-  abbrev meant : List (UsePlace N) → List P
-  meant xs = map (λ (a : UsePlace N). of_name (number_and_name a)) xs
+  abbrev meant_places : List (UsePlace N) → List P
+  meant_places xs = map (λ (a : UsePlace N). of_name (number_and_name a)) xs
 
-  by_names : (xs : List (UsePlace N)) → map of_name (names_in xs) ≡ meant xs
+  by_names : (xs : List (UsePlace N)) → map of_name (names_in xs) ≡ meant_places xs
   by_names [] = refl
   by_names (x ∷ xs) = ap (λ ys. of_name (number_and_name x) ∷ ys) (by_names xs)
 
-  meant-names : (xs : List (UsePlace N)) (ys : List (ℕ × N)) → names_in xs ≡ ys → meant xs ≡ map of_name ys
+  meant-names : (xs : List (UsePlace N)) (ys : List (ℕ × N)) → names_in xs ≡ ys → meant_places xs ≡ map of_name ys
   meant-names xs ys e = sym (by_names xs) ∙ ap (map of_name) e
 
-  meant-same : (xs ys : List (UsePlace N)) → names_in ys ≡ names_in xs → meant ys ≡ meant xs
+  meant-same : (xs ys : List (UsePlace N)) → names_in ys ≡ names_in xs → meant_places ys ≡ meant_places xs
   meant-same xs ys e = meant-names ys (names_in xs) e ∙ by_names xs
 
-  meant-pushed : (xs ys : List (UsePlace N)) (n : ℕ × N) → names_in ys ≡ names_in xs ++ n ∷ [] → meant ys ≡ meant xs ++ of_name n ∷ []
+  meant-pushed : (xs ys : List (UsePlace N)) (n : ℕ × N) → names_in ys ≡ names_in xs ++ n ∷ [] → meant_places ys ≡ meant_places xs ++ of_name n ∷ []
   meant-pushed xs ys n e = meant-names ys (names_in xs ++ n ∷ []) e ∙ map-append of_name (names_in xs) (n ∷ []) ∙ ap (λ ps. ps ++ of_name n ∷ []) (by_names xs)
 
-  meant-popped : (xs ys : List (UsePlace N)) → names_in ys ≡ remove (names_in xs) (length xs - 1) → meant ys ≡ remove (meant xs) (length (meant xs) - 1)
+  meant-popped : (xs ys : List (UsePlace N)) → names_in ys ≡ remove (names_in xs) (length xs - 1) → meant_places ys ≡ remove (meant_places xs) (length (meant_places xs) - 1)
   meant-popped xs ys e =
       meant-names ys (remove (names_in xs) (length xs - 1)) e
       ∙ map-remove of_name (names_in xs) (length xs - 1)
       ∙ ap (λ ps. remove ps (length xs - 1)) (by_names xs)
-      ∙ ap (λ n. remove (meant xs) (n - 1)) (sym (length-map xs (λ (a : UsePlace N). of_name (number_and_name a))))
+      ∙ ap (λ n. remove (meant_places xs) (n - 1)) (sym (length-map xs (λ (a : UsePlace N). of_name (number_and_name a))))
 
-  meant-removed : (i : ℕ) (xs ys : List (UsePlace N)) → names_in ys ≡ remove (names_in xs) i → meant ys ≡ remove (meant xs) i
+  meant-removed : (i : ℕ) (xs ys : List (UsePlace N)) → names_in ys ≡ remove (names_in xs) i → meant_places ys ≡ remove (meant_places xs) i
   meant-removed i xs ys e = meant-names ys (remove (names_in xs) i) e ∙ map-remove of_name (names_in xs) i ∙ ap (λ ps. remove ps i) (by_names xs)
 
-  meant-inserted : (i : ℕ) (xs ys : List (UsePlace N)) (n : ℕ × N) → names_in ys ≡ insert (names_in xs) i n → meant ys ≡ insert (meant xs) i (of_name n)
+  meant-inserted : (i : ℕ) (xs ys : List (UsePlace N)) (n : ℕ × N) → names_in ys ≡ insert (names_in xs) i n → meant_places ys ≡ insert (meant_places xs) i (of_name n)
   meant-inserted i xs ys n e = meant-names ys (insert (names_in xs) i n) e ∙ map-insert of_name (names_in xs) i n ∙ ap (λ ps. insert ps i (of_name n)) (by_names xs)
 
-  meant-replaced : (i : ℕ) (xs ys : List (UsePlace N)) (n : ℕ × N) → names_in ys ≡ insert (remove (names_in xs) i) i n → meant ys ≡ insert (remove (meant xs) i) i (of_name n)
+  meant-replaced : (i : ℕ) (xs ys : List (UsePlace N)) (n : ℕ × N) → names_in ys ≡ insert (remove (names_in xs) i) i n → meant_places ys ≡ insert (remove (meant_places xs) i) i (of_name n)
   meant-replaced i xs ys n e =
       meant-names ys (insert (remove (names_in xs) i) i n) e
       ∙ map-insert of_name (remove (names_in xs) i) i n
@@ -104,8 +104,8 @@ module _ {D A K B S X L : Type 0} where
   -- one kind of places: `put` writes what they mean into an operation's meaning, `on` rewrites it there, and writes of the kind leave the rest
   pub record IsKind {N P : Type 0} (of_name : ℕ × N → P) (places : Operation D A K B S X L → List (UsePlace N)) (put : List P → OpRecord context_ids (closed A K B S X L) → OpRecord context_ids (closed A K B S X L))
       (on : (List P → List P) → OpRecord context_ids (closed A K B S X L) → OpRecord context_ids (closed A K B S X L)) (Writes : Records D A K B S X L → Records D A K B S X L → Type 0) : Type 0 where
-    pub splits : (op : Operation D A K B S X L) → op_record op ≡ put (meant of_name (places op)) (put [] (op_record op))
-    pub changes : (g : List P → List P) (op : Operation D A K B S X L) → put (g (meant of_name (places op))) (put [] (op_record op)) ≡ on g (op_record op)
+    pub splits : (op : Operation D A K B S X L) → op_record op ≡ put (meant_places of_name (places op)) (put [] (op_record op))
+    pub changes : (g : List P → List P) (op : Operation D A K B S X L) → put (g (meant_places of_name (places op))) (put [] (op_record op)) ≡ on g (op_record op)
     pub keeps : (t s : Records D A K B S X L) → Writes t s → KeepsTree t s
     pub bare : (t s : Records D A K B S X L) → Writes t s → (p : ArenaIndex) → option_map (λ (op : Operation D A K B S X L). put [] (op_record op)) (get s.ops p) ≡ option_map (λ (op : Operation D A K B S X L). put [] (op_record op)) (get t.ops p)
     pub blocks : (t s : Records D A K B S X L) → Writes t s → (lists : ArenaIndex → List ArenaIndex) → blocks_with lists s ≡ blocks_with lists t
@@ -118,22 +118,22 @@ module _ {D A K B S X L N P : Type 0} {of_name : ℕ × N → P} {places : Opera
   abbrev bare_at : Records D A K B S X L → ArenaIndex → Option (OpRecord context_ids (closed A K B S X L))
   bare_at t o = option_map (λ (op : Operation D A K B S X L). put [] (op_record op)) (get t.ops o)
 
-  as_bare : (x : Option (Operation D A K B S X L)) → option_map op_record x ≡ option_map (put (meant of_name (in_record places [] x))) (option_map (λ (op : Operation D A K B S X L). put [] (op_record op)) x)
+  as_bare : (x : Option (Operation D A K B S X L)) → option_map op_record x ≡ option_map (put (meant_places of_name (in_record places [] x))) (option_map (λ (op : Operation D A K B S X L). put [] (op_record op)) x)
   as_bare None = refl
   as_bare (Some op) = ap Some (kind.splits op)
 
-  as_changed : (g : List P → List P) (x : Option (Operation D A K B S X L)) → option_map (put (g (meant of_name (in_record places [] x)))) (option_map (λ (op : Operation D A K B S X L). put [] (op_record op)) x) ≡ option_map (on g) (option_map op_record x)
+  as_changed : (g : List P → List P) (x : Option (Operation D A K B S X L)) → option_map (put (g (meant_places of_name (in_record places [] x)))) (option_map (λ (op : Operation D A K B S X L). put [] (op_record op)) x) ≡ option_map (on g) (option_map op_record x)
   as_changed g None = refl
   as_changed g (Some op) = ap Some (kind.changes g op)
 
-  now : (t s : Records D A K B S X L) → Writes t s → (p : ArenaIndex) → op_records s p ≡ option_map (put (meant of_name (at s p))) (bare_at t p)
-  now t s w p = as_bare (get s.ops p) ∙ ap (option_map (put (meant of_name (at s p)))) (kind.bare t s w p)
+  now : (t s : Records D A K B S X L) → Writes t s → (p : ArenaIndex) → op_records s p ≡ option_map (put (meant_places of_name (at s p))) (bare_at t p)
+  now t s w p = as_bare (get s.ops p) ∙ ap (option_map (put (meant_places of_name (at s p)))) (kind.bare t s w p)
 
-  away : (t s : Records D A K B S X L) → Writes t s → (p : ArenaIndex) → meant of_name (at s p) ≡ meant of_name (at t p) → op_records s p ≡ op_records t p
+  away : (t s : Records D A K B S X L) → Writes t s → (p : ArenaIndex) → meant_places of_name (at s p) ≡ meant_places of_name (at t p) → op_records s p ≡ op_records t p
   away t s w p same = now t s w p ∙ ap (λ (ps : List P). option_map (put ps) (bare_at t p)) same ∙ sym (as_bare (get t.ops p))
 
   -- where an operation's places mean g of what they meant, and all others mean what they meant
-  records-changed : (g : List P → List P) (t s : Records D A K B S X L) (o : ArenaIndex) → Writes t s → meant of_name (at s o) ≡ g (meant of_name (at t o)) → ((p : ArenaIndex) → ¬ (p ≡ o) → names_in (at s p) ≡ names_in (at t p))
+  records-changed : (g : List P → List P) (t s : Records D A K B S X L) (o : ArenaIndex) → Writes t s → meant_places of_name (at s o) ≡ g (meant_places of_name (at t o)) → ((p : ArenaIndex) → ¬ (p ≡ o) → names_in (at s p) ≡ names_in (at t p))
       → op_records s ≡ rewrite same_id o (on g) (op_records t)
   records-changed g t s o w here others = λ i p. each p i
     where
@@ -161,10 +161,10 @@ module _ {D A K B S X L N P : Type 0} {of_name : ℕ × N → P} {places : Opera
           ap (λ (tr : Tree). λ (g : ArenaIndex). option_map (λ (_ : Region). blocks_in tr g) (get s.regions g)) keeps.tree
           ∙ ap (λ (rs : Arena Region). λ (g : ArenaIndex). option_map (λ (_ : Region). blocks_in (tree_of t) g) (get rs g)) keeps.regions
 
-  forest-changed : (g : List P → List P) (t s : Records D A K B S X L) (o : ArenaIndex) → Writes t s → meant of_name (at s o) ≡ g (meant of_name (at t o)) → ((p : ArenaIndex) → ¬ (p ≡ o) → names_in (at s p) ≡ names_in (at t p)) → forest_in s ≡ on_op (forest_in t) o (on g)
+  forest-changed : (g : List P → List P) (t s : Records D A K B S X L) (o : ArenaIndex) → Writes t s → meant_places of_name (at s o) ≡ g (meant_places of_name (at t o)) → ((p : ArenaIndex) → ¬ (p ≡ o) → names_in (at s p) ≡ names_in (at t p)) → forest_in s ≡ on_op (forest_in t) o (on g)
   forest-changed g t s o w here others = forest-by_ops t s (rewrite same_id o (on g) (op_records t)) w (records-changed g t s o w here others)
 
-  meant-mapped : (f : ℕ × N → ℕ × N) (g : P → P) → ((n : ℕ × N) → of_name (f n) ≡ g (of_name n)) → (xs ys : List (UsePlace N)) → names_in ys ≡ map f (names_in xs) → meant of_name ys ≡ map g (meant of_name xs)
+  meant-mapped : (f : ℕ × N → ℕ × N) (g : P → P) → ((n : ℕ × N) → of_name (f n) ≡ g (of_name n)) → (xs ys : List (UsePlace N)) → names_in ys ≡ map f (names_in xs) → meant_places of_name ys ≡ map g (meant_places of_name xs)
   meant-mapped f g mean xs ys e =
       meant-names of_name ys (map f (names_in xs)) e
       ∙ map-map f of_name (names_in xs)
@@ -197,7 +197,7 @@ module _ {D A K B S X L N P : Type 0} {of_name : ℕ × N → P} {places : Opera
   forest-replaced i t s o n w here others = forest-changed (λ xs. insert (remove xs i) i (of_name n)) t s o w (meant-replaced of_name i (at t o) (at s o) n here) others
 
   pub forest-cleared : (t s : Records D A K B S X L) (o : ArenaIndex) → Writes t s → at s o ≡ [] → ((p : ArenaIndex) → ¬ (p ≡ o) → names_in (at s p) ≡ names_in (at t p)) → forest_in s ≡ on_op (forest_in t) o (on (λ _. []))
-  forest-cleared t s o w here others = forest-changed (λ _. []) t s o w (ap (meant of_name) here) others
+  forest-cleared t s o w here others = forest-changed (λ _. []) t s o w (ap (meant_places of_name) here) others
 
   pub forest-linked : (t s : Records D A K B S X L) (o : ArenaIndex) (names : List (ℕ × N)) (ps : List P) → map of_name names ≡ ps → Writes t s → names_in (at s o) ≡ names → ((p : ArenaIndex) → ¬ (p ≡ o) → names_in (at s p) ≡ names_in (at t p)) → forest_in s ≡ on_op (forest_in t) o (on (λ _. ps))
   forest-linked t s o names ps mean w here others = forest-changed (λ _. ps) t s o w (meant-names of_name (at s o) names here ∙ mean) others
@@ -206,9 +206,9 @@ module _ {D A K B S X L N P : Type 0} {of_name : ℕ × N → P} {places : Opera
   pub forest-undone : (t s : Records D A K B S X L) (o : ArenaIndex) → Writes t s → at t o ≡ [] → at s o ≡ [] → ((p : ArenaIndex) → ¬ (p ≡ o) → names_in (at s p) ≡ names_in (at t p)) → forest_in s ≡ forest_in t
   forest-undone t s o w before after others = forest-by_ops t s (op_records t) w (λ i p. away t s w p (same p) i)
     where
-      same : (p : ArenaIndex) → meant of_name (at s p) ≡ meant of_name (at t p)
+      same : (p : ArenaIndex) → meant_places of_name (at s p) ≡ meant_places of_name (at t p)
       same p = elim (id_cases p o) [
-        | inl q ↦ ap (λ (j : ArenaIndex). meant of_name (at s j)) q ∙ ap (meant of_name) (after ∙ sym before) ∙ ap (λ (j : ArenaIndex). meant of_name (at t j)) (sym q)
+        | inl q ↦ ap (λ (j : ArenaIndex). meant_places of_name (at s j)) q ∙ ap (meant_places of_name) (after ∙ sym before) ∙ ap (λ (j : ArenaIndex). meant_places of_name (at t j)) (sym q)
         | inr q ↦ meant-same of_name (at t p) (at s p) (others p q)
       ]
 

@@ -1,4 +1,4 @@
--- NameTable of auxiliary data, each with its index.
+-- Names of auxiliary data, each with its index.
 use Rattle.std.specs.Prelude.{List, [], Option, bytes_eq}
 use Rattle.std.specs.Map.{lookup}
 use Rattle.std.specs.Option.{option_map}

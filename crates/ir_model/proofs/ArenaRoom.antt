@@ -9,7 +9,7 @@ use Rattle.ir_model.specs.Ids.{Distinct}
 use Rattle.ir_model.specs.Nesting.{In}
 use Rattle.ir_model.specs.Sessions.{Number, HasRoom, LacksRoom, TakesSlot}
 use Rattle.ir_model.proofs.Nests.{Absent-not_in}
-use Rattle.ir_model.specs.Slots.{Slot, slot_in, slot_at, find, put_in, put, is_taken, is_retired}
+use Rattle.ir_model.specs.Slots.{Slot, slot_in, slot_at, find, put_in, put_slot, is_taken, is_retired}
 use Rattle.ir_model.specs.Arenas.{Arena, get, fill, cut, IsLiveIn, IsNextVersion, IsNew, IsWhole, is_passed, arena_len, room}
 use Rattle.ir_model.proofs.Slots.{taken_at, slot_at-place, slot_at-next, put-place, at_zero, at_past, find_at}
 use Rattle.ir_model.proofs.Arenas.{had-within, had-itself, had-below, same_id, open_live, open_new, whole-cut}
@@ -206,7 +206,7 @@ module _ {T : Type 0} where
   len-put_in (x ∷ xs) (suc k) s within =
       omega (arith, sum_by-cons taken_by x (put_in xs k s), sum_by-cons taken_by x xs, len-put_in xs k s (omega arith))
 
-  len-put : (slots : List (Slot T)) (n : ℕ) (s : Slot T) → 1 ≤ n → n ≤ length slots + 1 → count_by is_taken (put slots n s) + taken_by (slot_at slots n) ≡ count_by is_taken slots + taken_by s
+  len-put : (slots : List (Slot T)) (n : ℕ) (s : Slot T) → 1 ≤ n → n ≤ length slots + 1 → count_by is_taken (put_slot slots n s) + taken_by (slot_at slots n) ≡ count_by is_taken slots + taken_by s
   len-put slots n s numbered within = rw (put-place slots n s numbered, slot_at-place slots n numbered) (len-put_in slots (n - 1) s (omega arith))
 
   taken-one : (a : Arena T) (id : ArenaIndex) → IsLiveIn a id → taken_by (slot_at a.slots id.slot) ≡ 1
@@ -245,7 +245,7 @@ module _ {T : Type 0} where
   lost_by last s = cond (is_retired last s) 1 0
 
   -- a write of the slot of a live id, which was not empty for good
-  retired-put : (a : Arena T) (id : ArenaIndex) (s : Slot T) → IsLiveIn a id → count_by (is_retired a.last_version) (put a.slots id.slot s) ≡ count_by (is_retired a.last_version) a.slots + lost_by a.last_version s
+  retired-put : (a : Arena T) (id : ArenaIndex) (s : Slot T) → IsLiveIn a id → count_by (is_retired a.last_version) (put_slot a.slots id.slot s) ≡ count_by (is_retired a.last_version) a.slots + lost_by a.last_version s
   retired-put a id s live =
       let taken = taken_at a.slots id live in
       let before : lost_by a.last_version (slot_in a.slots (id.slot - 1)) ≡ 0 = has_record (slot_in a.slots (id.slot - 1)) taken.some in

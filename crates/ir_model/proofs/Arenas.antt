@@ -5,7 +5,7 @@ use Rattle.std.proofs.lemmas.Bool.{cases_eq, eq-eqb}
 use Rattle.ir_model.specs.declared.ids.ArenaIndex.{ArenaIndex}
 use Rattle.ir_model.specs.declared.ids.Limits.{Limits}
 use Rattle.ir_model.specs.Sessions.{IsNewId}
-use Rattle.ir_model.specs.Slots.{Slot, had_version, never, slot_in, slot_at, put}
+use Rattle.ir_model.specs.Slots.{Slot, had_version, never, slot_in, slot_at, put_slot}
 use Rattle.ir_model.specs.Arenas.{Arena, IsInRange, empty, get, IsLiveIn, IsNextVersion, IsNew, IsWhole, is_passed, fill, cut, miss}
 use Rattle.ir_model.proofs.Slots.{taken_at, slot_at-place, slot_at-next, length-put, at-put_same, at-put_other, at_zero, at_past, find_vacant, find-put_same, find-put_other}
 
@@ -183,13 +183,13 @@ module _ {T : Type 0} where
       let at_q = (taken_at a.slots q live_q).version in
       same_id p q same (sym at_p ∙ ap (λ n. (slot_in a.slots (n - 1)).version) same ∙ at_q)
 
-  passed-same : (a : Arena T) (id q : ArenaIndex) (s : Slot T) → IsLiveIn a id → s.version ≡ id.version → had_version (slot_at (put a.slots id.slot s) q.slot).version q.version ≡ is_passed a q
+  passed-same : (a : Arena T) (id q : ArenaIndex) (s : Slot T) → IsLiveIn a id → s.version ≡ id.version → had_version (slot_at (put_slot a.slots id.slot s) q.slot).version q.version ≡ is_passed a q
   passed-same a id q s live same =
       let at = open_live a id live in
       let taken = taken_at a.slots id live in
       elim (cases_eq q.slot id.slot) [
         | inl here ↦
-            let after : (slot_at (put a.slots id.slot s) q.slot).version ≡ id.version = ap (λ n. (slot_at (put a.slots id.slot s) n).version) here ∙ ap (λ x. x.version) (at-put_same a.slots id.slot s at.numbered at.within) ∙ same in
+            let after : (slot_at (put_slot a.slots id.slot s) q.slot).version ≡ id.version = ap (λ n. (slot_at (put_slot a.slots id.slot s) n).version) here ∙ ap (λ x. x.version) (at-put_same a.slots id.slot s at.numbered at.within) ∙ same in
             let before : (slot_at a.slots q.slot).version ≡ id.version = ap (λ n. (slot_at a.slots n).version) here ∙ ap (λ x. x.version) (slot_at-place a.slots id.slot taken.numbered) ∙ taken.version in
             ap (λ n. had_version n q.version) (after ∙ sym before)
         | inr there ↦ ap (λ x. had_version x.version q.version) (at-put_other a.slots id.slot q.slot s at.numbered at.within there)
@@ -279,21 +279,21 @@ module _ {T : Type 0} where
 
   -- the versions of a whole arena, by the numbers of the slots
   put-whole : (a : Arena T) (id : ArenaIndex) (s : Slot T) (n : ℕ) → IsWhole a → 1 ≤ id.slot → id.slot ≤ length a.slots + 1 → id.slot ≤ a.limit → IsInRange a.last_version s.version
-      → IsWhole (record { slots = put a.slots id.slot s; limit = a.limit; last_version = a.last_version; removals = n })
+      → IsWhole (record { slots = put_slot a.slots id.slot s; limit = a.limit; last_version = a.last_version; removals = n })
   put-whole a id s n whole numbered within fits range =
       record {
         within = omega (arith, length-put a.slots id.slot s numbered within, whole.within);
         versions = λ k below. at_place k below;
       }
     where
-      at_place : (k : ℕ) → k < length (put a.slots id.slot s) → IsInRange a.last_version (slot_in (put a.slots id.slot s) k).version
+      at_place : (k : ℕ) → k < length (put_slot a.slots id.slot s) → IsInRange a.last_version (slot_in (put_slot a.slots id.slot s) k).version
       at_place k below =
           elim (cases_eq (k + 1) id.slot) [
             | inl here ↦
-                let at : slot_in (put a.slots id.slot s) k ≡ s = sym (slot_at-next (put a.slots id.slot s) k) ∙ ap (slot_at (put a.slots id.slot s)) here ∙ at-put_same a.slots id.slot s numbered within in
+                let at : slot_in (put_slot a.slots id.slot s) k ≡ s = sym (slot_at-next (put_slot a.slots id.slot s) k) ∙ ap (slot_at (put_slot a.slots id.slot s)) here ∙ at-put_same a.slots id.slot s numbered within in
                 rw at range
             | inr there ↦
-                let at : slot_in (put a.slots id.slot s) k ≡ slot_in a.slots k = sym (slot_at-next (put a.slots id.slot s) k) ∙ at-put_other a.slots id.slot (k + 1) s numbered within there ∙ slot_at-next a.slots k in
+                let at : slot_in (put_slot a.slots id.slot s) k ≡ slot_in a.slots k = sym (slot_at-next (put_slot a.slots id.slot s) k) ∙ at-put_other a.slots id.slot (k + 1) s numbered within there ∙ slot_at-next a.slots k in
                 rw at (whole.versions k (omega (arith, below, there, numbered, within, length-put a.slots id.slot s numbered within)))
           ]
 

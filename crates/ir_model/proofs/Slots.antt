@@ -4,7 +4,7 @@ use Rattle.std.proofs.lemmas.Bool.Decides.{eqb_tells}
 use Rattle.std.proofs.lemmas.Bool.{cases_eq, eq-eqb, ne_eqb}
 use Rattle.std.proofs.lemmas.List.{get_or_past}
 use Rattle.ir_model.specs.declared.ids.ArenaIndex.{ArenaIndex}
-use Rattle.ir_model.specs.Slots.{Slot, never, slot_in, slot_at, item_under, find, put_in, put}
+use Rattle.ir_model.specs.Slots.{Slot, never, slot_in, slot_at, item_under, find, put_in, put_slot}
 
 -- the place of an id's slot, from 0
 abbrev pub place : ArenaIndex → ℕ
@@ -30,15 +30,15 @@ module _ {T : Type 0} where
   pub slot_at-next : (slots : List (Slot T)) (k : ℕ) → slot_at slots (k + 1) ≡ slot_in slots k
   slot_at-next slots k = slot_at-place slots (k + 1) (omega arith) ∙ ap (slot_in slots) (omega arith)
 
-  pub put-place : (slots : List (Slot T)) (n : ℕ) (s : Slot T) → 1 ≤ n → put slots n s ≡ put_in slots (n - 1) s
-  unfolding put
+  pub put-place : (slots : List (Slot T)) (n : ℕ) (s : Slot T) → 1 ≤ n → put_slot slots n s ≡ put_in slots (n - 1) s
+  unfolding put_slot
   put-place slots zero s numbered = absurd (omega arith)
   put-place slots (suc k) s numbered = ap (λ j. put_in slots j s) (omega arith)
 
-  pub put-next : (slots : List (Slot T)) (k : ℕ) (s : Slot T) → put slots (k + 1) s ≡ put_in slots k s
+  pub put-next : (slots : List (Slot T)) (k : ℕ) (s : Slot T) → put_slot slots (k + 1) s ≡ put_in slots k s
   put-next slots k s = put-place slots (k + 1) s (omega arith) ∙ ap (λ j. put_in slots j s) (omega arith)
 
-  pub put-set : (slots : List (Slot T)) (n : ℕ) (s : Slot T) → 1 ≤ n → n - 1 < length slots → put slots n s ≡ set slots (n - 1) s
+  pub put-set : (slots : List (Slot T)) (n : ℕ) (s : Slot T) → 1 ≤ n → n - 1 < length slots → put_slot slots n s ≡ set slots (n - 1) s
   put-set slots n s numbered within = put-place slots n s numbered ∙ put_in-set slots (n - 1) s within
 
   in-put_same : (slots : List (Slot T)) (k : ℕ) (s : Slot T) → k ≤ length slots → slot_in (put_in slots k s) k ≡ s
@@ -63,15 +63,15 @@ module _ {T : Type 0} where
   length-put_in (x ∷ xs) (suc k) s within = omega (arith, length-put_in xs k s (omega arith))
 
   -- a write makes the list no longer than the number of the slot asks
-  pub length-put : (slots : List (Slot T)) (n : ℕ) (s : Slot T) → 1 ≤ n → n ≤ length slots + 1 → length (put slots n s) ≤ max (length slots) n
+  pub length-put : (slots : List (Slot T)) (n : ℕ) (s : Slot T) → 1 ≤ n → n ≤ length slots + 1 → length (put_slot slots n s) ≤ max (length slots) n
   length-put slots n s numbered within = rw (put-place slots n s numbered) (omega (arith, length-put_in slots (n - 1) s (omega arith)))
 
   -- a slot that is written is what was written, and each other one is as it was
-  pub at-put_same : (slots : List (Slot T)) (n : ℕ) (s : Slot T) → 1 ≤ n → n ≤ length slots + 1 → slot_at (put slots n s) n ≡ s
+  pub at-put_same : (slots : List (Slot T)) (n : ℕ) (s : Slot T) → 1 ≤ n → n ≤ length slots + 1 → slot_at (put_slot slots n s) n ≡ s
   at-put_same slots n s numbered within =
-      slot_at-place (put slots n s) n numbered ∙ ap (λ l. slot_in l (n - 1)) (put-place slots n s numbered) ∙ in-put_same slots (n - 1) s (omega arith)
+      slot_at-place (put_slot slots n s) n numbered ∙ ap (λ l. slot_in l (n - 1)) (put-place slots n s numbered) ∙ in-put_same slots (n - 1) s (omega arith)
 
-  pub at-put_other : (slots : List (Slot T)) (n m : ℕ) (s : Slot T) → 1 ≤ n → n ≤ length slots + 1 → m ≢ n → slot_at (put slots n s) m ≡ slot_at slots m
+  pub at-put_other : (slots : List (Slot T)) (n m : ℕ) (s : Slot T) → 1 ≤ n → n ≤ length slots + 1 → m ≢ n → slot_at (put_slot slots n s) m ≡ slot_at slots m
   unfolding slot_at
   at-put_other slots n zero s numbered within differs = refl
   at-put_other slots n (suc j) s numbered within differs =
@@ -153,21 +153,21 @@ module _ {T : Type 0} where
   find_past slots id past = find_vacant slots id (ap (λ s. s.item) (at_past slots id.slot past))
 
   -- what stands under the id of a write, and under any other
-  pub find-put_same : (slots : List (Slot T)) (id : ArenaIndex) (s : Slot T) → s.version ≡ id.version → 1 ≤ id.slot → id.slot ≤ length slots + 1 → find (put slots id.slot s) id ≡ s.item
+  pub find-put_same : (slots : List (Slot T)) (id : ArenaIndex) (s : Slot T) → s.version ≡ id.version → 1 ≤ id.slot → id.slot ≤ length slots + 1 → find (put_slot slots id.slot s) id ≡ s.item
   find-put_same slots id s same numbered within =
       let at = at-put_same slots id.slot s numbered within in
-      find_at (put slots id.slot s) id (ap (λ x. x.version) at ∙ same) ∙ ap (λ x. x.item) at
+      find_at (put_slot slots id.slot s) id (ap (λ x. x.version) at ∙ same) ∙ ap (λ x. x.item) at
 
   pub find-put_other : (slots : List (Slot T)) (id q : ArenaIndex) (s : Slot T) → s.version ≡ id.version → 1 ≤ id.slot → id.slot ≤ length slots + 1
-      → ((slot_at slots id.slot).version ≡ id.version) ⊎ ((slot_at slots id.slot).item ≡ None) → q ≢ id → find (put slots id.slot s) q ≡ find slots q
+      → ((slot_at slots id.slot).version ≡ id.version) ⊎ ((slot_at slots id.slot).item ≡ None) → q ≢ id → find (put_slot slots id.slot s) q ≡ find slots q
   find-put_other slots id q s same numbered within was differs =
       elim (cases_eq q.slot id.slot) [
         | inl here ↦
-            let at : slot_at (put slots id.slot s) q.slot ≡ s = ap (slot_at (put slots id.slot s)) here ∙ at-put_same slots id.slot s numbered within in
+            let at : slot_at (put_slot slots id.slot s) q.slot ≡ s = ap (slot_at (put_slot slots id.slot s)) here ∙ at-put_same slots id.slot s numbered within in
             let version : id.version ≢ q.version = λ e. differs (λ i. record { slot = here i; version = sym e i }) in
-            let none : find (put slots id.slot s) q ≡ None = find_not_at (put slots id.slot s) q (λ e. version (sym same ∙ sym (ap (λ x. x.version) at) ∙ e)) in
+            let none : find (put_slot slots id.slot s) q ≡ None = find_not_at (put_slot slots id.slot s) q (λ e. version (sym same ∙ sym (ap (λ x. x.version) at) ∙ e)) in
             none ∙ sym (before here version was)
-        | inr there ↦ find_same (put slots id.slot s) slots q (at-put_other slots id.slot q.slot s numbered within there)
+        | inr there ↦ find_same (put_slot slots id.slot s) slots q (at-put_other slots id.slot q.slot s numbered within there)
       ]
     where
       before : q.slot ≡ id.slot → id.version ≢ q.version → ((slot_at slots id.slot).version ≡ id.version) ⊎ ((slot_at slots id.slot).item ≡ None) → find slots q ≡ None

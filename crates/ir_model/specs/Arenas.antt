@@ -2,7 +2,7 @@
 use Rattle.std.specs.Prelude.{◌≡◌, ◌⊎◌, ℕ, ◌+◌, ◌-◌, ◌<◌, ◌≤◌, Bool, List, [], length, count_by, Option, Some, None, IsSome, refl}
 use Rattle.std.specs.Coded.{Coded, code_by, coded×, coded_ℕ, coded_list}
 use Rattle.ir_model.specs.declared.ids.ArenaIndex.{ArenaIndex}
-use Rattle.ir_model.specs.Slots.{Slot, slot_code, had_version, is_taken, is_retired, slot_in, slot_at, find, put}
+use Rattle.ir_model.specs.Slots.{Slot, slot_code, had_version, is_taken, is_retired, slot_in, slot_at, find, put_slot}
 
 -- the slots that were handed out, each with its last version and the record that it has now
 pub record Arena (T : Type 0) : Type 0 where
@@ -76,7 +76,7 @@ module _ {T : Type 0} where
 
   -- the arena with a record under an id
   abbrev pub fill : Arena T → ArenaIndex → T → Arena T
-  fill a id value = record a { slots = put a.slots id.slot (record { version = id.version; item = Some value }) }
+  fill a id value = record a { slots = put_slot a.slots id.slot (record { version = id.version; item = Some value }) }
 
   -- the arena after a call of `remove` that found nothing
   abbrev pub miss : Arena T → Arena T
@@ -84,7 +84,7 @@ module _ {T : Type 0} where
 
   -- the arena after a call of `remove` that took the record under an id
   abbrev pub cut : Arena T → ArenaIndex → Arena T
-  cut a id = record a { slots = put a.slots id.slot (record { version = id.version; item = None }); removals = a.removals + 1 }
+  cut a id = record a { slots = put_slot a.slots id.slot (record { version = id.version; item = None }); removals = a.removals + 1 }
 
   -- a value that was made for a new id was stored under it
   pub record Inserts (made : T → Type 0) (old new : Arena T) (id : ArenaIndex) : Type 0 where

@@ -53,7 +53,7 @@ base source = if is_identifier source then source else replaced (chars source)
 abbrev pub numbered_text : List ℕ → ℕ → List ℕ
 numbered_text text c = text ++ 95 ∷ decimal c
 
--- c is the least number at or above the counter whose numbered_text text is free
+-- c is the least number at or above the counter whose numbered text is free
 pub record IsNextNumber (free : List ℕ → Type 0) (counter : ℕ) (text : List ℕ) (c : ℕ) : Type 0 where
   pub from : counter ≤ c
   pub is_free : free (numbered_text text c)

@@ -64,6 +64,6 @@ module _ {T : Type 0} where
   put_in (x ∷ xs) (suc k) s = x ∷ put_in xs k s
 
   -- the slots with the one of a number from 1 changed, or with one more at the end
-  unfoldable pub put : List (Slot T) → ℕ → Slot T → List (Slot T)
-  put slots zero s = slots
-  put slots (suc k) s = put_in slots k s
+  unfoldable pub put_slot : List (Slot T) → ℕ → Slot T → List (Slot T)
+  put_slot slots zero s = slots
+  put_slot slots (suc k) s = put_in slots k s

@@ -59,12 +59,12 @@ module _ {N : Ids} {W : Dialect} where
     value_place v = position_or_len (λ w. same_value N w v) s.tables.values
 
     -- the place of the type in its table: that of its first entry
-    abbrev pub type_place : ℕ → ℕ
-    type_place t = position_or_len (λ u. nat_eq u t) s.tables.types
+    abbrev pub type_number : ℕ → ℕ
+    type_number t = position_or_len (λ u. nat_eq u t) s.tables.types
 
     -- the result or argument of d, as it is seen
     abbrev pub seen_definition : Definer N → Definition N W → SeenDefinition W
-    seen_definition d x = record { value = value_place (record { definer = d; number = x.number }); ty = type_place x.ty; name = x.name }
+    seen_definition d x = record { value = value_place (record { definer = d; number = x.number }); ty = type_number x.ty; name = x.name }
 
     -- the record of the operation, as it is seen; use numbers are left out
     abbrev pub seen_op : N.Op → OpRecord N W → SeenOp W

@@ -7,8 +7,8 @@ abbrev pub IsSkipped : List ℕ → Type 0
 IsSkipped line = (slice_index line 0 ≡ 35) ⊎ All (λ byte. byte ≡ 32) line
 
 -- a number: one or more digits, with a value of at most 4294967295
-abbrev pub IsNumber : List ℕ → Type 0
-IsNumber text = IsNumeral 10 text × (digits_value 10 text ≤ 4294967295)
+abbrev pub IsNumberField : List ℕ → Type 0
+IsNumberField text = IsNumeral 10 text × (digits_value 10 text ≤ 4294967295)
 
 -- the value of a number
 abbrev pub number_of : List ℕ → ℕ
@@ -16,8 +16,8 @@ number_of text = digits_value 10 text
 
 -- a name with this letter: the letter, and directly behind it a number
 abbrev pub IsName : ℕ → List ℕ → Type 0
-IsName letter text = (text ≡ letter ∷ drop 1 text) × IsNumber (drop 1 text)
+IsName letter text = (text ≡ letter ∷ drop 1 text) × IsNumberField (drop 1 text)
 
 -- the number of a name
-abbrev pub name_of : List ℕ → ℕ
-name_of text = number_of (drop 1 text)
+abbrev pub number_in_name : List ℕ → ℕ
+number_in_name text = number_of (drop 1 text)

@@ -1,6 +1,6 @@
 //! The fields of a script's lines: how a line is cut into them, and the numbers and names that stand in them.
 ghost use Rattle.std.specs.Prelude.{◌<◌, ◌≤◌, ◌↔◌, IsTrue, SomeIff};
-ghost use Rattle.toy_script_text.specs.Fields.{IsSkipped, IsNumber, number_of, IsName, name_of};
+ghost use Rattle.toy_script_text.specs.Fields.{IsSkipped, IsNumberField, number_of, IsName, number_in_name};
 
 // The greatest kind of operations that a script may name.
 const GREATEST_KIND: u32 = 7;
@@ -39,7 +39,7 @@ pub(crate) fn only_field(text: &str) -> Option<&str> {
 
 /// The value of a number, which is one or more digits, with a value of at most 4294967295; none for another text.
 pub(crate) fn parse_number(text: &str) -> Option<u32>
-    ensures { SomeIff result (IsNumber text.now) (number_of text.now) }
+    ensures { SomeIff result (IsNumberField text.now) (number_of text.now) }
 {
     if text.starts_with('+') {
         return None;
@@ -49,7 +49,7 @@ pub(crate) fn parse_number(text: &str) -> Option<u32>
 
 /// The value of a number that is a kind of operations, at most 7; none for another text.
 pub(crate) fn parse_kind(text: &str) -> Option<u32>
-    ensures { SomeIff result (IsNumber text.now × (number_of text.now ≤ 7)) (number_of text.now) }
+    ensures { SomeIff result (IsNumberField text.now × (number_of text.now ≤ 7)) (number_of text.now) }
 {
     let kind = parse_number(text)?;
     if kind > GREATEST_KIND {
@@ -61,7 +61,7 @@ pub(crate) fn parse_kind(text: &str) -> Option<u32>
 /// The number of a name with this letter; none for another text.
 pub(crate) fn parse_name(letter: char, text: &str) -> Option<usize>
     requires { letter < 128 }
-    ensures { SomeIff result (IsName letter text.now) (name_of text.now) }
+    ensures { SomeIff result (IsName letter text.now) (number_in_name text.now) }
 {
     let number = text.strip_prefix(letter)?;
     let number = parse_number(number)?;
