@@ -41,7 +41,7 @@ numbered-live read None n h = absurd (cc (h.2))
 numbered-live read (Some x) n h = refl
 
 module _ {A K B S X L : Type 0} where
-  -- what definitions mean, one of which is change, where h is the rewriting of what it means
+  -- what definitions mean, one of which is rewritten, where h is the rewriting of what it means
   rewritten-meaning : (n : ℕ) (g : Definition → Definition) (h : PlainDefinition context_ids (closed A K B S X L) → PlainDefinition context_ids (closed A K B S X L)) → ((r : Definition) → definition_of (g r) ≡ h (definition_of r))
       → (rs : List Definition) → map (definition_of {A = A} {K = K} {B = B} {S = S} {X = X} {L = L}) (map (rewritten n g) rs) ≡ map (λ (x : PlainDefinition context_ids (closed A K B S X L)). cond (x.number == n) (h x) x) (map definition_of rs)
   rewritten-meaning n g h means [] = refl

@@ -50,7 +50,7 @@ module _ {W : Dialect} (f : Forest context_ids W) (G : List (Definition context_
       let q = there (f.blocks b) live in
       subst (λ (xs : List (Definition context_ids W)). Defines f (after (of_block b)) (of_block b) xs (G xs)) (sym (ap (list_of (λ (r : BlockRecord context_ids W). r.arguments)) q.1)) (defines_arguments lawful f G b q.0 q.1)
 
-  -- the list is the one that it was change to
+  -- the list is the one that it was rewritten to
   rewritten : (d : Definer context_ids) → IsLive f (definer_entity context_ids d) → definitions_of (after d) d ≡ G (definitions_of f d)
   rewritten (of_op o) live = elim (rewrite_at same_id id_tells o (on_results G) f.ops o) [
     | inl e ↦

@@ -26,15 +26,15 @@ module _ {W : Dialect} where
   named-still f g s (the_block b) h = s.blocks b ∙ h
 
   module _ (f : Forest context_ids W) where
-    -- one block's list is change
+    -- one block's list is rewritten
     block-same : (b : ArenaIndex) (g : List ArenaIndex → List ArenaIndex) → SameButLists f (on_block f b (on_ops g))
     block-same b g = same_but_ops f _ (λ c os. cond (same_id c b) (g os) os) (rewrite_shape ops_part same_id b g f.blocks)
 
-    -- one region's list is change
+    -- one region's list is rewritten
     region-same : (r : ArenaIndex) (g : List ArenaIndex → List ArenaIndex) → SameButLists f (on_region f r g)
     region-same r g = same_but_blocks f _ (λ c bs. cond (same_id c r) (g bs) bs) (rewrite_shape (whole (List ArenaIndex)) same_id r g f.regions)
 
-    -- the list of regions of one operation is change
+    -- the list of regions of one operation is rewritten
     op-same : (o : ArenaIndex) (g : List ArenaIndex → List ArenaIndex) → SameButLists f (on_op f o (on_regions g))
     op-same o g = same_but_regions f _ (λ c rs. cond (same_id c o) (g rs) rs) (rewrite_shape regions_part same_id o g f.ops)
 

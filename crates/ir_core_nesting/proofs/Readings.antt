@@ -68,7 +68,7 @@ module _ {T Y : Type 0} (a : Arena T) (f : T → Y) (id : ArenaIndex) where
         ∙ sym (ap (λ b. cond b (Some (f v)) (option_map f (get a i))) (id_differs i id ne))
   ]
 
-  -- one entry is change
+  -- one entry is rewritten
   pub seen-written : (g : Y → Y) (x v : T) → get a id ≡ Some x → f v ≡ g (f x) → (i : ArenaIndex) → option_map f (get (fill a id v) i) ≡ rewrite same_id id g (λ j. option_map f (get a j)) i
   seen-written g x v found is i = elim (id_cases i id) [
     | inl e ↦ ap (λ z. option_map f (get (fill a id v) z)) e ∙ ap (option_map f) (get-fill_live a id v (live-of a id x found)) ∙ ap Some is

@@ -91,7 +91,7 @@ module _ {D A K B S X L : Type 0} (old : Records D A K B S X L) (op : ArenaIndex
           | inr ne ↦ others o g ne (subst (λ (m : Option (Operation D A K B S X L)). In g (list_of (λ gs. gs) (option_map op_regions m))) (get-fill_live_other old.ops op o (record x { regions = rs }) (live-of old.ops op x found) ne) h)
         ]
 
-    -- the record of the operation is change, and the regions are told one by one
+    -- the record of the operation is rewritten, and the regions are told one by one
     pub relisted-forest : (change : OpRecord context_ids (closed A K B S X L) → OpRecord context_ids (closed A K B S X L)) → op_record (record x { regions = rs }) ≡ change (op_record x)
         → (lists_now : ArenaIndex → Option (List ArenaIndex)) → ((g : ArenaIndex) → option_map (λ (_ : Region). blocks_in (tree_of old) g) (get regions g) ≡ lists_now g)
         → forest_in with_regions ≡ record (forest_in old) { ops = rewrite same_id op change (forest_in old).ops; regions = lists_now }

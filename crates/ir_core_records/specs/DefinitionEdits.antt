@@ -18,7 +18,7 @@ use Rattle.ir_core_records.specs.Found.{place-In}
 abbrev pub unused_definition : ℕ → ℕ → Definition
 unused_definition n ty = record { number = n; ty = ty; name = None; uses = [] }
 
--- the definition is change, where it has this number
+-- the definition is rewritten, where it has this number
 abbrev pub rewritten : ℕ → (Definition → Definition) → Definition → Definition
 rewritten n g r = if r.number == n then g r else r
 
@@ -89,7 +89,7 @@ uses-remove (x ∷ rs) (suc i) r m d at none =
     let miss : x.number == r.number ≡ false = ne_eqb x.number r.number other in
     ap (λ us. cond (x.number == m) x.uses us) (uses-remove rs i r m d.1 at (rw miss at none))
 
--- a definition is change, and keeps its number and its uses
+-- a definition is rewritten, and keeps its number and its uses
 module _ (n : ℕ) (g : Definition → Definition) (number : (r : Definition) → (g r).number ≡ r.number) (uses : (r : Definition) → (g r).uses ≡ r.uses) where
   rewritten-number : (r : Definition) → (rewritten n g r).number ≡ r.number
   rewritten-number r = by (r.number == n)

@@ -16,7 +16,7 @@ use Rattle.ir_model.proofs.TwoRuns.{lawful}
 use Rattle.ir_model.proofs.Nests.{In-map, In-map_back}
 use Rattle.ir_model.proofs.Keeps.{rewrite_at, Nested-same}
 
--- what is read of a map, where the change records are read as before
+-- what is read of a map, where the rewritten records are read as before
 reads : {A R X : Type 0} (read : Option R → X) (h : R → R) → ((r : R) → read (Some (h r)) ≡ read (Some r)) → (same : A → A → Bool) (key : A) (m : A → Option R) (x : A) → read (rewrite same key h m x) ≡ read (m x)
 reads {R = R} read h keeps same key m x = by (same x key) (m x)
   where
@@ -53,7 +53,7 @@ module _ {N : Ids} {W : Dialect} where
       named (a_value v) h = rw (s.numbers v.definer) h
       named (the_block b) h = (s.live (a_block b)).1 h
 
-  -- how a record of an operation is change where nothing but this part changes
+  -- how a record of an operation is rewritten where nothing but this part changes
   record KeepsOp (part : Part) (h : OpRecord N W → OpRecord N W) : Type 0 where
     kind : (r : OpRecord N W) → (h r).kind ≡ r.kind
     numbers : (r : OpRecord N W) → map (λ (x : Definition N W). x.number) (h r).results ≡ map (λ (x : Definition N W). x.number) r.results
@@ -112,7 +112,7 @@ module _ {N : Ids} {W : Dialect} where
       others the_locations n = locs n
       others the_attributes n = attributes n
 
-  -- how a record of a block is change where nothing but this part changes
+  -- how a record of a block is rewritten where nothing but this part changes
   record KeepsBlock (part : Part) (h : BlockRecord N W → BlockRecord N W) : Type 0 where
     numbers : (r : BlockRecord N W) → map (λ (x : Definition N W). x.number) (h r).arguments ≡ map (λ (x : Definition N W). x.number) r.arguments
     ops : (r : BlockRecord N W) → (h r).ops ≡ r.ops
@@ -169,11 +169,11 @@ module _ {N : Ids} {W : Dialect} where
       others the_locations n = locs n
       others the_attributes n = attributes n
 
-  -- the definitions with the one of this number change
+  -- the definitions with the one of this number rewritten
   abbrev at_number : N.ValueNumber → (Definition N W → Definition N W) → Definition N W → Definition N W
   at_number n g x = cond (N.same_number x.number n) (g x) x
 
-  -- what is read of definitions, where the change one is read as before
+  -- what is read of definitions, where the rewritten one is read as before
   same_read : {X : Type 0} (read : Definition N W → X) (n : N.ValueNumber) (g : Definition N W → Definition N W) → ((x : Definition N W) → read (g x) ≡ read x) → (xs : List (Definition N W)) → map read (map (at_number n g) xs) ≡ map read xs
   same_read read n g keeps [] = refl
   same_read read n g keeps (x ∷ xs) = let more = same_read read n g keeps xs in λ i. by (N.same_number x.number n) i ∷ more i
@@ -182,7 +182,7 @@ module _ {N : Ids} {W : Dialect} where
       by true = keeps x
       by false = refl
 
-  -- a value's definition change, where nothing but this part of it changes
+  -- a value's definition rewritten, where nothing but this part of it changes
   alone_value : (f : Forest N W) (v : Value N) (part : Part) (g : Definition N W → Definition N W) → ((x : Definition N W) → (g x).number ≡ x.number)
       → (the_types ≢ part → (x : Definition N W) → (g x).ty ≡ x.ty) → (the_names ≢ part → (x : Definition N W) → (g x).name ≡ x.name) → ChangesAlone part f (on_value f v g)
   alone_value f v part g number ty name = by v.definer
@@ -255,7 +255,7 @@ module _ {N : Ids} {W : Dialect} where
   alone_attributes f (of_block b) pairs = alone_block f b the_attributes (λ r. record r { attributes = pairs }) (plain_block the_attributes (λ r. record r { attributes = pairs }) (λ r. refl) (λ n r. refl) (λ n r. refl) (λ n. absurd (n refl)))
 
 module _ {N : Ids} {W : Dialect} (L : Lawful N) (f : Forest N W) where
-  -- the definitions of what is named and of all else, after those of d were change
+  -- the definitions of what is named and of all else, after those of d were rewritten
   definitions_on : (d e : Definer N) (h : Definition N W → Definition N W)
       → ((e ≡ d) × (definitions_of (on_definitions f d (map h)) e ≡ map h (definitions_of f e))) ⊎ ((e ≢ d) × (definitions_of (on_definitions f d (map h)) e ≡ definitions_of f e))
   definitions_on (of_op o) (of_block b) h = inr (λ e. cc, refl)
@@ -285,7 +285,7 @@ module _ {N : Ids} {W : Dialect} (L : Lawful N) (f : Forest N W) where
     abbrev after : Forest N W
     after = on_value f v g
 
-    -- the change definition, or one that stayed
+    -- the rewritten definition, or one that stayed
     data Case (x y : Definition N W) : Type 0 where
       rewritten : x.number ≡ v.number → y.number ≡ v.number → field y ≡ to → Case x y
       stayed : x.number ≢ v.number → y ≡ x → Case x y

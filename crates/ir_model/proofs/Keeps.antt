@@ -9,7 +9,7 @@ use Rattle.ir_model.specs.Changes.{rewrite}
 use Rattle.ir_model.proofs.Renaming.{Tells}
 use Rattle.ir_model.proofs.Nests.{In-map, Absent-not_in, not_in-Absent, NoCycle-fewer, OneList-fewer}
 
--- the map at a key, after the record under a key was change
+-- the map at a key, after the record under a key was rewritten
 pub rewrite_at : {A B : Type 0} (same : A → A → Bool) → Tells same → (key : A) (g : B → B) (m : A → Option B) (x : A)
     → ((x ≡ key) × (rewrite same key g m x ≡ option_map g (m x))) ⊎ ((x ≢ key) × (rewrite same key g m x ≡ m x))
 rewrite_at same tells key g m x = by (same x key) refl

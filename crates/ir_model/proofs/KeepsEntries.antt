@@ -61,7 +61,7 @@ module _ {N : Ids} {W : Dialect} where
       abbrev after : Forest N W
       after = on_op f o (on_uses G H)
 
-      -- the record is the change one, or the old one
+      -- the record is the rewritten one, or the old one
       use_case : (p : N.Op) → ((p ≡ o) × (use_numbers_of after p ≡ use_numbers (on_uses G H r)) × (use_numbers_of f p ≡ use_numbers r) × (names_of after p ≡ named_by (on_uses G H r)) × (names_of f p ≡ named_by r))
           ⊎ ((use_numbers_of after p ≡ use_numbers_of f p) × (names_of after p ≡ names_of f p))
       use_case p = elim (rewrite_at N.same_op L.ops o (on_uses G H) f.ops p) [

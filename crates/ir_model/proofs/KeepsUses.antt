@@ -113,7 +113,7 @@ abbrev kept_or_none : {P Q A : Type 0} → P ⊎ Q → List A → List A
 kept_or_none (inl k) ps = ps
 kept_or_none (inr k) ps = []
 
--- entries that are change, each under its number
+-- entries that are rewritten, each under its number
 module _ {E U C : Type 0} (h : E → E) (number : E → U) (name : E → C) (d : C) (keeps : (p : E) → number (h p) ≡ number p) (names : (p : E) → (name (h p) ≡ name p) ⊎ (name (h p) ≡ d)) where
   same_numbers : (ps : List E) → map number (map h ps) ≡ map number ps
   same_numbers [] = refl

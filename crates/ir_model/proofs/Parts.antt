@@ -8,14 +8,14 @@ use Rattle.ir_model.specs.Nesting.{In, list_of, children, IsLive, IsLiveNamed, N
 use Rattle.ir_model.specs.Changes.{rewrite, on_ops, on_regions}
 use Rattle.ir_model.proofs.Keeps.{list_of-map, is_some-map}
 
--- how a part of a record is change
+-- how a part of a record is rewritten
 pub record Part (R X : Type 0) : Type 0 where
   pub on : (X → X) → R → R
   pub none : (r : R) → on (λ x. x) r ≡ r
   pub twice : (g h : X → X) (r : R) → on h (on g r) ≡ on (λ x. h (g x)) r
 
 module _ {A R X : Type 0} (p : Part R X) (same : A → A → Bool) where
-  -- a change record under one key, as a change of all records
+  -- a rewritten record under one key, as a change of all records
   pub rewrite_shape : (key : A) (g : X → X) (m : A → Option R) (c : A) → rewrite same key (p.on g) m c ≡ option_map (p.on (λ x. cond (same c key) (g x) x)) (m c)
   rewrite_shape key g m c = by (same c key) (m c)
     where
@@ -85,7 +85,7 @@ module _ {N : Ids} {W : Dialect} where
     known = λ d t. rw (s.definitions d) (w.known d t);
   }
 
-  -- each list of an owner is change, and the other lists are as before
+  -- each list of an owner is rewritten, and the other lists are as before
   abbrev pub Rewrites : {A B : Type 0} → (A → Entity N) → (B → Entity N) → (B → List A → List A) → Forest N W → Forest N W → Type 0
   Rewrites {A} {B} member owner G f g =
       (y : Entity N) → (((b : B) → y ≢ owner b) × (children g y ≡ children f y))

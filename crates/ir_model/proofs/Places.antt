@@ -64,7 +64,7 @@ module _ {N : Ids} {W : Dialect} where
     pub operands : (o : N.Op) (u : N.UseNumber) → In u (list_of operand_numbers (g o)) → In u (list_of operand_numbers (m o)) ⊎ In u new
     pub successors : (o : N.Op) (u : N.UseNumber) → In u (list_of successor_numbers (g o)) → In u (list_of successor_numbers (m o)) ⊎ In u new
 
-  -- the same of one record that is change
+  -- the same of one record that is rewritten
   pub record PlacesOf (G : OpRecord N W → OpRecord N W) (new : List N.UseNumber) : Type 0 where
     pub operands : (r : OpRecord N W) (u : N.UseNumber) → In u (operand_numbers (G r)) → In u (operand_numbers r) ⊎ In u new
     pub successors : (r : OpRecord N W) (u : N.UseNumber) → In u (successor_numbers (G r)) → In u (successor_numbers r) ⊎ In u new
@@ -81,7 +81,7 @@ module _ {N : Ids} {W : Dialect} where
     successors = λ o u k. elim (b.successors o u k) [ inl i ↦ a.successors o u i | inr i ↦ inr i ];
   }
 
-  -- a list that is read off a change record
+  -- a list that is read off a rewritten record
   read : (of : OpRecord N W → List N.UseNumber) (G : OpRecord N W → OpRecord N W) (new : List N.UseNumber) → ((r : OpRecord N W) (u : N.UseNumber) → In u (of (G r)) → In u (of r) ⊎ In u new)
       → (b : Bool) (x : Option (OpRecord N W)) (u : N.UseNumber) → In u (list_of of (cond b (option_map G x) x)) → In u (list_of of x) ⊎ In u new
   read of G new step true None u h = elim h [ ]

@@ -129,7 +129,7 @@ operand_entries N = record { number = λ p. p.use_number; named = λ p. p.value;
 abbrev pub successor_entries : (N : Ids) → Entries (Successor N) N.UseNumber N.Block
 successor_entries N = record { number = λ p. p.use_number; named = λ p. p.block; entry = λ u b. record { use_number = u; block = b }; number_is = λ u d. refl; named_is = λ u d. refl; entry_is = λ e. refl }
 
--- a list that is change in each record
+-- a list that is rewritten in each record
 rewritten : {A B : Type 0} (of : B → List A) (on : (List A → List A) → B → B) (h : List A → List A) → ((r : B) → of (on h r) ≡ h (of r)) → h [] ≡ [] → (m : Option B) → list_of of (option_map (on h) m) ≡ h (list_of of m)
 rewritten of on h keeps empty None = sym empty
 rewritten of on h keeps empty (Some r) = keeps r

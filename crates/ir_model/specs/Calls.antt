@@ -7,12 +7,12 @@ use Rattle.ir_model.specs.Nesting.{In, IsLive, regions_of, ops_of, blocks_of, de
 use Rattle.ir_model.specs.Changes.{on_op, on_block, on_results, on_arguments}
 
 module _ {N : Ids} {W : Dialect} where
-  -- the results of the operation, or the arguments of the block, change; all else is as it was
+  -- the results of the operation, or the arguments of the block, rewritten; all else is as it was
   abbrev pub on_definitions : Forest N W → Definer N → (List (Definition N W) → List (Definition N W)) → Forest N W
   on_definitions f (of_op o) g = on_op f o (on_results g)
   on_definitions f (of_block b) g = on_block f b (on_arguments g)
 
-  -- the result or argument that the value is, change; all else is as it was
+  -- the result or argument that the value is, rewritten; all else is as it was
   abbrev pub on_value : Forest N W → Value N → (Definition N W → Definition N W) → Forest N W
   on_value f v g = on_definitions f v.definer (map (λ x. if N.same_number x.number v.number then g x else x))
 

@@ -10,11 +10,11 @@ use Rattle.ir_model.specs.Nesting.{Inside}
 abbrev pub put : {A B : Type 0} → (A → A → Bool) → A → B → (A → Option B) → A → Option B
 put same key v m x = if same x key then Some v else m x
 
--- the map with the record under the key change
+-- the map with the record under the key rewritten
 abbrev pub rewrite : {A B : Type 0} → (A → A → Bool) → A → (B → B) → (A → Option B) → A → Option B
 rewrite same key g m x = if same x key then option_map g (m x) else m x
 
--- the map with every record change
+-- the map with every record rewritten
 abbrev pub rewrite_all : {A B : Type 0} → (B → B) → (A → Option B) → A → Option B
 rewrite_all g m x = option_map g (m x)
 
@@ -56,15 +56,15 @@ module _ {N : Ids} where
   but e of xs = filter (λ x. not (same_entity N (of x) e)) xs
 
 module _ {N : Ids} {W : Dialect} where
-  -- the record of the operation change; all else is as it was
+  -- the record of the operation rewritten; all else is as it was
   abbrev pub on_op : Forest N W → N.Op → (OpRecord N W → OpRecord N W) → Forest N W
   on_op f o g = record f { ops = rewrite N.same_op o g f.ops }
 
-  -- the record of the block change; all else is as it was
+  -- the record of the block rewritten; all else is as it was
   abbrev pub on_block : Forest N W → N.Block → (BlockRecord N W → BlockRecord N W) → Forest N W
   on_block f b g = record f { blocks = rewrite N.same_block b g f.blocks }
 
-  -- the list of the region change; all else is as it was
+  -- the list of the region rewritten; all else is as it was
   abbrev pub on_region : Forest N W → N.Region → (List N.Block → List N.Block) → Forest N W
   on_region f r g = record f { regions = rewrite N.same_region r g f.regions }
 
@@ -100,27 +100,27 @@ module _ {N : Ids} {W : Dialect} where
     regions = put N.same_region r [] f.regions;
   }
 
-  -- the record with its results change
+  -- the record with its results rewritten
   abbrev pub on_results : (List (Definition N W) → List (Definition N W)) → OpRecord N W → OpRecord N W
   on_results g r = record r { results = g r.results }
 
-  -- the record with its arguments change
+  -- the record with its arguments rewritten
   abbrev pub on_arguments : (List (Definition N W) → List (Definition N W)) → BlockRecord N W → BlockRecord N W
   on_arguments g r = record r { arguments = g r.arguments }
 
-  -- the record with its operands change
+  -- the record with its operands rewritten
   abbrev pub on_operands : (List (Operand N) → List (Operand N)) → OpRecord N W → OpRecord N W
   on_operands g r = record r { operands = g r.operands }
 
-  -- the record with its successors change
+  -- the record with its successors rewritten
   abbrev pub on_successors : (List (Successor N) → List (Successor N)) → OpRecord N W → OpRecord N W
   on_successors g r = record r { successors = g r.successors }
 
-  -- the record with its regions change
+  -- the record with its regions rewritten
   abbrev pub on_regions : (List N.Region → List N.Region) → OpRecord N W → OpRecord N W
   on_regions g r = record r { regions = g r.regions }
 
-  -- the record with its operations change
+  -- the record with its operations rewritten
   abbrev pub on_ops : (List N.Op → List N.Op) → BlockRecord N W → BlockRecord N W
   on_ops g r = record r { ops = g r.ops }
 

@@ -51,7 +51,7 @@ module _ {W : Dialect} (f : Forest context_ids W) where
   abbrev number_in : Definition context_ids W → ℕ
   number_in x = x.number
 
-  -- the results or arguments are what they were change to
+  -- the results or arguments are what they were rewritten to
   rewritten : (g : List (Definition context_ids W) → List (Definition context_ids W)) (d : Definer context_ids) → IsLive f (definer_entity context_ids d) → definitions_of (on_definitions f d g) d ≡ g (definitions_of f d)
   rewritten g (of_op o) live =
       let r = the_value (f.ops o) live in
