@@ -7,6 +7,7 @@ ghost use Rattle.std.specs.Option.{option_copied, option_copied_mut, option_map}
 ghost use Rattle.std.specs.Borrow.{sem};
 ghost use Rattle.ir_model.specs.AuxData.{AuxIsSound, InsertsAux, LacksAuxSlot, aux_by_name};
 ghost use Rattle.ir_model.specs.Stores.{with_aux_name, without_aux};
+ghost use Rattle.ir_core_data.specs.Side.{NoFreedSlot};
 ghost use Rattle.ir_core_context.specs.AuxLending.{WritesAux, lends_aux};
 ghost use Rattle.ir_core_context.specs.Calls.{SameButSide};
 ghost use Rattle.ir_core_context.specs.State.{bare};
@@ -19,12 +20,13 @@ impl<D: Dialects> Context<D> {
     /// Stores auxiliary data under a new index, and answers the index.
     ///
     /// # Errors
-    /// `SlotsSpent` where there is no slot for it, and else `OutOfMemory`. Then nothing has changed.
+    /// `SlotsSpent` where there is no slot for it, and else `OutOfMemory`, which comes only where no freed slot is left. Then nothing has changed.
     pub fn insert_aux(&mut self, value: D::Aux) -> Result<AuxDataIndex, CoreError>
         ensures inserted { IfOk result (λ i. InsertsAux self.old.limits (bare self.old).beside value i.index (bare self.new).beside) }
         ensures rest { SameButSide (bare self.old) (bare self.new) }
         ensures spent { (result ≡ Err CoreError.SlotsSpent) ↔ LacksAuxSlot self.old.limits (bare self.old).beside }
         ensures memory { IfErr result (λ e. (e ≡ CoreError.SlotsSpent) ⊎ (e ≡ CoreError.OutOfMemory)) }
+        ensures grown { (result ≡ Err CoreError.OutOfMemory) → NoFreedSlot self.old.limits (bare self.old).beside }
         ensures err { OnErr result (self.new ≡ self.old) }
     {
         self.side.insert_aux(value)

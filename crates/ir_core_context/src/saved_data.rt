@@ -2,7 +2,7 @@
 //!
 //! A crate above gives these calls the types of the values. No call changes the forest, the types or the auxiliary data.
 
-ghost use Rattle.std.specs.Prelude.{◌≡◌, IfOk, IfErr, OnOk, OnErr, slice_get};
+ghost use Rattle.std.specs.Prelude.{◌≡◌, IfOk, IfErr, OnOk, OnErr, length, slice_get};
 ghost use Rattle.std.specs.Option.{option_copied};
 ghost use Rattle.ir_model.specs.Saved.{saved_place, with_saved};
 ghost use Rattle.ir_model.specs.StoreLaws.{SavedApart};
@@ -23,6 +23,7 @@ impl<D: Dialects> Context<D> {
         ensures rest { SameButSide (bare self.old) (bare self.new) }
         ensures memory { IfErr result (λ e. e ≡ CoreError.OutOfMemory) }
         ensures err { OnErr result (self.new ≡ self.old) }
+        ensures only_new { OnErr result (saved_place (kinds_of D.Dialects D.Saved.eq) (bare self.old).beside value ≡ length (bare self.old).beside.saved) }
     {
         self.side.save(value)
     }

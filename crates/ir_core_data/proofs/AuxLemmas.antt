@@ -5,7 +5,7 @@ use Rattle.std.specs.Prelude.{OnSome, IfNone}
 use Rattle.std.specs.Option.{option_copied_mut, option_map}
 use Rattle.std.specs.Borrow.{MutBor}
 use Rattle.ir_model.specs.declared.error.CoreError.{CoreError}
-use Rattle.ir_model.specs.declared.error.CoreError.TheVariants.{SlotsSpent}
+use Rattle.ir_model.specs.declared.error.CoreError.TheVariants.{OutOfMemory, SlotsSpent}
 use Rattle.ir_model.specs.declared.ids.ArenaIndex.{ArenaIndex}
 use Rattle.ir_model.specs.declared.ids.Limits.{Limits}
 use Rattle.ir_model.specs.ContextIds.{same_id}
@@ -123,3 +123,11 @@ answered was is a b at to spent = (λ h. absurd (cc), λ p. let refused : was �
 pub lent-live : {A : Type 0} (lent : Option (MutBor A)) (m : Option A) → option_copied_mut lent ≡ m → IsSome lent → IsSome m
 lent-live None m is some = absurd (cc)
 lent-live (Some r) m is some = ap is_some (sym is)
+
+-- an answer is no refusal for memory
+pub answered-memory : {A : Type 0} {P : Type 0} (is : Result A CoreError) (a : A) → is ≡ Ok a → is ≡ Err OutOfMemory → P
+answered-memory is a at refused = absurd (cc)
+
+-- and a refusal for memory that is handed on was one
+pub handed-memory : {A B : Type 0} {P : Type 0} (was : Result A CoreError) (is : Result B CoreError) (e : CoreError) → was ≡ Err e → is ≡ Err e → (was ≡ Err OutOfMemory → P) → is ≡ Err OutOfMemory → P
+handed-memory was is e at to told refused = told (let same : e ≡ OutOfMemory = cc in at ∙ ap Err same)

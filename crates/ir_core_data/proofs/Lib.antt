@@ -1,2 +1,4 @@
 pub mod NameLemmas
 pub mod AuxLemmas
+pub mod FreedSlots
+pub mod SavedLemmas

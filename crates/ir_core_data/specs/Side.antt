@@ -2,6 +2,8 @@
 use Rattle.std.specs.Prelude.{◌≡◌, ℕ, []}
 use Rattle.ir_model.specs.declared.ids.ArenaIndex.{ArenaIndex}
 use Rattle.ir_model.specs.declared.ids.Limits.{Limits}
+use Rattle.ir_model.specs.AuxData.{IsNewAux}
+use Rattle.ir_model.specs.Forest.{Dialect}
 use Rattle.ir_model.specs.Sessions.{Beside}
 use Rattle.ir_base_arenas.specs.Arena.{Arena, empty, fill, get, is_passed}
 use Rattle.ir_core_records.specs.Meaning.{closed}
@@ -12,6 +14,10 @@ use Rattle.ir_core_data.specs.Names.{index_at, no_names}
 pub record Keeps {T : Type 0} (l : Limits) (a : Arena T) : Type 0 where
   pub limit : a.limit ≡ l.slots
   pub last_version : a.last_version ≡ l.last_version
+
+-- no freed slot is left: each index that may be handed out is the first of its slot
+abbrev pub NoFreedSlot : {W : Dialect} → Limits → Beside W → Type 0
+NoFreedSlot limits b = (i : ArenaIndex) → IsNewAux limits b i → i.version ≡ 1
 
 module _ {D A K B S X L : Type 0} where
   -- no data, and no name

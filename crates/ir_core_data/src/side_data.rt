@@ -1,6 +1,6 @@
 //! Saved data and auxiliary data, with the names of the latter.
 
-ghost use Rattle.std.specs.Prelude.{◌≡◌, ◌⊎◌, ◌<◌, ◌≤◌, ◌↔◌, None, Some, Err, IfOk, IfErr, OnOk, OnErr, IsSome, slice_get};
+ghost use Rattle.std.specs.Prelude.{◌≡◌, ◌⊎◌, ◌<◌, ◌≤◌, ◌↔◌, None, Some, Err, IfOk, IfErr, OnOk, OnErr, IsSome, length, slice_get};
 ghost use Rattle.std.specs.Option.{option_copied, option_copied_mut, option_map};
 ghost use Rattle.std.specs.Borrow.{sem};
 ghost use Rattle.ir_model.specs.declared.ids.Limits.{Limits};
@@ -28,7 +28,7 @@ pub struct SideData<D: Dialects> {
 }
 
 impl<D: Dialects> SideData<D> {
-    ghost use Rattle.ir_core_data.specs.Side.{Keeps, beside_in, nothing, with_written};
+    ghost use Rattle.ir_core_data.specs.Side.{Keeps, NoFreedSlot, beside_in, nothing, with_written};
     ghost use Rattle.ir_core_data.specs.SideLends.{side_lends_aux};
 
     /// No data and no names, with at most this many slots for auxiliary data, none of which has a version past `last_version`. It allocates nothing.
@@ -53,6 +53,7 @@ impl<D: Dialects> SideData<D> {
         ensures aux { self.new.aux ≡ self.old.aux }
         ensures memory { IfErr result (λ e. e ≡ CoreError.OutOfMemory) }
         ensures err { OnErr result (self.new ≡ self.old) }
+        ensures only_new { OnErr result (saved_place (kinds_of D.Dialects D.Saved.eq) (beside_in self.old) value ≡ length (beside_in self.old).saved) }
     {
         self.saved.get_or_create_unique(value)
     }
@@ -67,12 +68,13 @@ impl<D: Dialects> SideData<D> {
     /// Stores auxiliary data under a new index, and answers the index.
     ///
     /// # Errors
-    /// `SlotsSpent` where there is no slot for it, and else `OutOfMemory`. Then nothing has changed.
+    /// `SlotsSpent` where there is no slot for it, and else `OutOfMemory`, which comes only where no freed slot is left. Then nothing has changed.
     pub fn insert_aux(&mut self, value: D::Aux) -> Result<AuxDataIndex, CoreError>
         ensures inserted { IfOk result (λ i. (limits : Limits) → Keeps limits self.old.aux → InsertsAux limits (beside_in self.old) value i.index (beside_in self.new)) }
         ensures keeps { (limits : Limits) → Keeps limits self.old.aux → Keeps limits self.new.aux }
         ensures spent { (limits : Limits) → Keeps limits self.old.aux → (result ≡ Err CoreError.SlotsSpent) ↔ LacksAuxSlot limits (beside_in self.old) }
         ensures memory { IfErr result (λ e. (e ≡ CoreError.SlotsSpent) ⊎ (e ≡ CoreError.OutOfMemory)) }
+        ensures grown { (limits : Limits) → Keeps limits self.old.aux → (result ≡ Err CoreError.OutOfMemory) → NoFreedSlot limits (beside_in self.old) }
         ensures err { OnErr result (self.new ≡ self.old) }
     {
         let ptr = self.aux.insert_with(|_ptr: Ptr<D::Aux>| value)?;

@@ -1,6 +1,6 @@
 //! Keys of saved values, and what they lead to. A key is the place of its value, and two keys are equal exactly where their values are.
 
-ghost use Rattle.std.specs.Prelude.{◌≡◌, ◌↔◌, Some, IsTrue, IfOk, IfErr, OnOk, OnErr, option_and_then, slice_get};
+ghost use Rattle.std.specs.Prelude.{◌≡◌, ◌↔◌, Some, IsTrue, IfOk, IfErr, OnOk, OnErr, length, option_and_then, slice_get};
 ghost use Rattle.ir_model.specs.Saved.{IsSavedAt, IsSavedKind, saved_place, with_saved};
 ghost use Rattle.ir_core_context.specs.Calls.{SameButSide};
 ghost use Rattle.ir_core_context.specs.State.{bare};
@@ -53,7 +53,7 @@ impl<T> UniquedKey<T> {
 /// Saves a value, and answers its key. Where an equal one is saved already, that one stays, and this one is dropped.
 ///
 /// # Errors
-/// `OutOfMemory` where a growth was refused. Then nothing has changed.
+/// `OutOfMemory` where a growth was refused, which comes only for a value that isn't saved yet. Then nothing has changed.
 pub fn save<D: Dialects, T: SavedValue<D>>(
     ctx: &mut Context<D>,
     value: T,
@@ -65,6 +65,7 @@ pub fn save<D: Dialects, T: SavedValue<D>>(
     ensures rest { SameButSide (bare ctx.old) (bare ctx.new) }
     ensures memory { IfErr result (λ e. e ≡ CoreError.OutOfMemory) }
     ensures err { OnErr result (ctx.new ≡ ctx.old) }
+    ensures only_new { OnErr result (saved_place (kinds_of D.Dialects D.Saved.eq) (bare ctx.old).beside (T.saved_of value) ≡ length (bare ctx.old).beside.saved) }
 {
     let place = ctx.save_value(value.to_saved())?;
     Ok(UniquedKey::at(place))
@@ -96,7 +97,7 @@ impl<T> Uniqued<T> {
     /// Saves a value.
     ///
     /// # Errors
-    /// `OutOfMemory` where a growth was refused. Then nothing has changed.
+    /// `OutOfMemory` where a growth was refused, which comes only for a value that isn't saved yet. Then nothing has changed.
     pub fn new<D: Dialects>(ctx: &mut Context<D>, value: T) -> Result<Self, CoreError>
     where
         T: SavedValue<D>,
@@ -106,6 +107,7 @@ impl<T> Uniqued<T> {
         ensures rest { SameButSide (bare ctx.old) (bare ctx.new) }
         ensures memory { IfErr result (λ e. e ≡ CoreError.OutOfMemory) }
         ensures err { OnErr result (ctx.new ≡ ctx.old) }
+        ensures only_new { OnErr result (saved_place (kinds_of D.Dialects D.Saved.eq) (bare ctx.old).beside (T.saved_of value) ≡ length (bare ctx.old).beside.saved) }
     {
         let key = save(ctx, value)?;
         Ok(Uniqued { key })

@@ -13,7 +13,7 @@ ghost use Rattle.ir_model.specs.Soundness.{Sound};
 ghost use Rattle.ir_model.specs.Uses.{AreUses};
 ghost use Rattle.ir_core_records.specs.declared.record.ValueIndex.{ValueIndex as PlainIndex};
 ghost use Rattle.ir_core_records.specs.Meaning.{value_of};
-ghost use Rattle.ir_run_tables.specs.Calls.{LiveWasMade, TypesAreExact};
+ghost use Rattle.ir_run_tables.specs.Calls.{LiveWasMade, TypesAreExact, nothing_beside};
 ghost use Rattle.ir_run_tables.specs.State.{bare, block_uses_of, uses_of};
 ghost use Rattle.ir_run_sessions.specs.SessionEdits.{edit_of};
 ghost use Rattle.ir_run_sessions.specs.Headline.{GoneAtCuts, KeepsKeys};
@@ -52,6 +52,7 @@ impl<D: Dialects> Session<D> {
         requires slots { limits.slots < 4294967295 }
         requires versions { 1 ≤ limits.last_version }
         ensures new { IsNewSession (plain result) }
+        ensures beside { (plain result).beside ≡ nothing_beside }
         ensures limits { (plain result).limits ≡ limits }
     {
         Session {

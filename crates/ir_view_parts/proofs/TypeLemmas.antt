@@ -16,9 +16,8 @@ use Rattle.ir_core_records.specs.declared.record.Operation.{Operation}
 use Rattle.ir_core_records.specs.declared.record.UsePlace.{UsePlace}
 use Rattle.ir_core_records.specs.declared.record.ValueIndex.{ValueIndex}
 use Rattle.ir_core_records.specs.Meaning.{closed, block_record, definition_of, op_record, operand_of, value_of}
-use Rattle.ir_core_queries.specs.Calls.{LeadsToLive}
 use Rattle.ir_core_queries.specs.Values.{IsOfType}
-use Rattle.ir_view_parts.specs.Parts.{argument_types_of}
+use Rattle.ir_view_parts.specs.Parts.{OperandsAreLive, argument_types_of}
 use Rattle.ir_view_parts.specs.Types.{operand_types_of, type_of}
 use Rattle.ir_view_parts.proofs.Items.{all-mapped, zip-mapped}
 
@@ -76,10 +75,10 @@ module _ {D A K B S X L : Type 0} where
       ∙ ap (option_map (λ (x : Plain context_ids (closed A K B S X L)). x.ty)) (slice_get-map definition_of b.arguments k ∙ ap (option_map definition_of) e)
       ∙ ap Some (sym is)
 
-module _ {D A K B S X L : Type 0} (f : Forest context_ids (closed A K B S X L)) (keys : ℕ) (formed : WellFormed f keys) (op : Operation D A K B S X L) (leads : LeadsToLive f keys op) where
-  -- each operand's type, where the operation leads to what is live
+module _ {D A K B S X L : Type 0} (f : Forest context_ids (closed A K B S X L)) (keys : ℕ) (formed : WellFormed f keys) (op : Operation D A K B S X L) (live : OperandsAreLive f op) where
+  -- each operand's type, where its operands name what is live
   operand-type : (k : ℕ) (a : UsePlace ValueIndex) → slice_get op.operands k ≡ Some a → IsOfType f (value_of a.names) (type_of f (value_of a.names))
-  operand-type k a e = type-live f keys formed (value_of a.names) (leads.operands a.names k (ap (option_map (λ (x : Operand context_ids). x.value)) (slice_get-map operand_of op.operands k ∙ ap (option_map operand_of) e)))
+  operand-type k a e = type-live f keys formed (value_of a.names) (live a.names k (ap (option_map (λ (x : Operand context_ids). x.value)) (slice_get-map operand_of op.operands k ∙ ap (option_map operand_of) e)))
 
   -- the values that operands name, one by one
   types-named : (xs : List (UsePlace ValueIndex)) → map (λ (a : Operand context_ids). type_of f a.value) (map operand_of xs) ≡ map (λ (a : UsePlace ValueIndex). type_of f (value_of a.names)) xs

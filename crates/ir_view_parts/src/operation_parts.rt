@@ -8,7 +8,7 @@ ghost use Rattle.ir_core_records.specs.Meaning.{op_record, use_of, value_of};
 ghost use Rattle.ir_core_records.specs.Values.{IsLiveBlockUse, IsLiveUse};
 ghost use Rattle.ir_core_queries.specs.State.{forest_of, types_of};
 ghost use Rattle.ir_core_queries.specs.Values.{IsOfType};
-ghost use Rattle.ir_view_parts.specs.Parts.{operand_uses_of, result_types_of, results_of, successor_uses_of, successor_blocks_of, WhereLive};
+ghost use Rattle.ir_view_parts.specs.Parts.{OperandsAreLive, operand_uses_of, result_types_of, results_of, successor_uses_of, successor_blocks_of, WhereLive};
 
 use crate::indexed::{HasParts, Parts};
 use ir_base_dialects::{ArenaIndex, Dialects, Ptr, TypeHandle};
@@ -133,14 +133,13 @@ pub struct OperandTypesOf<'a, D: Dialects> {
 }
 
 impl<'a, D: Dialects> HasParts<usize> for OperandTypesOf<'a, D> {
-    ghost use Rattle.ir_core_queries.specs.Calls.{LeadsToLive};
     ghost use Rattle.ir_view_parts.specs.Types.{operand_types_of};
 
     type Item = TypeHandle;
 
     ghost parts = { λ s. operand_types_of (forest_of s.ctx.now) s.op.now };
 
-    ghost IsReadable = { λ s. LeadsToLive (forest_of s.ctx.now) (length (types_of s.ctx.now)) s.op.now };
+    ghost IsReadable = { λ s. OperandsAreLive (forest_of s.ctx.now) s.op.now };
 
     ghost seen = { λ t. t.place };
 
@@ -218,7 +217,6 @@ impl<'a, D: Dialects> HasParts<ArenaIndex> for RegionsOf<'a, D> {
 /// What a context gave as the operation under a live handle leads to what is live there, and to known types.
 pub trait OperationParts<D: Dialects> {
     ghost use Rattle.ir_core_records.specs.declared.record.Operation.{Operation as Plain};
-    ghost use Rattle.ir_core_queries.specs.Calls.{LeadsToLive};
 
     ghost operation: { Self → Plain D D.Attr D.TypeKey D.TypeBody D.Saved D.Aux D.Loc };
 
@@ -242,9 +240,9 @@ pub trait OperationParts<D: Dialects> {
         ensures exact { result ≡ operand_uses_of (operation self.now) }
         ensures live { WhereLive (operation self.now) (λ f known. All (λ u. IsLiveUse f (use_of u)) result) };
 
-    /// The types of the values that the operands name, which are live in the context. It stands for pliron's `Operation::operand_types`.
+    /// The types of the values that the operands name. Each of these is live in the context: so it is where the context gave the operation, and `is_live` tells it of one. It stands for pliron's `Operation::operand_types`.
     fn operand_types<'a>(&'a self, ctx: &'a Context<D>) -> OperandTypes<'a, D>
-        requires { LeadsToLive (forest_of ctx.now) (length (types_of ctx.now)) (operation self.now) }
+        requires { OperandsAreLive (forest_of ctx.now) (operation self.now) }
         ensures exact { AllZip (λ a t. IsOfType (forest_of ctx.now) a.value t) (op_record (operation self.now)).operands result }
         ensures known { All (λ t. t < length (types_of ctx.now)) result };
 

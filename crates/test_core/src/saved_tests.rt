@@ -95,11 +95,13 @@ fn save_number<T: SavedValue<Toy> + Copy>(
     Ok(saved.key().index())
 }
 
-// A number without sign and one with a sign are saved apart.
+// A number without sign and one with a sign are saved apart. A number that is saved already has its index again.
 fn intern_numbers(rt: &impl Abort, ctx: &mut Context<Toy>) -> Result<(), CoreError> {
     let unsigned = save_number(rt, ctx, 0_u64)?;
     let signed = save_number(rt, ctx, 0_i64)?;
     assert!(rt; unsigned != signed);
+    let again = save_number(rt, ctx, 0_u64)?;
+    assert!(rt; again == unsigned);
     Ok(())
 }
 

@@ -3,7 +3,7 @@
 ghost use Rattle.std.specs.Prelude.{◌≡◌};
 
 use crate::ending::end_session;
-use ir_base_dialects::{CoreError, Dialects, Limits};
+use ir_base_dialects::{CoreError, Dialects, Identifier, Limits};
 use ir_checked::CheckedErr;
 use ir_run_sessions::{Edit, Session, choices_unseen};
 use std::alloc::Global;
@@ -130,9 +130,11 @@ fn tables(session: &Session<Toy>) -> bool {
         && session.value(0).is_some()
 }
 
-// Whether a new session is empty.
+// Whether a new session is empty, and nothing is saved or named in it.
 fn new<D: Dialects>(alloc: Global) -> bool {
     choices_unseen::<D>();
     let session: Session<D> = Session::new(alloc, Limits::default());
-    session.ctx().is_ir_empty()
+    let ctx = session.ctx();
+    let named = ctx.aux_by_name(&Identifier::new("name")).is_some();
+    ctx.is_ir_empty() && ctx.saved_at(0).is_none() && !named
 }

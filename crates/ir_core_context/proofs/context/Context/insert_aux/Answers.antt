@@ -25,3 +25,6 @@ returns-clause-rest g c =
 
 pub returns-clause-spent : goal.returns-clause-spent
 returns-clause-spent g c = rw (sym c.self.view_is) (c.insert_aux.ensures.spent c.self.inside.limits c.self.invariant.counted.aux_slots)
+
+pub returns-clause-grown : goal.returns-clause-grown
+returns-clause-grown g c = rw (sym c.self.view_is) (c.insert_aux.ensures.grown c.self.inside.limits c.self.invariant.counted.aux_slots)

@@ -21,3 +21,6 @@ returns-clause-rest g c =
     let i = c.self.inside in
     let s : ContextState _ _ _ _ _ _ _ = record { records = i.records; types = i.types; next_value = i.next_value; next_use = i.next_use; side = i.side; limits = i.limits } in
     rw (sym c.self.view_is) (aside-rest s c.save.new.self)
+
+pub returns-clause-only_new : goal.returns-clause-only_new
+returns-clause-only_new g c = rw (sym c.self.view_is) c.save.ensures.only_new
