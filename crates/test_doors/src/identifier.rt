@@ -1,5 +1,7 @@
 //! `ir_base::identifier`, and the names that are identifiers.
 
+ghost use Rattle.std.specs.Prelude.{◌≡◌, codes};
+
 use ir_base::attribute::{AttrId, AttrName};
 use ir_base::identifier::{IdentErr, Identifier, Legaliser, MalformedIdentifierErr, ident};
 use ir_base::op::{DialectName, Id, Name, OpId, OpName};
@@ -9,9 +11,15 @@ use std::convert::{AsRef, AsStr};
 use std::fmt::Display;
 use std::hash::Hash;
 
+/// The identifier of a literal.
+pub fn literal() -> Identifier
+    ensures { result ≡ codes "x" }
+{
+    ident!("x")
+}
+
 /// Identifiers.
 pub fn identifiers() {
-    let _ = ident!("x");
     let _ = Identifier::is_valid;
     let _ = Identifier::try_new;
     let _ = Identifier::new;
