@@ -15,8 +15,7 @@ pub trait ArenaObj<D: Dialects> {
     ghost use Rattle.ir_model.specs.declared.ids.ArenaIndex.{ArenaIndex};
     ghost use Rattle.ir_model.specs.ContextIds.{context_ids};
     ghost use Rattle.ir_model.specs.Forest.{Entity, Forest};
-    ghost use Rattle.ir_core_records.specs.Meaning.{block_index, closed, op_index, region_index};
-    ghost use Rattle.ir_core_context.specs.Calls.{IsBlock, IsOperation, IsRegion};
+    ghost use Rattle.ir_core_records.specs.Meaning.{closed};
 
     ghost entity_at: { ArenaIndex → Entity context_ids };
 
@@ -35,6 +34,9 @@ pub trait ArenaObj<D: Dialects> {
 }
 
 impl<D: Dialects> ArenaObj<D> for Operation<D> {
+    ghost use Rattle.ir_core_records.specs.Meaning.{op_index};
+    ghost use Rattle.ir_core_context.specs.Calls.{IsOperation};
+
     ghost entity_at = { an_op };
 
     ghost own_index = { op_index };
@@ -51,6 +53,9 @@ impl<D: Dialects> ArenaObj<D> for Operation<D> {
 }
 
 impl<D: Dialects> ArenaObj<D> for BasicBlock<D> {
+    ghost use Rattle.ir_core_records.specs.Meaning.{block_index};
+    ghost use Rattle.ir_core_context.specs.Calls.{IsBlock};
+
     ghost entity_at = { a_block };
 
     ghost own_index = { block_index };
@@ -67,6 +72,9 @@ impl<D: Dialects> ArenaObj<D> for BasicBlock<D> {
 }
 
 impl<D: Dialects> ArenaObj<D> for Region {
+    ghost use Rattle.ir_core_records.specs.Meaning.{region_index};
+    ghost use Rattle.ir_core_context.specs.Calls.{IsRegion};
+
     ghost entity_at = { a_region };
 
     ghost own_index = { region_index };

@@ -3,7 +3,7 @@
 ghost use Rattle.std.specs.Prelude.{◌≡◌, length};
 ghost use Rattle.ir_model.specs.Forest.{a_block, a_region, an_op};
 ghost use Rattle.ir_model.specs.Nesting.{IsLive};
-ghost use Rattle.ir_view_parts.specs.Calls.{LeadsToLive};
+ghost use Rattle.ir_view_parts.specs.Calls.{IsOperation, LeadsToLive};
 ghost use Rattle.ir_view_parts.specs.State.{forest_of, types_of};
 
 use crate::contexts::expect_same;
@@ -11,7 +11,7 @@ use crate::core_tests::two_uses;
 use ir_base_dialects::{CoreError, Dialects, Ptr};
 use ir_checked::{
     BasicBlock, BlockPtr, Context, Operation, OperationPtr, Region, RegionPtr, TypeQueries,
-    UseQueries, ValueQueries, end, new_op, new_type,
+    UseQueries, ValueQueries, end, new_block, new_op, new_type, region,
 };
 use ir_view_parts::{ArenaObj, NewOperation, ResultUses};
 use std::panic::Expect;
@@ -112,6 +112,36 @@ fn back_to_region<D: Dialects>(ctx: &Context<D>, region: Ptr<Region>) -> Ptr<Reg
     ensures { result.index ≡ region.index }
 {
     region.deref(ctx).get_self_ptr(ctx)
+}
+
+// A live operation, out of the arena that has it.
+fn out_of_arena<D: Dialects>(ctx: &Context<D>, op: Ptr<Operation<D>>) -> &Operation<D>
+    requires { IsLive (forest_of ctx.now) (an_op op.index) }
+    ensures { IsOperation (forest_of ctx.now) op.index result.now }
+{
+    Operation::get_arena(ctx).at(op)
+}
+
+// Makes a block and an operation with two regions, and goes from each handle to its record and back.
+fn make_and_go_back(rt: &impl Abort, ctx: &mut Context<Toy>) {
+    let block = new_block(ctx, None, &[]).expect(rt, "the block");
+    let op = new_op(ctx, 5, &[], &[], &[], 2).expect(rt, "the operation");
+    let second = region(ctx, op, 1).expect(rt, "its second region");
+    assert!(rt; op.is_live(ctx) && block.is_live(ctx) && second.is_live(ctx));
+    let kind = out_of_arena(ctx, op).kind();
+    let back = (
+        back_to_op(ctx, op),
+        back_to_block(ctx, block),
+        back_to_region(ctx, second),
+    );
+    expect_same(rt, (kind, back), (5, (op, block, second)), "what they are");
+}
+
+#[test]
+fn records_know_their_handles(rt: HostRuntime) {
+    let mut ctx: Context<Toy> = Context::new(rt.alloc());
+    make_and_go_back(&rt, &mut ctx);
+    end(ctx, ());
 }
 
 // Makes an operation that uses a value for the third time, and walks from there.

@@ -115,6 +115,10 @@ fn expect_op_ends<D: Dialects>(
 ) {
     expect_same(rt, block_head(ctx, block), Ok(first));
     expect_same(rt, block_tail(ctx, block), Ok(last));
+    assert!(rt; block.is_live(ctx));
+    let kept = block.deref(ctx).ops_list;
+    expect_same(rt, kept.first.get(), first.map(|op| op.index()));
+    expect_same(rt, kept.last.get(), last.map(|op| op.index()));
 }
 
 // Four new operations, which stand in no block.
@@ -268,6 +272,9 @@ fn expect_entry<D: Dialects>(
     expect_same(rt, region_tail(ctx, region), Ok(last));
     assert!(rt; region.is_live(ctx));
     expect_same(rt, region.get_entry_block(ctx), entry);
+    let record = region.deref(ctx);
+    expect_same(rt, record.first.get(), entry.map(|block| block.index()));
+    expect_same(rt, record.last.get(), last.map(|block| block.index()));
 }
 
 // Asserts whether the block stands in a region, and what stands right before and right after it.

@@ -163,8 +163,8 @@ fn write_links<D: Dialects>(out: &mut String, block: &BasicBlock<D>) -> Result<(
         ("next", block.next),
         ("prev", block.prev),
         ("parent", block.parent),
-        ("first", block.first),
-        ("last", block.last),
+        ("first", block.ops_list.first),
+        ("last", block.ops_list.last),
     ] {
         write_link(out, name, link)?;
     }
@@ -217,7 +217,7 @@ pub fn write_region(out: &mut String, region: Option<&Region>) -> Result<(), Cor
     let Some(region) = region else {
         return Ok(out.push_str("\ndead region")?);
     };
-    write!(out, "\nregion parent {}", region.parent)?;
+    write!(out, "\nregion {} parent {}", region.index, region.parent)?;
     write_link(out, "first", region.first)?;
     write_link(out, "last", region.last)
 }
