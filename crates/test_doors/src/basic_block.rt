@@ -1,8 +1,9 @@
 //! `ir_core::basic_block` and `ir_view::basic_block`.
 
 use ir_base::context::Ptr;
+use ir_base::linked_list::Link;
 use ir_base::prelude::*;
-use ir_core::basic_block::BasicBlock;
+use ir_core::basic_block::{BasicBlock, OpsInBlock};
 use ir_core::prelude::*;
 use ir_view::basic_block::{ArgumentTypes, Arguments};
 use ir_view::prelude::*;
@@ -28,6 +29,7 @@ pub fn asked<'a, D: Dialects>() {
     let _ = <ArgumentTypes<'a, D> as Iterator>::next;
     let _ = <Ptr<BasicBlock<D>> as BlockPlace<D>>::get_parent_region;
     let _ = <Ptr<BasicBlock<D>> as BlockPlace<D>>::get_parent_op;
+    let _ = <Ptr<BasicBlock<D>> as BlockPlace<D>>::get_parent_block;
     let _ = <Ptr<BasicBlock<D>> as BlockSuccessors<D>>::succs;
     let _ = <Ptr<BasicBlock<D>> as BlockSuccessors<D>>::has_succ;
     let _ = <Ptr<BasicBlock<D>> as BlockSuccessors<D>>::is_succ;
@@ -40,4 +42,9 @@ pub fn asked<'a, D: Dialects>() {
     let _ = <Ptr<BasicBlock<D>> as Named<D>>::given_name;
     let _ = <Ptr<BasicBlock<D>> as Named<D>>::id;
     let _ = <Ptr<BasicBlock<D>> as Named<D>>::unique_name;
+}
+
+/// The ends of a block's list.
+pub fn ends(ops: OpsInBlock) -> (Link, Link) {
+    (ops.first, ops.last)
 }

@@ -4,9 +4,12 @@ use ir_base::context::{
     Arena, ArenaIndex, CoreError, Dialects, DictKeyId, DuplicateKey, Limits, Ptr, Room,
     collect_deduped_interface_verifiers, verify_dict_keys,
 };
+use ir_core::basic_block::BasicBlock;
 use ir_core::context::{
-    AuxDataIndex, Context, DanglingPtrDerefError, Entity, can_erase, is_inside,
+    ArenaObj, AuxDataIndex, Context, DanglingPtrDerefError, Entity, can_erase, is_inside,
 };
+use ir_core::operation::Operation;
+use ir_core::region::Region;
 use std::collections::hash_map::DefaultHasher;
 use std::fmt::Display;
 use std::hash::Hash;
@@ -53,6 +56,19 @@ pub fn contexts<D: Dialects>() {
     let _ = Entity::<D>::Region;
     let _ = is_inside::<D>;
     let _ = can_erase::<D>;
+}
+
+/// The arenas of a context, and the handles of what they have.
+pub fn arena_objects<D: Dialects, T: ArenaObj<D>>() {
+    let _ = T::get_arena;
+    let _ = T::get_self_ptr;
+}
+
+/// The three that a context has.
+pub fn objects_of_a_context<D: Dialects>() {
+    arena_objects::<D, Operation<D>>();
+    arena_objects::<D, BasicBlock<D>>();
+    arena_objects::<D, Region>();
 }
 
 /// What a context may hand out, and what it has left.

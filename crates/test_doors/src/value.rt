@@ -33,6 +33,7 @@ pub fn asked<D: Dialects>() {
 /// How a value is changed, and what names it.
 pub fn changed<D: Dialects>() {
     let _ = <Value<D> as ValueEdits<D>>::set_type;
+    let _ = <Value<D> as ValueEdits<D>>::set_name;
     let _ = <Value<D> as ValueEdits<D>>::replace_all_uses_with;
     let _ = <Value<D> as ValueEdits<D>>::replace_use_with;
 }
