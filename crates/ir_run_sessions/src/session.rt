@@ -116,7 +116,7 @@ impl<D: Dialects> Session<D> {
         ensures block_uses_exact { (b : ArenaIndex) → IsLiveNamed (plain self.new).state.forest (the_block b) → AreUses (plain self.new).state.forest (the_block b) (block_uses_of self.new.ctx b) }
         ensures stays_gone { StaysGone (plain self.old) (plain self.new) }
         ensures gone_at_cuts { IfOk result (λ answers. GoneAtCuts (behaviour_of D.Dialects D.TypeKey.eq) (plain self.old) (map edit_of edits.items) answers.items (plain self.new)) }
-        ensures recall_live_was_made { LiveWasMade (bare self.new.ctx) }
+        ensures live_was_made { LiveWasMade (bare self.new.ctx) }
         ensures types_exact { TypesAreExact (behaviour_of D.Dialects D.TypeKey.eq) (plain self.new).state.store }
         ensures keys_stay { KeepsKeys (plain self.old) (plain self.new) }
         ensures memory { IfErr result (λ e. e ≡ CoreError.OutOfMemory) }
