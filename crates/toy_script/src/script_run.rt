@@ -90,11 +90,7 @@ fn answer_parts<W: Write>(
 }
 
 // Carries the edits of a part out, verifies what it asks for after them, and writes the answers.
-fn answer_part(
-    text: &mut String,
-    session: &mut Session<Toy>,
-    part: Part,
-) -> Result<(), ScriptError>
+fn answer_part(text: &mut String, session: &mut Session<Toy>, part: Part) -> Result<(), ScriptError>
     ensures memory { IfErr result (λ e. e ≡ OutOfMemory) }
 {
     let answers = session.run(part.edits)?;
