@@ -1,2 +1,3 @@
 mod AnswerLines
+mod NameLists
 mod Telling

@@ -1,5 +1,6 @@
 -- The fields of a script's lines, and what stands in them.
-use Rattle.std.specs.Prelude.{◌≡◌, ℕ, ◌≤◌, ◌⊎◌, List, ◌∷◌, drop, slice_index, All}
+use Rattle.std.specs.Prelude.{◌≡◌, ℕ, ◌≤◌, ◌⊎◌, ◌==◌, List, [], ◌∷◌, drop, slice_index, All, codes}
+use Rattle.std.specs.List.{AllZip, slice_split}
 use Rattle.std.specs.Str.Parse.{IsNumeral, digits_value}
 
 -- the line is skipped: its first character is `#`, or it has spaces alone, or nothing
@@ -21,3 +22,11 @@ IsName letter text = (text ≡ letter ∷ drop 1 text) × IsNumberField (drop 1 
 -- the number of a name
 abbrev pub number_in_name : List ℕ → ℕ
 number_in_name text = number_of (drop 1 text)
+
+-- a name with this letter, and its number
+abbrev pub IsNameOf : ℕ → List ℕ → ℕ → Type 0
+IsNameOf letter text number = IsName letter text × (number ≡ number_in_name text)
+
+-- a list of names with this letter, and their numbers: `-` for none, or names with single commas between them
+abbrev pub AreNames : ℕ → List ℕ → List ℕ → Type 0
+AreNames letter text numbers = ((text ≡ codes "-") × (numbers ≡ [])) ⊎ AllZip (IsNameOf letter) (slice_split (λ byte. byte == 44) text) numbers

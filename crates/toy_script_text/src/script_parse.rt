@@ -2,7 +2,8 @@
 //!
 //! A script is lines that are ended by LF, which the last may lack; a CR before an LF is dropped. A line that is empty, that has spaces alone, or whose first character is `#` is skipped and counted. Other lines are fields with spaces between them.
 
-ghost use Rattle.std.specs.Prelude.{◌≡◌, ◌<◌, ◌≤◌, IfErr, Some};
+ghost use Rattle.std.specs.Prelude.{◌≡◌, ◌<◌, ◌≤◌, IfOk, IfErr, Some};
+ghost use Rattle.toy_script_text.specs.Fields.{AreNames};
 ghost use Rattle.toy_script_text.specs.Lines.{letter_text};
 ghost use Rattle.toy_script_text.specs.Outcomes.{IsOfReading};
 ghost use Rattle.toy_script_text.specs.declared.script_parse.LineError.TheVariants.{OutOfMemory};
@@ -315,6 +316,7 @@ fn parse_two_names(letter: char, other_letter: char, text: &str) -> Option<(usiz
 // A list of names with this letter: `-`, or names with single commas between them.
 fn parse_names(alloc: Global, letter: char, text: &str) -> Result<Vec<usize>, LineError>
     requires { letter < 128 }
+    ensures names { IfOk result (λ numbers. AreNames letter text.now numbers.items) }
 {
     let mut numbers = Vec::new(alloc);
     if text == "-" {
