@@ -128,7 +128,7 @@ const ROWS: [Row; 17] = [
     (b"type 1\n", [NONE, BROKEN_AT_FLUSH, NO_MEMORY], 3, ""),
 ];
 
-// Asserts that a script ends as its row says.
+// Asserts that a script ends as its row says, and that under status 2 nothing is printed.
 fn expect_row(rt: &impl Abort, alloc: Global, row: &Row) -> Result<(), Fail> {
     let (script, [reading, writing, telling], wanted, told) = *row;
     let mut input = Source {
@@ -139,6 +139,7 @@ fn expect_row(rt: &impl Abort, alloc: Global, row: &Row) -> Result<(), Fail> {
     let mut fault = new_sink(alloc, telling);
     let status = run_script(alloc, &mut input, &mut output, &mut fault);
     assert!(rt; status == wanted);
+    assert!(rt; status != 2 || output.taken.is_empty());
     expect_written(rt, fault.taken.as_slice(), told);
     Ok(())
 }
