@@ -11,9 +11,9 @@ ghost use Rattle.ir_core_records.specs.Nested.{AreNested};
 ghost use Rattle.ir_core_records.specs.Tree.{tree_of};
 ghost use Rattle.ir_core_erasing.specs.Closed.{EntityClosed};
 
-use crate::walk::{deepest, next_inside, subtrees_are_listed};
+use crate::walk::{deepest, next_inside, recall_subtrees_listed};
 use ir_base_dialects::{Dialects, Ptr};
-use ir_core_nesting::{are_one, depths_follow, parent_of};
+use ir_core_nesting::{are_one, parent_of, recall_depths_follow};
 use ir_core_records::{Definition, EntityIndex, KeptUse, Records};
 
 // What an entity stands in, but no further out than the root.
@@ -44,7 +44,7 @@ fn climbs_into<D: Dialects>(
     requires home { Inside (forest_in records.now) (entity_of root) (entity_of home) }
     ensures { IsTrue result ↔ Inside (forest_in records.now) (entity_of root) (entity_of inner) }
 {
-    depths_follow::<D>();
+    recall_depths_follow::<D>();
     let mut current = Some(inner);
     while let Some(entity) = current {
         if are_one(entity, root) {
@@ -132,7 +132,7 @@ pub fn can_erase<D: Dialects>(records: &Records<D>, entity: EntityIndex) -> bool
     requires live { IsLive (forest_in records.now) (entity_of entity) }
     ensures { IsTrue result ↔ IsClosed (forest_in records.now) (entity_of entity) }
 {
-    subtrees_are_listed::<D>();
+    recall_subtrees_listed::<D>();
     let mut current = Some(deepest(records, entity));
     while let Some(here) = current {
         if !keeps_its_users(records, entity, here) {

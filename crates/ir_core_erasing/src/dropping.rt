@@ -10,7 +10,7 @@ ghost use Rattle.ir_core_records.specs.Nested.{AreNested};
 ghost use Rattle.ir_core_records.specs.Tree.{tree_of};
 ghost use Rattle.ir_core_erasing.specs.Dropping.{without_uses};
 
-use crate::walk::{deepest, next_inside, subtrees_are_listed};
+use crate::walk::{deepest, next_inside, recall_subtrees_listed};
 use ir_base_dialects::Dialects;
 use ir_core_chains::{unlink_operands, unlink_successors};
 use ir_core_records::{EntityIndex, Records};
@@ -39,7 +39,7 @@ pub fn drop_all_uses<D: Dialects>(records: &mut Records<D>, entity: EntityIndex)
     ensures linked { AreLinked (chains_of records.new) }
     ensures keeps { KeepsTree records.old records.new }
 {
-    subtrees_are_listed::<D>();
+    recall_subtrees_listed::<D>();
     let mut current = Some(deepest(records, entity));
     while let Some(here) = current {
         drop_uses(records, here);

@@ -12,4 +12,4 @@ mod walk;
 pub use closed::can_erase;
 pub use dropping::drop_all_uses;
 pub use erasing::erase;
-pub use walk::{deepest, next_inside, subtrees_are_listed};
+pub use walk::{deepest, next_inside, recall_subtrees_listed};

@@ -16,7 +16,7 @@ ghost use Rattle.ir_core_erasing.specs.Walks.{before_from, kept_last, kept_previ
 
 use ir_base_dialects::list_laws::links_are_neighbours;
 use ir_base_dialects::{ArenaIndex, Dialects, Ptr};
-use ir_core_nesting::{are_one, depths_follow, parent_of};
+use ir_core_nesting::{are_one, parent_of, recall_depths_follow};
 use ir_core_records::{BasicBlock, EntityIndex, Operation, Records, Region};
 
 // The last of what stands in an entity, as the records say.
@@ -113,7 +113,7 @@ pub fn deepest<D: Dialects>(records: &Records<D>, start: EntityIndex) -> EntityI
     ensures leaf { children (forest_in records.now) (entity_of result) ≡ [] }
     ensures first { first_of (subtree records.now (entity_of start)) ≡ Some (entity_of result) }
 {
-    depths_follow::<D>();
+    recall_depths_follow::<D>();
     let mut current = start;
     while let Some(child) = last_in_record(records, current) {
         current = child;
@@ -132,7 +132,7 @@ pub fn next_inside<D: Dialects>(
     ensures { (before behind : List (Entity context_ids)) → subtree records.now (entity_of root) ≡ before ++ entity_of here ∷ behind
         → option_map entity_of result ≡ first_of behind }
 {
-    depths_follow::<D>();
+    recall_depths_follow::<D>();
     links_are_neighbours::<Operation<D>, BasicBlock<D>>();
     links_are_neighbours::<BasicBlock<D>, Region>();
     if are_one(here, root) {
@@ -145,8 +145,8 @@ pub fn next_inside<D: Dialects>(
 }
 
 /// The listing of an entity has exactly what is inside it, each once.
-pub fn subtrees_are_listed<D: Dialects>()
+pub fn recall_subtrees_listed<D: Dialects>()
     ensures { SubtreesListed D D.Attr D.TypeKey D.TypeBody D.Saved D.Aux D.Loc }
 {
-    depths_follow::<D>();
+    recall_depths_follow::<D>();
 }

@@ -14,6 +14,6 @@ mod removals;
 pub use creation::{
     add_region, insert_block, insert_operation, remove_bare_operation, remove_last_region,
 };
-pub use parents::{are_one, depths_follow, is_inside, parent_of};
+pub use parents::{are_one, is_inside, parent_of, recall_depths_follow};
 pub use region_moves::move_region;
 pub use removals::{remove_bare_block, remove_empty_region};

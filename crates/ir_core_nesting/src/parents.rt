@@ -81,7 +81,7 @@ pub fn is_inside<D: Dialects>(records: &Records<D>, outer: EntityIndex, inner: E
 }
 
 /// What stands in an entity is one level deeper than that, and nothing is deeper than there are slots. So a walk up or down ends.
-pub fn depths_follow<D: Dialects>()
+pub fn recall_depths_follow<D: Dialects>()
     ensures below { DepthsFollow D D.Attr D.TypeKey D.TypeBody D.Saved D.Aux D.Loc }
     ensures fits { DepthsFit D D.Attr D.TypeKey D.TypeBody D.Saved D.Aux D.Loc }
 {

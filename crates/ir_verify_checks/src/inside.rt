@@ -13,7 +13,7 @@ use crate::error::VerifyErr;
 use crate::operation_faults::verify_place;
 use crate::verifiers::Verifiers;
 use ir_base_dialects::{Dialects, Ptr};
-use ir_core_erasing::{deepest, next_inside, subtrees_are_listed};
+use ir_core_erasing::{deepest, next_inside, recall_subtrees_listed};
 use ir_core_records::EntityIndex;
 use ir_view_parts::{BasicBlock, Context, Operation};
 
@@ -83,7 +83,7 @@ pub(crate) fn verify_inside<D: Dialects, V: Verifiers<D>>(
 {
     ctx.recall_well_formed();
     ctx.recall_holds_together();
-    subtrees_are_listed::<D>();
+    recall_subtrees_listed::<D>();
     let records = ctx.records();
     let mut current = Some(deepest(records, root));
     while let Some(here) = current {

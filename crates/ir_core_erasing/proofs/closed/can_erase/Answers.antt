@@ -23,7 +23,7 @@ keeps_its_users-requires-clause-live g c =
     let here = entity_of c.in-Some.here in
     let w : Passing (subtree t root) (AllClosed (forest_in t) root) (Some here) = subst (λ (o : Option EntityIndex). Passing (subtree t root) (AllClosed (forest_in t) root) (option_map entity_of o)) c.in-Some.is c.loop-current.invariant in
     let formed = c.requires.formed.1.nested in
-    let i : Inside (forest_in t) root here = ((c.subtrees_are_listed.ensures t root c.requires.nested formed).exact here).0 (passing-in (subtree t root) (AllClosed (forest_in t) root) here w) in
+    let i : Inside (forest_in t) root here = ((c.recall_subtrees_listed.ensures t root c.requires.nested formed).exact here).0 (passing-in (subtree t root) (AllClosed (forest_in t) root) here w) in
     inside-live (forest_in t) formed root here c.requires.live i
 
 pub keeps_its_users-requires-clause-inside : goal.keeps_its_users-requires-clause-inside
@@ -32,7 +32,7 @@ keeps_its_users-requires-clause-inside g c =
     let root = entity_of c.args.entity in
     let here = entity_of c.in-Some.here in
     let w : Passing (subtree t root) (AllClosed (forest_in t) root) (Some here) = subst (λ (o : Option EntityIndex). Passing (subtree t root) (AllClosed (forest_in t) root) (option_map entity_of o)) c.in-Some.is c.loop-current.invariant in
-    ((c.subtrees_are_listed.ensures t root c.requires.nested c.requires.formed.1.nested).exact here).0 (passing-in (subtree t root) (AllClosed (forest_in t) root) here w)
+    ((c.recall_subtrees_listed.ensures t root c.requires.nested c.requires.formed.1.nested).exact here).0 (passing-in (subtree t root) (AllClosed (forest_in t) root) here w)
 
 pub returns-then-not-keeps_its_users : goal.returns-then-not-keeps_its_users
 returns-then-not-keeps_its_users g c =
@@ -40,7 +40,7 @@ returns-then-not-keeps_its_users g c =
     let root = entity_of c.args.entity in
     let here = entity_of c.in-Some.here in
     let w : Passing (subtree t root) (AllClosed (forest_in t) root) (Some here) = subst (λ (o : Option EntityIndex). Passing (subtree t root) (AllClosed (forest_in t) root) (option_map entity_of o)) c.in-Some.is c.loop-current.invariant in
-    let i : Inside (forest_in t) root here = ((c.subtrees_are_listed.ensures t root c.requires.nested c.requires.formed.1.nested).exact here).0 (passing-in (subtree t root) (AllClosed (forest_in t) root) here w) in
+    let i : Inside (forest_in t) root here = ((c.recall_subtrees_listed.ensures t root c.requires.nested c.requires.formed.1.nested).exact here).0 (passing-in (subtree t root) (AllClosed (forest_in t) root) here w) in
     (λ e. absurd (false≢true e), λ closed. absurd (false≢true (sym c.if-not-keeps_its_users.true ∙ c.keeps_its_users.ensures.1 (closed-entity (forest_in t) root here closed i))))
 
 pub loop-current-preserved : goal.loop-current-preserved
@@ -59,7 +59,7 @@ loop-current-smaller g c =
     let here = entity_of c.in-Some.here in
     let w : Passing (subtree t root) (AllClosed (forest_in t) root) (Some here) = subst (λ (o : Option EntityIndex). Passing (subtree t root) (AllClosed (forest_in t) root) (option_map entity_of o)) c.in-Some.is c.loop-current.invariant in
     let less : remaining (subtree t root) (option_map entity_of c.next_inside-current.result) < remaining (subtree t root) (Some here) =
-    passing-smaller (subtree t root) (AllClosed (forest_in t) root) here w (option_map entity_of c.next_inside-current.result) c.next_inside-current.ensures (c.subtrees_are_listed.ensures t root c.requires.nested c.requires.formed.1.nested).once in
+    passing-smaller (subtree t root) (AllClosed (forest_in t) root) here w (option_map entity_of c.next_inside-current.result) c.next_inside-current.ensures (c.recall_subtrees_listed.ensures t root c.requires.nested c.requires.formed.1.nested).once in
     let was : remaining (subtree t root) (option_map entity_of c.loop-current.current) ≡ remaining (subtree t root) (Some here) = ap (λ (o : Option EntityIndex). remaining (subtree t root) (option_map entity_of o)) c.in-Some.is in
     subst (λ n. remaining (subtree t root) (option_map entity_of c.next_inside-current.result) < n) (sym was) less
 
@@ -69,5 +69,5 @@ returns g c =
     let root = entity_of c.args.entity in
     let w : Passing (subtree t root) (AllClosed (forest_in t) root) None = subst (λ (o : Option EntityIndex). Passing (subtree t root) (AllClosed (forest_in t) root) (option_map entity_of o)) c.in_default.is c.loop-current.invariant in
     let all = passing-end (subtree t root) (AllClosed (forest_in t) root) w in
-    let lists = c.subtrees_are_listed.ensures t root c.requires.nested c.requires.formed.1.nested in
+    let lists = c.recall_subtrees_listed.ensures t root c.requires.nested c.requires.formed.1.nested in
     (λ _. (closed-listed (forest_in t) root c.requires.formed.0 c.requires.formed.1 (subtree t root) lists).1 all, λ _. refl)

@@ -34,7 +34,7 @@ loop-current-smaller g c =
     let t = c.args.records.now in
     let was : depth t (option_map entity_of c.loop-current.current) ≡ depth t (Some (entity_of c.in-Some.entity)) = ap (λ (o : Option EntityIndex). depth t (option_map entity_of o)) c.in-Some.is in
     subst (λ n. depth t (option_map entity_of c.parent_of-current.result) < n) (sym was)
-    (climb-less c.depths_follow.ensures.below t c.requires.nested c.requires.formed (entity_of c.in-Some.entity) (option_map entity_of c.parent_of-current.result) c.parent_of-current.ensures)
+    (climb-less c.recall_depths_follow.ensures.below t c.requires.nested c.requires.formed (entity_of c.in-Some.entity) (option_map entity_of c.parent_of-current.result) c.parent_of-current.ensures)
 
 pub loop-current-preserved : goal.loop-current-preserved
 loop-current-preserved g c =

@@ -23,7 +23,7 @@ drop_uses-requires-clause-live g c =
     let now = c.loop-current.records in
     let root = entity_of c.args.entity in
     let w : Dropping first now root (Some (entity_of c.in-Some.here)) = subst (λ (o : Option EntityIndex). Dropping first now root (option_map entity_of o)) c.in-Some.is c.loop-current.invariant in
-    here-live first now c.requires.nested c.requires.formed root (entity_of c.in-Some.here) (c.subtrees_are_listed.ensures first root c.requires.nested c.requires.formed) c.requires.live w
+    here-live first now c.requires.nested c.requires.formed root (entity_of c.in-Some.here) (c.recall_subtrees_listed.ensures first root c.requires.nested c.requires.formed) c.requires.live w
 
 pub next_inside-current-requires-clause-formed : goal.next_inside-current-requires-clause-formed
 next_inside-current-requires-clause-formed g c =
@@ -42,7 +42,7 @@ loop-current-preserved g c =
     let root = entity_of c.args.entity in
     let w : Dropping first now root (Some (entity_of c.in-Some.here)) = subst (λ (o : Option EntityIndex). Dropping first now root (option_map entity_of o)) c.in-Some.is c.loop-current.invariant in
     let next = c.drop_uses.new.records in
-    dropping-step first now c.requires.nested c.requires.formed root (entity_of c.in-Some.here) (c.subtrees_are_listed.ensures first root c.requires.nested c.requires.formed) c.requires.live w
+    dropping-step first now c.requires.nested c.requires.formed root (entity_of c.in-Some.here) (c.recall_subtrees_listed.ensures first root c.requires.nested c.requires.formed) c.requires.live w
     next c.drop_uses.ensures.keeps (option_map entity_of c.next_inside-current.result) c.next_inside-current.ensures c.drop_uses.ensures.linked c.drop_uses.ensures.forest
 
 pub loop-current-smaller : goal.loop-current-smaller
@@ -53,7 +53,7 @@ loop-current-smaller g c =
     let w : Dropping first now root (Some (entity_of c.in-Some.here)) = subst (λ (o : Option EntityIndex). Dropping first now root (option_map entity_of o)) c.in-Some.is c.loop-current.invariant in
     let next = c.drop_uses.new.records in
     let less : remaining (subtree first root) (option_map entity_of c.next_inside-current.result) < remaining (subtree first root) (Some (entity_of c.in-Some.here)) =
-    dropping-smaller first now c.requires.nested c.requires.formed root (entity_of c.in-Some.here) (c.subtrees_are_listed.ensures first root c.requires.nested c.requires.formed) c.requires.live w
+    dropping-smaller first now c.requires.nested c.requires.formed root (entity_of c.in-Some.here) (c.recall_subtrees_listed.ensures first root c.requires.nested c.requires.formed) c.requires.live w
     next c.drop_uses.ensures.keeps (option_map entity_of c.next_inside-current.result) c.next_inside-current.ensures in
     let was : remaining (subtree first root) (option_map entity_of c.loop-current.current) ≡ remaining (subtree first root) (Some (entity_of c.in-Some.here)) = ap (λ (o : Option EntityIndex). remaining (subtree first root) (option_map entity_of o)) c.in-Some.is in
     subst (λ n. remaining (subtree first root) (option_map entity_of c.next_inside-current.result) < n) (sym was) less
@@ -64,4 +64,4 @@ returns-clause-forest g c =
     let now = c.loop-current.records in
     let root = entity_of c.args.entity in
     let w : Dropping first now root None = subst (λ (o : Option EntityIndex). Dropping first now root (option_map entity_of o)) c.in_default.is c.loop-current.invariant in
-    dropping-end first now root (c.subtrees_are_listed.ensures first root c.requires.nested c.requires.formed) w
+    dropping-end first now root (c.recall_subtrees_listed.ensures first root c.requires.nested c.requires.formed) w

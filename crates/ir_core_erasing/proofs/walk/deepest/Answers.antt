@@ -23,7 +23,7 @@ loop-child-preserved g c =
     let inner : In child (children (forest_in t) here) = subst (In child) (sym last.1) (In-right child last.0 (child ∷ []) (inl refl)) in
     record {
       inside = below inner c.loop-child.invariant.inside;
-      starts = λ y h. c.loop-child.invariant.starts y (starts-down (children (forest_in t)) (subtree t) (subtree-is c.depths_follow.ensures.below c.depths_follow.ensures.fits t c.requires.nested c.requires.formed) here child y last h);
+      starts = λ y h. c.loop-child.invariant.starts y (starts-down (children (forest_in t)) (subtree t) (subtree-is c.recall_depths_follow.ensures.below c.recall_depths_follow.ensures.fits t c.requires.nested c.requires.formed) here child y last h);
     }
 
 pub loop-child-smaller : goal.loop-child-smaller
@@ -33,8 +33,8 @@ loop-child-smaller g c =
     let child = entity_of c.in-Some.child in
     let last : EndsWith (children (forest_in t) here) child = last-ends (children (forest_in t) here) child (sym (last-is t c.requires.nested here) ∙ sym c.in-Some.ensures) in
     let inner : In child (children (forest_in t) here) = subst (In child) (sym last.1) (In-right child last.0 (child ∷ []) (inl refl)) in
-    let more : depth t (Some child) ≡ suc (depth t (Some here)) = c.depths_follow.ensures.below t child here c.requires.nested c.requires.formed inner in
-    let fits : depth t (Some child) ≤ suc (size t) = c.depths_follow.ensures.fits t (Some child) in
+    let more : depth t (Some child) ≡ suc (depth t (Some here)) = c.recall_depths_follow.ensures.below t child here c.requires.nested c.requires.formed inner in
+    let fits : depth t (Some child) ≤ suc (size t) = c.recall_depths_follow.ensures.fits t (Some child) in
     let smaller : suc (size t) - depth t (Some child) < suc (size t) - depth t (Some here) = omega (arith, more, fits) in
     smaller
 
@@ -49,5 +49,5 @@ returns-clause-first g c =
     let t = c.args.records.now in
     let here = entity_of c.loop-child.current in
     let none = last-none (children (forest_in t) here) (sym (last-is t c.requires.nested here) ∙ sym c.last_in_record.ensures ∙ ap (option_map entity_of) c.in_default.is) in
-    let first = c.loop-child.invariant.starts here (starts-leaf (children (forest_in t)) (subtree t) (subtree-is c.depths_follow.ensures.below c.depths_follow.ensures.fits t c.requires.nested c.requires.formed) here none) in
+    let first = c.loop-child.invariant.starts here (starts-leaf (children (forest_in t)) (subtree t) (subtree-is c.recall_depths_follow.ensures.below c.recall_depths_follow.ensures.fits t c.requires.nested c.requires.formed) here none) in
     ap first_of first.1

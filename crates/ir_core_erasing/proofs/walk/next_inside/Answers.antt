@@ -14,7 +14,7 @@ use Rattle.ir_core_erasing.proofs.walk.next_inside.Goals as goal
 pub returns-then-are_one : goal.returns-then-are_one
 returns-then-are_one g c = λ before behind splits.
     let t = c.args.records.now in
-    sym (after-root c.depths_follow.ensures.below c.depths_follow.ensures.fits t c.requires.nested c.requires.formed
+    sym (after-root c.recall_depths_follow.ensures.below c.recall_depths_follow.ensures.fits t c.requires.nested c.requires.formed
     (c.links_are_neighbours.ensures.links t.ops t.blocks (ops_in (tree_of t)) c.requires.nested.op_lists)
     (c.links_are_neighbours-2.ensures.links t.blocks t.regions (blocks_in (tree_of t)) c.requires.nested.block_lists)
     (entity_of c.args.root) (entity_of c.args.here) before behind splits
@@ -24,7 +24,7 @@ pub returns-in-Some : goal.returns-in-Some
 returns-in-Some g c = λ before behind splits.
     let t = c.args.records.now in
     let is : kept_previous (tree_of t) (entity_of c.args.here) ≡ Some (entity_of c.in-Some.sibling) = sym c.in-Some.ensures in
-    sym (after-sibling c.depths_follow.ensures.below c.depths_follow.ensures.fits t c.requires.nested c.requires.formed
+    sym (after-sibling c.recall_depths_follow.ensures.below c.recall_depths_follow.ensures.fits t c.requires.nested c.requires.formed
     (c.links_are_neighbours.ensures.links t.ops t.blocks (ops_in (tree_of t)) c.requires.nested.op_lists)
     (c.links_are_neighbours-2.ensures.links t.blocks t.regions (blocks_in (tree_of t)) c.requires.nested.block_lists)
     (entity_of c.args.root) (entity_of c.args.here) before behind splits
@@ -35,7 +35,7 @@ pub returns-in-None : goal.returns-in-None
 returns-in-None g c = λ before behind splits.
     let t = c.args.records.now in
     let is : kept_previous (tree_of t) (entity_of c.args.here) ≡ None = sym c.in-None.ensures in
-    after-first c.depths_follow.ensures.below c.depths_follow.ensures.fits t c.requires.nested c.requires.formed
+    after-first c.recall_depths_follow.ensures.below c.recall_depths_follow.ensures.fits t c.requires.nested c.requires.formed
     (c.links_are_neighbours.ensures.links t.ops t.blocks (ops_in (tree_of t)) c.requires.nested.op_lists)
     (c.links_are_neighbours-2.ensures.links t.blocks t.regions (blocks_in (tree_of t)) c.requires.nested.block_lists)
     (entity_of c.args.root) (entity_of c.args.here) before behind splits

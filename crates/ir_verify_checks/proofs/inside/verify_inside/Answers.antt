@@ -36,7 +36,7 @@ verify_alone-requires g c =
     let here = entity_of c.in-Some.here in
     let P : Entity context_ids → Type 0 = λ x. (y : Fault) → IsThere ks (FaultAt B (forest_of s) (types_of s) x) (RunAt B (forest_of s) (types_of s) ks x) y → ⊥ in
     let w : Passing (subtree t root) P (Some here) = subst (λ (o : Option EntityIndex). Passing (subtree t root) P (option_map entity_of o)) c.in-Some.is c.loop-current.invariant in
-    let lists = c.subtrees_are_listed.ensures t root c.recall_holds_together.ensures.nested c.recall_well_formed.ensures.nested in
+    let lists = c.recall_subtrees_listed.ensures t root c.recall_holds_together.ensures.nested c.recall_well_formed.ensures.nested in
     let inside = (lists.exact here).0 (passing-in (subtree t root) P here w) in
     inside-live (forest_of s) c.recall_well_formed.ensures.nested root here c.requires inside
 
@@ -52,7 +52,7 @@ returns-in_err-verify_alone g c =
     let here = entity_of c.in-Some.here in
     let P : Entity context_ids → Type 0 = λ x. (y : Fault) → IsThere ks (FaultAt B (forest_of s) (types_of s) x) (RunAt B (forest_of s) (types_of s) ks x) y → ⊥ in
     let w : Passing (subtree t root) P (Some here) = subst (λ (o : Option EntityIndex). Passing (subtree t root) P (option_map entity_of o)) c.in-Some.is c.loop-current.invariant in
-    let lists = c.subtrees_are_listed.ensures t root c.recall_holds_together.ensures.nested c.recall_well_formed.ensures.nested in
+    let lists = c.recall_subtrees_listed.ensures t root c.recall_holds_together.ensures.nested c.recall_well_formed.ensures.nested in
     let inside = (lists.exact here).0 (passing-in (subtree t root) P here w) in
     let f = forest_of s in
     let st = types_of s in
@@ -70,7 +70,7 @@ loop-current-preserved g c =
     let here = entity_of c.in-Some.here in
     let P : Entity context_ids → Type 0 = λ x. (y : Fault) → IsThere ks (FaultAt B (forest_of s) (types_of s) x) (RunAt B (forest_of s) (types_of s) ks x) y → ⊥ in
     let w : Passing (subtree t root) P (Some here) = subst (λ (o : Option EntityIndex). Passing (subtree t root) P (option_map entity_of o)) c.in-Some.is c.loop-current.invariant in
-    let lists = c.subtrees_are_listed.ensures t root c.recall_holds_together.ensures.nested c.recall_well_formed.ensures.nested in
+    let lists = c.recall_subtrees_listed.ensures t root c.recall_holds_together.ensures.nested c.recall_well_formed.ensures.nested in
     let inside = (lists.exact here).0 (passing-in (subtree t root) P here w) in
     passing-step (subtree t root) P here w (option_map entity_of c.next_inside-current.result) (rw c.records-records.ensures at c.next_inside-current.ensures) c.in_ok-verify_alone.ensures
 
@@ -85,7 +85,7 @@ loop-current-smaller g c =
     let here = entity_of c.in-Some.here in
     let P : Entity context_ids → Type 0 = λ x. (y : Fault) → IsThere ks (FaultAt B (forest_of s) (types_of s) x) (RunAt B (forest_of s) (types_of s) ks x) y → ⊥ in
     let w : Passing (subtree t root) P (Some here) = subst (λ (o : Option EntityIndex). Passing (subtree t root) P (option_map entity_of o)) c.in-Some.is c.loop-current.invariant in
-    let lists = c.subtrees_are_listed.ensures t root c.recall_holds_together.ensures.nested c.recall_well_formed.ensures.nested in
+    let lists = c.recall_subtrees_listed.ensures t root c.recall_holds_together.ensures.nested c.recall_well_formed.ensures.nested in
     let inside = (lists.exact here).0 (passing-in (subtree t root) P here w) in
     let less : remaining (subtree t root) (option_map entity_of c.next_inside-current.result) < remaining (subtree t root) (Some here) = passing-smaller (subtree t root) P here w (option_map entity_of c.next_inside-current.result) (rw c.records-records.ensures at c.next_inside-current.ensures) lists.once in
     let was : remaining (subtree t root) (option_map entity_of c.loop-current.current) ≡ remaining (subtree t root) (Some here) = ap (λ (o : Option EntityIndex). remaining (subtree t root) (option_map entity_of o)) c.in-Some.is in
@@ -101,5 +101,5 @@ returns g c =
     let root = entity_of c.args.root in
     let P : Entity context_ids → Type 0 = λ x. (y : Fault) → IsThere ks (FaultAt B (forest_of s) (types_of s) x) (RunAt B (forest_of s) (types_of s) ks x) y → ⊥ in
     let w : Passing (subtree t root) P None = subst (λ (o : Option EntityIndex). Passing (subtree t root) P (option_map entity_of o)) c.in_default.is c.loop-current.invariant in
-    let lists = c.subtrees_are_listed.ensures t root c.recall_holds_together.ensures.nested c.recall_well_formed.ensures.nested in
+    let lists = c.recall_subtrees_listed.ensures t root c.recall_holds_together.ensures.nested c.recall_well_formed.ensures.nested in
     none-inside B (forest_of s) (types_of s) ks root (λ x i. passing-end (subtree t root) P w x ((lists.exact x).1 i))

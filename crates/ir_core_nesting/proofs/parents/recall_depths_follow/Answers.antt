@@ -4,7 +4,7 @@ use Rattle.ir_core_nesting.specs.Climbs.{depth, kept_parent, size}
 use Rattle.ir_core_nesting.proofs.Climbs.{climb-length}
 use Rattle.ir_core_nesting.proofs.ForestParents.{parent-from}
 use Rattle.ir_core_nesting.proofs.Depth.{depth-up}
-use Rattle.ir_core_nesting.proofs.parents.depths_follow.Goals as goal
+use Rattle.ir_core_nesting.proofs.parents.recall_depths_follow.Goals as goal
 
 pub returns-clause-below : goal.returns-clause-below
 returns-clause-below g c = λ t x y nested formed h.
