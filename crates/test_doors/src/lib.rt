@@ -11,6 +11,7 @@ mod identifier;
 mod lists;
 mod op;
 mod operation;
+#[cfg(test)]
 mod own_lists;
 mod preludes;
 mod region;

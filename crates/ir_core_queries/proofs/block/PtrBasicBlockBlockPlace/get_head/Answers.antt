@@ -9,4 +9,4 @@ pub returns-clause-first : goal.returns-clause-first
 returns-clause-first g c = c.handle.ensures ∙ c.block.ensures.ends.first
 
 pub returns-clause-live : goal.returns-clause-live
-returns-clause-live g c = live-of (λ x. IsLive (forest_of c.args.ctx.now) (an_op x)) c.handle.result c.block.result.now.first c.handle.ensures c.block.ensures.ends.first_live
+returns-clause-live g c = live-of (λ x. IsLive (forest_of c.args.ctx.now) (an_op x)) c.handle.result c.block.result.now.ops_list.first c.handle.ensures c.block.ensures.ends.first_live

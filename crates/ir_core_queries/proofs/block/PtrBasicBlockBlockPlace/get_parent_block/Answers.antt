@@ -1,9 +1,15 @@
-use Rattle.std.proofs.Common.{Some}
+use Rattle.std.proofs.Common.{◌≡◌, None, rules}
 use Rattle.std.specs.Option.{option_map}
 use Rattle.ir_model.specs.Forest.{a_block, a_region, an_op}
 use Rattle.ir_core_context.specs.State.{forest_of}
-use Rattle.ir_core_queries.proofs.Above.{above-one, above-parent}
+use Rattle.ir_core_queries.proofs.Above.{above-none, above-one, above-parent}
 use Rattle.ir_core_queries.proofs.block.PtrBasicBlockBlockPlace.get_parent_block.Goals as goal
+
+pub returns-in_err-region-clause-above : goal.returns-in_err-region-clause-above
+returns-in_err-region-clause-above g c =
+    let f = forest_of c.args.ctx.now in
+    let none : c.from_residual.result ≡ None = search rules in
+    rw none (above-none f 2 (a_block c.args.self.index) c.in_err-region.ensures.parent)
 
 pub returns-clause-above : goal.returns-clause-above
 returns-clause-above g c =

@@ -9,4 +9,4 @@ pub returns-clause-last : goal.returns-clause-last
 returns-clause-last g c = c.handle.ensures ∙ c.block.ensures.ends.last
 
 pub returns-clause-live : goal.returns-clause-live
-returns-clause-live g c = live-of (λ x. IsLive (forest_of c.args.ctx.now) (an_op x)) c.handle.result c.block.result.now.last c.handle.ensures c.block.ensures.ends.last_live
+returns-clause-live g c = live-of (λ x. IsLive (forest_of c.args.ctx.now) (an_op x)) c.handle.result c.block.result.now.ops_list.last c.handle.ensures c.block.ensures.ends.last_live
