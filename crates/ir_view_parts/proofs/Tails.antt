@@ -30,7 +30,7 @@ last-is (x ∷ xs) =
     sym (last-at x xs) ∙ ap (slice_get (x ∷ xs)) behind
 
 module _ {D A K B S X L : Type 0} (s t : Records D A K B S X L) (same : s ≡ t) (nested : AreNested (tree_of t)) where
-  pub tail-is : (b : ArenaIndex) (x : BasicBlock D A K B S X L) → get s.blocks b ≡ Some x → x.last ≡ last_op (forest_in t) b
+  pub tail-is : (b : ArenaIndex) (x : BasicBlock D A K B S X L) → get s.blocks b ≡ Some x → x.ops_list.last ≡ last_op (forest_in t) b
   tail-is b x e =
       let at : get t.blocks b ≡ Some x = subst (λ (z : Records D A K B S X L). get z.blocks b ≡ Some x) same e in
       let ends : block_ends x ≡ ends_of (ops_in (tree_of t) b) = nested.op_lists.ends b (block_ends x) (ap (option_map block_ends) at) in
