@@ -1,0 +1,4 @@
+pub mod NestSteps
+pub mod TreesLinked
+pub mod TreesFound
+pub mod NestClauses

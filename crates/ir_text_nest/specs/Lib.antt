@@ -1,0 +1,3 @@
+pub mod NestFaults
+pub mod Nestings
+pub mod NestTrees

@@ -1,0 +1,6 @@
+pub mod ReadingSteps
+pub mod Respelling
+pub mod Covering
+pub mod Following
+pub mod TokenClauses
+pub mod Columns

@@ -1,0 +1,24 @@
+//! The tokens of MLIR's generic textual form: read from a text, each with its span, and spelled again.
+#![tactic(auto)]
+
+mod byte_class;
+mod fault;
+mod place;
+mod reader_step;
+mod scanning;
+mod spelling;
+mod token;
+mod token_laws;
+
+pub use fault::Fault;
+pub use place::line_and_column;
+pub use scanning::tokens;
+pub use spelling::spell;
+pub use token::{Bracket, Kind, Mark, Sign, Token};
+
+/// Laws of tokens and their spelling.
+pub mod laws {
+    pub use crate::token_laws::{
+        covering_is_read, read_has_spelling, reading_covers, spelling_is_kept, spelling_is_read,
+    };
+}

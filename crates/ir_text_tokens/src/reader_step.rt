@@ -1,0 +1,349 @@
+//! What a byte does to the reader: the table of the tokens.
+ghost use Rattle.std.specs.Prelude.{◌≡◌, ◌+◌, ◌<◌, ◌^◌};
+ghost use Rattle.ir_text_tokens.specs.declared.reader_step.Step.TheVariants.{Go};
+ghost use Rattle.ir_text_tokens.specs.declared.reader_step.Nesting.TheVariants.{Kept};
+ghost use Rattle.ir_text_tokens.specs.ReaderSteps.{is_hex, goes_on_word, goes_on_name, word_step, number_step, name_step, name_begins, lone_sign, sign_step, begin_step, same_bracket, closing_step, group_step, quote_step, string_step, escape_step, hex_step, comment_step, reader_step, start_behind, glued_behind, missing_at_end};
+
+use crate::byte_class::Class;
+use crate::fault::Problem;
+use crate::token::{Bracket, Kind, Mark, Sign};
+
+/// What a string stands in.
+#[derive(Clone, Copy, Debug, PartialEq, Eq)]
+pub enum Around {
+    /// In no group: it is a token.
+    Nothing,
+    /// In a group.
+    Group,
+}
+
+/// Where the reader is.
+#[derive(Clone, Copy, Debug, PartialEq, Eq)]
+pub enum Mode {
+    /// Outside all tokens.
+    Between,
+    /// In a comment.
+    Comment,
+    /// In a word.
+    Word,
+    /// In a name of digits.
+    Number(Sign),
+    /// In another name.
+    Name(Sign),
+    /// Before the second byte of an arrow.
+    Arrow,
+    /// In a string.
+    Quoted(Around),
+    /// In a string, behind a backslash.
+    Escape(Around),
+    /// In a string, behind the first hexadecimal digit of an escape.
+    Hex(Around),
+    /// In a group.
+    Group,
+    /// In a group, before the second byte of an arrow.
+    GroupArrow,
+}
+
+/// What becomes of the brackets that are open in a group, apart from its first.
+#[derive(Clone, Copy, Debug, PartialEq, Eq)]
+pub enum Nesting {
+    /// They stay.
+    Kept,
+    /// One more is opened.
+    Opened(Bracket),
+    /// The last is closed.
+    Closed,
+}
+
+/// What a byte does.
+#[derive(Clone, Copy, Debug, PartialEq, Eq)]
+pub enum Step {
+    /// The reader goes on there, in these brackets.
+    Go(Mode, Nesting),
+    /// It ends a token.
+    Emit(Kind),
+    /// It can't stand here.
+    Bad(Problem),
+}
+
+// The reader goes on there, in the same brackets.
+fn go(mode: Mode) -> Step
+    ensures { result ≡ Go mode Kept }
+{
+    Step::Go(mode, Nesting::Kept)
+}
+
+// A hexadecimal digit.
+fn is_hex(class: Class) -> bool
+    ensures { result ≡ is_hex class }
+{
+    matches!(class, Class::Digit | Class::HexLetter)
+}
+
+// A byte of a word.
+fn goes_on_word(class: Class) -> bool
+    ensures { result ≡ goes_on_word class }
+{
+    matches!(
+        class,
+        Class::Digit | Class::HexLetter | Class::EscapeLetter | Class::Letter
+    )
+}
+
+// A byte of a name.
+fn goes_on_name(class: Class) -> bool
+    ensures { result ≡ goes_on_name class }
+{
+    match class {
+        Class::Dash => true,
+        _ => goes_on_word(class),
+    }
+}
+
+// What follows a byte of a word.
+fn word_step(next: Class) -> Step
+    ensures { result ≡ word_step next }
+{
+    if goes_on_word(next) {
+        go(Mode::Word)
+    } else {
+        Step::Emit(Kind::Word)
+    }
+}
+
+// What follows a digit of a name of digits.
+fn number_step(sign: Sign, next: Class) -> Step
+    ensures { result ≡ number_step sign next }
+{
+    match next {
+        Class::Digit => go(Mode::Number(sign)),
+        _ => Step::Emit(Kind::Name(sign)),
+    }
+}
+
+// What follows a byte of another name.
+fn name_step(sign: Sign, next: Class) -> Step
+    ensures { result ≡ name_step sign next }
+{
+    if goes_on_name(next) {
+        go(Mode::Name(sign))
+    } else {
+        Step::Emit(Kind::Name(sign))
+    }
+}
+
+// What a sign does where the first byte of its name follows.
+fn name_begins(sign: Sign, next: Class) -> Step
+    ensures { result ≡ name_begins sign next }
+{
+    match next {
+        Class::Digit => go(Mode::Number(sign)),
+        _ => go(Mode::Name(sign)),
+    }
+}
+
+// What a sign does where no name follows; those of values and blocks don't stand alone.
+fn lone_sign(sign: Sign) -> Step
+    ensures { result ≡ lone_sign sign }
+{
+    match sign {
+        Sign::Value | Sign::Block => Step::Bad(Problem::Character),
+        Sign::Symbol | Sign::Attribute | Sign::Type => Step::Emit(Kind::Name(sign)),
+    }
+}
+
+// What a sign does.
+fn sign_step(sign: Sign, next: Class) -> Step
+    ensures { result ≡ sign_step sign next }
+{
+    if goes_on_name(next) {
+        name_begins(sign, next)
+    } else {
+        lone_sign(sign)
+    }
+}
+
+// What a byte does outside all tokens.
+fn begin_step(class: Class, next: Class) -> Step
+    ensures { result ≡ begin_step class next }
+{
+    match class {
+        Class::Newline | Class::Blank => go(Mode::Between),
+        Class::Slash => match next {
+            Class::Slash => go(Mode::Comment),
+            _ => Step::Bad(Problem::Character),
+        },
+        Class::Digit | Class::HexLetter | Class::EscapeLetter | Class::Letter => word_step(next),
+        Class::Sign(sign) => sign_step(sign, next),
+        Class::Quote => go(Mode::Quoted(Around::Nothing)),
+        Class::Dash => match next {
+            Class::Greater => go(Mode::Arrow),
+            _ => Step::Emit(Kind::Mark(Mark::Minus)),
+        },
+        Class::Less => go(Mode::Group),
+        Class::Equals => Step::Emit(Kind::Mark(Mark::Equals)),
+        Class::Open(bracket) => Step::Emit(Kind::Mark(Mark::Open(bracket))),
+        Class::Close(bracket) => Step::Emit(Kind::Mark(Mark::Close(bracket))),
+        Class::Mark(mark) => Step::Emit(Kind::Mark(mark)),
+        Class::Greater | Class::Backslash | Class::Other => Step::Bad(Problem::Character),
+    }
+}
+
+// Whether the brackets are of one sort.
+fn same_bracket(first: Bracket, second: Bracket) -> bool
+    ensures { result ≡ same_bracket first second }
+{
+    match (first, second) {
+        (Bracket::Round, Bracket::Round) => true,
+        (Bracket::Square, Bracket::Square) => true,
+        (Bracket::Curly, Bracket::Curly) => true,
+        (Bracket::Angle, Bracket::Angle) => true,
+        _ => false,
+    }
+}
+
+// What a closing bracket does in a group: it closes the last that was opened, or the group.
+fn closing_step(bracket: Bracket, last: Option<Bracket>) -> Step
+    ensures { result ≡ closing_step bracket last }
+{
+    match last {
+        Some(opened) => {
+            if same_bracket(opened, bracket) {
+                Step::Go(Mode::Group, Nesting::Closed)
+            } else {
+                Step::Bad(Problem::Bracket)
+            }
+        }
+        None => match bracket {
+            Bracket::Angle => Step::Emit(Kind::Group),
+            _ => Step::Bad(Problem::Bracket),
+        },
+    }
+}
+
+// What a byte does in a group, where this is the last bracket that was opened behind its first.
+fn group_step(last: Option<Bracket>, class: Class, next: Class) -> Step
+    ensures { result ≡ group_step last class next }
+{
+    match class {
+        Class::Quote => go(Mode::Quoted(Around::Group)),
+        Class::Less => Step::Go(Mode::Group, Nesting::Opened(Bracket::Angle)),
+        Class::Open(bracket) => Step::Go(Mode::Group, Nesting::Opened(bracket)),
+        Class::Dash => match next {
+            Class::Greater => go(Mode::GroupArrow),
+            _ => go(Mode::Group),
+        },
+        Class::Greater => match next {
+            Class::Equals => go(Mode::Group),
+            _ => closing_step(Bracket::Angle, last),
+        },
+        Class::Close(bracket) => closing_step(bracket, last),
+        _ => go(Mode::Group),
+    }
+}
+
+// What the quote at the end of a string does.
+fn quote_step(around: Around) -> Step
+    ensures { result ≡ quote_step around }
+{
+    match around {
+        Around::Nothing => Step::Emit(Kind::Quoted),
+        Around::Group => go(Mode::Group),
+    }
+}
+
+// What a byte does in a string.
+fn string_step(around: Around, class: Class) -> Step
+    ensures { result ≡ string_step around class }
+{
+    match class {
+        Class::Quote => quote_step(around),
+        Class::Backslash => go(Mode::Escape(around)),
+        Class::Newline => Step::Bad(Problem::OpenString),
+        _ => go(Mode::Quoted(around)),
+    }
+}
+
+// What a byte does behind a backslash.
+fn escape_step(around: Around, class: Class) -> Step
+    ensures { result ≡ escape_step around class }
+{
+    match class {
+        Class::Quote | Class::Backslash | Class::EscapeLetter => go(Mode::Quoted(around)),
+        Class::Digit | Class::HexLetter => go(Mode::Hex(around)),
+        _ => Step::Bad(Problem::Escape),
+    }
+}
+
+// What a byte does behind the first hexadecimal digit of an escape.
+fn hex_step(around: Around, class: Class) -> Step
+    ensures { result ≡ hex_step around class }
+{
+    if is_hex(class) {
+        go(Mode::Quoted(around))
+    } else {
+        Step::Bad(Problem::Escape)
+    }
+}
+
+// What a byte does in a comment.
+fn comment_step(class: Class) -> Step
+    ensures { result ≡ comment_step class }
+{
+    match class {
+        Class::Newline => go(Mode::Between),
+        _ => go(Mode::Comment),
+    }
+}
+
+/// What a byte of this class does where one of the next class follows; `last` is the last bracket that was opened in the group, behind its first.
+pub(crate) fn reader_step(mode: Mode, last: Option<Bracket>, class: Class, next: Class) -> Step
+    ensures { result ≡ reader_step mode last class next }
+{
+    match mode {
+        Mode::Between => begin_step(class, next),
+        Mode::Comment => comment_step(class),
+        Mode::Word => word_step(next),
+        Mode::Number(sign) => number_step(sign, next),
+        Mode::Name(sign) => name_step(sign, next),
+        Mode::Arrow => Step::Emit(Kind::Arrow),
+        Mode::Quoted(around) => string_step(around, class),
+        Mode::Escape(around) => escape_step(around, class),
+        Mode::Hex(around) => hex_step(around, class),
+        Mode::Group => group_step(last, class, next),
+        Mode::GroupArrow => go(Mode::Group),
+    }
+}
+
+/// Where the token begins in which the reader goes on behind the byte at this place.
+pub(crate) fn start_behind(mode: Mode, start: u32, at: u32) -> u32
+    requires { at + 1 < 2 ^ 32 }
+    ensures { result ≡ start_behind mode start at }
+{
+    match mode {
+        Mode::Between | Mode::Comment => at + 1,
+        _ => start,
+    }
+}
+
+/// Whether that token stands right behind another.
+pub(crate) fn glued_behind(mode: Mode, glued: bool) -> bool
+    ensures { result ≡ glued_behind mode glued }
+{
+    match mode {
+        Mode::Between => false,
+        _ => glued,
+    }
+}
+
+/// What is missing where the text ends.
+pub(crate) fn missing_at_end(mode: Mode) -> Option<Problem>
+    ensures { result ≡ missing_at_end mode }
+{
+    match mode {
+        Mode::Between | Mode::Comment => None,
+        Mode::Quoted(_) | Mode::Escape(_) | Mode::Hex(_) => Some(Problem::OpenString),
+        Mode::Group | Mode::GroupArrow => Some(Problem::OpenGroup),
+        Mode::Word | Mode::Number(_) | Mode::Name(_) | Mode::Arrow => Some(Problem::Character),
+    }
+}
