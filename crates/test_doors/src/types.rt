@@ -34,7 +34,6 @@ pub fn of_one_kind<D: Dialects, T: IrType<D>>() {
     let _ = TypedHandle::<T, D>::is_known;
     let _ = TypedHandle::<T, D>::deref;
     let _ = TypedHandle::<T, D>::to_handle;
-    let _ = <TypeHandle as From<TypedHandle<T, D>>>::from;
 }
 
 /// Types that implement an interface.
@@ -45,7 +44,6 @@ pub fn of_an_interface<D: Dialects, T: TypeImplsInterface<I, D>, I: TypeInterfac
     let _ = TypeInterfaceHandle::<I, D>::deref;
     let _ = TypeInterfaceHandle::<I, D>::to_handle;
     let _ = <TypeInterfaceHandle<I, D> as From<TypedHandle<T, D>>>::from;
-    let _ = <TypeHandle as From<TypeInterfaceHandle<I, D>>>::from;
     let _ = type_impls::<I, D>;
     let _ = type_impls_static::<T, I, D>;
 }
