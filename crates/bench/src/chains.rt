@@ -1,25 +1,23 @@
 //! Chains of operations, each of which uses the results of the two before.
 
-use crate::building::{build, keep, pair_block};
-use crate::outcome::{block_sum, run_to, uses_sum};
-use bench_clock::{Nanos, Run, nanos_now, nanos_of};
-use ir_base::context::{Dialects, Ptr};
+use crate::building::{ToyBlock, ToyContext, ToyOp, ToyValue, build, keep, pair_block, reserve};
+use crate::outcome::{block_sum, outcome, uses_sum};
+use bench_clock::{Outcome, Stopwatch};
 use ir_base::types::TypeHandle;
 use ir_checked::{
-    BasicBlock, CheckedErr, Context, Operation, Value, block_head, erase_op, new_op, next_op,
-    op_after, operand, replace_all_uses, result,
+    CheckedErr, block_head, erase_op, new_op, next_op, op_after, operand, replace_all_uses, result,
 };
 use std::time::CpuClock;
 
 // Makes so many operations and puts their handles behind the others.
 #[inline(never)]
-fn timed_checked<D: Dialects>(
-    ctx: &mut Context<D>,
+fn timed_checked(
+    ctx: &mut ToyContext,
     ty: TypeHandle,
-    first: Value<D>,
-    second: Value<D>,
+    first: ToyValue,
+    second: ToyValue,
     count: usize,
-    made: &mut Vec<Ptr<Operation<D>>>,
+    made: &mut Vec<ToyOp>,
 ) -> Result<(), CheckedErr> {
     let mut first = first;
     let mut second = second;
@@ -36,78 +34,64 @@ fn timed_checked<D: Dialects>(
 }
 
 // Makes an operation with one result of this type, and gives the result.
-fn new_value<D: Dialects>(ctx: &mut Context<D>, ty: TypeHandle) -> Result<Value<D>, CheckedErr> {
+fn new_value(ctx: &mut ToyContext, ty: TypeHandle) -> Result<ToyValue, CheckedErr> {
     let op = new_op(ctx, 0, &[ty], &[], &[], 0)?;
     result(ctx, op, 0)
 }
 
 /// Makes two such operations, and gives their results.
-pub(crate) fn two_values<D: Dialects>(
-    ctx: &mut Context<D>,
+pub(crate) fn two_values(
+    ctx: &mut ToyContext,
     ty: TypeHandle,
-) -> Result<(Value<D>, Value<D>), CheckedErr> {
+) -> Result<(ToyValue, ToyValue), CheckedErr> {
     let first = new_value(ctx, ty)?;
     let second = new_value(ctx, ty)?;
     Ok((first, second))
 }
 
-// How long it takes to make so many operations, the first two of which use new values.
-fn checked_nanos<C: CpuClock, D: Dialects>(
-    rt: &C,
-    ctx: &mut Context<D>,
-    ty: TypeHandle,
-    count: usize,
-    made: &mut Vec<Ptr<Operation<D>>>,
-) -> Nanos {
-    let (first, second) = two_values(ctx, ty)?;
-    nanos_of(
-        rt,
-        nanos_now(rt),
-        timed_checked(ctx, ty, first, second, count, made),
-    )
-}
-
 /// N operations without a block, by calls whose conditions are tested.
-pub(crate) fn unlinked_checked<C: CpuClock, D: Dialects>(
-    rt: &C,
-    ctx: &mut Context<D>,
+pub(crate) fn unlinked_checked<C: CpuClock>(
+    watch: &mut Stopwatch<'_, C>,
+    ctx: &mut ToyContext,
     ty: TypeHandle,
     count: usize,
-) -> Run {
-    let mut made = Vec::with_capacity(ctx.alloc(), count)?;
-    let nanos = checked_nanos(rt, ctx, ty, count, &mut made);
-    run_to(nanos, count, uses_sum(ctx, made.as_slice()))
+    made: &mut Vec<ToyOp>,
+) -> Result<Outcome, CheckedErr> {
+    reserve(made, count)?;
+    let (first, second) = two_values(ctx, ty)?;
+    watch.start();
+    timed_checked(ctx, ty, first, second, count, made)?;
+    watch.stop();
+    outcome(count, uses_sum(ctx, made.as_slice()))
 }
 
 // Makes so many operations at the back of a block.
 #[inline(never)]
-fn timed_building<D: Dialects>(
-    ctx: &mut Context<D>,
+fn timed_building(
+    ctx: &mut ToyContext,
     ty: TypeHandle,
-    block: Ptr<BasicBlock<D>>,
+    block: ToyBlock,
     count: usize,
 ) -> Result<(), CheckedErr> {
     build(ctx, ty, block, count)
 }
 
 /// N operations at the back of a block. All of it is timed but the block.
-pub(crate) fn building<C: CpuClock, D: Dialects>(
-    rt: &C,
-    ctx: &mut Context<D>,
+pub(crate) fn building<C: CpuClock>(
+    watch: &mut Stopwatch<'_, C>,
+    ctx: &mut ToyContext,
     ty: TypeHandle,
     count: usize,
-) -> Run {
+) -> Result<Outcome, CheckedErr> {
     let block = pair_block(ctx, ty)?;
-    let nanos = nanos_of(rt, nanos_now(rt), timed_building(ctx, ty, block, count));
-    run_to(nanos, count, block_sum(ctx, block))
+    watch.start();
+    timed_building(ctx, ty, block, count)?;
+    watch.stop();
+    outcome(count, block_sum(ctx, block))
 }
 
 // Puts a new operation with the same operands behind one with two, and answers it.
-fn copy_behind<D: Dialects>(
-    ctx: &mut Context<D>,
-    ty: TypeHandle,
-    op: Ptr<Operation<D>>,
-) -> Result<Ptr<Operation<D>>, CheckedErr> {
+fn copy_behind(ctx: &mut ToyContext, ty: TypeHandle, op: ToyOp) -> Result<ToyOp, CheckedErr> {
     let types = [ty];
     let first = operand(ctx, op, 0)?;
     let second = operand(ctx, op, 1)?;
@@ -118,11 +102,7 @@ fn copy_behind<D: Dialects>(
 }
 
 // Puts such an operation behind one, lets what used the one's result use the new one's, and erases the one.
-fn rebuild<D: Dialects>(
-    ctx: &mut Context<D>,
-    ty: TypeHandle,
-    old: Ptr<Operation<D>>,
-) -> Result<(), CheckedErr> {
+fn rebuild(ctx: &mut ToyContext, ty: TypeHandle, old: ToyOp) -> Result<(), CheckedErr> {
     let new = copy_behind(ctx, ty, old)?;
     let old_value = result(ctx, old, 0)?;
     let new_value = result(ctx, new, 0)?;
@@ -132,10 +112,10 @@ fn rebuild<D: Dialects>(
 
 // Rebuilds so many operations of a chain, from its first on.
 #[inline(never)]
-fn timed_rebuilding<D: Dialects>(
-    ctx: &mut Context<D>,
+fn timed_rebuilding(
+    ctx: &mut ToyContext,
     ty: TypeHandle,
-    block: Ptr<BasicBlock<D>>,
+    block: ToyBlock,
     count: usize,
 ) -> Result<(), CheckedErr> {
     let mut place = block_head(ctx, block)?;
@@ -150,14 +130,16 @@ fn timed_rebuilding<D: Dialects>(
 }
 
 /// Over N operations of a block, a new one behind each takes its uses, and the old one is erased. The building of the first ones isn't timed.
-pub(crate) fn rebuilding<C: CpuClock, D: Dialects>(
-    rt: &C,
-    ctx: &mut Context<D>,
+pub(crate) fn rebuilding<C: CpuClock>(
+    watch: &mut Stopwatch<'_, C>,
+    ctx: &mut ToyContext,
     ty: TypeHandle,
     count: usize,
-) -> Run {
+) -> Result<Outcome, CheckedErr> {
     let block = pair_block(ctx, ty)?;
     build(ctx, ty, block, count)?;
-    let nanos = nanos_of(rt, nanos_now(rt), timed_rebuilding(ctx, ty, block, count));
-    run_to(nanos, count, block_sum(ctx, block))
+    watch.start();
+    timed_rebuilding(ctx, ty, block, count)?;
+    watch.stop();
+    outcome(count, block_sum(ctx, block))
 }

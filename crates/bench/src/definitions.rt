@@ -1,21 +1,21 @@
 //! Results and arguments that are put in front of others.
 
-use crate::outcome::run_to;
-use bench_clock::{Run, mix, nanos_now, nanos_of};
-use ir_base::context::{Dialects, Ptr};
+use crate::building::{ToyBlock, ToyContext, ToyOp, ToyValue};
+use crate::outcome::outcome;
+use bench_clock::{Outcome, Stopwatch, mix};
 use ir_base::types::TypeHandle;
 use ir_checked::{
-    BasicBlock, BlockPtr, CheckedErr, Context, Operation, OperationPtr, TypeQueries, Value,
-    ValueQueries, argument, insert_argument, insert_result, new_block, new_op, result,
+    CheckedErr, ValueQueries, argument, insert_argument, insert_result, new_block, new_op,
+    new_type, result,
 };
-use ir_run::toy::{Toy, ToyType};
+use ir_run::toy::ToyType;
 use std::time::CpuClock;
 
 // Puts so many results in front of the others, of one type and the other in turn.
 #[inline(never)]
-fn timed_results<D: Dialects>(
-    ctx: &mut Context<D>,
-    op: Ptr<Operation<D>>,
+fn timed_results(
+    ctx: &mut ToyContext,
+    op: ToyOp,
     first: TypeHandle,
     second: TypeHandle,
     count: usize,
@@ -29,9 +29,9 @@ fn timed_results<D: Dialects>(
 
 // Puts so many arguments in front of the others, of one type and the other in turn.
 #[inline(never)]
-fn timed_arguments<D: Dialects>(
-    ctx: &mut Context<D>,
-    block: Ptr<BasicBlock<D>>,
+fn timed_arguments(
+    ctx: &mut ToyContext,
+    block: ToyBlock,
     first: TypeHandle,
     second: TypeHandle,
     count: usize,
@@ -44,11 +44,7 @@ fn timed_arguments<D: Dialects>(
 }
 
 // Whether a value has a type, as 2 or 1.
-fn type_number<D: Dialects>(
-    ctx: &Context<D>,
-    value: Value<D>,
-    ty: TypeHandle,
-) -> Result<u64, CheckedErr> {
+fn type_number(ctx: &ToyContext, value: ToyValue, ty: TypeHandle) -> Result<u64, CheckedErr> {
     if !value.is_live(ctx) {
         return Err(CheckedErr::Condition);
     }
@@ -57,9 +53,9 @@ fn type_number<D: Dialects>(
 }
 
 // Of each of so many results, whether it has the type.
-fn results_sum<D: Dialects>(
-    ctx: &Context<D>,
-    op: Ptr<Operation<D>>,
+fn results_sum(
+    ctx: &ToyContext,
+    op: ToyOp,
     ty: TypeHandle,
     count: usize,
 ) -> Result<u64, CheckedErr> {
@@ -72,9 +68,9 @@ fn results_sum<D: Dialects>(
 }
 
 // Of each of so many arguments, whether it has the type.
-fn arguments_sum<D: Dialects>(
-    ctx: &Context<D>,
-    block: Ptr<BasicBlock<D>>,
+fn arguments_sum(
+    ctx: &ToyContext,
+    block: ToyBlock,
     ty: TypeHandle,
     count: usize,
 ) -> Result<u64, CheckedErr> {
@@ -88,30 +84,30 @@ fn arguments_sum<D: Dialects>(
 
 /// N results are put into one operation, each in front of the others.
 pub(crate) fn results_front<C: CpuClock>(
-    rt: &C,
-    ctx: &mut Context<Toy>,
+    watch: &mut Stopwatch<'_, C>,
+    ctx: &mut ToyContext,
     ty: TypeHandle,
     count: usize,
-) -> Run {
-    let other = ctx.instantiate_key(ToyType::Int { width: 64 })?;
+) -> Result<Outcome, CheckedErr> {
+    let other = new_type(ctx, ToyType::Int { width: 64 })?;
     let op = new_op(ctx, 4, &[], &[], &[], 0)?;
-    let nanos = nanos_of(rt, nanos_now(rt), timed_results(ctx, op, ty, other, count));
-    run_to(nanos, count, results_sum(ctx, op, ty, count))
+    watch.start();
+    timed_results(ctx, op, ty, other, count)?;
+    watch.stop();
+    outcome(count, results_sum(ctx, op, ty, count))
 }
 
 /// N arguments are put into one block, each in front of the others.
 pub(crate) fn arguments_front<C: CpuClock>(
-    rt: &C,
-    ctx: &mut Context<Toy>,
+    watch: &mut Stopwatch<'_, C>,
+    ctx: &mut ToyContext,
     ty: TypeHandle,
     count: usize,
-) -> Run {
-    let other = ctx.instantiate_key(ToyType::Int { width: 64 })?;
+) -> Result<Outcome, CheckedErr> {
+    let other = new_type(ctx, ToyType::Int { width: 64 })?;
     let block = new_block(ctx, None, &[])?;
-    let nanos = nanos_of(
-        rt,
-        nanos_now(rt),
-        timed_arguments(ctx, block, ty, other, count),
-    );
-    run_to(nanos, count, arguments_sum(ctx, block, ty, count))
+    watch.start();
+    timed_arguments(ctx, block, ty, other, count)?;
+    watch.stop();
+    outcome(count, arguments_sum(ctx, block, ty, count))
 }

@@ -1,24 +1,23 @@
 //! Operations that are moved between blocks, and blocks between regions.
 
-use crate::building::{add_block, add_marked};
-use crate::outcome::{block_sum, run_to};
+use crate::building::{ToyBlock, ToyContext, ToyOp, ToyValue, add_block, add_marked};
+use crate::outcome::{block_sum, outcome};
 use crate::random::Random;
-use bench_clock::{Run, mix, nanos_now, nanos_of};
-use ir_base::context::{Dialects, Ptr};
+use bench_clock::{Outcome, Stopwatch, mix};
+use ir_base::context::Ptr;
 use ir_base::types::TypeHandle;
 use ir_checked::{
-    BasicBlock, BlockPtr, CheckedErr, Context, Operation, Region, RegionPlace, RegionPtr, Value,
-    argument, block_at_back, block_head, new_block, new_op, op_at_back, op_before, region,
-    region_head, unlink_block, unlink_op,
+    BlockPtr, CheckedErr, Region, RegionPlace, RegionPtr, argument, block_at_back, block_head,
+    new_block, new_op, op_at_back, op_before, region, region_head, unlink_block, unlink_op,
 };
 use std::time::CpuClock;
 
 // Takes so many operations from the front of a block and puts each at the back of another.
 #[inline(never)]
-fn timed_front_to_back<D: Dialects>(
-    ctx: &mut Context<D>,
-    from: Ptr<BasicBlock<D>>,
-    to: Ptr<BasicBlock<D>>,
+fn timed_front_to_back(
+    ctx: &mut ToyContext,
+    from: ToyBlock,
+    to: ToyBlock,
     count: usize,
 ) -> Result<(), CheckedErr> {
     for _i in 0..count {
@@ -32,10 +31,10 @@ fn timed_front_to_back<D: Dialects>(
 }
 
 // Makes two unlinked blocks, the first with an argument of a type, and answers them and it.
-fn two_blocks<D: Dialects>(
-    ctx: &mut Context<D>,
+fn two_blocks(
+    ctx: &mut ToyContext,
     ty: TypeHandle,
-) -> Result<(Ptr<BasicBlock<D>>, Ptr<BasicBlock<D>>, Value<D>), CheckedErr> {
+) -> Result<(ToyBlock, ToyBlock, ToyValue), CheckedErr> {
     let first = new_block(ctx, None, &[ty])?;
     let second = new_block(ctx, None, &[])?;
     let value = argument(ctx, first, 0)?;
@@ -43,16 +42,19 @@ fn two_blocks<D: Dialects>(
 }
 
 /// N operations one by one from the front of one block to the back of another. Their making isn't timed.
-pub(crate) fn front_to_back<C: CpuClock, D: Dialects>(
-    rt: &C,
-    ctx: &mut Context<D>,
+pub(crate) fn front_to_back<C: CpuClock>(
+    watch: &mut Stopwatch<'_, C>,
+    ctx: &mut ToyContext,
     ty: TypeHandle,
     count: usize,
-) -> Run {
+    made: &mut Vec<ToyOp>,
+) -> Result<Outcome, CheckedErr> {
     let (from, to, value) = two_blocks(ctx, ty)?;
-    let _made = add_marked(ctx, from, from, value, count)?;
-    let nanos = nanos_of(rt, nanos_now(rt), timed_front_to_back(ctx, from, to, count));
-    run_to(nanos, count, block_sum(ctx, to))
+    add_marked(ctx, from, from, value, count, made)?;
+    watch.start();
+    timed_front_to_back(ctx, from, to, count)?;
+    watch.stop();
+    outcome(count, block_sum(ctx, to))
 }
 
 // A random place of so many, and another one where there are two.
@@ -67,10 +69,7 @@ fn two_places(random: &mut Random, count: usize) -> (usize, usize) {
 }
 
 // The operation at a place.
-fn op_at<D: Dialects>(
-    ops: &[Ptr<Operation<D>>],
-    place: usize,
-) -> Result<Ptr<Operation<D>>, CheckedErr> {
+fn op_at(ops: &[ToyOp], place: usize) -> Result<ToyOp, CheckedErr> {
     match ops.get(place) {
         Some(op) => Ok(*op),
         None => Err(CheckedErr::Condition),
@@ -78,9 +77,9 @@ fn op_at<D: Dialects>(
 }
 
 // Puts the operation at a place before the one at another place.
-fn put_before<D: Dialects>(
-    ctx: &mut Context<D>,
-    ops: &[Ptr<Operation<D>>],
+fn put_before(
+    ctx: &mut ToyContext,
+    ops: &[ToyOp],
     place: usize,
     marked: usize,
 ) -> Result<(), CheckedErr> {
@@ -92,9 +91,9 @@ fn put_before<D: Dialects>(
 
 // Puts a random operation before another random one, as often as there are operations.
 #[inline(never)]
-fn timed_random_moves<D: Dialects>(
-    ctx: &mut Context<D>,
-    ops: &[Ptr<Operation<D>>],
+fn timed_random_moves(
+    ctx: &mut ToyContext,
+    ops: &[ToyOp],
     random: &mut Random,
 ) -> Result<(), CheckedErr> {
     let count = ops.len();
@@ -108,37 +107,32 @@ fn timed_random_moves<D: Dialects>(
 }
 
 // The sums of two blocks, in one number.
-fn both_sums<D: Dialects>(
-    ctx: &Context<D>,
-    first: Ptr<BasicBlock<D>>,
-    second: Ptr<BasicBlock<D>>,
-) -> Result<u64, CheckedErr> {
+fn both_sums(ctx: &ToyContext, first: ToyBlock, second: ToyBlock) -> Result<u64, CheckedErr> {
     let sum = block_sum(ctx, first)?;
     Ok(mix(sum, block_sum(ctx, second)?))
 }
 
 /// Over two blocks of N operations together, a random operation before a random one, N times. Their making isn't timed.
-pub(crate) fn random_moves<C: CpuClock, D: Dialects>(
-    rt: &C,
-    ctx: &mut Context<D>,
+pub(crate) fn random_moves<C: CpuClock>(
+    watch: &mut Stopwatch<'_, C>,
+    ctx: &mut ToyContext,
     ty: TypeHandle,
     count: usize,
-) -> Run {
+    made: &mut Vec<ToyOp>,
+) -> Result<Outcome, CheckedErr> {
     let (even, odd, value) = two_blocks(ctx, ty)?;
-    let made = add_marked(ctx, even, odd, value, count)?;
+    add_marked(ctx, even, odd, value, count, made)?;
     let mut random = Random::new();
-    let nanos = nanos_of(
-        rt,
-        nanos_now(rt),
-        timed_random_moves(ctx, made.as_slice(), &mut random),
-    );
-    run_to(nanos, count, both_sums(ctx, even, odd))
+    watch.start();
+    timed_random_moves(ctx, made.as_slice(), &mut random)?;
+    watch.stop();
+    outcome(count, both_sums(ctx, even, odd))
 }
 
 // Takes so many blocks from the front of a region and puts each at the back of another.
 #[inline(never)]
-fn timed_blocks<D: Dialects>(
-    ctx: &mut Context<D>,
+fn timed_blocks(
+    ctx: &mut ToyContext,
     from: Ptr<Region>,
     to: Ptr<Region>,
     count: usize,
@@ -154,7 +148,7 @@ fn timed_blocks<D: Dialects>(
 }
 
 // How many arguments a block has where it is live, and else 0.
-fn argument_count<D: Dialects>(ctx: &Context<D>, block: Ptr<BasicBlock<D>>) -> usize {
+fn argument_count(ctx: &ToyContext, block: ToyBlock) -> usize {
     match block.try_deref(ctx) {
         Ok(block) => block.get_num_arguments(),
         Err(_) => 0,
@@ -162,7 +156,7 @@ fn argument_count<D: Dialects>(ctx: &Context<D>, block: Ptr<BasicBlock<D>>) -> u
 }
 
 // How many arguments each block of a region has.
-fn arguments_sum<D: Dialects>(ctx: &Context<D>, region: Ptr<Region>) -> Result<u64, CheckedErr> {
+fn arguments_sum(ctx: &ToyContext, region: Ptr<Region>) -> Result<u64, CheckedErr> {
     if !region.is_live(ctx) {
         return Err(CheckedErr::Condition);
     }
@@ -174,8 +168,8 @@ fn arguments_sum<D: Dialects>(ctx: &Context<D>, region: Ptr<Region>) -> Result<u
 }
 
 // Puts so many blocks into a region, in turn with no, one and two arguments.
-fn add_blocks<D: Dialects>(
-    ctx: &mut Context<D>,
+fn add_blocks(
+    ctx: &mut ToyContext,
     region: Ptr<Region>,
     ty: TypeHandle,
     count: usize,
@@ -188,9 +182,7 @@ fn add_blocks<D: Dialects>(
 }
 
 // Makes an operation with two regions, and answers these.
-fn two_regions<D: Dialects>(
-    ctx: &mut Context<D>,
-) -> Result<(Ptr<Region>, Ptr<Region>), CheckedErr> {
+fn two_regions(ctx: &mut ToyContext) -> Result<(Ptr<Region>, Ptr<Region>), CheckedErr> {
     let module = new_op(ctx, 5, &[], &[], &[], 2)?;
     let first = region(ctx, module, 0)?;
     let second = region(ctx, module, 1)?;
@@ -198,14 +190,16 @@ fn two_regions<D: Dialects>(
 }
 
 /// N blocks one by one from the front of one region to the back of another. Their making isn't timed.
-pub(crate) fn blocks<C: CpuClock, D: Dialects>(
-    rt: &C,
-    ctx: &mut Context<D>,
+pub(crate) fn blocks<C: CpuClock>(
+    watch: &mut Stopwatch<'_, C>,
+    ctx: &mut ToyContext,
     ty: TypeHandle,
     count: usize,
-) -> Run {
+) -> Result<Outcome, CheckedErr> {
     let (from, to) = two_regions(ctx)?;
     add_blocks(ctx, from, ty, count)?;
-    let nanos = nanos_of(rt, nanos_now(rt), timed_blocks(ctx, from, to, count));
-    run_to(nanos, count, arguments_sum(ctx, to))
+    watch.start();
+    timed_blocks(ctx, from, to, count)?;
+    watch.stop();
+    outcome(count, arguments_sum(ctx, to))
 }

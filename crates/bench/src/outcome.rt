@@ -1,38 +1,30 @@
 //! Sums of what a run left, which are the same for each library.
 
-use anyhow::bail;
-use bench_clock::{Nanos, Outcome, Run, mix, nanos_since};
-use ir_base::context::{Dialects, Ptr};
-use ir_checked::{
-    BasicBlock, BlockPlace, BlockPtr, CheckedErr, Context, Operation, OperationPtr, Value,
-    num_uses, operand, result,
-};
-use std::io;
-use std::time::CpuClock;
+use crate::building::{ToyBlock, ToyContext, ToyOp, ToyValue};
+use bench_clock::{Outcome, mix};
+use ir_checked::{BlockPlace, BlockPtr, CheckedErr, OperationPtr, num_uses, operand, result};
 
-/// The nanoseconds of the thread since a start, where what was timed since succeeded and answers that all is as it has to be.
-pub(crate) fn nanos_where<C: CpuClock>(
-    rt: &C,
-    start: io::Result<u64>,
-    well: Result<bool, CheckedErr>,
-) -> Nanos {
-    let nanos = nanos_since(rt, start)?;
-    if !well? {
-        bail!("the timed part found something wrong");
-    }
-    Ok(nanos)
-}
-
-/// A run with so many units, where its timed part and its checksum succeeded.
-pub(crate) fn run_to(nanos: Nanos, units: usize, checksum: Result<u64, CheckedErr>) -> Run {
-    let nanos = nanos?;
+/// What comes out of a run with so many units, where its checksum succeeded.
+pub(crate) fn outcome(
+    units: usize,
+    checksum: Result<u64, CheckedErr>,
+) -> Result<Outcome, CheckedErr> {
     let checksum = checksum?;
     let units = units as u64;
-    Ok((nanos, Outcome { units, checksum }))
+    Ok(Outcome { units, checksum })
+}
+
+/// Refuses an answer of a timed part that finds something wrong.
+pub(crate) fn well(answer: Result<bool, CheckedErr>) -> Result<(), CheckedErr> {
+    if answer? {
+        Ok(())
+    } else {
+        Err(CheckedErr::Condition)
+    }
 }
 
 // How many results an operation has where it is live, and else 0.
-fn result_count<D: Dialects>(ctx: &Context<D>, op: Ptr<Operation<D>>) -> usize {
+fn result_count(ctx: &ToyContext, op: ToyOp) -> usize {
     match op.try_deref(ctx) {
         Ok(op) => op.get_num_results(),
         Err(_) => 0,
@@ -40,7 +32,7 @@ fn result_count<D: Dialects>(ctx: &Context<D>, op: Ptr<Operation<D>>) -> usize {
 }
 
 /// How many operands an operation has where it is live, and else 0.
-pub(crate) fn operand_count<D: Dialects>(ctx: &Context<D>, op: Ptr<Operation<D>>) -> usize {
+pub(crate) fn operand_count(ctx: &ToyContext, op: ToyOp) -> usize {
     match op.try_deref(ctx) {
         Ok(op) => op.get_num_operands(),
         Err(_) => 0,
@@ -48,12 +40,12 @@ pub(crate) fn operand_count<D: Dialects>(ctx: &Context<D>, op: Ptr<Operation<D>>
 }
 
 /// How many uses a value has.
-pub(crate) fn uses_of<D: Dialects>(ctx: &Context<D>, value: Value<D>) -> Result<u64, CheckedErr> {
+pub(crate) fn uses_of(ctx: &ToyContext, value: ToyValue) -> Result<u64, CheckedErr> {
     Ok(num_uses(ctx, value)? as u64)
 }
 
 // What an operation adds to a sum: the uses of its first result, and its operands.
-fn op_number<D: Dialects>(ctx: &Context<D>, op: Ptr<Operation<D>>) -> Result<u64, CheckedErr> {
+fn op_number(ctx: &ToyContext, op: ToyOp) -> Result<u64, CheckedErr> {
     let operands = operand_count(ctx, op) as u64;
     if result_count(ctx, op) == 0 {
         return Ok(operands);
@@ -64,10 +56,7 @@ fn op_number<D: Dialects>(ctx: &Context<D>, op: Ptr<Operation<D>>) -> Result<u64
 }
 
 /// Of each operation, how many uses its result and how many operands it has.
-pub(crate) fn uses_sum<D: Dialects>(
-    ctx: &Context<D>,
-    ops: &[Ptr<Operation<D>>],
-) -> Result<u64, CheckedErr> {
+pub(crate) fn uses_sum(ctx: &ToyContext, ops: &[ToyOp]) -> Result<u64, CheckedErr> {
     let mut sum = 0;
     for op in ops {
         sum = mix(sum, op_number(ctx, *op)?);
@@ -76,10 +65,7 @@ pub(crate) fn uses_sum<D: Dialects>(
 }
 
 /// The same of the operations of a block.
-pub(crate) fn block_sum<D: Dialects>(
-    ctx: &Context<D>,
-    block: Ptr<BasicBlock<D>>,
-) -> Result<u64, CheckedErr> {
+pub(crate) fn block_sum(ctx: &ToyContext, block: ToyBlock) -> Result<u64, CheckedErr> {
     if !block.is_live(ctx) {
         return Err(CheckedErr::Condition);
     }
@@ -91,10 +77,10 @@ pub(crate) fn block_sum<D: Dialects>(
 }
 
 // Of each operand of an operation, whether it names the value, behind a sum.
-fn operands_added<D: Dialects>(
-    ctx: &Context<D>,
-    op: Ptr<Operation<D>>,
-    value: Value<D>,
+fn operands_added(
+    ctx: &ToyContext,
+    op: ToyOp,
+    value: ToyValue,
     before: u64,
 ) -> Result<u64, CheckedErr> {
     let mut sum = before;
@@ -106,10 +92,10 @@ fn operands_added<D: Dialects>(
 }
 
 /// Of each operand of each operation, whether it names the value.
-pub(crate) fn operand_sum<D: Dialects>(
-    ctx: &Context<D>,
-    ops: &[Ptr<Operation<D>>],
-    value: Value<D>,
+pub(crate) fn operand_sum(
+    ctx: &ToyContext,
+    ops: &[ToyOp],
+    value: ToyValue,
 ) -> Result<u64, CheckedErr> {
     let mut sum = 0;
     for op in ops {
@@ -119,10 +105,10 @@ pub(crate) fn operand_sum<D: Dialects>(
 }
 
 /// Of each operand of each operation, whether it names the value, and how many uses that has.
-pub(crate) fn naming_sum<D: Dialects>(
-    ctx: &Context<D>,
-    ops: &[Ptr<Operation<D>>],
-    value: Value<D>,
+pub(crate) fn naming_sum(
+    ctx: &ToyContext,
+    ops: &[ToyOp],
+    value: ToyValue,
 ) -> Result<u64, CheckedErr> {
     let sum = operand_sum(ctx, ops, value)?;
     Ok(mix(sum, uses_of(ctx, value)?))

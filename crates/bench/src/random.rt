@@ -1,6 +1,7 @@
 //! Numbers that look random, the same in each run and for each library.
 
-use std::alloc::Global;
+use crate::building::{keep, reserve};
+use ir_base::context::CoreError;
 
 /// Where the numbers go on.
 #[derive(Drop)]
@@ -30,12 +31,12 @@ impl Random {
     }
 }
 
-/// So many random places below that number.
-pub(crate) fn random_places(alloc: Global, count: usize) -> anyhow::Result<Vec<usize>> {
+/// Puts so many random places below that number into a list that is empty.
+pub(crate) fn fill_at_random(order: &mut Vec<usize>, count: usize) -> Result<(), CoreError> {
     let mut random = Random::new();
-    let mut order = Vec::with_capacity(alloc, count)?;
+    reserve(order, count)?;
     for _i in 0..count {
-        order.push(random.below(count))?;
+        keep(order, random.below(count))?;
     }
-    Ok(order)
+    Ok(())
 }

@@ -6,12 +6,13 @@ ghost use Rattle.ir_base.specs.Model.Nesting.{IsLiveNamed};
 ghost use Rattle.ir_core.specs.Records.Meaning.{value_of};
 ghost use Rattle.ir_core.specs.Context.State.{forest_of, types_of};
 
+use crate::building::{ToyContext, ToyOp, reserve};
 use crate::chains::two_values;
-use crate::outcome::{run_to, uses_sum};
-use anyhow::bail;
-use bench_clock::{Nanos, Run, nanos_now, nanos_of};
+use crate::outcome::{outcome, uses_sum};
+use bench_clock::{Outcome, Stopwatch};
 use ir_base::context::{CoreError, Dialects, Ptr};
 use ir_base::types::TypeHandle;
+use ir_checked::CheckedErr;
 use ir_core::context::Context;
 use ir_core::operation::Operation;
 use ir_core::prelude::*;
@@ -44,33 +45,21 @@ fn timed_unlinked<D: Dialects>(
     Ok(())
 }
 
-// How long it takes to make so many operations, the first two of which use new values.
-fn unlinked_nanos<C: CpuClock, D: Dialects>(
-    rt: &C,
-    ctx: &mut Context<D>,
+/// N operations without a block.
+pub(crate) fn unlinked<C: CpuClock>(
+    watch: &mut Stopwatch<'_, C>,
+    ctx: &mut ToyContext,
     ty: TypeHandle,
     count: usize,
-    made: &mut Vec<Ptr<Operation<D>>>,
-) -> Nanos {
+    made: &mut Vec<ToyOp>,
+) -> Result<Outcome, CheckedErr> {
+    reserve(made, count)?;
     let (first, second) = two_values(ctx, ty)?;
     if !ty.is_known(ctx) || !first.is_live(ctx) || !second.is_live(ctx) {
-        bail!("a type or a value is gone");
+        return Err(CheckedErr::Condition);
     }
-    nanos_of(
-        rt,
-        nanos_now(rt),
-        timed_unlinked(ctx, ty, first, second, count, made),
-    )
-}
-
-/// N operations without a block.
-pub(crate) fn unlinked<C: CpuClock, D: Dialects>(
-    rt: &C,
-    ctx: &mut Context<D>,
-    ty: TypeHandle,
-    count: usize,
-) -> Run {
-    let mut made = Vec::with_capacity(ctx.alloc(), count)?;
-    let nanos = unlinked_nanos(rt, ctx, ty, count, &mut made);
-    run_to(nanos, count, uses_sum(ctx, made.as_slice()))
+    watch.start();
+    timed_unlinked(ctx, ty, first, second, count, made)?;
+    watch.stop();
+    outcome(count, uses_sum(ctx, made.as_slice()))
 }

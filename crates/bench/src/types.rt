@@ -1,18 +1,20 @@
 //! Types that are asked for by their keys.
 
-use crate::outcome::run_to;
-use bench_clock::{Run, mix, nanos_now, nanos_of};
+use crate::building::{ToyContext, reserve};
+use crate::outcome::outcome;
+use bench_clock::{Outcome, Stopwatch, mix};
 use ir_base::context::CoreError;
 use ir_base::types::TypeHandle;
-use ir_checked::{CheckedErr, Context, TypeQueries};
-use ir_run::toy::{Toy, ToyType};
+use ir_checked::{CheckedErr, TypeQueries};
+use ir_run::toy::ToyType;
+use std::alloc::Global;
 use std::collections::HashSet;
 use std::time::CpuClock;
 
 // Asks for so many types out of a pool of keys, one at least, and puts their handles behind the others.
 #[inline(never)]
 fn timed_interning(
-    ctx: &mut Context<Toy>,
+    ctx: &mut ToyContext,
     pool: usize,
     count: usize,
     made: &mut Vec<TypeHandle>,
@@ -25,35 +27,50 @@ fn timed_interning(
     Ok(())
 }
 
-// Adds a place to others.
-fn add_place(places: &mut HashSet<usize>, place: usize) -> Result<(), CoreError> {
-    places.insert(place)?;
-    Ok(())
+// Adds the places of types to others, and answers how many there are.
+fn add_places(places: &mut HashSet<usize>, types: &[TypeHandle]) -> Result<u64, CoreError> {
+    for ty in types {
+        places.insert(ty.place)?;
+    }
+    Ok(places.len() as u64)
+}
+
+// How many types there are among these.
+fn distinct(alloc: Global, types: &[TypeHandle]) -> Result<u64, CoreError> {
+    let mut places = HashSet::new(alloc);
+    add_places(&mut places, types)
+}
+
+// The width of a type of integers, behind a sum.
+fn width_added(ctx: &ToyContext, ty: TypeHandle, sum: u64) -> u64 {
+    if !ty.is_known(ctx) {
+        return sum;
+    }
+    match ty.deref(ctx) {
+        ToyType::Int { width } => mix(sum, *width as u64),
+        ToyType::Named(_) => sum,
+    }
 }
 
 // The width of each type, and how many types there are.
-fn types_sum(ctx: &Context<Toy>, types: &[TypeHandle]) -> Result<u64, CheckedErr> {
+fn types_sum(ctx: &ToyContext, types: &[TypeHandle]) -> Result<u64, CheckedErr> {
     let mut sum = 0u64;
-    let mut distinct = HashSet::new(ctx.alloc());
     for ty in types {
-        if ty.is_known(ctx) {
-            if let ToyType::Int { width } = ty.deref(ctx) {
-                sum = mix(sum, *width as u64);
-            }
-        }
-        add_place(&mut distinct, ty.place)?;
+        sum = width_added(ctx, *ty, sum);
     }
-    Ok(mix(sum, distinct.len() as u64))
+    Ok(mix(sum, distinct(ctx.alloc(), types)?))
 }
 
 /// N types out of N/10 keys.
-pub(crate) fn interning<C: CpuClock>(rt: &C, ctx: &mut Context<Toy>, count: usize) -> Run {
-    let mut made = Vec::with_capacity(ctx.alloc(), count)?;
-    let pool = count / 10;
-    let nanos = nanos_of(
-        rt,
-        nanos_now(rt),
-        timed_interning(ctx, pool, count, &mut made),
-    );
-    run_to(nanos, count, types_sum(ctx, made.as_slice()))
+pub(crate) fn interning<C: CpuClock>(
+    watch: &mut Stopwatch<'_, C>,
+    ctx: &mut ToyContext,
+    count: usize,
+    made: &mut Vec<TypeHandle>,
+) -> Result<Outcome, CheckedErr> {
+    reserve(made, count)?;
+    watch.start();
+    timed_interning(ctx, count / 10, count, made)?;
+    watch.stop();
+    outcome(count, types_sum(ctx, made.as_slice()))
 }

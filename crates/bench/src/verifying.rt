@@ -1,21 +1,20 @@
 //! A module and a deep nest that are verified.
 
-use crate::building::{add_op, build};
+use crate::building::{ToyBlock, ToyContext, ToyOp, add_op, build};
 use crate::nests::{add_function, module_outcome, nest_from_above, nest_outcome, with_block};
-use crate::outcome::nanos_where;
-use bench_clock::{Run, nanos_now};
-use ir_base::context::{Dialects, Ptr};
+use crate::outcome::well;
+use bench_clock::{Outcome, Stopwatch};
 use ir_base::types::TypeHandle;
-use ir_checked::{BasicBlock, CheckedErr, Context, Operation, OperationPtr};
-use ir_run::toy::{Toy, ToyVerifiers};
+use ir_checked::{CheckedErr, OperationPtr};
+use ir_run::toy::ToyVerifiers;
 use ir_verify::verify::verify_operation;
 use std::time::CpuClock;
 
 // Makes a function at the back of a block, with a block of four operations and a terminator.
-fn add_ended_function<D: Dialects>(
-    ctx: &mut Context<D>,
+fn add_ended_function(
+    ctx: &mut ToyContext,
     ty: TypeHandle,
-    outer: Ptr<BasicBlock<D>>,
+    outer: ToyBlock,
 ) -> Result<(), CheckedErr> {
     let block = add_function(ctx, ty, outer)?;
     build(ctx, ty, block, 4)?;
@@ -24,11 +23,11 @@ fn add_ended_function<D: Dialects>(
 }
 
 // Makes a module of so many functions, each with a block of four operations and a terminator.
-fn ended_module<D: Dialects>(
-    ctx: &mut Context<D>,
+fn ended_module(
+    ctx: &mut ToyContext,
     ty: TypeHandle,
     functions: usize,
-) -> Result<Ptr<Operation<D>>, CheckedErr> {
+) -> Result<ToyOp, CheckedErr> {
     let (root, outer) = with_block(ctx, 5)?;
     for _i in 0..functions {
         add_ended_function(ctx, ty, outer)?;
@@ -38,7 +37,7 @@ fn ended_module<D: Dialects>(
 
 // Whether an operation is live, and verified with all that is inside it by Toy's checks.
 #[inline(never)]
-fn timed_verifying(ctx: &Context<Toy>, op: Ptr<Operation<Toy>>) -> bool {
+fn timed_verifying(ctx: &ToyContext, op: ToyOp) -> bool {
     if !op.is_live(ctx) {
         return false;
     }
@@ -47,19 +46,27 @@ fn timed_verifying(ctx: &Context<Toy>, op: Ptr<Operation<Toy>>) -> bool {
 
 /// A module of N/8 functions is verified: the one that is erased, but that the last operation of each function ends its block. Its building isn't timed. The units are the entities.
 pub(crate) fn verifying<C: CpuClock>(
-    rt: &C,
-    ctx: &mut Context<Toy>,
+    watch: &mut Stopwatch<'_, C>,
+    ctx: &mut ToyContext,
     ty: TypeHandle,
     count: usize,
-) -> Run {
+) -> Result<Outcome, CheckedErr> {
     let root = ended_module(ctx, ty, count / 8)?;
-    let nanos = nanos_where(rt, nanos_now(rt), Ok(timed_verifying(ctx, root)));
-    module_outcome(nanos, count / 8)
+    watch.start();
+    well(Ok(timed_verifying(ctx, root)))?;
+    watch.stop();
+    Ok(module_outcome(count / 8))
 }
 
 /// A nest N/3 deep is verified. Its building isn't timed. The units are the entities.
-pub(crate) fn verifying_deep<C: CpuClock>(rt: &C, ctx: &mut Context<Toy>, count: usize) -> Run {
+pub(crate) fn verifying_deep<C: CpuClock>(
+    watch: &mut Stopwatch<'_, C>,
+    ctx: &mut ToyContext,
+    count: usize,
+) -> Result<Outcome, CheckedErr> {
     let (outer, _inner) = nest_from_above(ctx, count / 3)?;
-    let nanos = nanos_where(rt, nanos_now(rt), Ok(timed_verifying(ctx, outer)));
-    nest_outcome(nanos, count / 3)
+    watch.start();
+    well(Ok(timed_verifying(ctx, outer)))?;
+    watch.stop();
+    Ok(nest_outcome(count / 3))
 }

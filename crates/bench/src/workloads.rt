@@ -1,5 +1,6 @@
 //! What is timed. Each workload has functions named `timed_..` that are the timed part and nothing more.
 
+use crate::building::{ToyContext, ToyOp, ToyValue};
 use crate::chains::{building, rebuilding, unlinked_checked};
 use crate::definitions::{arguments_front, results_front};
 use crate::lists::{blocks, front_to_back, random_moves};
@@ -13,16 +14,16 @@ use crate::sweeps::{sweep_back, sweep_comb, sweep_fan_in, sweep_fan_out, sweep_f
 use crate::types::interning;
 use crate::uses::{argument_users, replacing, replacing_in_one};
 use crate::verifying::{verifying, verifying_deep};
-use anyhow::bail;
-use bench_clock::Run;
+use anyhow::Context as _;
+use bench_clock::{Outcome, Stopwatch};
 use ir_base::types::TypeHandle;
-use ir_checked::{Context, end};
-use ir_run::toy::{Toy, ToyType};
+use ir_checked::{CheckedErr, Context, end, new_type};
+use ir_run::toy::ToyType;
 use std::alloc::Global;
 use std::time::CpuClock;
 
 /// What can be timed.
-#[derive(Clone, Copy, Debug, Drop)]
+#[derive(Clone, Copy, Drop)]
 pub enum Workload {
     /// N operations without a block, each with one result and the results of the two before as operands.
     Unlinked,
@@ -132,103 +133,114 @@ impl Workload {
         ]
     }
 
-    /// Runs the workload on a new context. Gives the nanoseconds of the timed part, and what came out.
-    pub(crate) fn run<C: CpuClock>(self, rt: &C, alloc: Global, count: usize) -> Run {
-        let mut ctx: Context<Toy> = Context::new(alloc);
-        let outcome = self.run_in(rt, &mut ctx, count);
+    // Runs the workload in an empty context, to which it gives a type. The lists are empty.
+    fn run_in<C: CpuClock>(
+        self,
+        watch: &mut Stopwatch<'_, C>,
+        ctx: &mut ToyContext,
+        count: usize,
+        lists: &mut Lists,
+    ) -> Result<Outcome, CheckedErr> {
+        let ty = new_type(ctx, ToyType::Int { width: 32 })?;
+        self.carry_out(watch, ctx, ty, count, lists)
+    }
+
+    // Runs the workload in a context that has nothing but a type.
+    fn carry_out<C: CpuClock>(
+        self,
+        watch: &mut Stopwatch<'_, C>,
+        ctx: &mut ToyContext,
+        ty: TypeHandle,
+        count: usize,
+        lists: &mut Lists,
+    ) -> Result<Outcome, CheckedErr> {
+        let Lists {
+            ops,
+            values,
+            types,
+            order,
+        } = lists;
+        match self {
+            Workload::Unlinked => unlinked(watch, ctx, ty, count, ops),
+            Workload::UnlinkedChecked => unlinked_checked(watch, ctx, ty, count, ops),
+            Workload::Building => building(watch, ctx, ty, count),
+            Workload::Replacing => replacing(watch, ctx, ty, count, ops),
+            Workload::Rebuilding => rebuilding(watch, ctx, ty, count),
+            Workload::ModuleErased => module_erased(watch, ctx, ty, count),
+            Workload::ModuleBuilt => module_built(watch, ctx, ty, count),
+            Workload::Interning => interning(watch, ctx, count, types),
+            Workload::FrontToBack => front_to_back(watch, ctx, ty, count, ops),
+            Workload::RandomMoves => random_moves(watch, ctx, ty, count, ops),
+            Workload::Blocks => blocks(watch, ctx, ty, count),
+            Workload::PushAndRemove => push_and_remove(watch, ctx, ty, count, ops),
+            Workload::PushesAndRemovals => pushes_and_removals(watch, ctx, ty, count),
+            Workload::Replacements => replacements(watch, ctx, ty, count, ops, order),
+            Workload::ReplacingInOne => replacing_in_one(watch, ctx, ty, count),
+            Workload::ArgumentUsers => argument_users(watch, ctx, ty, count),
+            Workload::Deep => deep(watch, ctx, count),
+            Workload::DeepAsked => deep_asked(watch, ctx, count),
+            Workload::NestAbove => nest_above(watch, ctx, count),
+            Workload::NestBelow => nest_below(watch, ctx, count),
+            Workload::Verifying => verifying(watch, ctx, ty, count),
+            Workload::VerifyingDeep => verifying_deep(watch, ctx, count),
+            Workload::SweepFront => sweep_front(watch, ctx, ty, count),
+            Workload::SweepBack => sweep_back(watch, ctx, ty, count),
+            Workload::SweepNone => sweep_none(watch, ctx, ty, count),
+            Workload::SweepFanOut => sweep_fan_out(watch, ctx, ty, count),
+            Workload::SweepFanIn => sweep_fan_in(watch, ctx, ty, count, values),
+            Workload::SweepComb => sweep_comb(watch, ctx, ty, count),
+            Workload::ReplacedFront => replaced_front(watch, ctx, ty, count),
+            Workload::ReplacedBack => replaced_back(watch, ctx, ty, count),
+            Workload::ReplacedRandom => replaced_random(watch, ctx, ty, count, order),
+            Workload::ResultsFront => results_front(watch, ctx, ty, count),
+            Workload::ArgumentsFront => arguments_front(watch, ctx, ty, count),
+        }
+    }
+
+    // Runs the workload on a new context.
+    fn run_new<C: CpuClock>(
+        self,
+        watch: &mut Stopwatch<'_, C>,
+        alloc: Global,
+        count: usize,
+    ) -> Result<Outcome, CheckedErr> {
+        let mut ctx = Context::new(alloc);
+        let mut lists = Lists::new(alloc);
+        let outcome = self.run_in(watch, &mut ctx, count, &mut lists);
         end(ctx, outcome)
     }
 
-    // Runs the workload in an empty context, to which it gives a type.
-    fn run_in<C: CpuClock>(self, rt: &C, ctx: &mut Context<Toy>, count: usize) -> Run {
-        let ty = ctx.instantiate_key(ToyType::Int { width: 32 })?;
-        match self {
-            Workload::Unlinked => unlinked(rt, ctx, ty, count),
-            Workload::UnlinkedChecked => unlinked_checked(rt, ctx, ty, count),
-            Workload::Building => building(rt, ctx, ty, count),
-            Workload::Replacing => replacing(rt, ctx, ty, count),
-            Workload::Rebuilding => rebuilding(rt, ctx, ty, count),
-            Workload::Interning => interning(rt, ctx, count),
-            Workload::ReplacingInOne => replacing_in_one(rt, ctx, ty, count),
-            Workload::ArgumentUsers => argument_users(rt, ctx, ty, count),
-            _ => self.run_operands(rt, ctx, ty, count),
-        }
-    }
-
-    // The same for a workload of operands, results and arguments, or one of those below.
-    fn run_operands<C: CpuClock>(
+    /// Runs the workload on a new context. Gives the nanoseconds of the timed part, and what came out.
+    pub(crate) fn run<C: CpuClock>(
         self,
         rt: &C,
-        ctx: &mut Context<Toy>,
-        ty: TypeHandle,
+        alloc: Global,
         count: usize,
-    ) -> Run {
-        match self {
-            Workload::PushAndRemove => push_and_remove(rt, ctx, ty, count),
-            Workload::PushesAndRemovals => pushes_and_removals(rt, ctx, ty, count),
-            Workload::Replacements => replacements(rt, ctx, ty, count),
-            Workload::ReplacedFront => replaced_front(rt, ctx, ty, count),
-            Workload::ReplacedBack => replaced_back(rt, ctx, ty, count),
-            Workload::ReplacedRandom => replaced_random(rt, ctx, ty, count),
-            Workload::ResultsFront => results_front(rt, ctx, ty, count),
-            Workload::ArgumentsFront => arguments_front(rt, ctx, ty, count),
-            _ => self.run_lists(rt, ctx, ty, count),
-        }
+    ) -> anyhow::Result<(u64, Outcome)> {
+        let mut watch = Stopwatch::new(rt);
+        let outcome = self.run_new(&mut watch, alloc, count)?;
+        let nanos = watch.nanos().context("the clock can't be read")?;
+        Ok((nanos, outcome))
     }
+}
 
-    // The same for a workload of lists, or one of those below.
-    fn run_lists<C: CpuClock>(
-        self,
-        rt: &C,
-        ctx: &mut Context<Toy>,
-        ty: TypeHandle,
-        count: usize,
-    ) -> Run {
-        match self {
-            Workload::FrontToBack => front_to_back(rt, ctx, ty, count),
-            Workload::RandomMoves => random_moves(rt, ctx, ty, count),
-            Workload::Blocks => blocks(rt, ctx, ty, count),
-            _ => self.run_sweeps(rt, ctx, ty, count),
-        }
-    }
+/// What a workload keeps beside its context.
+#[derive(Drop)]
+struct Lists {
+    ops: Vec<ToyOp>,
+    values: Vec<ToyValue>,
+    types: Vec<TypeHandle>,
+    order: Vec<usize>,
+}
 
-    // The same for a workload of sweeps, or one of those below.
-    fn run_sweeps<C: CpuClock>(
-        self,
-        rt: &C,
-        ctx: &mut Context<Toy>,
-        ty: TypeHandle,
-        count: usize,
-    ) -> Run {
-        match self {
-            Workload::SweepFront => sweep_front(rt, ctx, ty, count),
-            Workload::SweepBack => sweep_back(rt, ctx, ty, count),
-            Workload::SweepNone => sweep_none(rt, ctx, ty, count),
-            Workload::SweepFanOut => sweep_fan_out(rt, ctx, ty, count),
-            Workload::SweepFanIn => sweep_fan_in(rt, ctx, ty, count),
-            Workload::SweepComb => sweep_comb(rt, ctx, ty, count),
-            _ => self.run_nests(rt, ctx, ty, count),
-        }
-    }
-
-    // The same for a workload of modules and nests.
-    fn run_nests<C: CpuClock>(
-        self,
-        rt: &C,
-        ctx: &mut Context<Toy>,
-        ty: TypeHandle,
-        count: usize,
-    ) -> Run {
-        match self {
-            Workload::ModuleErased => module_erased(rt, ctx, ty, count),
-            Workload::ModuleBuilt => module_built(rt, ctx, ty, count),
-            Workload::Deep => deep(rt, ctx, count),
-            Workload::DeepAsked => deep_asked(rt, ctx, count),
-            Workload::NestAbove => nest_above(rt, ctx, count),
-            Workload::NestBelow => nest_below(rt, ctx, count),
-            Workload::Verifying => verifying(rt, ctx, ty, count),
-            Workload::VerifyingDeep => verifying_deep(rt, ctx, count),
-            _ => bail!("the workload is none of these"),
+impl Lists {
+    // Nothing is kept.
+    fn new(alloc: Global) -> Self {
+        Lists {
+            ops: Vec::new(alloc),
+            values: Vec::new(alloc),
+            types: Vec::new(alloc),
+            order: Vec::new(alloc),
         }
     }
 }

@@ -6,5 +6,5 @@
 mod outcome;
 mod report;
 
-pub use outcome::{Nanos, Outcome, Run, mix, nanos_now, nanos_of, nanos_since};
+pub use outcome::{Outcome, Stopwatch, mix};
 pub use report::{ByUnit, Timing, peak_memory};

@@ -1,7 +1,5 @@
 //! What a run comes to: how long its timed part took, and a number for what it left.
 
-use std::error::Error;
-use std::io;
 use std::time::CpuClock;
 
 /// What comes out of a run, each time the same.
@@ -13,36 +11,58 @@ pub struct Outcome {
     pub checksum: u64,
 }
 
-/// How long the timed part of a run took, where it succeeded.
-pub type Nanos = anyhow::Result<u64>;
-
-/// A run's nanoseconds in its timed part, and what came out of it.
-pub type Run = anyhow::Result<(u64, Outcome)>;
-
 /// A checksum with one number more.
 pub fn mix(sum: u64, number: u64) -> u64 {
     sum.wrapping_mul(31).wrapping_add(number)
 }
 
-/// The nanoseconds of the thread so far.
-pub fn nanos_now<C: CpuClock>(rt: &C) -> io::Result<u64> {
-    let time = rt.thread_cpu_time()?;
-    Ok(u64::try_from(time.as_nanos()).unwrap_or(u64::MAX))
+/// A stopwatch: it adds the processor time of the thread from each start to the next stop.
+#[derive(Drop)]
+pub struct Stopwatch<'a, C> {
+    clock: &'a C,
+    started: Option<u64>,
+    nanos: Option<u64>,
 }
 
-/// The nanoseconds of the thread since a start.
-pub fn nanos_since<C: CpuClock>(rt: &C, start: io::Result<u64>) -> io::Result<u64> {
-    let end = nanos_now(rt)?;
-    Ok(end.saturating_sub(start?))
+impl<'a, C: CpuClock> Stopwatch<'a, C> {
+    /// A stopwatch that shows no time.
+    pub fn new(clock: &'a C) -> Self {
+        Stopwatch {
+            clock,
+            started: None,
+            nanos: Some(0),
+        }
+    }
+
+    /// Begins to measure.
+    pub fn start(&mut self) {
+        self.started = self.read();
+    }
+
+    /// Adds the time since the start.
+    pub fn stop(&mut self) {
+        let passed = since(self.started, self.read());
+        self.nanos = sum(self.nanos, passed);
+    }
+
+    /// The nanoseconds that were measured, where the clock could be read each time.
+    pub fn nanos(&self) -> Option<u64> {
+        self.nanos
+    }
+
+    // The nanoseconds of the thread so far.
+    fn read(&self) -> Option<u64> {
+        let time = self.clock.thread_cpu_time().ok()?;
+        u64::try_from(time.as_nanos()).ok()
+    }
 }
 
-/// The nanoseconds of the thread since a start, where what was timed since succeeded. Arguments are worked out in their order, so in `nanos_of(rt, nanos_now(rt), timed_..(..))` the clock is read just before the timed part and just after it.
-pub fn nanos_of<C: CpuClock, E: Error>(
-    rt: &C,
-    start: io::Result<u64>,
-    done: Result<(), E>,
-) -> Nanos {
-    let nanos = nanos_since(rt, start)?;
-    done?;
-    Ok(nanos)
+// The time from a start to an end.
+fn since(start: Option<u64>, end: Option<u64>) -> Option<u64> {
+    Some(end?.saturating_sub(start?))
+}
+
+// Two times together.
+fn sum(one: Option<u64>, other: Option<u64>) -> Option<u64> {
+    Some(one?.saturating_add(other?))
 }
