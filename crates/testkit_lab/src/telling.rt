@@ -3,16 +3,16 @@
 use crate::context_edits::refused;
 use crate::lab::Lab;
 use crate::naming::Named;
+use ir_base_dialects::Answer;
 use ir_checked::CheckedErr;
-use testkit_edit_texts::TextError;
+use testkit_edit_texts::{TextError, write_answer};
 
 /// Writes why a call was refused.
 ///
 /// # Errors
 /// `OutOfMemory`, as with those below.
 pub fn tell_refused(text: &mut String, error: CheckedErr) -> Result<(), TextError> {
-    let cause = refused(error);
-    Ok(write!(text, "refused {cause}")?)
+    Ok(write_answer(text, '-', Answer::Refused(refused(error)))?)
 }
 
 /// Writes whether a call was made.

@@ -1,12 +1,12 @@
 //! Handles, regions, what stands in what, and the context as a whole.
 
-use ir_base_dialects::Ptr;
+use ir_base_dialects::{Ptr, TypeHandle};
 use ir_checked::{
     BasicBlock, BlockPtr, CheckedErr, Context, Entity, Operation, OperationPtr, Region,
-    RegionPlace, RegionPtr, is_inside,
+    RegionPlace, RegionPtr, TypeQueries, is_inside,
 };
 use ir_view_parts::ArenaObj;
-use testkit_lab::{Lab, Name, Named, TextError, name_of, one, tell_refused, two};
+use testkit_lab::{Lab, Name, Named, TextError, count, name_of, one, tell_refused, two};
 use toy_dialect::Toy;
 
 /// `REGION`: its operation and its index there, what it stands in, its entry block, and whether definitions dominate uses there.
@@ -134,6 +134,15 @@ pub(crate) fn context(text: &mut String, lab: &Lab, rest: &str) -> Result<(), Te
         return Err(TextError::Malformed);
     }
     write_room(text, lab.ctx())
+}
+
+/// `PLACE`: the type at this place of the store, and whether the handle of the place is known.
+pub(crate) fn type_at(text: &mut String, lab: &Lab, rest: &str) -> Result<(), TextError> {
+    let place = count(one(rest)?)?;
+    let ctx = lab.ctx();
+    let ty = name_of(lab, ctx.type_at(place));
+    let known = TypeHandle::at(place).is_known(ctx);
+    Ok(write!(text, "type {ty} known {known}")?)
 }
 
 fn write_room(text: &mut String, ctx: &Context<Toy>) -> Result<(), TextError> {

@@ -56,6 +56,7 @@ fn ask(text: &mut String, lab: &Lab, word: &str, rest: &str) -> Result<(), TextE
         "nest.strange" => strange::handle(text, lab, rest),
         "nest.is_inside" => nesting::inside(text, lab, rest),
         "nest.can_erase" => nesting::erasable(text, lab, rest),
+        "nest.type_at" => nesting::type_at(text, lab, rest),
         "nest.context" => nesting::context(text, lab, rest),
         _ => Err(TextError::Malformed),
     }
