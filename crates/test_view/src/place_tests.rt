@@ -1,72 +1,18 @@
 //! Lists of operations and of blocks, read from both ends and from each node.
-//!
-//! Step by step they are sessions as texts: what these show of a list is how it is walked forward and backward, its ends, and the neighbours and the place of each node.
 
 use crate::making::{bare_block, bare_op, block_in, op_with_region};
 use crate::parents::expect_op_in;
 use crate::same::expect_same;
 use ir_base_dialects::linked_list::LinkedList;
-use ir_base_dialects::{Dialects, Iter, Limits, Ptr};
+use ir_base_dialects::{Dialects, Iter, Ptr};
 use ir_checked::{
     BasicBlock, BlockPlace, BlockPtr, CheckedErr, Context, Operation, OperationPlace, OperationPtr,
     Region, RegionPlace, RegionPtr, block_head, block_tail, end, op_at_back, region_head,
     region_tail, unlink_block, unlink_op,
 };
-use std::alloc::Global;
 use std::process::Abort;
 use std::test::Fail;
-use testkit_transcripts::{TextError, first_difference};
 use toy_dialect::Toy;
-
-// Asserts that a session does what the text says.
-fn expect_session(rt: &impl Abort, alloc: Global, text: &str) -> Result<(), TextError> {
-    match first_difference(alloc, Limits::default(), "", text)? {
-        Some(difference) if difference.ends_with("\nrefused memory\n") => {
-            return Err(TextError::OutOfMemory);
-        }
-        Some(difference) => assert!(rt; false, "{difference}"),
-        None => {}
-    }
-    Ok(())
-}
-
-// Of four operations the third isn't put into the block; then the second, the first and the last are taken out.
-const OPERATIONS: &str = "
-new-block - - => made b0
-new-op 0 - - - 0 => made o0
-new-op 0 - - - 0 => made o1
-new-op 0 - - - 0 => made o2
-new-op 0 - - - 0 => made o3
-dump
-  o0: 0
-  o1: 0
-  o2: 0
-  o3: 0
-  b0:
-op-back o0 b0 => done
-op-back o1 b0 => done
-op-back o3 b0 => done
-dump
-  o0: 0 in b0
-  o1: 0 in b0
-  o2: 0
-  o3: 0 in b0
-  b0: operations o0 o1 o3
-unlink-op o1 => done
-  o1: 0
-  b0: operations o0 o3
-unlink-op o0 => done
-  o0: 0
-  b0: operations o3
-unlink-op o3 => done
-  o3: 0
-  b0:
-dump
-  o0: 0
-  o1: 0
-  o2: 0
-  o3: 0
-  b0:";
 
 // Asserts whether the operation stands in a block, and what stands right before and right after it.
 fn expect_op<D: Dialects>(
@@ -228,37 +174,11 @@ fn take_out<D: Dialects>(
 
 #[test]
 fn operations_in_a_block(rt: HostRuntime) -> Result<(), Fail> {
-    expect_session(&rt, rt.alloc(), OPERATIONS)?;
     let mut ctx: Context<Toy> = Context::new(rt.alloc());
     let outcome = insert_and_unlink(&rt, &mut ctx);
     end(ctx, outcome)?;
     Ok(())
 }
-
-// Three blocks in a region; then the middle one, the first and the last are taken out.
-const BLOCKS: &str = "
-new-op 5 - - - 1 => made o0
-new-block - - => made b0
-new-block - - => made b1
-new-block - - => made b2
-block-back b0 r0 => done
-block-back b1 r0 => done
-block-back b2 r0 => done
-dump
-  o0: 5 regions r0
-  b0: in r0
-  b1: in r0
-  b2: in r0
-  r0: blocks b0 b1 b2 in o0
-unlink-block b1 => done
-  b1:
-  r0: blocks b0 b2 in o0
-unlink-block b0 => done
-  b0:
-  r0: blocks b2 in o0
-unlink-block b2 => done
-  b2:
-  r0: in o0";
 
 // Asserts which block is the region's entry, which is its first one, and which is its last.
 fn expect_entry<D: Dialects>(
@@ -352,7 +272,6 @@ fn blocks_and_entry<D: Dialects>(rt: &impl Abort, ctx: &mut Context<D>) -> Resul
 
 #[test]
 fn blocks_in_a_region(rt: HostRuntime) -> Result<(), Fail> {
-    expect_session(&rt, rt.alloc(), BLOCKS)?;
     let mut ctx: Context<Toy> = Context::new(rt.alloc());
     let outcome = blocks_and_entry(&rt, &mut ctx);
     end(ctx, outcome)?;

@@ -20,12 +20,17 @@ pub fn letter_of(edit: &Edit<Toy>) -> char {
 /// The text of the answer to an edit that puts something into the table with this letter.
 pub fn answer_text(alloc: Global, letter: char, answer: Answer) -> Result<String, AllocError> {
     let mut text = String::new(alloc);
-    match answer {
-        Answer::Made(number) => write!(text, "made {letter}{number}")?,
-        Answer::Done => text.push_str("done")?,
-        Answer::Refused(refused) => text.push_str(refusal_text(refused))?,
-    }
+    write_answer(&mut text, letter, answer)?;
     Ok(text)
+}
+
+/// Writes the same behind a text.
+pub fn write_answer(text: &mut String, letter: char, answer: Answer) -> Result<(), AllocError> {
+    match answer {
+        Answer::Made(number) => write!(text, "made {letter}{number}"),
+        Answer::Done => text.push_str("done"),
+        Answer::Refused(refused) => text.push_str(refusal_text(refused)),
+    }
 }
 
 // The text of a refusal.

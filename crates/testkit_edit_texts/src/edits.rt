@@ -12,9 +12,17 @@ use toy_dialect::{Toy, ToyType};
 /// # Errors
 /// `Malformed` where it has no form of an edit, and `OutOfMemory`.
 pub fn parse_edit(alloc: Global, line: &str) -> Result<Edit<Toy>, TextError> {
-    let Some((word, rest)) = take_field(line) else {
-        return Err(TextError::Malformed);
-    };
+    match take_field(line) {
+        Some((word, rest)) => edit_of(alloc, word, rest),
+        None => Err(TextError::Malformed),
+    }
+}
+
+/// The edit of a word and its fields.
+///
+/// # Errors
+/// `Malformed` where they are none, and `OutOfMemory`.
+pub fn edit_of(alloc: Global, word: &str, rest: &str) -> Result<Edit<Toy>, TextError> {
     if word == "new-type" {
         return new_type(alloc, rest);
     }

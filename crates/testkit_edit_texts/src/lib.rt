@@ -24,8 +24,8 @@ mod edits;
 mod error;
 mod fields;
 
-pub use answers::{answer_text, letter_of};
+pub use answers::{answer_text, letter_of, write_answer};
 pub use edit_words::{EDIT_WORDS, GROWING, grows, word_of};
-pub use edits::{parse_edit, parse_edits};
+pub use edits::{edit_of, parse_edit, parse_edits};
 pub use error::TextError;
 pub use fields::{number, take_field};

@@ -1,0 +1,69 @@
+//! The program `lab`: it reads lines from standard input, and answers each over a session or a context of the dialect Toy. It looks at one argument: with `marks` it says `ready` before each call and `done` after it.
+//!
+//! It supports tests, and promises nothing but safety. Words, names and answers are those of `testkit_lab` and of the crates beside it, each named by what stands before the point in a word.
+#![tactic(auto)]
+
+use anyhow::Result;
+use std::env;
+use std::io::{self, BufRead, BufReader, Write};
+use testkit_lab::{Lab, TextError, take_field};
+
+// The answer to a line that has no form of a line.
+const MALFORMED: &str = "malformed";
+
+// Answers a line into the lab's text.
+fn answer(lab: &mut Lab, line: &str) -> Result<(), TextError> {
+    let Some((word, rest)) = take_field(line) else {
+        return Err(TextError::Malformed);
+    };
+    let Some((group, _)) = word.split_once('.') else {
+        return testkit_lab::answer(lab, word, rest);
+    };
+    match group {
+        "edit" => testkit_lab::answer_edit(lab, word, rest),
+        "op" | "block" | "region" | "value" | "use" | "list" | "nest" => {
+            testkit_lab_queries::answer(lab, word, rest)
+        }
+        _ => Err(TextError::Malformed),
+    }
+}
+
+// Answers a line, and writes the answer, between marks where they are asked for.
+fn follow_line<W: Write>(out: &mut W, lab: &mut Lab, line: &str, marks: bool) -> Result<()> {
+    lab.text.clear();
+    if marks {
+        out.write_all(b"ready\n")?;
+    }
+    let ended = answer(lab, line);
+    if marks {
+        out.write_all(b"done\n")?;
+    }
+    if ended == Err(TextError::Malformed) {
+        lab.text.clear();
+        lab.text.push_str(MALFORMED)?;
+    } else {
+        ended?;
+    }
+    lab.text.push_str("\n")?;
+    out.write_all(lab.text.as_bytes())?;
+    Ok(())
+}
+
+// Whether the line is one to be answered.
+fn is_asked(line: &str) -> bool {
+    !line.is_empty() && !line.starts_with('#')
+}
+
+fn main(rt: HostRuntime) -> Result<()> {
+    let alloc = rt.alloc();
+    let marks = env::args(&rt)?.nth(1).is_some();
+    let mut out = rt.stdout();
+    let mut lab = Lab::new(alloc)?;
+    for line in BufReader::new(alloc, rt.reader())?.lines(alloc) {
+        let line = line?;
+        if is_asked(&line) {
+            follow_line(&mut out, &mut lab, &line, marks)?;
+        }
+    }
+    Ok(())
+}

@@ -1,0 +1,37 @@
+//! A session or a context that is edited and asked by lines of text, so that tests are tables: its state, the names in its lines, and the words that change it.
+//!
+//! It supports tests, and promises nothing but safety: no contract says what a call answers.
+//!
+//! Each line is a word and its fields, with single blanks between them, and is given an answer. Names are those of tables: `t0` is the first type, `o0` the first operation, `b`, `r` and `v` are blocks, regions and values, and `u` and `w` are uses of values and of blocks, which are entered where a word takes them.
+//!
+//! - `begin session` and `begin context`, with the four limits `VALUES USES SLOTS VERSION` or without: all begins anew. In a session each edit is a run of its own; in a context it is a direct call.
+//! - The edits, as `testkit_edit_texts` writes and answers them.
+//! - `dump`: a line for each entry of the tables, as `testkit_dumps` writes them, each behind two spaces.
+//! - Questions: `room`, how many numbers and slots are left; `is-empty`, whether there is no operation, block and region; `place o0` or `place b0`, slot and version; `deref o0` or `deref b0`, and `find-index v0`, whose answer may be a fault's text; `id b0`.
+//! - In a context alone, the words of `edit_words`: changes that are no edits of a session.
+#![tactic(auto)]
+
+mod context_definitions;
+mod context_edits;
+mod context_lists;
+mod context_uses;
+mod edit_words;
+mod entering;
+mod fields;
+mod finding;
+mod lab;
+mod naming;
+mod questions;
+mod redirecting;
+mod setting;
+mod telling;
+mod words;
+
+pub use edit_words::answer_edit;
+pub use fields::{count, one, three, two};
+pub use lab::{Lab, Mode};
+pub use naming::{Line, Name, Named, Placed, name_of};
+pub use telling::{tell_done, tell_name, tell_number, tell_refused};
+pub use testkit_dumps::{NOWHERE, number_in};
+pub use testkit_edit_texts::{TextError, number, take_field};
+pub use words::answer;

@@ -1,0 +1,106 @@
+//! The words that change a lab, and its dump.
+
+use crate::context_edits::carry_out;
+use crate::fields::two;
+use crate::lab::{Lab, Mode};
+use crate::questions;
+use ir_base_dialects::{Answer, Limits};
+use ir_run_sessions::Edit;
+use testkit_dumps::dump;
+use testkit_edit_texts::{TextError, edit_of, letter_of, take_field, write_answer};
+use toy_dialect::Toy;
+
+/// Answers a line: a word of this crate, and its fields.
+///
+/// # Errors
+/// `Malformed` where it is none, and `OutOfMemory`.
+pub fn answer(lab: &mut Lab, word: &str, rest: &str) -> Result<(), TextError> {
+    match word {
+        "begin" => begin(lab, rest),
+        "dump" => write_dump(lab),
+        "room" => questions::room(lab, rest),
+        "is-empty" => questions::is_empty(lab, rest),
+        "place" => questions::place(lab, rest),
+        "deref" => questions::deref(lab, rest),
+        "find-index" => questions::find_index(lab, rest),
+        "id" => questions::id(lab, rest),
+        _ => edit(lab, word, rest),
+    }
+}
+
+// Begins anew.
+fn begin(lab: &mut Lab, rest: &str) -> Result<(), TextError> {
+    let (word, limits) = take_field(rest).ok_or(TextError::Malformed)?;
+    let mode = mode_of(word)?;
+    lab.begin(mode, limits_of(limits)?)?;
+    Ok(lab.text.push_str("done")?)
+}
+
+// The mode of a word.
+fn mode_of(word: &str) -> Result<Mode, TextError> {
+    match word {
+        "session" => Ok(Mode::Session),
+        "context" => Ok(Mode::Context),
+        _ => Err(TextError::Malformed),
+    }
+}
+
+// A number in front of the rest.
+fn numbered(text: &str) -> Result<(u64, &str), TextError> {
+    let (field, rest) = take_field(text).ok_or(TextError::Malformed)?;
+    match field.parse() {
+        Ok(number) => Ok((number, rest)),
+        Err(_) => Err(TextError::Malformed),
+    }
+}
+
+// The limits of four fields, or of none.
+fn limits_of(text: &str) -> Result<Limits, TextError> {
+    if text.is_empty() {
+        return Ok(Limits::default());
+    }
+    let (values, rest) = numbered(text)?;
+    let (uses, rest) = numbered(rest)?;
+    let (slots, last_version) = two(rest)?;
+    match (slots.parse(), last_version.parse()) {
+        (Ok(slots), Ok(last_version)) => Ok(Limits {
+            values,
+            uses,
+            slots,
+            last_version,
+        }),
+        _ => Err(TextError::Malformed),
+    }
+}
+
+// Writes the dump below its word.
+fn write_dump(lab: &mut Lab) -> Result<(), TextError> {
+    let lines = dump(lab.ctx(), &lab.tables)?;
+    lab.text.push_str("dump")?;
+    for line in lines.lines() {
+        lab.text.push_str("\n  ")?;
+        lab.text.push_str(line)?;
+    }
+    Ok(())
+}
+
+// Carries an edit out, and writes how it ends.
+fn edit(lab: &mut Lab, word: &str, rest: &str) -> Result<(), TextError> {
+    let alloc = lab.alloc();
+    let edit = edit_of(alloc, word, rest)?;
+    let letter = letter_of(&edit);
+    let answer = match lab.mode {
+        Mode::Session => run_one(lab, edit)?,
+        Mode::Context => carry_out(&mut lab.context, &mut lab.tables, edit)?,
+    };
+    Ok(write_answer(&mut lab.text, letter, answer)?)
+}
+
+// Carries an edit out in a run of its own.
+fn run_one(lab: &mut Lab, edit: Edit<Toy>) -> Result<Answer, TextError> {
+    let mut edits = Vec::new(lab.alloc());
+    edits.push(edit)?;
+    let answers = lab.session.run(edits)?;
+    lab.read()?;
+    Ok(answers.first().copied().unwrap_or(Answer::Done))
+}
