@@ -7,7 +7,7 @@
 //! - `begin session` and `begin context`, with the four limits `VALUES USES SLOTS VERSION` or without: all begins anew. In a session each edit is a run of its own; in a context it is a direct call.
 //! - The edits, as `testkit_edit_texts` writes and answers them.
 //! - `dump`: a line for each entry of the tables, as `testkit_dumps` writes them, each behind two spaces.
-//! - Questions: `room`, how many numbers and slots are left; `is-empty`, whether there is no operation, block and region; `place o0` or `place b0`, slot and version; `deref o0` or `deref b0`, and `find-index v0`, whose answer may be a fault's text; `id b0`.
+//! - Questions: `room`, how many numbers and slots are left; `is-empty`, whether there is no operation, block and region; `id b0`.
 //! - In a context alone, the words of `edit_words`: changes that are no edits of a session.
 #![tactic(auto)]
 

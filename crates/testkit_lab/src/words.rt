@@ -20,9 +20,6 @@ pub fn answer(lab: &mut Lab, word: &str, rest: &str) -> Result<(), TextError> {
         "dump" => write_dump(lab),
         "room" => questions::room(lab, rest),
         "is-empty" => questions::is_empty(lab, rest),
-        "place" => questions::place(lab, rest),
-        "deref" => questions::deref(lab, rest),
-        "find-index" => questions::find_index(lab, rest),
         "id" => questions::id(lab, rest),
         _ => edit(lab, word, rest),
     }
