@@ -2,7 +2,7 @@
  *
  * REFUSE is the number of the request that is refused, counted from 1; with 0 none is, and with `between` each one that is made between the lines.
  * Between a line `ready` on standard output and a line `done` stands a call of which the program means that it asks for nothing, or else that it asks.
- * At the end four numbers are written to the file that REQUESTS names: all requests, those between such lines, how often the one line came and then the other, and how often without a request between them. */
+ * At the end two lines are written to the file that REQUESTS names: the numbers of all requests, of those between such lines, of how often the one line came and then the other, and of how often without a request between them; and the number of requests between each two such lines. */
 #define _GNU_SOURCE
 #include <dlfcn.h>
 #include <fcntl.h>
@@ -11,7 +11,10 @@
 #include <string.h>
 #include <unistd.h>
 
+enum { MOST_PAIRS = 1 << 18 };
+
 static long asked, refused, between, pairs, quiet, before;
+static long counts[MOST_PAIRS];
 static int watching, refuses_between;
 
 __attribute__((constructor)) static void start(void) {
@@ -26,6 +29,8 @@ __attribute__((destructor)) static void end(void) {
     int file = path ? open(path, O_WRONLY | O_CREAT | O_TRUNC, 0600) : -1;
     if (file < 0) return;
     dprintf(file, "%ld %ld %ld %ld\n", asked, between, pairs, quiet);
+    for (long i = 0; i < pairs && i < MOST_PAIRS; i++) dprintf(file, "%ld ", counts[i]);
+    dprintf(file, "\n");
     close(file);
 }
 
@@ -52,6 +57,7 @@ static ssize_t watched(ssize_t (*next)(int, const void *, size_t), int file, con
     if (file != STDOUT_FILENO) return next(file, text, length);
     if (watching && length == 5 && !memcmp(text, "done\n", 5)) {
         watching = 0;
+        if (pairs < MOST_PAIRS) counts[pairs] = between - before;
         pairs++;
         quiet += between == before;
     }
