@@ -18,7 +18,7 @@ fn answer(lab: &mut Lab, line: &str) -> Result<(), TextError> {
     };
     match word.split_once('.') {
         None => testkit_lab::answer(lab, word, rest),
-        Some(_) => Err(TextError::Malformed),
+        Some(_) => testkit_lab_types::answer(lab, word, rest),
     }
 }
 

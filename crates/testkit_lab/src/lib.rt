@@ -2,7 +2,7 @@
 //!
 //! It supports tests, and promises nothing but safety: no contract says what a call answers.
 //!
-//! Each line is a word and its fields, with single blanks between them, and is given an answer. Names are those of tables: `t0` is the first type, `o0` the first operation, `b`, `r` and `v` are blocks, regions and values, and `u` and `w` are uses of values and of blocks, which are entered where a word takes them.
+//! Each line is a word and its fields, with single blanks between them, and is given an answer. Names are those of tables: `t0` is the first type, `o0` the first operation, `b`, `r` and `v` are blocks, regions and values, `a` indices of auxiliary data and `s` what was saved, and `u` and `w` are uses of values and of blocks, which are entered where a word takes them.
 //!
 //! - `begin session` and `begin context`, with the four limits `VALUES USES SLOTS VERSION` or without: all begins anew. In a session each edit is a run of its own; in a context it is a direct call.
 //! - The edits, as `testkit_edit_texts` writes and answers them.
@@ -10,6 +10,7 @@
 //! - In a context alone, the words of `edit_words`: changes that are no edits of a session.
 #![tactic(auto)]
 
+mod beside;
 mod context_definitions;
 mod context_edits;
 mod context_lists;
@@ -20,7 +21,8 @@ mod finding;
 mod lab;
 mod words;
 
+pub use beside::{Beside, Saved};
 pub use fields::{count, one, three, two};
-pub use lab::{Lab, Mode};
+pub use lab::{Lab, Mode, asked};
 pub use testkit_edit_texts::{TextError, number, take_field};
 pub use words::answer;
