@@ -24,7 +24,10 @@ fn write_parts(
 ) -> Result<(), TextError> {
     let (result, ty) = result_at(lab, op, index);
     let (operand, place) = operand_at(lab, op, index);
-    write!(text, "result {result} type {ty} operand {operand} as {place}")?;
+    write!(
+        text,
+        "result {result} type {ty} operand {operand} as {place}"
+    )?;
     let (successor, place) = successor_at(lab, op, index);
     let region = region_at(lab, op, index);
     Ok(write!(text, " successor {successor} as {place} region {region}")?)
@@ -42,7 +45,10 @@ fn result_at(lab: &Lab, op: &Operation<Toy>, index: usize) -> (Name, Name) {
 // What the operand names, and where it stands.
 fn operand_at(lab: &Lab, op: &Operation<Toy>, index: usize) -> (Name, Name) {
     if index < op.get_num_operands() {
-        (op.get_operand(index).name(lab), op.get_operand_as_use(index).place(lab))
+        (
+            op.get_operand(index).name(lab),
+            op.get_operand_as_use(index).place(lab),
+        )
     } else {
         (Name::Nothing, Name::Nothing)
     }
@@ -51,7 +57,10 @@ fn operand_at(lab: &Lab, op: &Operation<Toy>, index: usize) -> (Name, Name) {
 // What the successor names, and where it stands.
 fn successor_at(lab: &Lab, op: &Operation<Toy>, index: usize) -> (Name, Name) {
     if index < op.get_num_successors() {
-        (op.get_successor(index).name(lab), op.get_successor_as_use(index).place(lab))
+        (
+            op.get_successor(index).name(lab),
+            op.get_successor_as_use(index).place(lab),
+        )
     } else {
         (Name::Nothing, Name::Nothing)
     }
@@ -76,9 +85,13 @@ pub(crate) fn block(text: &mut String, lab: &Lab, rest: &str) -> Result<(), Text
 }
 
 fn argument_at(lab: &Lab, block: Ptr<BasicBlock<Toy>>, index: usize) -> Name {
-    match block.try_deref(lab.ctx()) {
-        Ok(record) if index < record.get_num_arguments() => record.get_argument(index).name(lab),
-        _ => Name::Nothing,
+    let Ok(record) = block.try_deref(lab.ctx()) else {
+        return Name::Nothing;
+    };
+    if index < record.get_num_arguments() {
+        record.get_argument(index).name(lab)
+    } else {
+        Name::Nothing
     }
 }
 

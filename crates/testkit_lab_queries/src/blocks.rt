@@ -27,7 +27,10 @@ fn write_record(text: &mut String, block: &BasicBlock<Toy>) -> Result<(), TextEr
     let arguments = block.get_num_arguments();
     let loc = Line(*block.loc());
     let attributes = block.attributes().len();
-    Ok(write!(text, "label {label} arguments {arguments} loc {loc} attributes {attributes}")?)
+    Ok(write!(
+        text,
+        "label {label} arguments {arguments} loc {loc} attributes {attributes}"
+    )?)
 }
 
 fn write_preds(
@@ -40,21 +43,23 @@ fn write_preds(
     }
     let (has, count) = (block.has_pred(ctx), block.num_preds(ctx));
     let linked = block.preds_are_linked(ctx);
-    Ok(write!(text, " has_pred {has} num_preds {count} preds_are_linked {linked}")?)
+    Ok(write!(
+        text,
+        " has_pred {has} num_preds {count} preds_are_linked {linked}"
+    )?)
 }
 
-fn write_succs(
-    text: &mut String,
-    lab: &Lab,
-    block: Ptr<BasicBlock<Toy>>,
-) -> Result<(), TextError> {
+fn write_succs(text: &mut String, lab: &Lab, block: Ptr<BasicBlock<Toy>>) -> Result<(), TextError> {
     let ctx = lab.ctx();
     if !block.is_live(ctx) {
         return tell_refused(text, CheckedErr::Condition);
     }
     let (has, count) = (block.has_succ(ctx), block.num_succ(ctx));
     let terminator = name_of(lab, block.get_terminator(ctx));
-    Ok(write!(text, " has_succ {has} num_succ {count} terminator {terminator}")?)
+    Ok(write!(
+        text,
+        " has_succ {has} num_succ {count} terminator {terminator}"
+    )?)
 }
 
 /// `BLOCK`: what it stands in, and its neighbours there.

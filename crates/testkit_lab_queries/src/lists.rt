@@ -18,11 +18,7 @@ pub(crate) fn read(text: &mut String, lab: &Lab, rest: &str) -> Result<(), TextE
     }
 }
 
-fn write_block(
-    text: &mut String,
-    lab: &Lab,
-    block: Ptr<BasicBlock<Toy>>,
-) -> Result<(), TextError> {
+fn write_block(text: &mut String, lab: &Lab, block: Ptr<BasicBlock<Toy>>) -> Result<(), TextError> {
     let ctx = lab.ctx();
     if !block.is_live(ctx) {
         return tell_refused(text, CheckedErr::Condition);

@@ -12,8 +12,7 @@ pub(crate) fn read(text: &mut String, lab: &Lab, rest: &str) -> Result<(), TextE
     match op.try_deref(lab.ctx()) {
         Ok(record) => {
             write_counts(text, record)?;
-            write_uses(text, lab.ctx(), op)?;
-            write_rest(text, record)
+            write_rest(text, lab.ctx(), op)
         }
         Err(fault) => Ok(write!(text, "{fault}")?),
     }
@@ -29,7 +28,8 @@ fn write_counts(text: &mut String, op: &Operation<Toy>) -> Result<(), TextError>
     )?)
 }
 
-fn write_uses(
+// Writes how the results are used, the location and how many attributes there are.
+fn write_rest(
     text: &mut String,
     ctx: &Context<Toy>,
     op: Ptr<Operation<Toy>>,
@@ -38,13 +38,13 @@ fn write_uses(
         return tell_refused(text, CheckedErr::Condition);
     }
     let (has_use, num_uses) = (op.has_use(ctx), op.num_uses(ctx));
-    Ok(write!(text, " has_use {has_use} num_uses {num_uses}")?)
-}
-
-fn write_rest(text: &mut String, op: &Operation<Toy>) -> Result<(), TextError> {
-    let loc = Line(*op.loc());
-    let attributes = op.attributes().len();
-    Ok(write!(text, " loc {loc} attributes {attributes}")?)
+    let record = op.deref(ctx);
+    let loc = Line(*record.loc());
+    let attributes = record.attributes().len();
+    Ok(write!(
+        text,
+        " has_use {has_use} num_uses {num_uses} loc {loc} attributes {attributes}"
+    )?)
 }
 
 /// `OP`: what it stands in, and its neighbours there.

@@ -38,7 +38,10 @@ fn write_type(text: &mut String, lab: &Lab, value: Value<Toy>) -> Result<(), Tex
     let found = value.find_index(ctx);
     let ty = value.get_type(ctx).name(lab);
     let (count, used) = (value.num_uses(ctx), value.is_used(ctx));
-    Ok(write!(text, " found {found} type {ty} num_uses {count} is_used {used}")?)
+    Ok(write!(
+        text,
+        " found {found} type {ty} num_uses {count} is_used {used}"
+    )?)
 }
 
 fn write_place(text: &mut String, lab: &Lab, value: Value<Toy>) -> Result<(), TextError> {
@@ -86,7 +89,10 @@ pub(crate) fn write_value_use(
             let found = used.find_index(ctx);
             let value = used.get_def(ctx).name(lab);
             let ty = used.get_type(ctx).name(lab);
-            Ok(write!(text, "user {user} index {index} found {found} def {value} type {ty}")?)
+            Ok(write!(
+                text,
+                "user {user} index {index} found {found} def {value} type {ty}"
+            )?)
         }
         Err(fault) => Ok(write!(text, "user {user} {fault}")?),
     }
