@@ -8,10 +8,11 @@ ghost use Rattle.ir_view_parts.specs.State.{forest_of, types_of};
 
 use crate::contexts::expect_same;
 use example::chain;
-use ir_base_dialects::{CoreError, Dialects, Ptr};
+use ir_base_dialects::{CoreError, Dialects, Limits, Ptr};
 use ir_checked::{
     BasicBlock, BlockPtr, Context, Operation, OperationPtr, Region, RegionPtr, TypeQueries,
     UseQueries, ValueQueries, end, new_block, new_op, new_type, num_uses, region, result,
+    with_limits,
 };
 use ir_view_parts::{ArenaObj, NewOperation, ResultUses};
 use std::panic::Expect;
@@ -193,5 +194,17 @@ fn tell_chain<D: Dialects>(rt: &impl Abort, ctx: &mut Context<D>, key: D::TypeKe
 fn the_last_of_a_chain_has_no_use(rt: HostRuntime) {
     let mut ctx: Context<Toy> = Context::new(rt.alloc());
     tell_chain(&rt, &mut ctx, ToyType::Int { width: 32 });
+    end(ctx, ());
+}
+
+// A test of the limits that `with_limits` lets through.
+#[test]
+fn limits_are_tested(rt: HostRuntime) {
+    let limits = Limits {
+        slots: 0,
+        ..Limits::default()
+    };
+    let ctx: Context<Toy> = with_limits(rt.alloc(), limits).expect(&rt, "the limits");
+    expect_same(&rt, ctx.room().ops, 0, "the room");
     end(ctx, ());
 }

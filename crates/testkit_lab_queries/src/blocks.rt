@@ -1,7 +1,7 @@
 //! What is read of a block.
 
 use ir_base_dialects::Ptr;
-use ir_checked::{BasicBlock, BlockPlace, BlockPtr, CheckedErr, Context};
+use ir_checked::{BasicBlock, BlockPlace, BlockPtr, CheckedErr, Context, next_block};
 use ir_view_parts::{BlockSuccessors, BlockUses};
 use testkit_lab::{Lab, Line, TextError, name_of, one, tell_refused};
 use toy_dialect::Toy;
@@ -98,6 +98,6 @@ fn write_neighbours(
     }
     let linked = block.is_linked(ctx);
     let previous = name_of(lab, block.get_prev(ctx));
-    let next = name_of(lab, block.get_next(ctx));
+    let next = name_of(lab, next_block(ctx, block).unwrap_or(None));
     Ok(write!(text, " linked {linked} prev {previous} next {next}")?)
 }

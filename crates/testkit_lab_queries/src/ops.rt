@@ -1,7 +1,9 @@
 //! What is read of an operation.
 
 use ir_base_dialects::Ptr;
-use ir_checked::{CheckedErr, Context, Operation, OperationPlace, OperationPtr};
+use ir_checked::{
+    CheckedErr, Context, Operation, OperationPlace, OperationPtr, next_op, parent_block,
+};
 use ir_view_parts::ResultUses;
 use testkit_lab::{Lab, Line, TextError, name_of, one, tell_refused};
 use toy_dialect::Toy;
@@ -62,7 +64,7 @@ fn write_parents(text: &mut String, lab: &Lab, op: Ptr<Operation<Toy>>) -> Resul
     if !op.is_live(ctx) {
         return Ok(());
     }
-    let block = name_of(lab, op.get_parent_block(ctx));
+    let block = name_of(lab, parent_block(ctx, op).unwrap_or(None));
     let region = name_of(lab, op.get_parent_region(ctx));
     let parent = name_of(lab, op.get_parent_op(ctx));
     Ok(write!(text, "block {block} region {region} op {parent}")?)
@@ -79,6 +81,6 @@ fn write_neighbours(
     }
     let linked = op.is_linked(ctx);
     let previous = name_of(lab, op.get_prev(ctx));
-    let next = name_of(lab, op.get_next(ctx));
+    let next = name_of(lab, next_op(ctx, op).unwrap_or(None));
     Ok(write!(text, " linked {linked} prev {previous} next {next}")?)
 }

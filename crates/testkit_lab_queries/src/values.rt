@@ -1,7 +1,7 @@
 //! What is read of values and of uses.
 
 use ir_base_dialects::Ptr;
-use ir_checked::{BasicBlock, Context, Use, UseQueries, Value, ValueQueries};
+use ir_checked::{BasicBlock, Use, UseQueries, Value, ValueQueries, num_uses};
 use ir_view_parts::{BlockUseQueries, DefiningEntity, ValuePlace};
 use testkit_lab::{Lab, Line, Name, Named, TextError, name_of, one};
 use toy_dialect::Toy;
@@ -37,7 +37,8 @@ fn write_type(text: &mut String, lab: &Lab, value: Value<Toy>) -> Result<(), Tex
     }
     let found = value.find_index(ctx);
     let ty = value.get_type(ctx).name(lab);
-    let (count, used) = (value.num_uses(ctx), value.is_used(ctx));
+    let count = num_uses(ctx, value).unwrap_or(usize::MAX);
+    let used = value.is_used(ctx);
     Ok(write!(
         text,
         " found {found} type {ty} num_uses {count} is_used {used}"
