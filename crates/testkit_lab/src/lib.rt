@@ -8,7 +8,7 @@
 //! - The edits, as `testkit_edit_texts` writes and answers them.
 //! - `dump`: a line for each entry of the tables, as `testkit_dumps` writes them, each behind two spaces.
 //! - Questions: `room`, how many numbers and slots are left; `is-empty`, whether there is no operation, block and region; `place o0` or `place b0`, slot and version; `deref o0` or `deref b0`, and `find-index v0`, whose answer may be a fault's text; `id b0`.
-//! - In a context alone, the words of `edit_words`: changes that are no edits of a session.
+//! - In a context alone, the words of the group `edit`: direct calls that are no edits of a session. `edit_words` has them, each with its fields and its answer.
 #![tactic(auto)]
 
 mod context_definitions;
