@@ -15,6 +15,9 @@ use toy_dialect::Toy;
 // How many bytes an answer may have before it asks for memory.
 const ANSWER_ROOM: usize = 65_536;
 
+// How many uses of values, and of blocks, may be entered before that asks for memory.
+const USE_ROOM: usize = 256;
+
 /// What a lab is about.
 #[derive(Clone, Copy, Debug, Drop, PartialEq, Eq)]
 pub enum Mode {
@@ -60,8 +63,8 @@ impl Lab {
             session: new_session(alloc, Limits::default())?,
             context: new_context(alloc, Limits::default())?,
             tables: Tables::new(alloc),
-            value_uses: Vec::new(alloc),
-            block_uses: Vec::new(alloc),
+            value_uses: Vec::with_capacity(alloc, USE_ROOM)?,
+            block_uses: Vec::with_capacity(alloc, USE_ROOM)?,
             beside: Beside::new(alloc)?,
             small: SmallLab::new(alloc)?,
             text,
@@ -89,8 +92,8 @@ impl Lab {
     fn forget(&mut self) {
         let alloc = self.alloc();
         self.tables = Tables::new(alloc);
-        self.value_uses = Vec::new(alloc);
-        self.block_uses = Vec::new(alloc);
+        self.value_uses.clear();
+        self.block_uses.clear();
         self.beside.forget(alloc);
     }
 

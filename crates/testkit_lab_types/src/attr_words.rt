@@ -1,4 +1,4 @@
-//! What is written of operations and blocks. A `PLACE` here is the name of either, as `o0` or `b0`.
+//! Attributes of operations and blocks, which stand by their names, as `o0` or `b0`.
 //!
 //! - `set o0 KEY ATTRIBUTE`, `get_mut o0 KEY VALUE`, `remove o0 KEY`: as `attr_calls` has these changes.
 //! - `read o0`: how many attributes there are, whether there are none, and below a line for each.
@@ -6,11 +6,10 @@
 //! - `kinds`: which kinds implement which interfaces.
 //! - `compare o0 b0`: whether the attributes of both are equal, and hash equally.
 //! - `clone o0`, `clone_skip_outlined o0`: a copy, told as `read` tells the attributes, and whether it is equal to them.
-//! - `loc o0`, `set_loc o0 LINE|-`, `label b0`
 
 use crate::attr_calls::{Change, make, set_of, tell_attribute, write_of};
 use crate::known_names::identifier;
-use crate::telling::{Maybe, line_of, tell_condition, tell_done, tell_refusal};
+use crate::telling::{Maybe, tell_condition, tell_refusal};
 use crate::type_words::{hash_of, place_of};
 use ir_base_dialects::attribute::{
     AttributeDict, attr_impls, attr_impls_static, attr_should_outline, attr_type,
@@ -20,7 +19,7 @@ use ir_base_dialects::{CoreError, Identifier, Ptr};
 use ir_checked::{BasicBlock, BlockPtr, Context, Operation, OperationPtr};
 use ir_view_parts::{BlockPtrMut, OperationPtrMut};
 use testkit_lab::{Lab, TextError, asked, one, take_field, two};
-use toy_dialect::{Toy, ToyInt, ToyLoc, ToyOutlined, ToyText};
+use toy_dialect::{Toy, ToyInt, ToyOutlined, ToyText};
 
 /// Answers a word.
 pub(crate) fn answer(lab: &mut Lab, call: &str, rest: &str) -> Result<(), TextError> {
@@ -34,9 +33,6 @@ pub(crate) fn answer(lab: &mut Lab, call: &str, rest: &str) -> Result<(), TextEr
         "compare" => compare(lab, rest),
         "clone" => clone(lab, rest),
         "clone_skip_outlined" => clone_skip_outlined(lab, rest),
-        "loc" => loc(lab, rest),
-        "set_loc" => set_loc(lab, rest),
-        "label" => label(lab, rest),
         _ => Err(TextError::Malformed),
     }
 }
@@ -264,80 +260,5 @@ fn tell_copy(
             tell_all(text, &copy)
         }
         Err(error) => tell_refusal(text, error),
-    }
-}
-
-// The location of what is live.
-fn loc_of(ctx: &Context<Toy>, owner: Owner) -> Option<ToyLoc> {
-    match owner {
-        Owner::Op(op) => match op.try_deref(ctx) {
-            Ok(record) => Some(*record.loc()),
-            Err(_) => None,
-        },
-        Owner::Block(block) => match block.try_deref(ctx) {
-            Ok(record) => Some(*record.loc()),
-            Err(_) => None,
-        },
-    }
-}
-
-fn loc(lab: &mut Lab, rest: &str) -> Result<(), TextError> {
-    let owner = owner(lab, one(rest)?)?;
-    match loc_of(lab.ctx(), owner) {
-        Some(loc) => Ok(write!(lab.text, "{}", line_of(loc))?),
-        None => tell_condition(&mut lab.text),
-    }
-}
-
-// The location of a text.
-fn located(text: &str) -> Result<ToyLoc, TextError> {
-    match (text, text.parse()) {
-        ("-", _) => Ok(ToyLoc::Unknown),
-        (_, Ok(line)) => Ok(ToyLoc::Line(line)),
-        _ => Err(TextError::Malformed),
-    }
-}
-
-fn set_loc(lab: &mut Lab, rest: &str) -> Result<(), TextError> {
-    let (name, loc) = two(rest)?;
-    let owner = owner(lab, name)?;
-    let loc = located(loc)?;
-    if put_loc(&mut lab.context, owner, loc) {
-        tell_done(&mut lab.text)
-    } else {
-        tell_condition(&mut lab.text)
-    }
-}
-
-// Gives what is live a location. Whether it is.
-fn put_loc(ctx: &mut Context<Toy>, owner: Owner, loc: ToyLoc) -> bool {
-    match owner {
-        Owner::Op(op) => put_op_loc(ctx, op, loc),
-        Owner::Block(block) => put_block_loc(ctx, block, loc),
-    }
-}
-
-fn put_op_loc(ctx: &mut Context<Toy>, op: Ptr<Operation<Toy>>, loc: ToyLoc) -> bool {
-    if !op.is_live(ctx) {
-        return false;
-    }
-    OperationPtrMut::deref_mut(ctx, op).set_loc(loc);
-    true
-}
-
-fn put_block_loc(ctx: &mut Context<Toy>, block: Ptr<BasicBlock<Toy>>, loc: ToyLoc) -> bool {
-    if !block.is_live(ctx) {
-        return false;
-    }
-    BlockPtrMut::deref_mut(ctx, block).set_loc(loc);
-    true
-}
-
-fn label(lab: &mut Lab, rest: &str) -> Result<(), TextError> {
-    let block = lab.block(one(rest)?)?;
-    let ctx = asked(lab.mode, &lab.session, &lab.context);
-    match block.try_deref(ctx) {
-        Ok(record) => Ok(write!(lab.text, "{}", Maybe(record.label()))?),
-        Err(_) => tell_condition(&mut lab.text),
     }
 }

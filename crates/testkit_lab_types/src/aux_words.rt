@@ -4,7 +4,6 @@
 //! - `read a0`: the index, and what is stored under it.
 //! - `get_aux_mut a0 TEXT`: another text is written over it; `clear a0`: it is written over by nothing, which asks for no memory; `remove_aux a0`: it is taken out, and told. Where nothing is stored, the answer is `-`.
 //! - `set_aux_name NAME a0`, `aux_by_name NAME`: the name leads to the index.
-//! - `room`: how many slots are left, and whether there is no operation, block or region.
 
 use crate::known_names::identifier;
 use crate::telling::{Maybe, tell_done, tell_end, tell_refusal};
@@ -20,7 +19,6 @@ pub(crate) fn answer(lab: &mut Lab, call: &str, rest: &str) -> Result<(), TextEr
         "remove_aux" => remove_aux(lab, rest),
         "set_aux_name" => set_aux_name(lab, rest),
         "aux_by_name" => aux_by_name(lab, rest),
-        "room" => room(lab),
         _ => Err(TextError::Malformed),
     }
 }
@@ -87,10 +85,4 @@ fn aux_by_name(lab: &mut Lab, rest: &str) -> Result<(), TextError> {
         None => Maybe(None),
     };
     Ok(write!(lab.text, "{place}")?)
-}
-
-fn room(lab: &mut Lab) -> Result<(), TextError> {
-    let left = lab.ctx().room().aux;
-    let is_empty = lab.ctx().is_ir_empty();
-    Ok(write!(lab.text, "aux {left} empty {is_empty}")?)
 }

@@ -1,36 +1,24 @@
-//! The sweep of a block, and deep nests.
+//! Deep nests.
 //!
-//! - `sweep b0`: how many operations went.
 //! - `above o0 COUNT`, `below o0 COUNT`: so many operations of kind 5, each in a block of the region of the one before it, from `o0` inward or outward, whose last is entered.
 //! - `read o0 o1`: whether the second stands inside the first and the first inside the second, whether the first stands in no block, and whether the second is the first of its block.
 
 use crate::telling::{tell_condition, tell_refusal};
 use ir_base_dialects::{Dialects, Ptr};
 use ir_checked::{
-    BlockPtr, CheckedErr, Context, Entity, Operation, block_at_back, block_head, is_inside,
-    new_block, new_op, op_at_back, parent_block, region,
+    CheckedErr, Context, Entity, Operation, block_at_back, block_head, is_inside, new_block,
+    new_op, op_at_back, parent_block, region,
 };
-use ir_run_sweep::sweep;
 use testkit_lab::{Lab, TextError, count, one, two};
 
 /// Answers a word.
 pub(crate) fn answer(lab: &mut Lab, call: &str, rest: &str) -> Result<(), TextError> {
     match call {
-        "sweep" => sweep_block(lab, rest),
         "above" => nest(lab, Way::Inward, rest),
         "below" => nest(lab, Way::Outward, rest),
         "read" => read(lab, rest),
         _ => Err(TextError::Malformed),
     }
-}
-
-fn sweep_block(lab: &mut Lab, rest: &str) -> Result<(), TextError> {
-    let block = lab.block(one(rest)?)?;
-    if !block.is_live(&lab.context) {
-        return tell_condition(&mut lab.text);
-    }
-    let swept = sweep(block, &mut lab.context);
-    Ok(write!(lab.text, "{swept}")?)
 }
 
 // Which way a nest grows.

@@ -1,4 +1,4 @@
-//! Words of a lab for types, names, saved and auxiliary data, what is written of operations and blocks, wrapped operations, verification and the sweep.
+//! Words of a lab for types, names, saved and auxiliary data, attributes, wrapped operations, deep nests and verification.
 //!
 //! It supports tests, and promises nothing but safety: no contract says what a call answers.
 //!
@@ -7,10 +7,10 @@
 //! - `type_words`: types of the dialect Toy, and what has a type.
 //! - `name_words`: given names, ids and unique names of values and blocks.
 //! - `saved_words`, `aux_words`: saved values, and auxiliary data with its names.
-//! - `attr_words`: attributes, locations and labels of operations and blocks.
+//! - `attr_words`: attributes of operations and blocks.
 //! - `wrap_words`: operations under types of their own, and with their kinds.
 //! - `verify_words`: what verification finds.
-//! - `deep_words`: the sweep of a block, and nests as deep as one likes.
+//! - `deep_words`: nests as deep as one likes.
 //! - `small_words`, `judge_words`: types under types of their own, their handles, ids and verification over the small dialect.
 #![tactic(auto)]
 

@@ -2,17 +2,14 @@
 //!
 //! - `given_name v0|b0`, `id v0|b0`, `unique_name v0|b0`: of a value or of a block, by its handle.
 //! - `record_given_name b0`, `record_id b0`, `record_unique_name b0`: of a block, by its record.
-//! - `set_name v0 NAME`, `take_name v0`, `set_label b0 NAME|-`
 
 ghost use Rattle.ir_view_parts.specs.State.{forest_of};
 
-use crate::known_names::{identifier, maybe_identifier};
-use crate::telling::{Maybe, tell, tell_condition, tell_done};
+use crate::telling::{Maybe, tell, tell_condition};
 use ir_base_dialects::{CoreError, Dialects, Identifier};
 use ir_checked::{BlockPtr, Context, ValueQueries};
 use ir_core_queries::Named;
-use ir_view_parts::{BlockPtrMut, ValueEdits};
-use testkit_lab::{Lab, TextError, one, two};
+use testkit_lab::{Lab, TextError, one};
 
 /// Answers a word.
 pub(crate) fn answer(lab: &mut Lab, call: &str, rest: &str) -> Result<(), TextError> {
@@ -23,9 +20,6 @@ pub(crate) fn answer(lab: &mut Lab, call: &str, rest: &str) -> Result<(), TextEr
         "record_given_name" => of_record(lab, Naming::Given, rest),
         "record_id" => of_record(lab, Naming::Id, rest),
         "record_unique_name" => of_record(lab, Naming::Unique, rest),
-        "set_name" => set_name(lab, rest),
-        "take_name" => take_name(lab, rest),
-        "set_label" => set_label(lab, rest),
         _ => Err(TextError::Malformed),
     }
 }
@@ -87,35 +81,4 @@ fn of_record(lab: &mut Lab, naming: Naming, rest: &str) -> Result<(), TextError>
     }
     let told = named(lab.ctx(), block.deref(lab.ctx()), naming);
     tell(&mut lab.text, told)
-}
-
-fn set_name(lab: &mut Lab, rest: &str) -> Result<(), TextError> {
-    let (value, name) = two(rest)?;
-    let value = lab.value(value)?;
-    let name = Box::new(lab.context.alloc(), identifier(name)?)?;
-    if !value.is_live(&lab.context) {
-        return tell_condition(&mut lab.text);
-    }
-    value.set_name(&mut lab.context, Some(name));
-    tell_done(&mut lab.text)
-}
-
-fn take_name(lab: &mut Lab, rest: &str) -> Result<(), TextError> {
-    let value = lab.value(one(rest)?)?;
-    if !value.is_live(&lab.context) {
-        return tell_condition(&mut lab.text);
-    }
-    value.set_name(&mut lab.context, None);
-    tell_done(&mut lab.text)
-}
-
-fn set_label(lab: &mut Lab, rest: &str) -> Result<(), TextError> {
-    let (block, label) = two(rest)?;
-    let block = lab.block(block)?;
-    let label = maybe_identifier(label)?;
-    if !block.is_live(&lab.context) {
-        return tell_condition(&mut lab.text);
-    }
-    BlockPtrMut::deref_mut(&mut lab.context, block).set_label(label);
-    tell_done(&mut lab.text)
 }

@@ -1,10 +1,10 @@
 //! Parts of answers.
 
 use ir_base_dialects::CoreError;
+use ir_checked::CheckedErr;
 use std::fmt;
 use std::fmt::{Display, Formatter, Write};
-use testkit_lab::TextError;
-use toy_dialect::ToyLoc;
+use testkit_lab::{TextError, tell_refused};
 
 /// Something, or `-` where there is none.
 #[derive(Drop)]
@@ -19,17 +19,9 @@ impl<T: Display> Display for Maybe<T> {
     }
 }
 
-/// The line of a location, or `-` where it isn't known.
-pub(crate) fn line_of(loc: ToyLoc) -> Maybe<u32> {
-    match loc {
-        ToyLoc::Unknown => Maybe(None),
-        ToyLoc::Line(line) => Maybe(Some(line)),
-    }
-}
-
 /// Writes that a condition doesn't hold.
 pub(crate) fn tell_condition(text: &mut String) -> Result<(), TextError> {
-    Ok(text.push_str("refused condition")?)
+    tell_refused(text, CheckedErr::Condition)
 }
 
 /// Writes that something is done.
@@ -39,11 +31,7 @@ pub(crate) fn tell_done(text: &mut String) -> Result<(), TextError> {
 
 /// Writes why a call was refused.
 pub(crate) fn tell_refusal(text: &mut String, error: CoreError) -> Result<(), TextError> {
-    Ok(text.push_str(match error {
-        CoreError::OutOfMemory => "refused memory",
-        CoreError::CounterSpent => "refused counter",
-        CoreError::SlotsSpent => "refused slots",
-    })?)
+    tell_refused(text, CheckedErr::Core(error))
 }
 
 /// Writes what a call answers that may be refused.

@@ -2,7 +2,7 @@
 //!
 //! - `read t0`, `at PLACE`: the type's place, whether it is known, and if so its key, its body, where its key is found, and the type that has its place.
 //! - `find_type WIDTH`: the place of the integer type of this width.
-//! - `set_body t0 t1|-`, `set_type v0 t0`
+//! - `set_body t0 t1|-`
 //! - `of_value v0`, `of_owned v0`, `of_operand o0 AT`, `of_type t0`: the type of what has one, and of what lends or owns it.
 //! - `clone_signature PLACES PLACES`: whether a copy of the signature with these arguments and results is equal to it, hashes equally, and differs from the signature with both exchanged.
 
@@ -22,7 +22,6 @@ pub(crate) fn answer(lab: &mut Lab, call: &str, rest: &str) -> Result<(), TextEr
         "at" => at(lab, rest),
         "find_type" => find_type(lab, rest),
         "set_body" => set_body(lab, rest),
-        "set_type" => set_type(lab, rest),
         "of_value" => of_value(lab, rest),
         "of_owned" => of_owned(lab, rest),
         "of_operand" => of_operand(lab, rest),
@@ -108,16 +107,6 @@ fn set_body(lab: &mut Lab, rest: &str) -> Result<(), TextError> {
     }
     ty.set_body(&mut lab.context, body);
     tell_done(&mut lab.text)
-}
-
-fn set_type(lab: &mut Lab, rest: &str) -> Result<(), TextError> {
-    let (value, ty) = two(rest)?;
-    let value = lab.value(value)?;
-    let ty = lab.ty(ty)?;
-    match ir_checked::set_type(&mut lab.context, value, ty) {
-        Ok(()) => tell_done(&mut lab.text),
-        Err(_) => tell_condition(&mut lab.text),
-    }
 }
 
 // The place of the type of what is live, or known.

@@ -33,7 +33,7 @@ fn answer_call(lab: &mut Lab, group: &str, call: &str, rest: &str) -> Result<(),
         "wrap" => wrap_words::answer(lab, call, rest),
         "verify" | "well" => verify_words::answer(lab, call, rest, &ToyVerifiers),
         "asking" => verify_words::answer(lab, call, rest, &Asking),
-        "sweep" | "deep" => deep_words::answer(lab, call, rest),
+        "deep" => deep_words::answer(lab, call, rest),
         "small" => small_words::answer(lab, call, rest),
         "judge" => judge_words::answer(lab, call, rest),
         _ => Err(TextError::Malformed),
@@ -45,10 +45,6 @@ fn is_direct(word: &str) -> bool {
     matches!(
         word,
         "type.set_body"
-            | "type.set_type"
-            | "name.set_name"
-            | "name.take_name"
-            | "name.set_label"
             | "saved.save"
             | "saved.save_value"
             | "saved.new"
@@ -60,8 +56,6 @@ fn is_direct(word: &str) -> bool {
             | "attr.set"
             | "attr.get_mut"
             | "attr.remove"
-            | "attr.set_loc"
-            | "sweep.sweep"
             | "deep.above"
             | "deep.below"
     )

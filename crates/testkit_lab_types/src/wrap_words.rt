@@ -7,14 +7,14 @@
 //! - `loc o0`: its location, by a constant.
 //! - `get_opid o0`, `constant_id o0`, `return_id o0`, `static_id`: ids, by the handle, by each type, and of constants.
 
-use crate::telling::{Maybe, line_of, tell, tell_condition};
+use crate::telling::{Maybe, tell, tell_condition};
 use crate::toy_ops::{Constant, Return};
 use crate::type_words::hash_of;
 use ir_base_dialects::Ptr;
 use ir_base_dialects::interfaces::{IsTerminatorInterface, PureOpInterface};
 use ir_checked::{Context, Operation, OperationPtr};
 use ir_view_parts::{Op, OpObj, OperationKind, op_impls, op_impls_static};
-use testkit_lab::{Lab, TextError, one, two};
+use testkit_lab::{Lab, Line, TextError, one, two};
 use toy_dialect::Toy;
 
 /// Answers a word.
@@ -119,7 +119,7 @@ fn loc(lab: &mut Lab, rest: &str) -> Result<(), TextError> {
     if !op.is_live(lab.ctx()) {
         return tell_condition(&mut lab.text);
     }
-    let line = line_of(*constant.loc(lab.ctx()));
+    let line = Line(*constant.loc(lab.ctx()));
     Ok(write!(lab.text, "{line}")?)
 }
 
