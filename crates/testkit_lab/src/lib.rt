@@ -6,6 +6,7 @@
 //!
 //! - `begin session` and `begin context`, with the four limits `VALUES USES SLOTS VERSION` or without: all begins anew. In a session each edit is a run of its own; in a context it is a direct call.
 //! - The edits, as `testkit_edit_texts` writes and answers them.
+//! - `run EDIT ; EDIT ..`: in a session alone, all of these edits in one run. Their answers stand with ` ; ` between them.
 //! - `dump`: a line for each entry of the tables, as `testkit_dumps` writes them, each behind two spaces.
 //! - In a context alone, the words of `edit_words`: changes that are no edits of a session.
 #![tactic(auto)]
@@ -18,6 +19,7 @@ mod entering;
 mod fields;
 mod finding;
 mod lab;
+mod runs;
 mod words;
 
 pub use fields::{count, one, three, two};

@@ -3,6 +3,7 @@
 use crate::context_edits::carry_out;
 use crate::fields::two;
 use crate::lab::{Lab, Mode};
+use crate::runs::run;
 use ir_base_dialects::{Answer, Limits};
 use ir_run_sessions::Edit;
 use testkit_dumps::dump;
@@ -17,6 +18,7 @@ pub fn answer(lab: &mut Lab, word: &str, rest: &str) -> Result<(), TextError> {
     match word {
         "begin" => begin(lab, rest),
         "dump" => write_dump(lab),
+        "run" => run(lab, rest),
         _ => edit(lab, word, rest),
     }
 }
