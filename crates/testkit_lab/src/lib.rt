@@ -6,6 +6,7 @@
 //!
 //! - `begin session` and `begin context`, with the four limits `VALUES USES SLOTS VERSION` or without: all begins anew. In a session each edit is a run of its own; in a context it is a direct call.
 //! - The edits, as `testkit_edit_texts` writes and answers them.
+//! - `run EDIT ; EDIT ..`: in a session alone, all of these edits in one run. Their answers stand with ` ; ` between them.
 //! - `dump`: a line for each entry of the tables, as `testkit_dumps` writes them, each behind two spaces.
 //! - Questions: `room`, how many numbers and slots are left; `is-empty`, whether there is no operation, block and region; `id b0`.
 //! - In a context alone, the words of the group `edit`: direct calls that are no edits of a session. `edit_words` has them, each with its fields and its answer.
@@ -24,6 +25,7 @@ mod lab;
 mod naming;
 mod questions;
 mod redirecting;
+mod runs;
 mod setting;
 mod telling;
 mod words;
