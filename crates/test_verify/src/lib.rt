@@ -1,4 +1,4 @@
-//! Tests of what goes over all that is inside an operation. Verification: over the dialect Toy with its checks, over random forests of it beside a plain search for faults, and over a small dialect whose checks each answer a code of their own. The sweep of a block. Deep nests, which are made, asked and erased without recursion.
+//! Tests of what goes over all that is inside an operation. Verification: over the dialect Toy with its checks, and over a small dialect whose checks each answer a code of their own. The sweep of a block. Deep nests, which are made, asked and erased without recursion.
 #![tactic(auto)]
 
 #[cfg(test)]
@@ -9,8 +9,6 @@ mod deep_tests;
 mod expected;
 #[cfg(test)]
 mod judge_tests;
-#[cfg(test)]
-mod random_tests;
 #[cfg(test)]
 mod row_tests;
 #[cfg(test)]

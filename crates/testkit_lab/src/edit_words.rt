@@ -2,9 +2,8 @@
 
 use crate::fields::{count, one, two};
 use crate::lab::{Lab, Mode};
-use crate::redirecting;
-use crate::setting;
 use crate::telling::{tell_done, tell_name, tell_number};
+use crate::{redirecting, setting};
 use ir_checked::CheckedErr;
 use ir_run_sweep::sweep;
 use ir_view_parts::BlockPtr;

@@ -1,7 +1,10 @@
 //! What an operation or a block has at an index.
 
 use ir_base_dialects::Ptr;
-use ir_checked::{BasicBlock, BlockPlace, BlockPtr, Context, Operation, OperationPtr};
+use ir_checked::{
+    BasicBlock, BlockPlace, BlockPtr, Context, Operation, OperationPtr, argument, operand, region,
+    result, successor,
+};
 use ir_view_parts::{BlockPredecessors, BlockSuccessors, BlockUses};
 use testkit_lab::{Lab, Name, Named, Placed, TextError, count, name_of, two};
 use toy_dialect::Toy;
@@ -11,55 +14,69 @@ pub(crate) fn op(text: &mut String, lab: &Lab, rest: &str) -> Result<(), TextErr
     let (op, index) = two(rest)?;
     let (op, index) = (lab.op(op)?, count(index)?);
     match op.try_deref(lab.ctx()) {
-        Ok(record) => write_parts(text, lab, record, index),
+        Ok(record) => {
+            write_values(text, lab, op, index)?;
+            write_others(text, lab, op, index)?;
+            write_uses(text, lab, record, index)
+        }
         Err(fault) => Ok(write!(text, "{fault}")?),
     }
 }
 
-fn write_parts(
+fn write_values(
+    text: &mut String,
+    lab: &Lab,
+    op: Ptr<Operation<Toy>>,
+    index: usize,
+) -> Result<(), TextError> {
+    let result = name_of(lab, result(lab.ctx(), op, index).ok());
+    let operand = name_of(lab, operand(lab.ctx(), op, index).ok());
+    Ok(write!(text, "result {result} operand {operand}")?)
+}
+
+fn write_others(
+    text: &mut String,
+    lab: &Lab,
+    op: Ptr<Operation<Toy>>,
+    index: usize,
+) -> Result<(), TextError> {
+    let successor = name_of(lab, successor(lab.ctx(), op, index).ok());
+    let region = name_of(lab, region(lab.ctx(), op, index).ok());
+    Ok(write!(text, " successor {successor} region {region}")?)
+}
+
+// Writes the type of the result, and where the operand and the successor stand as uses.
+fn write_uses(
     text: &mut String,
     lab: &Lab,
     op: &Operation<Toy>,
     index: usize,
 ) -> Result<(), TextError> {
-    let (result, ty) = result_at(lab, op, index);
-    let (operand, place) = operand_at(lab, op, index);
-    write!(text, "result {result} type {ty} operand {operand} as {place}")?;
-    let (successor, place) = successor_at(lab, op, index);
-    let region = region_at(lab, op, index);
-    Ok(write!(text, " successor {successor} as {place} region {region}")?)
+    let ty = type_at(lab, op, index);
+    let operand = operand_at(lab, op, index);
+    let successor = successor_at(lab, op, index);
+    Ok(write!(text, " type {ty} operand_use {operand} successor_use {successor}")?)
 }
 
-// The result and its type.
-fn result_at(lab: &Lab, op: &Operation<Toy>, index: usize) -> (Name, Name) {
+fn type_at(lab: &Lab, op: &Operation<Toy>, index: usize) -> Name {
     if index < op.get_num_results() {
-        (op.get_result(index).name(lab), op.get_type(index).name(lab))
+        op.get_type(index).name(lab)
     } else {
-        (Name::Nothing, Name::Nothing)
+        Name::Nothing
     }
 }
 
-// What the operand names, and where it stands.
-fn operand_at(lab: &Lab, op: &Operation<Toy>, index: usize) -> (Name, Name) {
+fn operand_at(lab: &Lab, op: &Operation<Toy>, index: usize) -> Name {
     if index < op.get_num_operands() {
-        (op.get_operand(index).name(lab), op.get_operand_as_use(index).place(lab))
+        op.get_operand_as_use(index).place(lab)
     } else {
-        (Name::Nothing, Name::Nothing)
+        Name::Nothing
     }
 }
 
-// What the successor names, and where it stands.
-fn successor_at(lab: &Lab, op: &Operation<Toy>, index: usize) -> (Name, Name) {
+fn successor_at(lab: &Lab, op: &Operation<Toy>, index: usize) -> Name {
     if index < op.get_num_successors() {
-        (op.get_successor(index).name(lab), op.get_successor_as_use(index).place(lab))
-    } else {
-        (Name::Nothing, Name::Nothing)
-    }
-}
-
-fn region_at(lab: &Lab, op: &Operation<Toy>, index: usize) -> Name {
-    if index < op.num_regions() {
-        op.get_region(index).name(lab)
+        op.get_successor_as_use(index).place(lab)
     } else {
         Name::Nothing
     }
@@ -69,17 +86,10 @@ fn region_at(lab: &Lab, op: &Operation<Toy>, index: usize) -> Name {
 pub(crate) fn block(text: &mut String, lab: &Lab, rest: &str) -> Result<(), TextError> {
     let (block, index) = two(rest)?;
     let (block, index) = (lab.block(block)?, count(index)?);
-    let argument = argument_at(lab, block, index);
+    let argument = name_of(lab, argument(lab.ctx(), block, index).ok());
     let succ = name_of(lab, succ_at(lab.ctx(), block, index));
     let pred = name_of(lab, pred_at(lab.ctx(), block, index));
     Ok(write!(text, "argument {argument} succ {succ} pred {pred}")?)
-}
-
-fn argument_at(lab: &Lab, block: Ptr<BasicBlock<Toy>>, index: usize) -> Name {
-    match block.try_deref(lab.ctx()) {
-        Ok(record) if index < record.get_num_arguments() => record.get_argument(index).name(lab),
-        _ => Name::Nothing,
-    }
 }
 
 fn succ_at(

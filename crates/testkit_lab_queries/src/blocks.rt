@@ -1,7 +1,7 @@
 //! What is read of a block.
 
 use ir_base_dialects::Ptr;
-use ir_checked::{BasicBlock, BlockPlace, BlockPtr, CheckedErr, Context};
+use ir_checked::{BasicBlock, BlockPlace, BlockPtr, CheckedErr, Context, next_block};
 use ir_view_parts::{BlockSuccessors, BlockUses};
 use testkit_lab::{Lab, Line, TextError, name_of, one, tell_refused};
 use toy_dialect::Toy;
@@ -27,7 +27,10 @@ fn write_record(text: &mut String, block: &BasicBlock<Toy>) -> Result<(), TextEr
     let arguments = block.get_num_arguments();
     let loc = Line(*block.loc());
     let attributes = block.attributes().len();
-    Ok(write!(text, "label {label} arguments {arguments} loc {loc} attributes {attributes}")?)
+    Ok(write!(
+        text,
+        "label {label} arguments {arguments} loc {loc} attributes {attributes}"
+    )?)
 }
 
 fn write_preds(
@@ -40,21 +43,23 @@ fn write_preds(
     }
     let (has, count) = (block.has_pred(ctx), block.num_preds(ctx));
     let linked = block.preds_are_linked(ctx);
-    Ok(write!(text, " has_pred {has} num_preds {count} preds_are_linked {linked}")?)
+    Ok(write!(
+        text,
+        " has_pred {has} num_preds {count} preds_are_linked {linked}"
+    )?)
 }
 
-fn write_succs(
-    text: &mut String,
-    lab: &Lab,
-    block: Ptr<BasicBlock<Toy>>,
-) -> Result<(), TextError> {
+fn write_succs(text: &mut String, lab: &Lab, block: Ptr<BasicBlock<Toy>>) -> Result<(), TextError> {
     let ctx = lab.ctx();
     if !block.is_live(ctx) {
         return tell_refused(text, CheckedErr::Condition);
     }
     let (has, count) = (block.has_succ(ctx), block.num_succ(ctx));
     let terminator = name_of(lab, block.get_terminator(ctx));
-    Ok(write!(text, " has_succ {has} num_succ {count} terminator {terminator}")?)
+    Ok(write!(
+        text,
+        " has_succ {has} num_succ {count} terminator {terminator}"
+    )?)
 }
 
 /// `BLOCK`: what it stands in, and its neighbours there.
@@ -93,6 +98,6 @@ fn write_neighbours(
     }
     let linked = block.is_linked(ctx);
     let previous = name_of(lab, block.get_prev(ctx));
-    let next = name_of(lab, block.get_next(ctx));
+    let next = name_of(lab, next_block(ctx, block).unwrap_or(None));
     Ok(write!(text, " linked {linked} prev {previous} next {next}")?)
 }

@@ -2,7 +2,7 @@
 //!
 //! It supports tests, and promises nothing but safety: no contract says what a call answers.
 //!
-//! An answer is pairs of a name and what is read under it, with single blanks between them; `-` stands for nothing. Of what isn't live the text of the fault is answered.
+//! An answer is pairs of a name and what is read under it, with single blanks between them; `-` stands for nothing. Of what isn't live the text of the fault is answered. `words` has the words, and the function of each says what its fields and its answer are.
 #![tactic(auto)]
 
 mod at;

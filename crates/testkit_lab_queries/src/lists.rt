@@ -4,6 +4,7 @@ use ir_base_dialects::linked_list::LinkedList;
 use ir_base_dialects::{Iter, Ptr};
 use ir_checked::{
     BasicBlock, BlockPlace, BlockPtr, CheckedErr, Operation, Region, RegionPlace, RegionPtr,
+    block_head, block_tail, region_head, region_tail,
 };
 use testkit_lab::{Lab, Named, TextError, name_of, one, tell_refused};
 use toy_dialect::Toy;
@@ -18,16 +19,13 @@ pub(crate) fn read(text: &mut String, lab: &Lab, rest: &str) -> Result<(), TextE
     }
 }
 
-fn write_block(
-    text: &mut String,
-    lab: &Lab,
-    block: Ptr<BasicBlock<Toy>>,
-) -> Result<(), TextError> {
+fn write_block(text: &mut String, lab: &Lab, block: Ptr<BasicBlock<Toy>>) -> Result<(), TextError> {
     let ctx = lab.ctx();
     if !block.is_live(ctx) {
         return tell_refused(text, CheckedErr::Condition);
     }
-    let (head, tail) = (block.get_head(ctx), block.get_tail(ctx));
+    let head = block_head(ctx, block).unwrap_or(None);
+    let tail = block_tail(ctx, block).unwrap_or(None);
     let kept = block.deref(ctx).ops_list;
     let first: Option<Ptr<Operation<Toy>>> = kept.first.get().map(Ptr::from_index);
     let last: Option<Ptr<Operation<Toy>>> = kept.last.get().map(Ptr::from_index);
@@ -40,7 +38,8 @@ fn write_region(text: &mut String, lab: &Lab, region: Ptr<Region>) -> Result<(),
     if !region.is_live(ctx) {
         return tell_refused(text, CheckedErr::Condition);
     }
-    let (head, tail) = (region.get_head(ctx), region.get_tail(ctx));
+    let head = region_head(ctx, region).unwrap_or(None);
+    let tail = region_tail(ctx, region).unwrap_or(None);
     let kept = RegionPtr::<Toy>::deref(region, ctx);
     let first: Option<Ptr<BasicBlock<Toy>>> = kept.first.get().map(Ptr::from_index);
     let last: Option<Ptr<BasicBlock<Toy>>> = kept.last.get().map(Ptr::from_index);

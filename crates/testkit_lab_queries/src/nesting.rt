@@ -38,7 +38,10 @@ fn write_order(text: &mut String, lab: &Lab, region: Ptr<Region>) -> Result<(), 
     let index = region.find_index_in_parent(ctx);
     let entry = name_of(lab, region.get_entry_block(ctx));
     let dominance = region.has_ssa_dominance(ctx);
-    Ok(write!(text, " index {index} entry {entry} ssa_dominance {dominance}")?)
+    Ok(write!(
+        text,
+        " index {index} entry {entry} ssa_dominance {dominance}"
+    )?)
 }
 
 // The entity with this name.
@@ -100,7 +103,10 @@ pub(crate) fn write_block(
 ) -> Result<(), TextError> {
     let ctx = lab.ctx();
     let index = block.index();
-    let (live, stored) = (block.is_live(ctx), BasicBlock::get_arena(ctx).is_live(block));
+    let (live, stored) = (
+        block.is_live(ctx),
+        BasicBlock::get_arena(ctx).is_live(block),
+    );
     write!(text, "index {index} live {live} stored {stored}")?;
     match block.try_deref(ctx) {
         Ok(record) => write_own(text, record.get_self_ptr(ctx).name(lab)),
@@ -148,6 +154,14 @@ pub(crate) fn type_at(text: &mut String, lab: &Lab, rest: &str) -> Result<(), Te
 fn write_room(text: &mut String, ctx: &Context<Toy>) -> Result<(), TextError> {
     let empty = ctx.is_ir_empty();
     let room = ctx.room();
-    write!(text, "empty {empty} values {} uses {} ops {}", room.values, room.uses, room.ops)?;
-    Ok(write!(text, " blocks {} regions {} aux {}", room.blocks, room.regions, room.aux)?)
+    write!(
+        text,
+        "empty {empty} values {} uses {} ops {}",
+        room.values, room.uses, room.ops
+    )?;
+    Ok(write!(
+        text,
+        " blocks {} regions {} aux {}",
+        room.blocks, room.regions, room.aux
+    )?)
 }

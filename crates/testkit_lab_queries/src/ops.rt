@@ -1,7 +1,9 @@
 //! What is read of an operation.
 
 use ir_base_dialects::Ptr;
-use ir_checked::{CheckedErr, Context, Operation, OperationPlace, OperationPtr};
+use ir_checked::{
+    CheckedErr, Context, Operation, OperationPlace, OperationPtr, next_op, parent_block,
+};
 use ir_view_parts::ResultUses;
 use testkit_lab::{Lab, Line, TextError, name_of, one, tell_refused};
 use toy_dialect::Toy;
@@ -12,8 +14,7 @@ pub(crate) fn read(text: &mut String, lab: &Lab, rest: &str) -> Result<(), TextE
     match op.try_deref(lab.ctx()) {
         Ok(record) => {
             write_counts(text, record)?;
-            write_uses(text, lab.ctx(), op)?;
-            write_rest(text, record)
+            write_rest(text, lab.ctx(), op)
         }
         Err(fault) => Ok(write!(text, "{fault}")?),
     }
@@ -29,7 +30,8 @@ fn write_counts(text: &mut String, op: &Operation<Toy>) -> Result<(), TextError>
     )?)
 }
 
-fn write_uses(
+// Writes how the results are used, the location and how many attributes there are.
+fn write_rest(
     text: &mut String,
     ctx: &Context<Toy>,
     op: Ptr<Operation<Toy>>,
@@ -38,13 +40,13 @@ fn write_uses(
         return tell_refused(text, CheckedErr::Condition);
     }
     let (has_use, num_uses) = (op.has_use(ctx), op.num_uses(ctx));
-    Ok(write!(text, " has_use {has_use} num_uses {num_uses}")?)
-}
-
-fn write_rest(text: &mut String, op: &Operation<Toy>) -> Result<(), TextError> {
-    let loc = Line(*op.loc());
-    let attributes = op.attributes().len();
-    Ok(write!(text, " loc {loc} attributes {attributes}")?)
+    let record = op.deref(ctx);
+    let loc = Line(*record.loc());
+    let attributes = record.attributes().len();
+    Ok(write!(
+        text,
+        " has_use {has_use} num_uses {num_uses} loc {loc} attributes {attributes}"
+    )?)
 }
 
 /// `OP`: what it stands in, and its neighbours there.
@@ -62,7 +64,7 @@ fn write_parents(text: &mut String, lab: &Lab, op: Ptr<Operation<Toy>>) -> Resul
     if !op.is_live(ctx) {
         return Ok(());
     }
-    let block = name_of(lab, op.get_parent_block(ctx));
+    let block = name_of(lab, parent_block(ctx, op).unwrap_or(None));
     let region = name_of(lab, op.get_parent_region(ctx));
     let parent = name_of(lab, op.get_parent_op(ctx));
     Ok(write!(text, "block {block} region {region} op {parent}")?)
@@ -79,6 +81,6 @@ fn write_neighbours(
     }
     let linked = op.is_linked(ctx);
     let previous = name_of(lab, op.get_prev(ctx));
-    let next = name_of(lab, op.get_next(ctx));
+    let next = name_of(lab, next_op(ctx, op).unwrap_or(None));
     Ok(write!(text, " linked {linked} prev {previous} next {next}")?)
 }

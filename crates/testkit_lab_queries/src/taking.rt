@@ -22,9 +22,11 @@ fn operand_at(
     op: Ptr<Operation<Toy>>,
     index: usize,
 ) -> Option<Use<Value<Toy>>> {
-    match op.try_deref(ctx) {
-        Ok(record) if index < record.get_num_operands() => Some(record.get_operand_as_use(index)),
-        _ => None,
+    let record = op.try_deref(ctx).ok()?;
+    if index < record.get_num_operands() {
+        Some(record.get_operand_as_use(index))
+    } else {
+        None
     }
 }
 
@@ -47,9 +49,11 @@ fn successor_at(
     op: Ptr<Operation<Toy>>,
     index: usize,
 ) -> Option<Use<Ptr<BasicBlock<Toy>>>> {
-    match op.try_deref(ctx) {
-        Ok(record) if index < record.get_num_successors() => Some(record.get_successor_as_use(index)),
-        _ => None,
+    let record = op.try_deref(ctx).ok()?;
+    if index < record.get_num_successors() {
+        Some(record.get_successor_as_use(index))
+    } else {
+        None
     }
 }
 

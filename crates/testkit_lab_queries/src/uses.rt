@@ -21,11 +21,7 @@ pub(crate) fn of_value(text: &mut String, lab: &Lab, rest: &str) -> Result<(), T
     }
 }
 
-fn write_operands(
-    text: &mut String,
-    lab: &Lab,
-    uses: &[Use<Value<Toy>>],
-) -> Result<(), TextError> {
+fn write_operands(text: &mut String, lab: &Lab, uses: &[Use<Value<Toy>>]) -> Result<(), TextError> {
     write!(text, "len {}", uses.len())?;
     for op in &lab.tables.ops {
         write_operands_of(text, lab, *op, uses)?;

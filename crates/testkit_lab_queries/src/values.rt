@@ -1,7 +1,7 @@
 //! What is read of values and of uses.
 
 use ir_base_dialects::Ptr;
-use ir_checked::{BasicBlock, Context, Use, UseQueries, Value, ValueQueries};
+use ir_checked::{BasicBlock, Use, UseQueries, Value, ValueQueries, num_uses};
 use ir_view_parts::{BlockUseQueries, DefiningEntity, ValuePlace};
 use testkit_lab::{Lab, Line, Name, Named, TextError, name_of, one};
 use toy_dialect::Toy;
@@ -37,8 +37,12 @@ fn write_type(text: &mut String, lab: &Lab, value: Value<Toy>) -> Result<(), Tex
     }
     let found = value.find_index(ctx);
     let ty = value.get_type(ctx).name(lab);
-    let (count, used) = (value.num_uses(ctx), value.is_used(ctx));
-    Ok(write!(text, " found {found} type {ty} num_uses {count} is_used {used}")?)
+    let count = num_uses(ctx, value).unwrap_or(usize::MAX);
+    let used = value.is_used(ctx);
+    Ok(write!(
+        text,
+        " found {found} type {ty} num_uses {count} is_used {used}"
+    )?)
 }
 
 fn write_place(text: &mut String, lab: &Lab, value: Value<Toy>) -> Result<(), TextError> {
@@ -86,7 +90,10 @@ pub(crate) fn write_value_use(
             let found = used.find_index(ctx);
             let value = used.get_def(ctx).name(lab);
             let ty = used.get_type(ctx).name(lab);
-            Ok(write!(text, "user {user} index {index} found {found} def {value} type {ty}")?)
+            Ok(write!(
+                text,
+                "user {user} index {index} found {found} def {value} type {ty}"
+            )?)
         }
         Err(fault) => Ok(write!(text, "user {user} {fault}")?),
     }

@@ -3,13 +3,9 @@
 //! A test hands in and gets back plain data, so that no session is its own.
 #![tactic(auto)]
 
-mod reading;
 mod roots;
 mod steps;
-mod surveys;
 
 pub use roots::Root;
 pub use steps::{Step, found_after};
-pub use surveys::{Finding, Survey, survey_after};
-pub use testkit_random_forests::{Plain, PlainBlock, PlainOp, PlainRegion};
 pub use testkit_small_dialect::LabErr;

@@ -1,0 +1,116 @@
+"""Wrong bodies that are planted, each in a copy of the crates, to show that random edits find them."""
+import glob
+import os
+import re
+import shutil
+import subprocess
+import tempfile
+
+from .program import Difference, compare
+from .runs import Tally, trials
+
+# The worked wrong bodies that a session, its dump and verification can show.
+PLANTED = [
+    'append-leaves-container', 'can-erase-own-results', 'entry-pred-local', 'entry-pred-local-own', 'erase-leaves-children',
+    'insert-into-itself', 'instantiate-copies', 'move-fills-the-gap', 'ir_base_arenas/number-given-again', 'replace-leaves-old-set',
+    'room-is-zero', 'run-always-memory', 'run-stops-early', 'table-number-reused', 'verify-constant-fault', 'verify-constant-ok',
+    'verify-skips-preds',
+]
+
+# The seeds that are tried, from 1 on; how many bytes of answers `rt try` takes from one trial, and how many seconds a trial may take.
+SEEDS, MOST_BYTES, SECONDS = 2, 1_000_000, '10'
+
+
+def edit_at(top, name):
+    """The crate and the file of a must-fail edit, which has the crate's name in front where several have this name."""
+    crate, _, name = name.rpartition('/')
+    found = [path for ending in ('edit', 'turn') for path in glob.glob(f'{top}/crates/{crate or "*"}/must-fail-edits/{name}.{ending}')]
+    if len(found) != 1:
+        raise SystemExit(f'{len(found)} edits are named {name}')
+    return found[0].split('/')[-3], found[0]
+
+
+def plant(copy, crate, path):
+    """Makes the changes of a must-fail edit in a copy."""
+    source = old = None
+    with open(path, encoding='utf-8') as file:
+        lines = file.read().splitlines()
+    for line in lines:
+        word, text = re.match(r'(file: |old: |new: ?|)(.*)', line).groups()
+        if word == 'file: ':
+            source = f'{copy}/crates/{crate}/{text.strip()}'
+        elif word == 'old: ':
+            old = text
+        elif word:
+            with open(source, encoding='utf-8') as file:
+                before = file.read()
+            if before.count(old) != 1:
+                raise SystemExit(f'{path}: the text {old!r} stands {before.count(old)} times')
+            with open(source, 'w', encoding='utf-8') as file:
+                file.write(before.replace(old, text))
+
+
+def copy_of(top, folder):
+    """A copy of the crates, without what was built."""
+    leave = shutil.ignore_patterns('out', 'must-fail-edits', 'proofs')
+    shutil.copytree(f'{top}/crates', f'{folder}/repository/crates', ignore=leave)
+    shutil.copy(f'{top}/crates.txt', f'{folder}/repository')
+    return f'{folder}/repository'
+
+
+def cases():
+    """The trials whose answers aren't too long, by their names."""
+    found = {}
+    for seed in range(1, SEEDS + 1):
+        for trial in trials(seed, Tally()):
+            if sum(len(str(it.wanted)) + 1 for it in trial.asked) < MOST_BYTES:
+                found[trial.name] = trial.asked
+    return found
+
+
+def answers_of(copy, asked, folder):
+    """What the lab of a copy answers to each case, and what is said at last."""
+    os.makedirs(f'{folder}/cases')
+    for name, lines in asked.items():
+        with open(f'{folder}/cases/{name}', 'w', encoding='utf-8') as file:
+            file.writelines(f'{it.line}\n' for it in lines)
+    ran = subprocess.run(['rt', 'try', '--seconds', SECONDS, '--cases', f'{folder}/cases'], cwd=f'{copy}/crates/lab', capture_output=True)
+    texts = re.split(r'^== (.*)\n', ran.stdout.decode(errors='replace'), flags=re.M)
+    return dict(zip(texts[1::2], texts[2::2])), ran.stderr.decode(errors='replace').strip().splitlines()
+
+
+def differences(asked, answers):
+    """The cases whose answers aren't the model's, each with its first difference."""
+    for name, lines in asked.items():
+        try:
+            compare(lines, answers.get(name, '').removesuffix('\n'))
+        except Difference as it:
+            yield name, it
+
+
+def try_one(top, name):
+    """Plants one wrong body, and tells whether it is found."""
+    with tempfile.TemporaryDirectory(prefix='planted-') as folder:
+        copy = copy_of(top, folder)
+        if name:
+            plant(copy, *edit_at(top, name))
+        asked = cases()
+        answers, said = answers_of(copy, asked, folder)
+    if not answers:
+        print(f'{name}: NOT BUILT\n' + '\n'.join(said[-20:]))
+        return False
+    found = list(differences(asked, answers))
+    kinds = sorted({re.sub(r'[-0-9]+$', '', case) for case, _ in found})
+    print(f'{name or "as it stands"}: {len(found)} of {len(asked)} trials differ: {", ".join(kinds) or "none"}')
+    if found:
+        case, it = found[0]
+        print(f'    {case}: {asked[case][it.at].line}')
+    return bool(found) == bool(name)
+
+
+def try_all(top, names):
+    """Shows that nothing is found in the crates as they stand, and that each wrong body is found."""
+    names = ['', *(names or PLANTED)]
+    failed = sum(not try_one(top, name) for name in names)
+    print(f'{len(names) - failed} passed, {failed} failed')
+    return 1 if failed else 0
