@@ -1,5 +1,5 @@
 -- What a block made in the records makes of a context.
-use Rattle.std.proofs.Common.{◌≡◌, ◌+◌, ◌<◌, ◌≤◌, All, List, [], ◌∷◌, length, map, Option, None, refl, sym, ap, subst, inl, arith}
+use Rattle.std.proofs.Common.{◌≡◌, ℕ, ◌+◌, ◌<◌, ◌≤◌, All, List, [], ◌∷◌, length, map, Option, None, refl, sym, ap, subst, inl, arith}
 use Rattle.std.specs.Option.{option_map}
 use Rattle.ir_model.specs.declared.ids.ArenaIndex.{ArenaIndex}
 use Rattle.ir_model.specs.Forest.{Text}
@@ -12,7 +12,7 @@ use Rattle.ir_core_records.specs.Growth.{Grows}
 use Rattle.ir_core_records.specs.Lists.{definitions_from}
 use Rattle.ir_core_records.specs.Meaning.{block_record, definition_of, forest_in}
 use Rattle.ir_core_records.specs.Tree.{ops_in, tree_of}
-use Rattle.ir_core_context.specs.Calls.{EntitiesStayLive, HasAll, MakesBlock, StayLive, block_needs}
+use Rattle.ir_core_context.specs.Calls.{EntitiesStayLive, HasAll, KeepsAll, MakesBlock, StayLive, block_needs}
 use Rattle.ir_core_context.specs.Creation.{Extends, HoldTogether}
 use Rattle.ir_core_context.specs.Sound.{IsSound}
 use Rattle.ir_core_context.specs.State.{ContextState, bare, forest_of, types_of}
@@ -27,11 +27,12 @@ module _ {D A K B S X L : Type 0} (s : ContextState D A K B S X L) (t : Records 
   dead : (forest_of s).blocks b ≡ None
   dead = ap (option_map (block_record (ops_in (tree_of s.records) b))) (grows.dead b (inl refl))
 
-  pub created-block-stays : StayLive (forest_of s) (forest_in t)
-  created-block-stays = subst (StayLive (forest_of s)) (sym is) (block-stays (forest_of s) b unknown label (map definition_of arguments) dead)
-
-  pub created-block-entities-stay : EntitiesStayLive (forest_of s) (forest_in t)
-  created-block-entities-stay = subst (EntitiesStayLive (forest_of s)) (sym is) (block-entities-stay (forest_of s) b unknown label (map definition_of arguments) dead)
+  pub created-block-keeps : (next : ℕ) → KeepsAll s (record s { records = t; next_value = next })
+  created-block-keeps next = record {
+    stay_live = subst (StayLive (forest_of s)) (sym is) (block-stays (forest_of s) b unknown label (map definition_of arguments) dead);
+    entities_stay_live = subst (EntitiesStayLive (forest_of s)) (sym is) (block-entities-stay (forest_of s) b unknown label (map definition_of arguments) dead);
+    types_stay = refl;
+  }
 
   module _ (sound : IsSound s) (together : HoldTogether t) (ts : List TypeHandle) (numbered : arguments ≡ definitions_from s.next_value ts)
       (ops : t.ops ≡ s.records.ops) (regions : t.regions ≡ s.records.regions)

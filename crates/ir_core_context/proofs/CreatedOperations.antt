@@ -20,7 +20,7 @@ use Rattle.ir_core_records.specs.declared.record.ValueIndex.{ValueIndex}
 use Rattle.ir_core_records.specs.declared.records.Records.{Records}
 use Rattle.ir_core_records.specs.Lists.{definitions_from}
 use Rattle.ir_core_records.specs.Meaning.{closed, definition_of, forest_in, operands_from, successors_from, value_of}
-use Rattle.ir_core_context.specs.Calls.{EntitiesStayLive, HasAll, HasCounts, MakesOperation, StayLive, op_needs}
+use Rattle.ir_core_context.specs.Calls.{HasAll, HasCounts, KeepsAll, MakesOperation, op_needs}
 use Rattle.ir_core_context.specs.Creation.{Extends, HoldTogether}
 use Rattle.ir_core_context.specs.Sound.{IsSound}
 use Rattle.ir_core_context.specs.State.{ContextState, bare, forest_of, types_of}
@@ -29,17 +29,18 @@ use Rattle.ir_core_context.proofs.Made.{op-made, op-sound}
 use Rattle.ir_core_context.proofs.NewOperations.{new-entities-live, new-found, new-names-live}
 
 -- what was live before is so after it
-module _ {D A K B S X L : Type 0} (s t : Records D A K B S X L) (loc : L) (u : ArenaIndex) (kind : ℕ) (results : List (PlainDefinition context_ids (closed A K B S X L)))
+module _ {D A K B S X L : Type 0} (old new : ContextState D A K B S X L) (types : types_of new ≡ types_of old) (loc : L) (u : ArenaIndex) (kind : ℕ) (results : List (PlainDefinition context_ids (closed A K B S X L)))
     (operands : List (Operand context_ids)) (successors : List (Successor context_ids)) (n : ℕ)
-    (made : (rs : List ArenaIndex) × (length rs ≡ n) × (forest_in t ≡ new_op (forest_in s) u loc kind results operands successors rs) × Extends s t (u ∷ []) [] rs) where
-  dead_op : (forest_in s).ops u ≡ None
-  dead_op = dead-op s u (made.3.ops.dead u (inl refl))
+    (made : (rs : List ArenaIndex) × (length rs ≡ n) × (forest_of new ≡ new_op (forest_of old) u loc kind results operands successors rs) × Extends old.records new.records (u ∷ []) [] rs) where
+  dead_op : (forest_of old).ops u ≡ None
+  dead_op = dead-op old.records u (made.3.ops.dead u (inl refl))
 
-  pub created-names-live : StayLive (forest_in s) (forest_in t)
-  created-names-live = new-names-live (forest_in s) (forest_in t) u loc kind results operands successors made.0 made.2 dead_op
-
-  pub created-entities-live : EntitiesStayLive (forest_in s) (forest_in t)
-  created-entities-live = new-entities-live (forest_in s) (forest_in t) u loc kind results operands successors made.0 made.2 dead_op
+  pub created-keeps : KeepsAll old new
+  created-keeps = record {
+    stay_live = new-names-live (forest_of old) (forest_of new) u loc kind results operands successors made.0 made.2 dead_op;
+    entities_stay_live = new-entities-live (forest_of old) (forest_of new) u loc kind results operands successors made.0 made.2 dead_op;
+    types_stay = types;
+  }
 
 module _ {D A K B S X L V P : Type 0} (s : ContextState D A K B S X L) (sound : IsSound s) (t : Records D A K B S X L) (together : HoldTogether t)
     (unknown : L) (u : ArenaIndex) (kind : ℕ) (ts : List TypeHandle) (results : List Definition) (numbered : results ≡ definitions_from s.next_value ts)
@@ -67,7 +68,7 @@ module _ {D A K B S X L V P : Type 0} (s : ContextState D A K B S X L) (sound : 
   all = let blocks_many : length targets ≡ length bs = length-map bs (λ (b : P). record { index = target b }) in omega (arith, many, blocks_many)
 
   dead : (forest_of s).ops u ≡ None
-  dead = dead_op s.records t unknown u kind (map definition_of results) (operands_from s.next_use named) (successors_from (s.next_use + length vs) targets) n made
+  dead = dead_op s (record s { records = t }) refl unknown u kind (map definition_of results) (operands_from s.next_use named) (successors_from (s.next_use + length vs) targets) n made
 
   dead_regions : (r : ArenaIndex) → In r rs → (forest_of s).regions r ≡ None
   dead_regions r h = dead-region s.records r (made.3.regions.dead r h)

@@ -8,7 +8,7 @@ use Rattle.ir_base_arenas.specs.Lists.{SameIds}
 use Rattle.ir_core_records.specs.declared.records.Records.{Records}
 use Rattle.ir_core_records.specs.Growth.{Grows, SkipsIds}
 use Rattle.ir_core_records.specs.Meaning.{forest_in}
-use Rattle.ir_core_context.specs.Calls.{EntitiesStayLive, MakesRegion, SkipsAtMost, StayLive, region_needs}
+use Rattle.ir_core_context.specs.Calls.{EntitiesStayLive, KeepsAll, MakesRegion, SkipsAtMost, StayLive, region_needs}
 use Rattle.ir_core_context.specs.Creation.{Extends, HoldTogether, SkipsUpTo}
 use Rattle.ir_core_context.specs.Sound.{IsSound}
 use Rattle.ir_core_context.specs.State.{ContextState, bare, forest_of}
@@ -19,13 +19,13 @@ use Rattle.ir_core_context.proofs.Made.{region-made, region-sound}
 use Rattle.ir_core_context.proofs.StayLive.{region-entities-stay, region-stays}
 
 module _ {D A K B S X L E : Type 0} (s : ContextState D A K B S X L) (t : Records D A K B S X L) (o : ArenaIndex) where
-  pub created-region-stays : (result : Result ArenaIndex E) → IfOk result (λ r. forest_in t ≡ add_region (forest_of s) o r) → OnOk result (StayLive (forest_of s) (forest_in t))
-  created-region-stays (Ok r) forest = subst (StayLive (forest_of s)) (sym forest) (region-stays (forest_of s) o r)
-  created-region-stays (Err e) forest = tt
-
-  pub created-region-entities-stay : (result : Result ArenaIndex E) → IfOk result (λ r. forest_in t ≡ add_region (forest_of s) o r) → OnOk result (EntitiesStayLive (forest_of s) (forest_in t))
-  created-region-entities-stay (Ok r) forest = subst (EntitiesStayLive (forest_of s)) (sym forest) (region-entities-stay (forest_of s) o r)
-  created-region-entities-stay (Err e) forest = tt
+  pub created-region-keeps : (result : Result ArenaIndex E) → IfOk result (λ r. forest_in t ≡ add_region (forest_of s) o r) → OnOk result (KeepsAll s (record s { records = t }))
+  created-region-keeps (Ok r) forest = record {
+    stay_live = subst (StayLive (forest_of s)) (sym forest) (region-stays (forest_of s) o r);
+    entities_stay_live = subst (EntitiesStayLive (forest_of s)) (sym forest) (region-entities-stay (forest_of s) o r);
+    types_stay = refl;
+  }
+  created-region-keeps (Err e) forest = tt
 
 module _ {D A K B S X L : Type 0} (s : ContextState D A K B S X L) (sound : IsSound s) (t : Records D A K B S X L) (together : HoldTogether t)
     (op_ids : SameIds s.records.ops t.ops) (blocks : t.blocks ≡ s.records.blocks) (o : ArenaIndex) (live : IsSome ((forest_of s).ops o)) where

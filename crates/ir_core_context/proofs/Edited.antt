@@ -16,7 +16,7 @@ use Rattle.ir_core_records.specs.Meaning.{closed, forest_in}
 use Rattle.ir_core_records.specs.Nested.{AreNested}
 use Rattle.ir_core_records.specs.Tree.{tree_of}
 use Rattle.ir_core_nesting.specs.Edits.{KeepsChains}
-use Rattle.ir_core_context.specs.Calls.{EntitiesStayLive, SameButForest, StayLive}
+use Rattle.ir_core_context.specs.Calls.{KeepsAll, SameButForest}
 use Rattle.ir_core_context.specs.Sound.{IsSound, Keeps}
 use Rattle.ir_core_context.specs.State.{ContextState, bare, forest_of, passed_of}
 use Rattle.ir_core_context.proofs.EditedLists.{KeepsLists, block-beside, block-into, block-out, blocks-joined, named-still, op-beside, op-into, op-out, ops-joined, region-moved, unchanged}
@@ -26,8 +26,7 @@ module _ {D A K B S X L : Type 0} where
   pub record Edited (s : ContextState D A K B S X L) (t : Records D A K B S X L) : Type 0 where
     pub sound : IsSound (record s { records = t })
     pub rest : SameButForest (bare s) (bare (record s { records = t }))
-    pub stay_live : StayLive (forest_of s) (forest_in t)
-    pub entities_stay_live : EntitiesStayLive (forest_of s) (forest_in t)
+    pub keeps : KeepsAll s (record s { records = t })
 
   -- an arena with the same ids keeps to the limits
   pub keeps-same : {T : Type 0} (s : ContextState D A K B S X L) (a b : Arena T) → SameIds a b → Keeps s.limits a → Keeps s.limits b
@@ -59,8 +58,11 @@ module _ {D A K B S X L : Type 0} where
         passed = λ i. record (passed_of s) { ops = λ id. keeps.op_ids.passed id i; blocks = λ id. keeps.block_ids.passed id i; regions = λ id. keeps.region_ids.passed id i };
         limits = refl;
       };
-      stay_live = λ d h. subst (λ f. IsLiveNamed f d) (sym is) (named-still (forest_of s) g lists.same d h);
-      entities_stay_live = λ e h. subst (λ f. IsLive f e) (sym is) (still_live (forest_of s) g lists.same e h);
+      keeps = record {
+        stay_live = λ d h. subst (λ f. IsLiveNamed f d) (sym is) (named-still (forest_of s) g lists.same d h);
+        entities_stay_live = λ e h. subst (λ f. IsLive f e) (sym is) (still_live (forest_of s) g lists.same e h);
+        types_stay = refl;
+      };
     }
 
     pub same-edited : forest_in t ≡ forest_of s → Edited s t

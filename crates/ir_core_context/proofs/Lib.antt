@@ -42,5 +42,4 @@ pub mod Redirected
 pub mod Asked
 pub mod Stands
 pub mod Aside
-pub mod Ends
 pub mod Standing

@@ -18,7 +18,7 @@ use Rattle.ir_core_records.specs.Found.{record-there}
 use Rattle.ir_core_context.specs.Calls.{IsRegion}
 use Rattle.ir_core_context.specs.Sound.{IsSound}
 use Rattle.ir_core_context.specs.State.{ContextState, forest_of}
-use Rattle.ir_core_context.proofs.Ends.{head-is, tail-is}
+use Rattle.ir_core_context.specs.Ends.{head-is, tail-is}
 
 module _ {D A K B S X L : Type 0} (s : ContextState D A K B S X L) (sound : IsSound s) where
   -- the regions of an operation, as the links and the forest have them

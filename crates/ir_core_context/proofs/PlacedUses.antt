@@ -21,7 +21,7 @@ use Rattle.ir_core_records.specs.Growth.{Grows}
 use Rattle.ir_core_records.specs.Links.{IsFreshUse}
 use Rattle.ir_core_records.specs.Table.{operands_at, successors_at}
 use Rattle.ir_core_records.specs.Meaning.{closed, forest_in}
-use Rattle.ir_core_context.specs.Calls.{EntitiesStayLive, HandsOut, HasAll, SameButForest, StayLive}
+use Rattle.ir_core_context.specs.Calls.{EntitiesStayLive, HandsOut, HasAll, KeepsAll, SameButForest, StayLive}
 use Rattle.ir_core_context.specs.Creation.{AreFresh, Extends, HoldTogether}
 use Rattle.ir_core_context.specs.Places.{MakesUse}
 use Rattle.ir_core_context.specs.Sound.{IsSound, Keeps}
@@ -74,8 +74,7 @@ module _ {D A K B S X L : Type 0} (s : ContextState D A K B S X L) (t : Records 
   pub record Placed (make : ℕ → Forest context_ids (closed A K B S X L)) : Type 0 where
     pub sound : IsSound with_use
     pub made : MakesUse (bare s) (bare with_use) make
-    pub stay_live : StayLive (forest_of s) (forest_in t)
-    pub entities_stay_live : EntitiesStayLive (forest_of s) (forest_in t)
+    pub keeps : KeepsAll s with_use
 
 module _ {D A K B S X L : Type 0} {s : ContextState D A K B S X L} {t : Records D A K B S X L} (sound : IsSound s) (keeps : KeepsTree s.records t) (linked : AreLinked (chains_of t)) where
   pub together : HoldTogether t
@@ -110,8 +109,11 @@ module _ {D A K B S X L : Type 0} {s : ContextState D A K B S X L} {t : Records 
         handed = subst (λ (z : ContextState D A K B S X L). HandsOut (bare s) (bare z) one_use (record { ops = []; blocks = []; regions = []; numbers = []; uses = s.next_use ∷ [] })) is_after (made-hands-out s sound t together [] [] [] extends 0 1 values_fit room.uses);
         forest = is;
       };
-      stay_live = subst (StayLive (forest_of s)) (sym is) stay;
-      entities_stay_live = subst (EntitiesStayLive (forest_of s)) (sym is) entities_stay;
+      keeps = record {
+        stay_live = subst (StayLive (forest_of s)) (sym is) stay;
+        entities_stay_live = subst (EntitiesStayLive (forest_of s)) (sym is) entities_stay;
+        types_stay = refl;
+      };
     }
 
     unused : (p : ArenaIndex) → In s.next_use (use_numbers_of (forest_of s) p) → ⊥
@@ -169,8 +171,11 @@ module _ {D A K B S X L : Type 0} {s : ContextState D A K B S X L} {t : Records 
   kept-edited g is kept stay entities_stay = record {
     sound = kept-sound g is kept;
     rest = kept-rest;
-    stay_live = subst (StayLive (forest_of s)) (sym is) stay;
-    entities_stay_live = subst (EntitiesStayLive (forest_of s)) (sym is) entities_stay;
+    keeps = record {
+      stay_live = subst (StayLive (forest_of s)) (sym is) stay;
+      entities_stay_live = subst (EntitiesStayLive (forest_of s)) (sym is) entities_stay;
+      types_stay = refl;
+    };
   }
 
   -- places of one operation were edited under no new number

@@ -20,7 +20,7 @@ use Rattle.ir_core_records.specs.Frames.{KeepsTree}
 use Rattle.ir_core_records.specs.Meaning.{closed, definer_of, definition_of, forest_in}
 use Rattle.ir_core_records.specs.Meant.{definitions-meant, numbers-meant}
 use Rattle.ir_core_records.specs.Table.{IsValue, definitions_at}
-use Rattle.ir_core_context.specs.Calls.{EntitiesStayLive, HandsOut, HasAll, StayLive}
+use Rattle.ir_core_context.specs.Calls.{EntitiesStayLive, HandsOut, HasAll, KeepsAll, StayLive}
 use Rattle.ir_core_context.specs.Definitions.{MakesValue}
 use Rattle.ir_core_context.specs.Sound.{IsSound}
 use Rattle.ir_core_context.specs.State.{ContextState, bare, forest_of, types_of}
@@ -37,8 +37,7 @@ module _ {D A K B S X L : Type 0} (s : ContextState D A K B S X L) (t : Records 
   pub record Placed (make : ℕ → Forest context_ids (closed A K B S X L)) : Type 0 where
     pub sound : IsSound with_value
     pub made : MakesValue (bare s) (bare with_value) make
-    pub stay_live : StayLive (forest_of s) (forest_in t)
-    pub entities_stay_live : EntitiesStayLive (forest_of s) (forest_in t)
+    pub keeps : KeepsAll s with_value
 
 abbrev typed : {A K B S X L : Type 0} → K × B → StoredType (closed A K B S X L)
 typed t = record { key = t.0; body = t.1 }
@@ -79,8 +78,11 @@ module _ {D A K B S X L : Type 0} {s : ContextState D A K B S X L} {t : Records 
           handed = subst (λ (z : ContextState D A K B S X L). HandsOut (bare s) (bare z) one_number (record { ops = []; blocks = []; regions = []; numbers = s.next_value ∷ []; uses = [] })) is_after (made-hands-out s sound t (together sound keeps linked) [] [] [] (extends sound keeps linked) 1 0 room.values uses_fit);
           forest = is;
         };
-        stay_live = subst (StayLive f) (sym at) (names-live f (on_definitions f d edit) d xs (edit xs) defined (λ n h. AddsOne-still n (AddsOne-map (λ (z : Definition context_ids (closed A K B S X L)). z.number) (adds xs)) h));
-        entities_stay_live = subst (EntitiesStayLive f) (sym at) defined.live;
+        keeps = record {
+          stay_live = subst (StayLive f) (sym at) (names-live f (on_definitions f d edit) d xs (edit xs) defined (λ n h. AddsOne-still n (AddsOne-map (λ (z : Definition context_ids (closed A K B S X L)). z.number) (adds xs)) h));
+          entities_stay_live = subst (EntitiesStayLive f) (sym at) defined.live;
+          types_stay = refl;
+        };
       }
 
 -- the next number is new

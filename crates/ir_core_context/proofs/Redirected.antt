@@ -38,6 +38,7 @@ use Rattle.ir_core_context.specs.State.{ContextState, forest_of, types_of}
 use Rattle.ir_core_context.proofs.Edited.{Edited}
 use Rattle.ir_core_context.proofs.PlacedUses.{kept-edited}
 use Rattle.ir_core_context.proofs.PlacedValues.{types-count}
+use Rattle.ir_core_context.proofs.Rewritten.{structure-entities-stay, structure-stays}
 
 -- an edit of places in all operations leaves results and arguments
 module _ {W : Dialect} (f : Forest context_ids W) (edit : ArenaIndex → OpRecord context_ids W → OpRecord context_ids W) (same : (o : ArenaIndex) (r : OpRecord context_ids W) → (edit o r).results ≡ r.results) where
@@ -72,10 +73,6 @@ module _ {W : Dialect} (f g : Forest context_ids W) (same : SameStructure f g) w
     values = λ v h. subst (In v.number) (same.numbers v.definer) h;
     uses = λ o u h. inl (subst (In u) (ap₂ (λ (ps : List (Operand context_ids)) (qs : List (Successor context_ids)). map (λ (p : Operand context_ids). p.use_number) ps ++ map (λ (p : Successor context_ids). p.use_number) qs) (same.operands o) (same.successors o)) h);
   }
-
-  same-names : StayLive f g
-  same-names (a_value v) h = subst (In v.number) (sym (same.numbers v.definer)) h
-  same-names (the_block b) h = (same.live (a_block b)).1 h
 
 module _ {D A K B S X L : Type 0} {s : ContextState D A K B S X L} {t : Records D A K B S X L} (sound : IsSound s) (keeps : KeepsTree s.records t) (linked : AreLinked (chains_of t)) where
   abbrev f : Forest context_ids (closed A K B S X L)
@@ -125,7 +122,7 @@ module _ {D A K B S X L : Type 0} {s : ContextState D A K B S X L} {t : Records 
       let same : SameStructure f (set_type f v ty) = (alone_type f v ty).structure in
       let form : CallsKeepForm f (length s.types) = calls_keep_well_formed (closed A K B S X L) f (length s.types) sound.formed in
       kept-edited sound keeps linked _ is (same-kept f (set_type f v ty) same (length s.types) (form.types v ty (let many = types-count s in omega (arith, known, many))))
-      (same-names f (set_type f v ty) same) (λ e h. (same.live e).1 h)
+      (structure-stays f (set_type f v ty) same) (structure-entities-stay f (set_type f v ty) same)
 
   -- a value has another name, or none
   pub value-renamed : (v : Value context_ids) (name : Option Text) → forest_in t ≡ set_name f v name → Edited s t
@@ -133,7 +130,7 @@ module _ {D A K B S X L : Type 0} {s : ContextState D A K B S X L} {t : Records 
       let same : SameStructure f (set_name f v name) = (alone_name f v name).structure in
       let form : CallsKeepForm f (length s.types) = calls_keep_well_formed (closed A K B S X L) f (length s.types) sound.formed in
       kept-edited sound keeps linked _ is (same-kept f (set_name f v name) same (length s.types) (form.names v name))
-      (same-names f (set_name f v name) same) (λ e h. (same.live e).1 h)
+      (structure-stays f (set_name f v name) same) (structure-entities-stay f (set_name f v name) same)
 
 module _ {D A K B S X L : Type 0} (t : Records D A K B S X L) (u : UseIndex) where
   -- the place of a use, and what stands there

@@ -15,7 +15,7 @@ use Rattle.ir_core_records.specs.Tree.{block_ends, blocks_in, ops_in, tree_of}
 use Rattle.ir_core_context.specs.Calls.{IsBlock, IsOperation, IsRegion}
 use Rattle.ir_core_context.specs.Sound.{IsSound}
 use Rattle.ir_core_context.specs.State.{ContextState, forest_of}
-use Rattle.ir_core_context.proofs.Ends.{head-is, tail-is}
+use Rattle.ir_core_context.specs.Ends.{head-is, tail-is}
 use Rattle.ir_core_context.proofs.Parents.{region-parent}
 
 -- what is read of a record is there where the record is

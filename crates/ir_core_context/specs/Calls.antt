@@ -23,7 +23,7 @@ use Rattle.ir_core_records.specs.declared.record.ValueIndex.{ValueIndex}
 use Rattle.ir_core_records.specs.Meaning.{closed, op_index, op_record, block_index, block_record, region_index, use_of, value_of}
 use Rattle.ir_core_records.specs.Values.{IsLiveUse, IsLiveBlockUse}
 use Rattle.ir_core_context.specs.declared.needs.Needs.{Needs}
-use Rattle.ir_core_context.specs.State.{ContextState}
+use Rattle.ir_core_context.specs.State.{ContextState, forest_of, types_of}
 
 -- how many ids and numbers are needed
 abbrev pub counts_of : Needs → Counts
@@ -210,6 +210,12 @@ module _ {D A K B S X L : Type 0} where
   pub record BlockLeadsToLive (f : Forest context_ids (closed A K B S X L)) (known : ℕ) (index : ArenaIndex) (b : BasicBlock D A K B S X L) : Type 0 where
     pub arguments : (v : ValueIndex) (k : ℕ) → v.definer ≡ Block (block_index b) → option_map (λ d. d.number) (slice_get (block_record (ops_of f index) b).arguments k) ≡ Some v.number → IsLiveNamed f (a_value (value_of v))
     pub types : (t k : ℕ) → option_map (λ d. d.ty) (slice_get (block_record (ops_of f index) b).arguments k) ≡ Some t → t < known
+
+  -- what was live is live still, be it a value, an operation, a block or a region, and the types are as before
+  pub record KeepsAll (old new : ContextState D A K B S X L) : Type 0 where
+    pub stay_live : StayLive (forest_of old) (forest_of new)
+    pub entities_stay_live : EntitiesStayLive (forest_of old) (forest_of new)
+    pub types_stay : types_of new ≡ types_of old
 
   -- so many numbers and slots are left
   pub record HasAll (s : ContextState D A K B S X L) (n : Counts) : Type 0 where

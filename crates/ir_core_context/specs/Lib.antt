@@ -1,5 +1,6 @@
 pub mod State
 pub mod Named
+pub mod Ends
 pub mod Sound
 pub mod Calls
 pub mod Creation

@@ -7,7 +7,7 @@ ghost use Rattle.ir_model.specs.Edits.{one_number};
 ghost use Rattle.ir_model.specs.Forest.{a_block, of_block};
 ghost use Rattle.ir_model.specs.Nesting.{IsLive, definitions_of};
 ghost use Rattle.ir_model.specs.Sessions.{LacksNumbers};
-ghost use Rattle.ir_core_context.specs.Calls.{EntitiesStayLive, SameButForest, StayLive};
+ghost use Rattle.ir_core_context.specs.Calls.{EntitiesStayLive, KeepsAll, SameButForest};
 ghost use Rattle.ir_core_context.specs.Definitions.{MakesValue, StayLiveBut, UnusedAt, ValueAt, definition_inserted, definition_popped, definition_pushed, definition_removed, last_place};
 ghost use Rattle.ir_core_context.specs.State.{bare, forest_of, types_of};
 
@@ -31,9 +31,7 @@ pub trait ArgumentEdits<D: Dialects> {
         requires known { ty.place < length (types_of ctx.old) }
         ensures index { IfOk result (λ at. at ≡ length (definitions_of (forest_of ctx.old) (of_block (index_of self)))) }
         ensures made { OnOk result (MakesValue (bare ctx.old) (bare ctx.new) (definition_pushed (forest_of ctx.old) (of_block (index_of self)) ty.place)) }
-        ensures stay_live { StayLive (forest_of ctx.old) (forest_of ctx.new) }
-        ensures entities_stay_live { EntitiesStayLive (forest_of ctx.old) (forest_of ctx.new) }
-        ensures types_stay { types_of ctx.new ≡ types_of ctx.old }
+        ensures keeps { KeepsAll ctx.old ctx.new }
         ensures counter { (result ≡ Err CoreError.CounterSpent) ↔ LacksNumbers (bare ctx.old) one_number }
         ensures slots { ¬ (result ≡ Err CoreError.SlotsSpent) }
         ensures err { OnErr result (ctx.new ≡ ctx.old) };
@@ -52,9 +50,7 @@ pub trait ArgumentEdits<D: Dialects> {
         requires in_range { index ≤ length (definitions_of (forest_of ctx.old) (of_block (index_of self))) }
         requires known { ty.place < length (types_of ctx.old) }
         ensures made { OnOk result (MakesValue (bare ctx.old) (bare ctx.new) (definition_inserted (forest_of ctx.old) (of_block (index_of self)) index ty.place)) }
-        ensures stay_live { StayLive (forest_of ctx.old) (forest_of ctx.new) }
-        ensures entities_stay_live { EntitiesStayLive (forest_of ctx.old) (forest_of ctx.new) }
-        ensures types_stay { types_of ctx.new ≡ types_of ctx.old }
+        ensures keeps { KeepsAll ctx.old ctx.new }
         ensures counter { (result ≡ Err CoreError.CounterSpent) ↔ LacksNumbers (bare ctx.old) one_number }
         ensures slots { ¬ (result ≡ Err CoreError.SlotsSpent) }
         ensures err { OnErr result (ctx.new ≡ ctx.old) };

@@ -7,7 +7,7 @@ ghost use Rattle.ir_model.specs.Forest.{a_block, a_region, an_op};
 ghost use Rattle.ir_model.specs.Nesting.{In, Inside, IsLinked, IsLive, blocks_of, regions_of};
 ghost use Rattle.ir_model.specs.Changes.{append_blocks, in_regions, move_region as moved, on_region, put_after, put_before, without};
 ghost use Rattle.ir_model.specs.Edits.{MayGoBeside, MayGoInto, MayJoin};
-ghost use Rattle.ir_core_context.specs.Calls.{EntitiesStayLive, SameButForest, StayLive};
+ghost use Rattle.ir_core_context.specs.Calls.{KeepsAll, SameButForest};
 ghost use Rattle.ir_core_context.specs.GoingBack.{BlockGoesBack, BlockMayGoBack};
 ghost use Rattle.ir_core_context.specs.State.{bare, forest_of};
 
@@ -34,8 +34,7 @@ pub trait BlockList<D: Dialects> {
         requires may_go { MayGoInto (forest_of ctx.old) (a_block (index_of self)) (a_region (container_index_of container)) }
         ensures forest { forest_of ctx.new ≡ on_region (forest_of ctx.old) (container_index_of container) (λ bs. index_of self ∷ bs) }
         ensures rest { SameButForest (bare ctx.old) (bare ctx.new) }
-        ensures stay_live { StayLive (forest_of ctx.old) (forest_of ctx.new) }
-        ensures entities_stay_live { EntitiesStayLive (forest_of ctx.old) (forest_of ctx.new) };
+        ensures keeps { KeepsAll ctx.old ctx.new };
 
     /// Puts the block at the back of the region's list. It is in no list yet, and the region isn't inside it.
     fn insert_at_back(self, container: Self::Container, ctx: &mut Context<D>)
@@ -44,8 +43,7 @@ pub trait BlockList<D: Dialects> {
         requires may_go { MayGoInto (forest_of ctx.old) (a_block (index_of self)) (a_region (container_index_of container)) }
         ensures forest { forest_of ctx.new ≡ on_region (forest_of ctx.old) (container_index_of container) (λ bs. bs ++ index_of self ∷ []) }
         ensures rest { SameButForest (bare ctx.old) (bare ctx.new) }
-        ensures stay_live { StayLive (forest_of ctx.old) (forest_of ctx.new) }
-        ensures entities_stay_live { EntitiesStayLive (forest_of ctx.old) (forest_of ctx.new) };
+        ensures keeps { KeepsAll ctx.old ctx.new };
 
     /// Puts the block right before the mark, which is in a list. It is in no list yet, and the mark's region isn't inside it.
     fn insert_before(self, ctx: &mut Context<D>, mark: Self)
@@ -53,8 +51,7 @@ pub trait BlockList<D: Dialects> {
         requires may_go { MayGoBeside (forest_of ctx.old) (a_block (index_of self)) (a_block (index_of mark)) }
         ensures forest { forest_of ctx.new ≡ in_regions (forest_of ctx.old) (put_before same_id (index_of self) (index_of mark)) }
         ensures rest { SameButForest (bare ctx.old) (bare ctx.new) }
-        ensures stay_live { StayLive (forest_of ctx.old) (forest_of ctx.new) }
-        ensures entities_stay_live { EntitiesStayLive (forest_of ctx.old) (forest_of ctx.new) };
+        ensures keeps { KeepsAll ctx.old ctx.new };
 
     /// Puts the block right after the mark, which is in a list. It is in no list yet, and the mark's region isn't inside it.
     fn insert_after(self, ctx: &mut Context<D>, mark: Self)
@@ -62,16 +59,14 @@ pub trait BlockList<D: Dialects> {
         requires may_go { MayGoBeside (forest_of ctx.old) (a_block (index_of self)) (a_block (index_of mark)) }
         ensures forest { forest_of ctx.new ≡ in_regions (forest_of ctx.old) (put_after same_id (index_of self) (index_of mark)) }
         ensures rest { SameButForest (bare ctx.old) (bare ctx.new) }
-        ensures stay_live { StayLive (forest_of ctx.old) (forest_of ctx.new) }
-        ensures entities_stay_live { EntitiesStayLive (forest_of ctx.old) (forest_of ctx.new) };
+        ensures keeps { KeepsAll ctx.old ctx.new };
 
     /// Takes the block out of the list that it is in.
     fn unlink(self, ctx: &mut Context<D>)
         requires linked { IsLinked (forest_of ctx.old) (a_block (index_of self)) }
         ensures forest { forest_of ctx.new ≡ in_regions (forest_of ctx.old) (without same_id (index_of self)) }
         ensures rest { SameButForest (bare ctx.old) (bare ctx.new) }
-        ensures stay_live { StayLive (forest_of ctx.old) (forest_of ctx.new) }
-        ensures entities_stay_live { EntitiesStayLive (forest_of ctx.old) (forest_of ctx.new) }
+        ensures keeps { KeepsAll ctx.old ctx.new }
         ensures may_go_back { BlockMayGoBack (forest_of ctx.old) (forest_of ctx.new) (index_of self) }
         ensures goes_back { BlockGoesBack (forest_of ctx.old) (forest_of ctx.new) (index_of self) };
 }
@@ -117,8 +112,7 @@ pub trait BlockContainer<D: Dialects> {
         requires may_join { MayJoin (forest_of ctx.old) (a_region (index_of self)) (a_region (index_of donor)) }
         ensures forest { forest_of ctx.new ≡ append_blocks (forest_of ctx.old) (index_of self) (index_of donor) (blocks_of (forest_of ctx.old) (index_of donor)) }
         ensures rest { SameButForest (bare ctx.old) (bare ctx.new) }
-        ensures stay_live { StayLive (forest_of ctx.old) (forest_of ctx.new) }
-        ensures entities_stay_live { EntitiesStayLive (forest_of ctx.old) (forest_of ctx.new) };
+        ensures keeps { KeepsAll ctx.old ctx.new };
 }
 
 impl<D: Dialects> BlockContainer<D> for Ptr<Region> {
@@ -152,8 +146,7 @@ pub trait RegionMoves<D: Dialects> {
         ensures same { OnErr result (forest_of ctx.new ≡ forest_of ctx.old) }
         ensures elsewhere { OnErr result (¬ In (index_of self) (regions_of (forest_of ctx.old) (parent_index_of op))) }
         ensures rest { SameButForest (bare ctx.old) (bare ctx.new) }
-        ensures stay_live { StayLive (forest_of ctx.old) (forest_of ctx.new) }
-        ensures entities_stay_live { EntitiesStayLive (forest_of ctx.old) (forest_of ctx.new) }
+        ensures keeps { KeepsAll ctx.old ctx.new }
         ensures memory { IfErr result (λ e. e ≡ CoreError.OutOfMemory) };
 }
 

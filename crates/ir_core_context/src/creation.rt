@@ -10,7 +10,7 @@ ghost use Rattle.ir_model.specs.Nesting.{IsLive as IsLiveEntity, IsLiveNamed, We
 ghost use Rattle.ir_base_arenas.specs.Arena.{room, IsLiveIn};
 ghost use Rattle.ir_core_records.specs.Frames.{KeepsTree};
 ghost use Rattle.ir_core_records.specs.Meaning.{closed, definition_of, forest_in, value_of};
-ghost use Rattle.ir_core_context.specs.Calls.{EntitiesStayLive, HasAll, MakesBlock, MakesOperation, MakesRegion, SkipsAtMost, StayLive, block_needs, region_needs, needs_of};
+ghost use Rattle.ir_core_context.specs.Calls.{HasAll, KeepsAll, MakesBlock, MakesOperation, MakesRegion, SkipsAtMost, block_needs, region_needs, needs_of};
 ghost use Rattle.ir_core_context.specs.Creation.{AreFresh, Extends, HoldTogether, IsGiven, SkipsUpTo, with_places, Completes, InsertsWhole};
 ghost use Rattle.ir_core_context.specs.State.{bare, forest_of, types_of};
 
@@ -195,8 +195,7 @@ pub(crate) fn create_operation<D: Dialects>(
     requires successors { All (λ b. IsLiveNamed (forest_of ctx.old) (the_block b.index)) parts.now.successors.now }
     requires room { HasAll ctx.old (needs_of parts.now.types.now parts.now.operands.now parts.now.successors.now parts.now.num_regions) }
     ensures made { IfOk result (λ op. MakesOperation D.unknown (bare ctx.old) (bare ctx.new) op parts.now.kind (map (λ t. t.place) parts.now.types.now) (map (λ v. value_of v.index) parts.now.operands.now) (map (λ b. b.index) parts.now.successors.now) parts.now.num_regions) }
-    ensures stay_live { OnOk result (StayLive (forest_of ctx.old) (forest_of ctx.new)) }
-    ensures entities_stay_live { OnOk result (EntitiesStayLive (forest_of ctx.old) (forest_of ctx.new)) }
+    ensures keeps { OnOk result (KeepsAll ctx.old ctx.new) }
     ensures refused { OnErr result (SkipsAtMost (bare ctx.old) (bare ctx.new) (needs_of parts.now.types.now parts.now.operands.now parts.now.successors.now parts.now.num_regions)) }
 {
     let results = Definitions::of_types(ctx.alloc, ctx.next_value, parts.types)?;
@@ -218,8 +217,7 @@ pub(crate) fn create_block<D: Dialects>(
     requires types { All (λ t. t.place < length (types_of ctx.old)) types.now }
     requires room { HasAll ctx.old (block_needs (length types.now)) }
     ensures made { IfOk result (λ block. MakesBlock D.unknown (bare ctx.old) (bare ctx.new) block label (map (λ t. t.place) types.now)) }
-    ensures stay_live { OnOk result (StayLive (forest_of ctx.old) (forest_of ctx.new)) }
-    ensures entities_stay_live { OnOk result (EntitiesStayLive (forest_of ctx.old) (forest_of ctx.new)) }
+    ensures keeps { OnOk result (KeepsAll ctx.old ctx.new) }
     ensures err { OnErr result (ctx.new ≡ ctx.old) }
 {
     let arguments = Definitions::of_types(ctx.alloc, ctx.next_value, types)?;
@@ -239,8 +237,7 @@ pub(crate) fn create_region<D: Dialects>(
     requires live { IsLiveEntity (forest_of ctx.old) (an_op op) }
     requires room { HasAll ctx.old region_needs }
     ensures made { IfOk result (λ region. MakesRegion (bare ctx.old) (bare ctx.new) op region) }
-    ensures stay_live { OnOk result (StayLive (forest_of ctx.old) (forest_of ctx.new)) }
-    ensures entities_stay_live { OnOk result (EntitiesStayLive (forest_of ctx.old) (forest_of ctx.new)) }
+    ensures keeps { OnOk result (KeepsAll ctx.old ctx.new) }
     ensures refused { OnErr result (SkipsAtMost (bare ctx.old) (bare ctx.new) region_needs) }
 {
     add_region(&mut ctx.records, op)

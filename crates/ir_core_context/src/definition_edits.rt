@@ -7,7 +7,7 @@ ghost use Rattle.ir_model.specs.Forest.{definer_entity};
 ghost use Rattle.ir_model.specs.Nesting.{IsLive, definitions_of};
 ghost use Rattle.ir_model.specs.Sessions.{LacksNumbers};
 ghost use Rattle.ir_core_records.specs.Meaning.{definer_of};
-ghost use Rattle.ir_core_context.specs.Calls.{EntitiesStayLive, SameButForest, StayLive};
+ghost use Rattle.ir_core_context.specs.Calls.{EntitiesStayLive, KeepsAll, SameButForest};
 ghost use Rattle.ir_core_context.specs.Definitions.{MakesValue, StayLiveBut, UnusedAt, ValueAt, definition_inserted, definition_popped, definition_pushed, definition_removed, last_place};
 ghost use Rattle.ir_core_context.specs.State.{bare, forest_of, types_of};
 
@@ -27,9 +27,7 @@ pub(crate) fn push_value<D: Dialects>(
     requires known { ty.place < length (types_of ctx.old) }
     ensures index { IfOk result (λ at. at ≡ length (definitions_of (forest_of ctx.old) (definer_of definer))) }
     ensures made { OnOk result (MakesValue (bare ctx.old) (bare ctx.new) (definition_pushed (forest_of ctx.old) (definer_of definer) ty.place)) }
-    ensures stay_live { StayLive (forest_of ctx.old) (forest_of ctx.new) }
-    ensures entities_stay_live { EntitiesStayLive (forest_of ctx.old) (forest_of ctx.new) }
-    ensures types_stay { types_of ctx.new ≡ types_of ctx.old }
+    ensures keeps { KeepsAll ctx.old ctx.new }
     ensures counter { (result ≡ Err CoreError.CounterSpent) ↔ LacksNumbers (bare ctx.old) one_number }
     ensures slots { ¬ (result ≡ Err CoreError.SlotsSpent) }
     ensures err { OnErr result (ctx.new ≡ ctx.old) }
@@ -51,9 +49,7 @@ pub(crate) fn insert_value<D: Dialects>(
     requires in_range { index ≤ length (definitions_of (forest_of ctx.old) (definer_of definer)) }
     requires known { ty.place < length (types_of ctx.old) }
     ensures made { OnOk result (MakesValue (bare ctx.old) (bare ctx.new) (definition_inserted (forest_of ctx.old) (definer_of definer) index ty.place)) }
-    ensures stay_live { StayLive (forest_of ctx.old) (forest_of ctx.new) }
-    ensures entities_stay_live { EntitiesStayLive (forest_of ctx.old) (forest_of ctx.new) }
-    ensures types_stay { types_of ctx.new ≡ types_of ctx.old }
+    ensures keeps { KeepsAll ctx.old ctx.new }
     ensures counter { (result ≡ Err CoreError.CounterSpent) ↔ LacksNumbers (bare ctx.old) one_number }
     ensures slots { ¬ (result ≡ Err CoreError.SlotsSpent) }
     ensures err { OnErr result (ctx.new ≡ ctx.old) }

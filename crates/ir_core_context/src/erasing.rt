@@ -8,7 +8,7 @@ ghost use Rattle.ir_model.specs.Edits.{The};
 ghost use Rattle.ir_model.specs.Forest.{a_region, an_op};
 ghost use Rattle.ir_model.specs.Nesting.{IsClosed, IsLive, regions_of};
 ghost use Rattle.ir_core_records.specs.Meaning.{entity_of};
-ghost use Rattle.ir_core_context.specs.Calls.{EntitiesStayLive, SameButForest, StayLive};
+ghost use Rattle.ir_core_context.specs.Calls.{KeepsAll, SameButForest};
 ghost use Rattle.ir_core_context.specs.State.{bare, forest_of};
 ghost use Rattle.ir_core_context.specs.Definitions.{ClosedAt};
 ghost use Rattle.ir_core_context.specs.Removals.{RemovesEachOnce};
@@ -30,8 +30,7 @@ pub trait DropUses<D: Dialects> {
         requires { IsLive (forest_of ctx.old) (entity_at self) }
         ensures forest { DropsUses (forest_of ctx.old) (entity_at self) (forest_of ctx.new) }
         ensures rest { SameButForest (bare ctx.old) (bare ctx.new) }
-        ensures stay_live { StayLive (forest_of ctx.old) (forest_of ctx.new) }
-        ensures entities_stay_live { EntitiesStayLive (forest_of ctx.old) (forest_of ctx.new) };
+        ensures keeps { KeepsAll ctx.old ctx.new };
 }
 
 /// How a live operation or block goes.
@@ -70,8 +69,7 @@ fn drop_uses_inside<D: Dialects>(ctx: &mut Context<D>, entity: EntityIndex)
     requires { IsLive (forest_of ctx.old) (entity_of entity) }
     ensures forest { DropsUses (forest_of ctx.old) (entity_of entity) (forest_of ctx.new) }
     ensures rest { SameButForest (bare ctx.old) (bare ctx.new) }
-    ensures stay_live { StayLive (forest_of ctx.old) (forest_of ctx.new) }
-    ensures entities_stay_live { EntitiesStayLive (forest_of ctx.old) (forest_of ctx.new) }
+    ensures keeps { KeepsAll ctx.old ctx.new }
 {
     drop_all_uses(&mut ctx.records, entity);
 }

@@ -7,7 +7,7 @@ ghost use Rattle.ir_model.specs.Forest.{a_block, a_region, a_value, an_op};
 ghost use Rattle.ir_model.specs.Nesting.{IsLive, IsLiveNamed};
 ghost use Rattle.ir_model.specs.Sessions.{LacksNumbers, LacksSlots};
 ghost use Rattle.ir_core_records.specs.Meaning.{value_of};
-ghost use Rattle.ir_core_context.specs.Calls.{EntitiesStayLive, HasArguments, HasCounts, MakesBlock, MakesOperation, MakesRegion, SkipsAtMost, StayLive, block_needs, region_needs, needs_of, LacksOnlySlots};
+ghost use Rattle.ir_core_context.specs.Calls.{HasArguments, HasCounts, KeepsAll, MakesBlock, MakesOperation, MakesRegion, SkipsAtMost, block_needs, region_needs, needs_of, LacksOnlySlots};
 ghost use Rattle.ir_core_context.specs.State.{bare, forest_of, types_of};
 
 use crate::context::Context;
@@ -38,9 +38,7 @@ pub trait NewOperation<D: Dialects> {
         ensures made { IfOk result (λ op. MakesOperation D.unknown (bare ctx.old) (bare ctx.new) op.index kind (map (λ t. t.place) result_types.now) (map (λ v. value_of v.index) operands.now) (map (λ b. b.index) successors.now) num_regions) }
         ensures live { IfOk result (λ op. IsLive (forest_of ctx.new) (an_op op.index)) }
         ensures counts { IfOk result (λ op. HasCounts (forest_of ctx.new) op.index (length result_types.now) (length operands.now) (length successors.now) num_regions) }
-        ensures stay_live { StayLive (forest_of ctx.old) (forest_of ctx.new) }
-        ensures entities_stay_live { EntitiesStayLive (forest_of ctx.old) (forest_of ctx.new) }
-        ensures types_stay { types_of ctx.new ≡ types_of ctx.old }
+        ensures keeps { KeepsAll ctx.old ctx.new }
         ensures counter { (result ≡ Err CoreError.CounterSpent) ↔ LacksNumbers (bare ctx.old) (needs_of result_types.now operands.now successors.now num_regions) }
         ensures slots { (result ≡ Err CoreError.SlotsSpent) ↔ LacksOnlySlots (bare ctx.old) (needs_of result_types.now operands.now successors.now num_regions) }
         ensures refused { OnErr result (SkipsAtMost (bare ctx.old) (bare ctx.new) (needs_of result_types.now operands.now successors.now num_regions)) };
@@ -89,9 +87,7 @@ pub trait NewBlock<D: Dialects> {
         ensures made { IfOk result (λ block. MakesBlock D.unknown (bare ctx.old) (bare ctx.new) block.index label (map (λ t. t.place) arg_types.now)) }
         ensures live { IfOk result (λ block. IsLive (forest_of ctx.new) (a_block block.index)) }
         ensures counts { IfOk result (λ block. HasArguments (forest_of ctx.new) block.index (length arg_types.now)) }
-        ensures stay_live { StayLive (forest_of ctx.old) (forest_of ctx.new) }
-        ensures entities_stay_live { EntitiesStayLive (forest_of ctx.old) (forest_of ctx.new) }
-        ensures types_stay { types_of ctx.new ≡ types_of ctx.old }
+        ensures keeps { KeepsAll ctx.old ctx.new }
         ensures counter { (result ≡ Err CoreError.CounterSpent) ↔ LacksNumbers (bare ctx.old) (block_needs (length arg_types.now)) }
         ensures slots { (result ≡ Err CoreError.SlotsSpent) ↔ LacksOnlySlots (bare ctx.old) (block_needs (length arg_types.now)) }
         ensures err { OnErr result (ctx.new ≡ ctx.old) };
@@ -127,9 +123,7 @@ pub trait AddRegion<D: Dialects> {
         ensures made { IfOk result (λ region. MakesRegion (bare ctx.old) (bare ctx.new) (index_of self) region.index) }
         ensures live { IfOk result (λ region. IsLive (forest_of ctx.new) (a_region region.index)) }
         ensures op_live { IsLive (forest_of ctx.new) (an_op (index_of self)) }
-        ensures stay_live { StayLive (forest_of ctx.old) (forest_of ctx.new) }
-        ensures entities_stay_live { EntitiesStayLive (forest_of ctx.old) (forest_of ctx.new) }
-        ensures types_stay { types_of ctx.new ≡ types_of ctx.old }
+        ensures keeps { KeepsAll ctx.old ctx.new }
         ensures counter { ¬ (result ≡ Err CoreError.CounterSpent) }
         ensures slots { (result ≡ Err CoreError.SlotsSpent) ↔ LacksSlots (bare ctx.old) region_needs }
         ensures refused { OnErr result (SkipsAtMost (bare ctx.old) (bare ctx.new) region_needs) };

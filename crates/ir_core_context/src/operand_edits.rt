@@ -10,9 +10,9 @@ ghost use Rattle.ir_model.specs.Edits.{one_use};
 ghost use Rattle.ir_model.specs.Forest.{a_value, an_op};
 ghost use Rattle.ir_model.specs.Nesting.{IsLive, IsLiveNamed, operands_of};
 ghost use Rattle.ir_model.specs.Sessions.{LacksNumbers};
-ghost use Rattle.ir_core_context.specs.Calls.{EntitiesStayLive, SameButForest, StayLive};
+ghost use Rattle.ir_core_context.specs.Calls.{KeepsAll, SameButForest};
 ghost use Rattle.ir_core_context.specs.Places.{MakesUse, operand_inserted, operand_pushed, operand_replaced};
-ghost use Rattle.ir_core_context.specs.State.{bare, forest_of, types_of};
+ghost use Rattle.ir_core_context.specs.State.{bare, forest_of};
 
 use crate::context::Context;
 use crate::needs::has_use_number;
@@ -42,9 +42,7 @@ pub trait OperandEdits<D: Dialects> {
         requires value_live { IsLiveNamed (forest_of ctx.old) (a_value (value_of value)) }
         ensures index { IfOk result (λ at. at ≡ length (operands_of (forest_of ctx.old) (index_of self))) }
         ensures made { OnOk result (MakesUse (bare ctx.old) (bare ctx.new) (operand_pushed (forest_of ctx.old) (index_of self) (value_of value))) }
-        ensures stay_live { StayLive (forest_of ctx.old) (forest_of ctx.new) }
-        ensures entities_stay_live { EntitiesStayLive (forest_of ctx.old) (forest_of ctx.new) }
-        ensures types_stay { types_of ctx.new ≡ types_of ctx.old }
+        ensures keeps { KeepsAll ctx.old ctx.new }
         ensures counter { (result ≡ Err CoreError.CounterSpent) ↔ LacksNumbers (bare ctx.old) one_use }
         ensures slots { ¬ (result ≡ Err CoreError.SlotsSpent) }
         ensures err { OnErr result (ctx.new ≡ ctx.old) };
@@ -63,9 +61,7 @@ pub trait OperandEdits<D: Dialects> {
         requires value_live { IsLiveNamed (forest_of ctx.old) (a_value (value_of value)) }
         requires in_range { index ≤ length (operands_of (forest_of ctx.old) (index_of self)) }
         ensures made { OnOk result (MakesUse (bare ctx.old) (bare ctx.new) (operand_inserted (forest_of ctx.old) (index_of self) index (value_of value))) }
-        ensures stay_live { StayLive (forest_of ctx.old) (forest_of ctx.new) }
-        ensures entities_stay_live { EntitiesStayLive (forest_of ctx.old) (forest_of ctx.new) }
-        ensures types_stay { types_of ctx.new ≡ types_of ctx.old }
+        ensures keeps { KeepsAll ctx.old ctx.new }
         ensures counter { (result ≡ Err CoreError.CounterSpent) ↔ LacksNumbers (bare ctx.old) one_use }
         ensures slots { ¬ (result ≡ Err CoreError.SlotsSpent) }
         ensures err { OnErr result (ctx.new ≡ ctx.old) };
@@ -84,9 +80,7 @@ pub trait OperandEdits<D: Dialects> {
         requires value_live { IsLiveNamed (forest_of ctx.old) (a_value (value_of value)) }
         requires in_range { index < length (operands_of (forest_of ctx.old) (index_of self)) }
         ensures made { OnOk result (MakesUse (bare ctx.old) (bare ctx.new) (operand_replaced (forest_of ctx.old) (index_of self) index (value_of value))) }
-        ensures stay_live { StayLive (forest_of ctx.old) (forest_of ctx.new) }
-        ensures entities_stay_live { EntitiesStayLive (forest_of ctx.old) (forest_of ctx.new) }
-        ensures types_stay { types_of ctx.new ≡ types_of ctx.old }
+        ensures keeps { KeepsAll ctx.old ctx.new }
         ensures counter { (result ≡ Err CoreError.CounterSpent) ↔ LacksNumbers (bare ctx.old) one_use }
         ensures slots { ¬ (result ≡ Err CoreError.SlotsSpent) }
         ensures err { OnErr result (ctx.new ≡ ctx.old) };
@@ -99,8 +93,7 @@ pub trait OperandEdits<D: Dialects> {
         ensures still_live { IsLiveNamed (forest_of ctx.new) (a_value (value_of result)) }
         ensures forest { forest_of ctx.new ≡ on_op (forest_of ctx.old) (index_of self) (on_operands (λ ps. remove ps index)) }
         ensures rest { SameButForest (bare ctx.old) (bare ctx.new) }
-        ensures stay_live { StayLive (forest_of ctx.old) (forest_of ctx.new) }
-        ensures entities_stay_live { EntitiesStayLive (forest_of ctx.old) (forest_of ctx.new) };
+        ensures keeps { KeepsAll ctx.old ctx.new };
 
     /// Takes the last operand out, and answers the value that it named, which is live. It stands for pliron's `Operation::pop_operand`.
     fn pop_operand(self, ctx: &mut Context<D>) -> Self::Value
@@ -110,8 +103,7 @@ pub trait OperandEdits<D: Dialects> {
         ensures still_live { IsLiveNamed (forest_of ctx.new) (a_value (value_of result)) }
         ensures forest { forest_of ctx.new ≡ on_op (forest_of ctx.old) (index_of self) (on_operands (λ ps. remove ps (length ps - 1))) }
         ensures rest { SameButForest (bare ctx.old) (bare ctx.new) }
-        ensures stay_live { StayLive (forest_of ctx.old) (forest_of ctx.new) }
-        ensures entities_stay_live { EntitiesStayLive (forest_of ctx.old) (forest_of ctx.new) };
+        ensures keeps { KeepsAll ctx.old ctx.new };
 }
 
 impl<D: Dialects> OperandEdits<D> for Ptr<Operation<D>> {

@@ -6,7 +6,7 @@ ghost use Rattle.ir_model.specs.Forest.{a_block, an_op};
 ghost use Rattle.ir_model.specs.Nesting.{IsLinked, IsLive, ops_of};
 ghost use Rattle.ir_model.specs.Changes.{append_ops, in_blocks, on_block, on_ops, put_after, put_before, without};
 ghost use Rattle.ir_model.specs.Edits.{MayGoBeside, MayGoInto, MayJoin};
-ghost use Rattle.ir_core_context.specs.Calls.{EntitiesStayLive, SameButForest, StayLive};
+ghost use Rattle.ir_core_context.specs.Calls.{KeepsAll, SameButForest};
 ghost use Rattle.ir_core_context.specs.GoingBack.{OpGoesBack, OpMayGoBack};
 ghost use Rattle.ir_core_context.specs.State.{bare, forest_of};
 
@@ -33,8 +33,7 @@ pub trait OperationList<D: Dialects> {
         requires may_go { MayGoInto (forest_of ctx.old) (an_op (index_of self)) (a_block (container_index_of container)) }
         ensures forest { forest_of ctx.new ≡ on_block (forest_of ctx.old) (container_index_of container) (on_ops (λ os. index_of self ∷ os)) }
         ensures rest { SameButForest (bare ctx.old) (bare ctx.new) }
-        ensures stay_live { StayLive (forest_of ctx.old) (forest_of ctx.new) }
-        ensures entities_stay_live { EntitiesStayLive (forest_of ctx.old) (forest_of ctx.new) };
+        ensures keeps { KeepsAll ctx.old ctx.new };
 
     /// Puts the operation at the back of the block's list. It is in no list yet, and the block isn't inside it.
     fn insert_at_back(self, container: Self::Container, ctx: &mut Context<D>)
@@ -43,8 +42,7 @@ pub trait OperationList<D: Dialects> {
         requires may_go { MayGoInto (forest_of ctx.old) (an_op (index_of self)) (a_block (container_index_of container)) }
         ensures forest { forest_of ctx.new ≡ on_block (forest_of ctx.old) (container_index_of container) (on_ops (λ os. os ++ index_of self ∷ [])) }
         ensures rest { SameButForest (bare ctx.old) (bare ctx.new) }
-        ensures stay_live { StayLive (forest_of ctx.old) (forest_of ctx.new) }
-        ensures entities_stay_live { EntitiesStayLive (forest_of ctx.old) (forest_of ctx.new) };
+        ensures keeps { KeepsAll ctx.old ctx.new };
 
     /// Puts the operation right before the mark, which is in a list. It is in no list yet, and the mark's block isn't inside it.
     fn insert_before(self, ctx: &mut Context<D>, mark: Self)
@@ -52,8 +50,7 @@ pub trait OperationList<D: Dialects> {
         requires may_go { MayGoBeside (forest_of ctx.old) (an_op (index_of self)) (an_op (index_of mark)) }
         ensures forest { forest_of ctx.new ≡ in_blocks (forest_of ctx.old) (put_before same_id (index_of self) (index_of mark)) }
         ensures rest { SameButForest (bare ctx.old) (bare ctx.new) }
-        ensures stay_live { StayLive (forest_of ctx.old) (forest_of ctx.new) }
-        ensures entities_stay_live { EntitiesStayLive (forest_of ctx.old) (forest_of ctx.new) };
+        ensures keeps { KeepsAll ctx.old ctx.new };
 
     /// Puts the operation right after the mark, which is in a list. It is in no list yet, and the mark's block isn't inside it.
     fn insert_after(self, ctx: &mut Context<D>, mark: Self)
@@ -61,16 +58,14 @@ pub trait OperationList<D: Dialects> {
         requires may_go { MayGoBeside (forest_of ctx.old) (an_op (index_of self)) (an_op (index_of mark)) }
         ensures forest { forest_of ctx.new ≡ in_blocks (forest_of ctx.old) (put_after same_id (index_of self) (index_of mark)) }
         ensures rest { SameButForest (bare ctx.old) (bare ctx.new) }
-        ensures stay_live { StayLive (forest_of ctx.old) (forest_of ctx.new) }
-        ensures entities_stay_live { EntitiesStayLive (forest_of ctx.old) (forest_of ctx.new) };
+        ensures keeps { KeepsAll ctx.old ctx.new };
 
     /// Takes the operation out of the list that it is in.
     fn unlink(self, ctx: &mut Context<D>)
         requires linked { IsLinked (forest_of ctx.old) (an_op (index_of self)) }
         ensures forest { forest_of ctx.new ≡ in_blocks (forest_of ctx.old) (without same_id (index_of self)) }
         ensures rest { SameButForest (bare ctx.old) (bare ctx.new) }
-        ensures stay_live { StayLive (forest_of ctx.old) (forest_of ctx.new) }
-        ensures entities_stay_live { EntitiesStayLive (forest_of ctx.old) (forest_of ctx.new) }
+        ensures keeps { KeepsAll ctx.old ctx.new }
         ensures may_go_back { OpMayGoBack (forest_of ctx.old) (forest_of ctx.new) (index_of self) }
         ensures goes_back { OpGoesBack (forest_of ctx.old) (forest_of ctx.new) (index_of self) };
 }
@@ -116,8 +111,7 @@ pub trait OperationContainer<D: Dialects> {
         requires may_join { MayJoin (forest_of ctx.old) (a_block (index_of self)) (a_block (index_of donor)) }
         ensures forest { forest_of ctx.new ≡ append_ops (forest_of ctx.old) (index_of self) (index_of donor) (ops_of (forest_of ctx.old) (index_of donor)) }
         ensures rest { SameButForest (bare ctx.old) (bare ctx.new) }
-        ensures stay_live { StayLive (forest_of ctx.old) (forest_of ctx.new) }
-        ensures entities_stay_live { EntitiesStayLive (forest_of ctx.old) (forest_of ctx.new) };
+        ensures keeps { KeepsAll ctx.old ctx.new };
 }
 
 impl<D: Dialects> OperationContainer<D> for Ptr<BasicBlock<D>> {

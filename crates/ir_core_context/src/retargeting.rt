@@ -14,7 +14,7 @@ ghost use Rattle.ir_model.specs.Uses.{IsUse};
 ghost use Rattle.ir_core_records.specs.Table.{block_uses_at};
 ghost use Rattle.ir_core_replacing.specs.Chosen.{same_use};
 ghost use Rattle.ir_core_context.specs.Asked.{AreAnswers, MaySay, RetargetsChosen};
-ghost use Rattle.ir_core_context.specs.Calls.{EntitiesStayLive, SameButForest, StayLive};
+ghost use Rattle.ir_core_context.specs.Calls.{KeepsAll, SameButForest};
 ghost use Rattle.ir_core_context.specs.State.{bare, forest_of};
 
 use crate::asking::{Shown, ShownBlock, answers_for_blocks};
@@ -63,8 +63,7 @@ pub trait Retarget<D: Dialects> {
         ensures forest { OnOk result (forest_of ctx.new ≡ retarget (forest_of ctx.old) (index_of self) (index_of other)) }
         ensures counts { OnOk result (index_of self ≢ index_of other → TakesUses (forest_of ctx.old) (forest_of ctx.new) (the_block (index_of self)) (the_block (index_of other))) }
         ensures rest { SameButForest (bare ctx.old) (bare ctx.new) }
-        ensures stay_live { StayLive (forest_of ctx.old) (forest_of ctx.new) }
-        ensures entities_stay_live { EntitiesStayLive (forest_of ctx.old) (forest_of ctx.new) }
+        ensures keeps { KeepsAll ctx.old ctx.new }
         ensures itself { index_of self ≡ index_of other → IsOk result }
         ensures memory { IfErr result (λ e. e ≡ CoreError.OutOfMemory) }
         ensures err { OnErr result (ctx.new ≡ ctx.old) };
@@ -85,8 +84,7 @@ pub trait Retarget<D: Dialects> {
         requires callable { (context : _) (block : _) → C.shows context.now ctx.old → IsPredecessor (forest_of ctx.old) (index_of self) (B.index_of block) → P.pre pred context block }
         ensures forest { OnOk result (RetargetsChosen (forest_of ctx.old) (forest_of ctx.new) (index_of self) (index_of other) (MaySay P.Fn (λ c. C.shows c ctx.old) (λ b u. In u.user (ops_of (forest_of ctx.old) (B.index_of b))) pred)) }
         ensures rest { SameButForest (bare ctx.old) (bare ctx.new) }
-        ensures stay_live { StayLive (forest_of ctx.old) (forest_of ctx.new) }
-        ensures entities_stay_live { EntitiesStayLive (forest_of ctx.old) (forest_of ctx.new) }
+        ensures keeps { KeepsAll ctx.old ctx.new }
         ensures memory { IfErr result (λ e. e ≡ CoreError.OutOfMemory) }
         ensures err { OnErr result (ctx.new ≡ ctx.old) };
 
@@ -104,8 +102,7 @@ pub trait Retarget<D: Dialects> {
         requires other_live { IsLive (forest_of ctx.old) (a_block (index_of other)) }
         ensures forest { OnOk result (forest_of ctx.new ≡ retarget_uses (forest_of ctx.old) (same_use (use_of used)) (index_of other)) }
         ensures rest { SameButForest (bare ctx.old) (bare ctx.new) }
-        ensures stay_live { StayLive (forest_of ctx.old) (forest_of ctx.new) }
-        ensures entities_stay_live { EntitiesStayLive (forest_of ctx.old) (forest_of ctx.new) }
+        ensures keeps { KeepsAll ctx.old ctx.new }
         ensures itself { index_of self ≡ index_of other → IsOk result }
         ensures memory { IfErr result (λ e. e ≡ CoreError.OutOfMemory) }
         ensures err { OnErr result (ctx.new ≡ ctx.old) };

@@ -10,9 +10,9 @@ ghost use Rattle.ir_model.specs.Edits.{one_use};
 ghost use Rattle.ir_model.specs.Forest.{a_block, an_op};
 ghost use Rattle.ir_model.specs.Nesting.{IsLive, successors_of};
 ghost use Rattle.ir_model.specs.Sessions.{LacksNumbers};
-ghost use Rattle.ir_core_context.specs.Calls.{EntitiesStayLive, SameButForest, StayLive};
+ghost use Rattle.ir_core_context.specs.Calls.{KeepsAll, SameButForest};
 ghost use Rattle.ir_core_context.specs.Places.{MakesUse, successor_inserted, successor_pushed, successor_replaced};
-ghost use Rattle.ir_core_context.specs.State.{bare, forest_of, types_of};
+ghost use Rattle.ir_core_context.specs.State.{bare, forest_of};
 
 use crate::context::Context;
 use crate::needs::has_use_number;
@@ -42,9 +42,7 @@ pub trait SuccessorEdits<D: Dialects> {
         requires block_live { IsLive (forest_of ctx.old) (a_block (block_of block)) }
         ensures index { IfOk result (λ at. at ≡ length (successors_of (forest_of ctx.old) (index_of self))) }
         ensures made { OnOk result (MakesUse (bare ctx.old) (bare ctx.new) (successor_pushed (forest_of ctx.old) (index_of self) (block_of block))) }
-        ensures stay_live { StayLive (forest_of ctx.old) (forest_of ctx.new) }
-        ensures entities_stay_live { EntitiesStayLive (forest_of ctx.old) (forest_of ctx.new) }
-        ensures types_stay { types_of ctx.new ≡ types_of ctx.old }
+        ensures keeps { KeepsAll ctx.old ctx.new }
         ensures counter { (result ≡ Err CoreError.CounterSpent) ↔ LacksNumbers (bare ctx.old) one_use }
         ensures slots { ¬ (result ≡ Err CoreError.SlotsSpent) }
         ensures err { OnErr result (ctx.new ≡ ctx.old) };
@@ -63,9 +61,7 @@ pub trait SuccessorEdits<D: Dialects> {
         requires block_live { IsLive (forest_of ctx.old) (a_block (block_of block)) }
         requires in_range { index ≤ length (successors_of (forest_of ctx.old) (index_of self)) }
         ensures made { OnOk result (MakesUse (bare ctx.old) (bare ctx.new) (successor_inserted (forest_of ctx.old) (index_of self) index (block_of block))) }
-        ensures stay_live { StayLive (forest_of ctx.old) (forest_of ctx.new) }
-        ensures entities_stay_live { EntitiesStayLive (forest_of ctx.old) (forest_of ctx.new) }
-        ensures types_stay { types_of ctx.new ≡ types_of ctx.old }
+        ensures keeps { KeepsAll ctx.old ctx.new }
         ensures counter { (result ≡ Err CoreError.CounterSpent) ↔ LacksNumbers (bare ctx.old) one_use }
         ensures slots { ¬ (result ≡ Err CoreError.SlotsSpent) }
         ensures err { OnErr result (ctx.new ≡ ctx.old) };
@@ -84,9 +80,7 @@ pub trait SuccessorEdits<D: Dialects> {
         requires block_live { IsLive (forest_of ctx.old) (a_block (block_of block)) }
         requires in_range { index < length (successors_of (forest_of ctx.old) (index_of self)) }
         ensures made { OnOk result (MakesUse (bare ctx.old) (bare ctx.new) (successor_replaced (forest_of ctx.old) (index_of self) index (block_of block))) }
-        ensures stay_live { StayLive (forest_of ctx.old) (forest_of ctx.new) }
-        ensures entities_stay_live { EntitiesStayLive (forest_of ctx.old) (forest_of ctx.new) }
-        ensures types_stay { types_of ctx.new ≡ types_of ctx.old }
+        ensures keeps { KeepsAll ctx.old ctx.new }
         ensures counter { (result ≡ Err CoreError.CounterSpent) ↔ LacksNumbers (bare ctx.old) one_use }
         ensures slots { ¬ (result ≡ Err CoreError.SlotsSpent) }
         ensures err { OnErr result (ctx.new ≡ ctx.old) };
@@ -99,8 +93,7 @@ pub trait SuccessorEdits<D: Dialects> {
         ensures still_live { IsLive (forest_of ctx.new) (a_block (block_of result)) }
         ensures forest { forest_of ctx.new ≡ on_op (forest_of ctx.old) (index_of self) (on_successors (λ ps. remove ps index)) }
         ensures rest { SameButForest (bare ctx.old) (bare ctx.new) }
-        ensures stay_live { StayLive (forest_of ctx.old) (forest_of ctx.new) }
-        ensures entities_stay_live { EntitiesStayLive (forest_of ctx.old) (forest_of ctx.new) };
+        ensures keeps { KeepsAll ctx.old ctx.new };
 
     /// Takes the last successor out, and answers the block that it named, which is live. It stands for pliron's `Operation::pop_successor`.
     fn pop_successor(self, ctx: &mut Context<D>) -> Self::Block
@@ -110,8 +103,7 @@ pub trait SuccessorEdits<D: Dialects> {
         ensures still_live { IsLive (forest_of ctx.new) (a_block (block_of result)) }
         ensures forest { forest_of ctx.new ≡ on_op (forest_of ctx.old) (index_of self) (on_successors (λ ps. remove ps (length ps - 1))) }
         ensures rest { SameButForest (bare ctx.old) (bare ctx.new) }
-        ensures stay_live { StayLive (forest_of ctx.old) (forest_of ctx.new) }
-        ensures entities_stay_live { EntitiesStayLive (forest_of ctx.old) (forest_of ctx.new) };
+        ensures keeps { KeepsAll ctx.old ctx.new };
 }
 
 impl<D: Dialects> SuccessorEdits<D> for Ptr<Operation<D>> {

@@ -14,7 +14,7 @@ ghost use Rattle.ir_core_records.specs.Meaning.{use_of as use_in, value_of as va
 ghost use Rattle.ir_core_records.specs.Table.{uses_at};
 ghost use Rattle.ir_core_replacing.specs.Chosen.{same_use};
 ghost use Rattle.ir_core_context.specs.Asked.{AreAnswers, MaySay, RedirectsChosen};
-ghost use Rattle.ir_core_context.specs.Calls.{EntitiesStayLive, SameButForest, StayLive};
+ghost use Rattle.ir_core_context.specs.Calls.{KeepsAll, SameButForest};
 ghost use Rattle.ir_core_context.specs.State.{bare, forest_of, types_of, uses_of};
 
 use crate::asking::{Shown, answers};
@@ -59,16 +59,14 @@ pub trait ValueEdits<D: Dialects> {
         requires known { ty.place < length (types_of ctx.old) }
         ensures forest { forest_of ctx.new ≡ with_value_type (forest_of ctx.old) (value_of self) ty.place }
         ensures rest { SameButForest (bare ctx.old) (bare ctx.new) }
-        ensures stay_live { StayLive (forest_of ctx.old) (forest_of ctx.new) }
-        ensures entities_stay_live { EntitiesStayLive (forest_of ctx.old) (forest_of ctx.new) };
+        ensures keeps { KeepsAll ctx.old ctx.new };
 
     /// Gives the live value this name, or none. Its number, its type and its uses stay. A name lies outside the record of what defines the value, so the caller boxes it, and this takes no memory. It stands for pliron's `Value::set_name`.
     fn set_name(self, ctx: &mut Context<D>, name: Option<Box<Identifier>>)
         requires { IsLiveNamed (forest_of ctx.old) (a_value (value_of self)) }
         ensures forest { forest_of ctx.new ≡ with_value_name (forest_of ctx.old) (value_of self) (option_map (λ b. b.value) name) }
         ensures rest { SameButForest (bare ctx.old) (bare ctx.new) }
-        ensures stay_live { StayLive (forest_of ctx.old) (forest_of ctx.new) }
-        ensures entities_stay_live { EntitiesStayLive (forest_of ctx.old) (forest_of ctx.new) };
+        ensures keeps { KeepsAll ctx.old ctx.new };
 
     /// Lets each operand that names the live value name the other live one, which then has as many uses as both had. It stands for pliron's `Value::replace_all_uses_with`.
     ///
@@ -80,8 +78,7 @@ pub trait ValueEdits<D: Dialects> {
         ensures forest { OnOk result (forest_of ctx.new ≡ redirect (forest_of ctx.old) (value_of self) (value_of other)) }
         ensures counts { OnOk result (value_of self ≢ value_of other → TakesUses (forest_of ctx.old) (forest_of ctx.new) (a_value (value_of self)) (a_value (value_of other))) }
         ensures rest { SameButForest (bare ctx.old) (bare ctx.new) }
-        ensures stay_live { StayLive (forest_of ctx.old) (forest_of ctx.new) }
-        ensures entities_stay_live { EntitiesStayLive (forest_of ctx.old) (forest_of ctx.new) }
+        ensures keeps { KeepsAll ctx.old ctx.new }
         ensures itself { value_of self ≡ value_of other → IsOk result }
         ensures memory { IfErr result (λ e. e ≡ CoreError.OutOfMemory) }
         ensures err { OnErr result (ctx.new ≡ ctx.old) };
@@ -101,8 +98,7 @@ pub trait ValueEdits<D: Dialects> {
         requires callable { (context : _) (used : _) → C.shows context.now ctx.old → IsUse (forest_of ctx.old) (a_value (value_of self)) (use_in used.index) → P.pre pred context used }
         ensures forest { OnOk result (RedirectsChosen (forest_of ctx.old) (forest_of ctx.new) (value_of self) (value_of other) (MaySay P.Fn (λ c. C.shows c ctx.old) (λ h u. use_in h.index ≡ u) pred)) }
         ensures rest { SameButForest (bare ctx.old) (bare ctx.new) }
-        ensures stay_live { StayLive (forest_of ctx.old) (forest_of ctx.new) }
-        ensures entities_stay_live { EntitiesStayLive (forest_of ctx.old) (forest_of ctx.new) }
+        ensures keeps { KeepsAll ctx.old ctx.new }
         ensures memory { IfErr result (λ e. e ≡ CoreError.OutOfMemory) }
         ensures err { OnErr result (ctx.new ≡ ctx.old) };
 
@@ -120,8 +116,7 @@ pub trait ValueEdits<D: Dialects> {
         requires other_live { IsLiveNamed (forest_of ctx.old) (a_value (value_of other)) }
         ensures forest { OnOk result (forest_of ctx.new ≡ redirect_uses (forest_of ctx.old) (same_use (use_of used)) (value_of other)) }
         ensures rest { SameButForest (bare ctx.old) (bare ctx.new) }
-        ensures stay_live { StayLive (forest_of ctx.old) (forest_of ctx.new) }
-        ensures entities_stay_live { EntitiesStayLive (forest_of ctx.old) (forest_of ctx.new) }
+        ensures keeps { KeepsAll ctx.old ctx.new }
         ensures itself { value_of self ≡ value_of other → IsOk result }
         ensures memory { IfErr result (λ e. e ≡ CoreError.OutOfMemory) }
         ensures err { OnErr result (ctx.new ≡ ctx.old) };

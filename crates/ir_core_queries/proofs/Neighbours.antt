@@ -11,7 +11,7 @@ use Rattle.ir_model.proofs.Back.{slice_get-in}
 use Rattle.ir_model.proofs.Nests.{In-map, In-map_back}
 use Rattle.ir_model.proofs.Relinks.{Adjacent-first, Adjacent-second}
 use Rattle.ir_base_arenas.specs.Lists.{Links, Ends, Heap, unlinked, linked, head_or, last_or, ends_of}
-use Rattle.ir_core_context.proofs.Ends.{head-is, tail-is}
+use Rattle.ir_core_context.specs.Ends.{head-is, tail-is}
 use Rattle.ir_core_queries.specs.Neighbours.{EndsTell, IsLiveLink, LinksTell}
 use Rattle.ir_core_queries.proofs.Listed.{AreListed}
 use Rattle.ir_core_queries.proofs.Live.{owner-live}

@@ -2,7 +2,7 @@ use Rattle.std.proofs.Common.{◌≡◌, All, List, [], sym, subst}
 use Rattle.ir_core_records.specs.declared.record.Definition.{Definition}
 use Rattle.ir_core_context.specs.Creation.{HoldTogether}
 use Rattle.ir_core_context.specs.State.{ContextState}
-use Rattle.ir_core_context.proofs.CreatedBlock.{created-block-entities-stay, created-block-made, created-block-sound, created-block-stays}
+use Rattle.ir_core_context.proofs.CreatedBlock.{created-block-keeps, created-block-made, created-block-sound}
 use Rattle.ir_core_context.proofs.MadeParts.{definitions-unused}
 use Rattle.ir_core_context.proofs.creation.create_block.Goals as goal
 
@@ -28,16 +28,9 @@ returns-clause-made g c =
     (created-block-made s c.insert_block.new.records g.D.Dialects.unknown c.in_ok-block.block c.args.label c.in_ok-arguments.arguments e.grows e.forest
     c.ctx.invariant together c.args.types.now c.in_ok-arguments.ensures e.ops e.regions (rw (sym c.ctx.view_is) at c.requires.types) (rw (sym c.ctx.view_is) at c.requires.room))
 
-pub returns-clause-stay_live : goal.returns-clause-stay_live
-returns-clause-stay_live g c =
+pub returns-clause-keeps : goal.returns-clause-keeps
+returns-clause-keeps g c =
     let i = c.ctx.inside in
     let s : ContextState _ _ _ _ _ _ _ = record { records = i.records; types = i.types; next_value = i.next_value; next_use = i.next_use; side = i.side; limits = i.limits } in
     let e = c.in_ok-block.ensures in
-    rw (sym c.ctx.view_is) (created-block-stays s c.insert_block.new.records g.D.Dialects.unknown c.in_ok-block.block c.args.label c.in_ok-arguments.arguments e.grows e.forest)
-
-pub returns-clause-entities_stay_live : goal.returns-clause-entities_stay_live
-returns-clause-entities_stay_live g c =
-    let i = c.ctx.inside in
-    let s : ContextState _ _ _ _ _ _ _ = record { records = i.records; types = i.types; next_value = i.next_value; next_use = i.next_use; side = i.side; limits = i.limits } in
-    let e = c.in_ok-block.ensures in
-    rw (sym c.ctx.view_is) (created-block-entities-stay s c.insert_block.new.records g.D.Dialects.unknown c.in_ok-block.block c.args.label c.in_ok-arguments.arguments e.grows e.forest)
+    rw (sym c.ctx.view_is) (created-block-keeps s c.insert_block.new.records g.D.Dialects.unknown c.in_ok-block.block c.args.label c.in_ok-arguments.arguments e.grows e.forest _)

@@ -1,9 +1,9 @@
-use Rattle.std.proofs.Common.{◌≡◌, ◌+◌, List, [], length, All, sym, subst}
+use Rattle.std.proofs.Common.{◌≡◌, ◌+◌, List, [], length, All, refl, sym, subst}
 use Rattle.ir_core_records.specs.declared.record.Definition.{Definition}
 use Rattle.ir_core_context.specs.Calls.{op_needs}
 use Rattle.ir_core_context.specs.State.{ContextState, bare}
 use Rattle.ir_core_context.proofs.Answers.{err_holds}
-use Rattle.ir_core_context.proofs.CreatedOperations.{created-entities-live, created-made, created-names-live, created-sound}
+use Rattle.ir_core_context.proofs.CreatedOperations.{created-keeps, created-made, created-sound}
 use Rattle.ir_core_context.proofs.Handed.{skipped-skips, skipped-sound, skips-nothing}
 use Rattle.ir_core_context.proofs.MadeParts.{definitions-unused}
 use Rattle.ir_core_context.proofs.creation.create_operation.Goals as goal
@@ -48,8 +48,5 @@ returns-clause-made g c =
     let room = rw (sym c.ctx.view_is) at c.requires.room in
     rw (sym c.ctx.view_is) (created-made s c.ctx.invariant c.insert_whole.new.records c.insert_whole.ensures.together g.D.Dialects.unknown c.in_ok-op.op p.kind p.types.now c.in_ok-results.results c.in_ok-results.ensures (λ v. v.index) (λ b. b.index) p.operands.now p.successors.now p.num_regions known values blocks room c.in_ok-op.ensures.made)
 
-pub returns-clause-stay_live : goal.returns-clause-stay_live
-returns-clause-stay_live g c = rw (sym c.ctx.view_is) (created-names-live c.ctx.inside.records c.insert_whole.new.records g.D.Dialects.unknown c.in_ok-op.op c.args.parts.now.kind _ _ _ c.args.parts.now.num_regions c.in_ok-op.ensures.made)
-
-pub returns-clause-entities_stay_live : goal.returns-clause-entities_stay_live
-returns-clause-entities_stay_live g c = rw (sym c.ctx.view_is) (created-entities-live c.ctx.inside.records c.insert_whole.new.records g.D.Dialects.unknown c.in_ok-op.op c.args.parts.now.kind _ _ _ c.args.parts.now.num_regions c.in_ok-op.ensures.made)
+pub returns-clause-keeps : goal.returns-clause-keeps
+returns-clause-keeps g c = rw (sym c.ctx.view_is) (created-keeps _ _ refl g.D.Dialects.unknown c.in_ok-op.op c.args.parts.now.kind _ _ _ c.args.parts.now.num_regions c.in_ok-op.ensures.made)

@@ -32,11 +32,11 @@ returns-clause-made g c =
     rw (sym c.ctx.view_is) (value-placed {s = s} c.ctx.invariant e.keeps (e.linked c.ctx.invariant.linked) (rw (sym c.ctx.view_is) at c.in_ok-has_value_number.ensures.enough) d c.args.ty.place _ (rw (sym c.ctx.view_is) at c.requires.live) (rw (sym c.ctx.view_is) at c.requires.known)
     (λ xs. AddsOne-insert (definition (s.next_value, c.args.ty.place)) xs c.args.index) (definition_inserted (forest_of s) d c.args.index c.args.ty.place) e.forest refl).made
 
-pub returns-clause-stay_live : goal.returns-clause-stay_live
-returns-clause-stay_live g c =
+pub returns-clause-keeps : goal.returns-clause-keeps
+returns-clause-keeps g c =
     let i = c.ctx.inside in
     let s : ContextState _ _ _ _ _ _ _ = record { records = i.records; types = i.types; next_value = i.next_value; next_use = i.next_use; side = i.side; limits = i.limits } in
     let e = c.in_ok-insert_definition.ensures in
     let d = definer_of c.args.definer in
     rw (sym c.ctx.view_is) (value-placed {s = s} c.ctx.invariant e.keeps (e.linked c.ctx.invariant.linked) (rw (sym c.ctx.view_is) at c.in_ok-has_value_number.ensures.enough) d c.args.ty.place _ (rw (sym c.ctx.view_is) at c.requires.live) (rw (sym c.ctx.view_is) at c.requires.known)
-    (λ xs. AddsOne-insert (definition (s.next_value, c.args.ty.place)) xs c.args.index) (definition_inserted (forest_of s) d c.args.index c.args.ty.place) e.forest refl).stay_live
+    (λ xs. AddsOne-insert (definition (s.next_value, c.args.ty.place)) xs c.args.index) (definition_inserted (forest_of s) d c.args.index c.args.ty.place) e.forest refl).keeps

@@ -16,8 +16,8 @@ returns-clause-rest g c =
     let s : ContextState _ _ _ _ _ _ _ = record { records = i.records; types = i.types; next_value = i.next_value; next_use = i.next_use; side = i.side; limits = i.limits } in
     rw (sym c.ctx.view_is) (uses-dropped {s = s} c.ctx.invariant (entity_of c.args.entity) c.drop_all_uses.ensures.keeps c.drop_all_uses.ensures.linked c.drop_all_uses.ensures.forest).rest
 
-pub returns-clause-stay_live : goal.returns-clause-stay_live
-returns-clause-stay_live g c =
+pub returns-clause-keeps : goal.returns-clause-keeps
+returns-clause-keeps g c =
     let i = c.ctx.inside in
     let s : ContextState _ _ _ _ _ _ _ = record { records = i.records; types = i.types; next_value = i.next_value; next_use = i.next_use; side = i.side; limits = i.limits } in
-    rw (sym c.ctx.view_is) (uses-dropped {s = s} c.ctx.invariant (entity_of c.args.entity) c.drop_all_uses.ensures.keeps c.drop_all_uses.ensures.linked c.drop_all_uses.ensures.forest).stay_live
+    rw (sym c.ctx.view_is) (uses-dropped {s = s} c.ctx.invariant (entity_of c.args.entity) c.drop_all_uses.ensures.keeps c.drop_all_uses.ensures.linked c.drop_all_uses.ensures.forest).keeps

@@ -28,7 +28,7 @@ returns-in_err-insert_argument g c n m found typed =
     _ c.make_room.ensures.same tt c.in_err-insert_argument.field-0.0 (Unit {0}) _ c.one_value.ensures room c.in_err-insert_argument.ensures.counter c.in_err-insert_argument.ensures.slots c.insert_argument.new.ctx c.in_err-insert_argument.ensures.err)
 
 pub enter_argument-requires-clause-live : goal.enter_argument-requires-clause-live
-enter_argument-requires-clause-live g c = c.in_ok-insert_argument.ensures.entities_stay_live (a_block c.args.block.index) c.requires.live
+enter_argument-requires-clause-live g c = c.in_ok-insert_argument.ensures.keeps.entities_stay_live (a_block c.args.block.index) c.requires.live
 
 pub enter_argument-requires-clause-there : goal.enter_argument-requires-clause-there
 enter_argument-requires-clause-there g c =

@@ -28,7 +28,7 @@ returns-in_err-at g c n m found typed =
     _ c.make_room.ensures.same tt c.in_err-at.field-0.0 ℕ _ c.one_value.ensures room c.in_err-at.ensures.counter c.in_err-at.ensures.slots c.push_argument.new.ctx c.in_err-at.ensures.err)
 
 pub enter_argument-requires-clause-live : goal.enter_argument-requires-clause-live
-enter_argument-requires-clause-live g c = c.in_ok-at.ensures.entities_stay_live (a_block c.args.block.index) c.requires.live
+enter_argument-requires-clause-live g c = c.in_ok-at.ensures.keeps.entities_stay_live (a_block c.args.block.index) c.requires.live
 
 pub enter_argument-requires-clause-there : goal.enter_argument-requires-clause-there
 enter_argument-requires-clause-there g c =

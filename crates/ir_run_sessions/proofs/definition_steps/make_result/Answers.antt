@@ -28,7 +28,7 @@ returns-in_err-insert_result g c n m found typed =
     _ c.make_room.ensures.same tt c.in_err-insert_result.field-0.0 (Unit {0}) _ c.one_value.ensures room c.in_err-insert_result.ensures.counter c.in_err-insert_result.ensures.slots c.insert_result.new.ctx c.in_err-insert_result.ensures.err)
 
 pub enter_result-requires-clause-live : goal.enter_result-requires-clause-live
-enter_result-requires-clause-live g c = c.in_ok-insert_result.ensures.entities_stay_live (an_op c.args.op.index) c.requires.live
+enter_result-requires-clause-live g c = c.in_ok-insert_result.ensures.keeps.entities_stay_live (an_op c.args.op.index) c.requires.live
 
 pub enter_result-requires-clause-there : goal.enter_result-requires-clause-there
 enter_result-requires-clause-there g c =

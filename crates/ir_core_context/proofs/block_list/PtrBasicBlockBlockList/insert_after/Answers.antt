@@ -23,9 +23,9 @@ returns-clause-rest g c =
     let may = rw (sym c.ctx.view_is) at c.requires.may_go in
     rw (sym c.ctx.view_is) (block-beside-edited c.ctx.invariant e.keeps e.nested c.args.self.index c.args.mark.index (put_after same_id c.args.self.index c.args.mark.index) (joins_after same_id id_tells c.args.self.index c.args.mark.index) live may e.forest).rest
 
-pub returns-clause-stay_live : goal.returns-clause-stay_live
-returns-clause-stay_live g c =
+pub returns-clause-keeps : goal.returns-clause-keeps
+returns-clause-keeps g c =
     let e = c.insert_after.ensures in
     let live = rw (sym c.ctx.view_is) at c.requires.live in
     let may = rw (sym c.ctx.view_is) at c.requires.may_go in
-    rw (sym c.ctx.view_is) (block-beside-edited c.ctx.invariant e.keeps e.nested c.args.self.index c.args.mark.index (put_after same_id c.args.self.index c.args.mark.index) (joins_after same_id id_tells c.args.self.index c.args.mark.index) live may e.forest).stay_live
+    rw (sym c.ctx.view_is) (block-beside-edited c.ctx.invariant e.keeps e.nested c.args.self.index c.args.mark.index (put_after same_id c.args.self.index c.args.mark.index) (joins_after same_id id_tells c.args.self.index c.args.mark.index) live may e.forest).keeps

@@ -20,9 +20,9 @@ returns-clause-rest g c =
     let may = rw (sym c.ctx.view_is) at c.requires.may_go in
     rw (sym c.ctx.view_is) (block-into-edited c.ctx.invariant e.keeps e.nested c.args.self.index c.args.container.index (λ xs. c.args.self.index ∷ xs) (λ xs. here) live may e.forest).rest
 
-pub returns-clause-stay_live : goal.returns-clause-stay_live
-returns-clause-stay_live g c =
+pub returns-clause-keeps : goal.returns-clause-keeps
+returns-clause-keeps g c =
     let e = c.insert_at_front.ensures in
     let live = rw (sym c.ctx.view_is) at c.requires.live in
     let may = rw (sym c.ctx.view_is) at c.requires.may_go in
-    rw (sym c.ctx.view_is) (block-into-edited c.ctx.invariant e.keeps e.nested c.args.self.index c.args.container.index (λ xs. c.args.self.index ∷ xs) (λ xs. here) live may e.forest).stay_live
+    rw (sym c.ctx.view_is) (block-into-edited c.ctx.invariant e.keeps e.nested c.args.self.index c.args.container.index (λ xs. c.args.self.index ∷ xs) (λ xs. here) live may e.forest).keeps

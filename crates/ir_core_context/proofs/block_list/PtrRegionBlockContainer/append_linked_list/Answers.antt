@@ -19,9 +19,9 @@ returns-clause-rest g c =
     let may = rw (sym c.ctx.view_is) at c.requires.may_join in
     rw (sym c.ctx.view_is) (blocks-joined-edited c.ctx.invariant e.keeps e.nested c.args.self.index c.args.donor.index live may e.forest).rest
 
-pub returns-clause-stay_live : goal.returns-clause-stay_live
-returns-clause-stay_live g c =
+pub returns-clause-keeps : goal.returns-clause-keeps
+returns-clause-keeps g c =
     let e = c.append.ensures in
     let live = rw (sym c.ctx.view_is) at c.requires.donor_live in
     let may = rw (sym c.ctx.view_is) at c.requires.may_join in
-    rw (sym c.ctx.view_is) (blocks-joined-edited c.ctx.invariant e.keeps e.nested c.args.self.index c.args.donor.index live may e.forest).stay_live
+    rw (sym c.ctx.view_is) (blocks-joined-edited c.ctx.invariant e.keeps e.nested c.args.self.index c.args.donor.index live may e.forest).keeps

@@ -16,10 +16,10 @@ invariant_of-ctx-2 g c =
 pub returns-clause-forest : goal.returns-clause-forest
 returns-clause-forest g c = rw (sym c.ctx.view_is) c.in_ok-move_region.ensures.forest
 
-pub returns-clause-stay_live : goal.returns-clause-stay_live
-returns-clause-stay_live g c =
+pub returns-clause-keeps : goal.returns-clause-keeps
+returns-clause-keeps g c =
     let e = c.in_ok-move_region.ensures in
     let live = rw (sym c.ctx.view_is) at c.requires.live in
     let op_live = rw (sym c.ctx.view_is) at c.requires.op_live in
     let outside = rw (sym c.ctx.view_is) at c.requires.outside in
-    rw (sym c.ctx.view_is) (region-moved-edited c.ctx.invariant e.keeps e.nested c.args.self.index c.args.op.index _ live op_live outside e.forest).stay_live
+    rw (sym c.ctx.view_is) (region-moved-edited c.ctx.invariant e.keeps e.nested c.args.self.index c.args.op.index _ live op_live outside e.forest).keeps

@@ -44,7 +44,7 @@ returns-clause-live g c =
     (subst (λ (f : Forest _ _). IsLive f (a_region c.in_ok-create_region.field-0)) (sym made.forest) (region-live (forest_of c.args.ctx.now) c.args.self.index c.in_ok-create_region.field-0))
 
 pub returns-clause-op_live : goal.returns-clause-op_live
-returns-clause-op_live g c = c.in_ok-create_region.ensures.entities_stay_live (an_op c.args.self.index) c.requires
+returns-clause-op_live g c = c.in_ok-create_region.ensures.keeps.entities_stay_live (an_op c.args.self.index) c.requires
 
 pub returns-clause-slots : goal.returns-clause-slots
 returns-clause-slots g c =

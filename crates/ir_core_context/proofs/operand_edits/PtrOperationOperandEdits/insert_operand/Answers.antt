@@ -44,11 +44,11 @@ returns-clause-made g c =
     rw (sym c.ctx.view_is) (operand-placed {s = s} c.ctx.invariant e.keeps e.linked (rw (sym c.ctx.view_is) at c.in_ok-has_use_number.ensures.enough) (operand_inserted (forest_of s) c.args.self.index c.args.index d) c.in_ok-insert_operand.ensures.forest c.args.self.index
     (rw (sym c.ctx.view_is) at c.requires.live) d _ (rw (sym c.ctx.view_is) at c.requires.value_live) (insert-puts c.args.index (operand (s.next_use, d))) refl).made
 
-pub returns-clause-stay_live : goal.returns-clause-stay_live
-returns-clause-stay_live g c =
+pub returns-clause-keeps : goal.returns-clause-keeps
+returns-clause-keeps g c =
     let i = c.ctx.inside in
     let s : ContextState _ _ _ _ _ _ _ = record { records = i.records; types = i.types; next_value = i.next_value; next_use = i.next_use; side = i.side; limits = i.limits } in
     let e = c.insert_operand.ensures in
     let d = value_in c.args.value.index in
     rw (sym c.ctx.view_is) (operand-placed {s = s} c.ctx.invariant e.keeps e.linked (rw (sym c.ctx.view_is) at c.in_ok-has_use_number.ensures.enough) (operand_inserted (forest_of s) c.args.self.index c.args.index d) c.in_ok-insert_operand.ensures.forest c.args.self.index
-    (rw (sym c.ctx.view_is) at c.requires.live) d _ (rw (sym c.ctx.view_is) at c.requires.value_live) (insert-puts c.args.index (operand (s.next_use, d))) refl).stay_live
+    (rw (sym c.ctx.view_is) at c.requires.live) d _ (rw (sym c.ctx.view_is) at c.requires.value_live) (insert-puts c.args.index (operand (s.next_use, d))) refl).keeps

@@ -32,9 +32,9 @@ returns-clause-rest g c =
     let e = c.remove_operand-value.ensures in
     rw (sym c.ctx.view_is) (operand-taken {s = s} c.ctx.invariant e.keeps e.linked c.args.self.index (rw (sym c.ctx.view_is) at c.requires.live) (λ ps. c.args.index) e.forest).rest
 
-pub returns-clause-stay_live : goal.returns-clause-stay_live
-returns-clause-stay_live g c =
+pub returns-clause-keeps : goal.returns-clause-keeps
+returns-clause-keeps g c =
     let i = c.ctx.inside in
     let s : ContextState _ _ _ _ _ _ _ = record { records = i.records; types = i.types; next_value = i.next_value; next_use = i.next_use; side = i.side; limits = i.limits } in
     let e = c.remove_operand-value.ensures in
-    rw (sym c.ctx.view_is) (operand-taken {s = s} c.ctx.invariant e.keeps e.linked c.args.self.index (rw (sym c.ctx.view_is) at c.requires.live) (λ ps. c.args.index) e.forest).stay_live
+    rw (sym c.ctx.view_is) (operand-taken {s = s} c.ctx.invariant e.keeps e.linked c.args.self.index (rw (sym c.ctx.view_is) at c.requires.live) (λ ps. c.args.index) e.forest).keeps

@@ -17,10 +17,10 @@ returns-clause-rest g c =
     let e = c.unlink.ensures in
     rw (sym c.ctx.view_is) (op-out-edited c.ctx.invariant e.keeps e.nested c.args.self.index e.forest).rest
 
-pub returns-clause-stay_live : goal.returns-clause-stay_live
-returns-clause-stay_live g c =
+pub returns-clause-keeps : goal.returns-clause-keeps
+returns-clause-keeps g c =
     let e = c.unlink.ensures in
-    rw (sym c.ctx.view_is) (op-out-edited c.ctx.invariant e.keeps e.nested c.args.self.index e.forest).stay_live
+    rw (sym c.ctx.view_is) (op-out-edited c.ctx.invariant e.keeps e.nested c.args.self.index e.forest).keeps
 
 pub returns-clause-may_go_back : goal.returns-clause-may_go_back
 returns-clause-may_go_back g c =

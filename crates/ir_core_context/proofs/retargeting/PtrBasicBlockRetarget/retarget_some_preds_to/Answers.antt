@@ -41,9 +41,9 @@ returns-clause-rest g c =
     let e = c.in_ok-retarget_some_preds.ensures in
     rw (sym c.ctx.view_is) (some-retargeted {s = s} c.ctx.invariant e.keeps e.linked (is_chosen (block_uses_at i.records (record { index = c.args.self.index })) c.as_slice.result.now) c.args.other.index (rw (sym c.ctx.view_is) at c.requires.other_live) e.forest).rest
 
-pub returns-clause-stay_live : goal.returns-clause-stay_live
-returns-clause-stay_live g c =
+pub returns-clause-keeps : goal.returns-clause-keeps
+returns-clause-keeps g c =
     let i = c.ctx.inside in
     let s : ContextState _ _ _ _ _ _ _ = record { records = i.records; types = i.types; next_value = i.next_value; next_use = i.next_use; side = i.side; limits = i.limits } in
     let e = c.in_ok-retarget_some_preds.ensures in
-    rw (sym c.ctx.view_is) (some-retargeted {s = s} c.ctx.invariant e.keeps e.linked (is_chosen (block_uses_at i.records (record { index = c.args.self.index })) c.as_slice.result.now) c.args.other.index (rw (sym c.ctx.view_is) at c.requires.other_live) e.forest).stay_live
+    rw (sym c.ctx.view_is) (some-retargeted {s = s} c.ctx.invariant e.keeps e.linked (is_chosen (block_uses_at i.records (record { index = c.args.self.index })) c.as_slice.result.now) c.args.other.index (rw (sym c.ctx.view_is) at c.requires.other_live) e.forest).keeps

@@ -25,12 +25,12 @@ returns-clause-rest g c =
     let e = c.in_ok-replace_all_uses.ensures in
     rw (sym c.ctx.view_is) (all-redirected {s = s} c.ctx.invariant e.keeps e.linked (value_in c.args.self.index) (value_in c.args.other.index) (rw (sym c.ctx.view_is) at c.requires.other_live) e.forest).rest
 
-pub returns-clause-stay_live : goal.returns-clause-stay_live
-returns-clause-stay_live g c =
+pub returns-clause-keeps : goal.returns-clause-keeps
+returns-clause-keeps g c =
     let i = c.ctx.inside in
     let s : ContextState _ _ _ _ _ _ _ = record { records = i.records; types = i.types; next_value = i.next_value; next_use = i.next_use; side = i.side; limits = i.limits } in
     let e = c.in_ok-replace_all_uses.ensures in
-    rw (sym c.ctx.view_is) (all-redirected {s = s} c.ctx.invariant e.keeps e.linked (value_in c.args.self.index) (value_in c.args.other.index) (rw (sym c.ctx.view_is) at c.requires.other_live) e.forest).stay_live
+    rw (sym c.ctx.view_is) (all-redirected {s = s} c.ctx.invariant e.keeps e.linked (value_in c.args.self.index) (value_in c.args.other.index) (rw (sym c.ctx.view_is) at c.requires.other_live) e.forest).keeps
 
 pub returns-clause-counts : goal.returns-clause-counts
 returns-clause-counts g c differ =

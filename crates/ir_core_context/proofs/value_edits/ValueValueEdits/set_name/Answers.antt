@@ -26,9 +26,9 @@ returns-clause-rest g c =
     let e = c.set_name.ensures in
     rw (sym c.ctx.view_is) (value-renamed {s = s} c.ctx.invariant e.keeps (e.linked c.ctx.invariant.linked) (value_in c.args.self.index) (option_map (λ b. b.value) c.args.name) e.forest).rest
 
-pub returns-clause-stay_live : goal.returns-clause-stay_live
-returns-clause-stay_live g c =
+pub returns-clause-keeps : goal.returns-clause-keeps
+returns-clause-keeps g c =
     let i = c.ctx.inside in
     let s : ContextState _ _ _ _ _ _ _ = record { records = i.records; types = i.types; next_value = i.next_value; next_use = i.next_use; side = i.side; limits = i.limits } in
     let e = c.set_name.ensures in
-    rw (sym c.ctx.view_is) (value-renamed {s = s} c.ctx.invariant e.keeps (e.linked c.ctx.invariant.linked) (value_in c.args.self.index) (option_map (λ b. b.value) c.args.name) e.forest).stay_live
+    rw (sym c.ctx.view_is) (value-renamed {s = s} c.ctx.invariant e.keeps (e.linked c.ctx.invariant.linked) (value_in c.args.self.index) (option_map (λ b. b.value) c.args.name) e.forest).keeps

@@ -1,4 +1,4 @@
--- The ends of a list are its first and its last.
+-- The ends of a list are the first and the last of its items.
 use Rattle.std.proofs.Common.{◌≡◌, ◌-◌, List, [], ◌∷◌, length, slice_get, Some, None, refl, ap, ◌∙◌, arith}
 use Rattle.ir_model.specs.declared.ids.ArenaIndex.{ArenaIndex}
 use Rattle.ir_model.specs.Parent.{first_of, last_of as last_in}
@@ -16,8 +16,10 @@ last-last : (xs : List ArenaIndex) → last_or None xs ≡ last_in xs
 last-last [] = refl
 last-last (x ∷ xs) = last-got x xs ∙ ap (slice_get (x ∷ xs)) (let e : length xs ≡ length (x ∷ xs) - 1 = omega arith in e)
 
+-- the head is the first
 pub head-is : (ends : Ends) (xs : List ArenaIndex) → ends ≡ ends_of xs → ends.head ≡ first_of xs
 head-is ends xs e = ap (λ (k : Ends). k.head) e ∙ head-first xs
 
+-- the tail is the last
 pub tail-is : (ends : Ends) (xs : List ArenaIndex) → ends ≡ ends_of xs → ends.tail ≡ last_in xs
 tail-is ends xs e = ap (λ (k : Ends). k.tail) e ∙ last-last xs
