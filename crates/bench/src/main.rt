@@ -24,10 +24,10 @@ use crate::workloads::Workload;
 use anyhow::{Context, bail};
 use bench_clock::{Outcome, Timing, peak_memory};
 use std::alloc::Global;
-use std::env;
 use std::env::Args;
 use std::rt::Files;
 use std::time::CpuClock;
+use std::{env, io};
 
 // Runs a workload that ran once until it ran so often, each time on a new context and to the same outcome, and adds the times.
 fn repeat_same<C: CpuClock>(
@@ -65,38 +65,43 @@ fn repeat<C: CpuClock>(
     Ok(outcome)
 }
 
-// The line of a workload that ran with these times to this outcome.
-fn print_times<R: CpuClock + Files + Print + Alloc<A = Global>>(
+// Writes the line of a workload that ran with these times to this outcome.
+fn print_times<R: Print>(
     rt: &R,
     name: &str,
     count: usize,
     timing: &Timing,
     outcome: Outcome,
-) -> anyhow::Result<()> {
+    memory: &str,
+) -> io::Result<()> {
     let Outcome { units, checksum } = outcome;
     let median = timing.median(units);
     let least = timing.least(units);
     let greatest = timing.greatest(units);
-    let memory = peak_memory(rt)?;
     println!(rt;
         "bench {name} {count} {median} {least} {greatest} {checksum:016x} {memory} {units}"
-    )?;
-    Ok(())
+    )
 }
 
-// The line of a workload that ran to this outcome, without what differs from run to run.
-fn print_outcome<R: Print>(
+// Writes the line of a workload that ran to this outcome, without what differs from run to run.
+fn print_outcome<R: Print>(rt: &R, name: &str, count: usize, outcome: Outcome) -> io::Result<()> {
+    let Outcome { units, checksum } = outcome;
+    println!(rt; "bench {name} {count} - - - {checksum:016x} - {units}")
+}
+
+// Writes the line of a workload that ran with these times to this outcome, with the memory that was taken.
+fn print_with_memory<R: Files + Print + Alloc<A = Global>>(
     rt: &R,
     name: &str,
     count: usize,
+    timing: &Timing,
     outcome: Outcome,
-) -> anyhow::Result<()> {
-    let Outcome { units, checksum } = outcome;
-    println!(rt; "bench {name} {count} - - - {checksum:016x} - {units}")?;
-    Ok(())
+) -> io::Result<()> {
+    let memory = peak_memory(rt)?;
+    print_times(rt, name, count, timing, outcome, memory.as_str())
 }
 
-// Runs a workload, adds its times and prints its line.
+// Runs a workload, adds its times and writes its line.
 fn run_and_print<R: CpuClock + Files + Print + Alloc<A = Global>>(
     rt: &R,
     workload: Workload,
@@ -106,10 +111,12 @@ fn run_and_print<R: CpuClock + Files + Print + Alloc<A = Global>>(
     timing: &mut Timing,
 ) -> anyhow::Result<()> {
     let outcome = repeat(rt, rt.alloc(), workload, count, times, timing)?;
-    if times == 0 {
-        return print_outcome(rt, name, count, outcome);
-    }
-    print_times(rt, name, count, timing, outcome)
+    let printed = if times == 0 {
+        print_outcome(rt, name, count, outcome)
+    } else {
+        print_with_memory(rt, name, count, timing, outcome)
+    };
+    Ok(printed?)
 }
 
 // The line of a workload.
@@ -149,16 +156,39 @@ fn word(words: &mut Args) -> anyhow::Result<String> {
     words.next().context("usage: bench WORKLOAD N REPS")
 }
 
+// The number that a text is.
+fn parsed(text: &str) -> anyhow::Result<usize> {
+    Ok(text.parse()?)
+}
+
 // The next word, a number.
 fn number(words: &mut Args) -> anyhow::Result<usize> {
-    Ok(word(words)?.as_str().parse()?)
+    let word = word(words)?;
+    parsed(word.as_str())
+}
+
+// The lines of the wanted workloads, by the numbers that come next on the command line.
+fn print_wanted<R: CpuClock + Files + Print + Alloc<A = Global>>(
+    rt: &R,
+    wanted: &str,
+    words: &mut Args,
+) -> anyhow::Result<()> {
+    let count = number(words)?;
+    let times = number(words)?;
+    print_lines(rt, wanted, count, times)
+}
+
+// What the command line asks for.
+fn print_all<R: CpuClock + Files + Print + Alloc<A = Global>>(
+    rt: &R,
+    words: &mut Args,
+) -> anyhow::Result<()> {
+    let wanted = word(words)?;
+    print_wanted(rt, wanted.as_str(), words)
 }
 
 fn main(rt: HostRuntime) -> anyhow::Result<()> {
     let mut words = env::args(&rt)?;
     words.next();
-    let wanted = word(&mut words)?;
-    let count = number(&mut words)?;
-    let times = number(&mut words)?;
-    print_lines(&rt, wanted.as_str(), count, times)
+    print_all(&rt, &mut words)
 }
