@@ -68,6 +68,13 @@ impl<D: Dialects> Session<D> {
         &self.ctx
     }
 
+    /// Lets go of the session, and gives back how what was done with it ended. That all in a session is let go of is proved here, once and for any dialect: a function that makes a session and ends so need not prove it again, which takes long.
+    pub fn end<O>(self, outcome: O) -> O
+        ensures { result ≡ outcome }
+    {
+        outcome
+    }
+
     /// The type with this number; none where no type has it.
     pub fn ty(&self, number: usize) -> Option<TypeHandle>
         ensures { option_map (λ t. t.place) result ≡ slice_get (plain self.now).state.tables.types number }

@@ -16,9 +16,15 @@ fn answer(lab: &mut Lab, line: &str) -> Result<(), TextError> {
     let Some((word, rest)) = take_field(line) else {
         return Err(TextError::Malformed);
     };
-    match word.split_once('.') {
-        None => testkit_lab::answer(lab, word, rest),
-        Some(_) => Err(TextError::Malformed),
+    let Some((group, _)) = word.split_once('.') else {
+        return testkit_lab::answer(lab, word, rest);
+    };
+    match group {
+        "edit" => testkit_lab::answer_edit(lab, word, rest),
+        "op" | "block" | "region" | "value" | "use" | "list" | "nest" => {
+            testkit_lab_queries::answer(lab, word, rest)
+        }
+        _ => Err(TextError::Malformed),
     }
 }
 

@@ -7,11 +7,12 @@ ghost use Rattle.ir_view_parts.specs.Calls.{IsOperation, LeadsToLive};
 ghost use Rattle.ir_view_parts.specs.State.{forest_of, types_of};
 
 use crate::contexts::expect_same;
-use crate::core_tests::two_uses;
-use ir_base_dialects::{CoreError, Dialects, Ptr};
+use example::chain;
+use ir_base_dialects::{CoreError, Dialects, Limits, Ptr};
 use ir_checked::{
     BasicBlock, BlockPtr, Context, Operation, OperationPtr, Region, RegionPtr, TypeQueries,
-    UseQueries, ValueQueries, end, new_block, new_op, new_type, region,
+    UseQueries, ValueQueries, end, new_block, new_op, new_type, num_uses, region, result,
+    with_limits,
 };
 use ir_view_parts::{ArenaObj, NewOperation, ResultUses};
 use std::panic::Expect;
@@ -144,13 +145,14 @@ fn records_know_their_handles(rt: HostRuntime) {
     end(ctx, ());
 }
 
-// Makes an operation that uses a value for the third time, and walks from there.
+// Makes an operation that uses a value twice, and walks from there.
 fn make_and_walk<D: Dialects>(rt: &impl Abort, ctx: &mut Context<D>, key: D::TypeKey) {
     let ty = new_type(ctx, key).expect(rt, "the type");
-    let made = two_uses(ctx, ty).expect(rt, "the operations");
-    let last = new_op(ctx, 5, &[ty], &[made.value], &[], 2).expect(rt, "the third");
-    let record = last.try_deref(ctx).expect(rt, "its record");
-    expect_same(rt, walk(ctx, record), 3, "how often its operand is used");
+    let maker = new_op(ctx, 0, &[ty], &[], &[], 0).expect(rt, "the first");
+    let value = result(ctx, maker, 0).expect(rt, "its result");
+    let user = new_op(ctx, 5, &[ty], &[value, value], &[], 2).expect(rt, "the second");
+    let record = user.try_deref(ctx).expect(rt, "its record");
+    expect_same(rt, walk(ctx, record), 2, "how often its operand is used");
 }
 
 #[test]
@@ -178,5 +180,31 @@ fn make_and_ask(rt: &impl Abort, ctx: &mut Context<Toy>) {
 fn calls_over_one_dialect(rt: HostRuntime) {
     let mut ctx: Context<Toy> = Context::new(rt.alloc());
     make_and_ask(&rt, &mut ctx);
+    end(ctx, ());
+}
+
+// A chain of ten operations names each of its values but the last.
+fn tell_chain<D: Dialects>(rt: &impl Abort, ctx: &mut Context<D>, key: D::TypeKey) {
+    let last = chain(ctx, key, 10).expect(rt, "the chain");
+    expect_same(rt, num_uses(ctx, last), Ok(0), "its last value");
+    expect_same(rt, ctx.room().uses, u64::MAX - 10, "the room");
+}
+
+#[test]
+fn the_last_of_a_chain_has_no_use(rt: HostRuntime) {
+    let mut ctx: Context<Toy> = Context::new(rt.alloc());
+    tell_chain(&rt, &mut ctx, ToyType::Int { width: 32 });
+    end(ctx, ());
+}
+
+// A test of the limits that `with_limits` lets through.
+#[test]
+fn limits_are_tested(rt: HostRuntime) {
+    let limits = Limits {
+        slots: 0,
+        ..Limits::default()
+    };
+    let ctx: Context<Toy> = with_limits(rt.alloc(), limits).expect(&rt, "the limits");
+    expect_same(&rt, ctx.room().ops, 0, "the room");
     end(ctx, ());
 }

@@ -6,8 +6,11 @@ use ir_core_uniqued::{SavedValue, equal_keys_for_equal_values, kinds_are_never_e
 use std::test::Fail;
 use toy_dialect::Toy;
 
-// Calls each law of a context that no other test calls.
+// Calls each law of a context.
 fn call_laws<D: Dialects>(ctx: &Context<D>) {
+    ctx.recall_well_formed();
+    ctx.recall_uses_exact();
+    ctx.recall_types_exact();
     ctx.recall_aux_was_made();
     ctx.recall_live_was_made();
     ctx.recall_holds_together();

@@ -1,89 +1,158 @@
-//! Scripts over memory, with what the program prints for them and its status.
+//! What rows of scripts can't say, since the program has default limits: how a script ends, and what is said of that, where any reader or writer fails in any way; and a script under small limits.
 
-use crate::script_outcome::{expect, is_refused_memory};
 use std::alloc::Global;
+use std::io;
+use std::io::{ErrorKind, Read, Write};
 use std::process::Abort;
 use std::test::Fail;
-use toy_script::{Answer, Edit, Limits, Refused, Session, Toy, ToyType, run_script_with_limits};
+use toy_script::{Limits, run_script, run_script_with_limits};
 
-#[test]
-fn two_uses(rt: HostRuntime) -> Result<(), Fail> {
-    let script = b"type 32\nop 0 t0 - - 0\nop 4 t0 v0,v0 - 0\n";
-    let output = "made t0\nmade o0\nmade o1\nv0: o1.0 o1.1\nv1:\n";
-    expect(&rt, rt.alloc(), script, 0, output, "")?;
-    Ok(())
+// How a reader or a writer fails: where its bytes or its room are used up, and where it is flushed.
+#[derive(Clone, Copy, Drop)]
+struct Failure {
+    at_end: Option<ErrorKind>,
+    at_flush: Option<ErrorKind>,
 }
 
-#[test]
-fn script_edges(rt: HostRuntime) -> Result<(), Fail> {
-    expect(&rt, rt.alloc(), b"", 0, "", "")?;
-    expect(
-        &rt,
-        rt.alloc(),
-        b"op 0 t0 - - 0",
-        0,
-        "refused condition\n",
-        "",
-    )?;
-    expect(
-        &rt,
-        rt.alloc(),
-        b"type 32\nfoo",
+const NONE: Failure = Failure {
+    at_end: None,
+    at_flush: None,
+};
+
+const BROKEN: Failure = Failure {
+    at_end: Some(ErrorKind::BrokenPipe),
+    at_flush: None,
+};
+
+const NO_MEMORY: Failure = Failure {
+    at_end: Some(ErrorKind::OutOfMemory),
+    at_flush: None,
+};
+
+const BROKEN_AT_FLUSH: Failure = Failure {
+    at_end: None,
+    at_flush: Some(ErrorKind::BrokenPipe),
+};
+
+const NO_MEMORY_AT_FLUSH: Failure = Failure {
+    at_end: None,
+    at_flush: Some(ErrorKind::OutOfMemory),
+};
+
+// The error of this kind, where there is one.
+fn failed(kind: Option<ErrorKind>) -> io::Result<()> {
+    match kind {
+        Some(kind) => Err(io::Error::from(kind)),
+        None => Ok(()),
+    }
+}
+
+// Gives its bytes, and then fails.
+#[derive(Drop)]
+struct Source {
+    left: &'static [u8],
+    failure: Failure,
+}
+
+impl Read for Source {
+    fn read(&mut self, buf: &mut [u8]) -> io::Result<usize> {
+        if self.left.is_empty() {
+            failed(self.failure.at_end)?;
+        }
+        self.left.read(buf)
+    }
+}
+
+// Takes bytes, unless it fails.
+#[derive(Drop)]
+struct Sink {
+    taken: Vec<u8>,
+    failure: Failure,
+}
+
+impl Write for Sink {
+    fn write(&mut self, buf: &[u8]) -> io::Result<usize> {
+        failed(self.failure.at_end)?;
+        self.taken.write(buf)
+    }
+
+    fn flush(&mut self) -> io::Result<()> {
+        failed(self.failure.at_flush)
+    }
+}
+
+// A sink that has taken nothing.
+fn new_sink(alloc: Global, failure: Failure) -> Sink {
+    Sink {
+        taken: Vec::new(alloc),
+        failure,
+    }
+}
+
+// A script, how its input, its output and the writer for faults fail, the status, and what the last of them is told.
+type Row = (&'static [u8], [Failure; 3], u8, &'static str);
+
+const ROWS: [Row; 17] = [
+    (b"type 1\n", [NONE, NONE, NONE], 0, ""),
+    (b"erase o0\n", [NONE, NONE, BROKEN], 0, ""),
+    (b"type 1\n", [NONE, NONE, NO_MEMORY], 0, ""),
+    (b"", [NO_MEMORY, NONE, NONE], 1, "out of memory\n"),
+    (
+        b"type 1\nfoo\n",
+        [NO_MEMORY, BROKEN, NONE],
+        1,
+        "out of memory\n",
+    ),
+    (b"type 1\n", [NONE, NO_MEMORY, NONE], 1, "out of memory\n"),
+    (
+        b"type 1\n",
+        [NONE, NO_MEMORY_AT_FLUSH, NONE],
+        1,
+        "out of memory\n",
+    ),
+    (b"type 1\n", [NONE, NO_MEMORY, BROKEN], 1, ""),
+    (
+        b"type 1\nfoo\n\nbar\n",
+        [NONE, BROKEN, NONE],
         2,
-        "",
         "line 2: malformed\n",
-    )?;
+    ),
+    (b"foo\n", [NONE, NONE, BROKEN], 2, ""),
+    (b"foo\n", [NONE, NONE, NO_MEMORY], 2, ""),
+    (b"", [BROKEN, NONE, NONE], 2, "unreadable input\n"),
+    (b"foo\n", [BROKEN, NONE, NONE], 2, "unreadable input\n"),
+    (b"foo\n\xff\n", [NONE, NONE, NONE], 2, "unreadable input\n"),
+    (b"\xff\n", [NONE, BROKEN, BROKEN], 2, ""),
+    (b"type 1\n", [NONE, BROKEN, NONE], 3, ""),
+    (b"type 1\n", [NONE, BROKEN_AT_FLUSH, NO_MEMORY], 3, ""),
+];
+
+// Asserts that this text was written.
+fn expect_written(rt: &impl Abort, written: &[u8], text: &str) {
+    assert!(rt; written == text.as_bytes());
+}
+
+// Asserts that a script ends as its row says, and that under status 2 nothing is printed.
+fn expect_row(rt: &impl Abort, alloc: Global, row: &Row) -> Result<(), Fail> {
+    let (script, [reading, writing, telling], wanted, told) = *row;
+    let mut input = Source {
+        left: script,
+        failure: reading,
+    };
+    let mut output = new_sink(alloc, writing);
+    let mut fault = new_sink(alloc, telling);
+    let status = run_script(alloc, &mut input, &mut output, &mut fault);
+    assert!(rt; status == wanted);
+    assert!(rt; status != 2 || output.taken.is_empty());
+    expect_written(rt, fault.taken.as_slice(), told);
     Ok(())
 }
 
 #[test]
-fn script_refused_then_made(rt: HostRuntime) -> Result<(), Fail> {
-    let script = b"op 0 t0 - - 0\ntype 32\nop 0 t0 - - 0";
-    let output = "refused condition\nmade t0\nmade o0\nv0:\n";
-    expect(&rt, rt.alloc(), script, 0, output, "")?;
-    Ok(())
-}
-
-#[test]
-fn script_op_into_itself(rt: HostRuntime) -> Result<(), Fail> {
-    let script = b"op 5 - - - 1\nblock -\nbackb b0 r0\nback o0 b0";
-    let output = "made o0\nmade b0\nok\nrefused condition\nb0:\n";
-    expect(&rt, rt.alloc(), script, 0, output, "")?;
-    Ok(())
-}
-
-#[test]
-fn script_link_twice(rt: HostRuntime) -> Result<(), Fail> {
-    let script =
-        b"op 5 - - - 1\nblock -\nop 4 - - - 0\nback o1 b0\nback o1 b0\nunlink o1\nunlink o1";
-    let output = "made o0\nmade b0\nmade o1\nok\nrefused condition\nok\nrefused condition\nb0:\n";
-    expect(&rt, rt.alloc(), script, 0, output, "")?;
-    Ok(())
-}
-
-#[test]
-fn script_move_into_itself(rt: HostRuntime) -> Result<(), Fail> {
-    let script = b"op 5 - - - 1\nop 5 - - - 1\nblock -\nbackb b0 r0\nback o1 b0\nmove r0 o1";
-    let output = "made o0\nmade o1\nmade b0\nok\nok\nrefused condition\nb0:\n";
-    expect(&rt, rt.alloc(), script, 0, output, "")?;
-    Ok(())
-}
-
-// A region moves, and stays where it is when it is moved there again. What was never made is refused.
-#[test]
-fn lists_and_moves(rt: HostRuntime) -> Result<(), Fail> {
-    let script =
-        b"back o0 b0\nop 5 - - - 1\nop 5 - - - 0\nmove r0 o1\nmove r0 o1\nmove r1 o1\nmove r0 o2\nbackb b0 r0\nunlink o9";
-    let output =
-        "refused condition\nmade o0\nmade o1\nok\nok\nrefused condition\nrefused condition\nrefused condition\nrefused condition\n";
-    expect(&rt, rt.alloc(), script, 0, output, "")?;
-    Ok(())
-}
-
-#[test]
-fn script_slots(rt: HostRuntime) -> Result<(), Fail> {
-    let script = b"op 5 - - - 4294967295";
-    expect(&rt, rt.alloc(), script, 0, "refused slots\n", "")?;
+fn endings(rt: HostRuntime) -> Result<(), Fail> {
+    for row in &ROWS {
+        expect_row(&rt, rt.alloc(), row)?;
+    }
     Ok(())
 }
 
@@ -98,72 +167,8 @@ fn spent_counters_and_slots(rt: HostRuntime) -> Result<(), Fail> {
     let mut printed = Vec::new(rt.alloc());
     let mut told = Vec::new(rt.alloc());
     let status = run_script_with_limits(rt.alloc(), limits, &mut input, &mut printed, &mut told);
-    if status == 1 || is_refused_memory(printed.as_slice()) {
-        return Err("out of memory")?;
-    }
-    let wanted = b"made t0\nrefused counter\nmade b0\nrefused counter\nrefused slots\nv0:\nb0:\n";
     assert!(rt; status == 0);
-    assert!(rt; printed.as_slice() == wanted.as_slice());
-    Ok(())
-}
-
-#[test]
-fn blocks_and_successors(rt: HostRuntime) -> Result<(), Fail> {
-    let script = b"type 32\nblock -\nblock t0,t0\nop 3 - v1,v0 b1,b0,b1 0\nop 3 - v0 b1 0";
-    let output =
-        "made t0\nmade b0\nmade b1\nmade o0\nmade o1\nv0: o0.1 o1.0\nv1: o0.0\nb0: o0.1\nb1: o0.0 o0.2 o1.0\n";
-    expect(&rt, rt.alloc(), script, 0, output, "")?;
-    Ok(())
-}
-
-#[test]
-fn blocks_that_never_were(rt: HostRuntime) -> Result<(), Fail> {
-    let script = b"op 3 - - b0 0";
-    expect(&rt, rt.alloc(), script, 0, "refused condition\n", "")?;
-    let script = b"block t0\nblock -\nop 3 - - b1 0\nop 3 - - b0 0";
-    let output = "refused condition\nmade b0\nrefused condition\nmade o0\nb0: o0.0\n";
-    expect(&rt, rt.alloc(), script, 0, output, "")?;
-    Ok(())
-}
-
-// Edits that make the same type twice.
-fn same_type_twice(alloc: Global) -> Result<Vec<Edit<Toy>>, Fail> {
-    Ok(vec![in alloc;
-        Edit::NewType(ToyType::Int { width: 0 }),
-        Edit::NewType(ToyType::Int { width: 0 }),
-    ]?)
-}
-
-// Runs the edits. Where memory was refused, that is the error.
-fn run_edits(session: &mut Session<Toy>, edits: Vec<Edit<Toy>>) -> Result<Vec<Answer>, Fail> {
-    let answers = session.run(edits)?;
-    if answers.contains(&Answer::Refused(Refused::Memory)) {
-        return Err("out of memory")?;
-    }
-    Ok(answers)
-}
-
-// Asserts that both edits made a type, and that it is the same.
-fn expect_same_type(rt: &impl Abort, session: &Session<Toy>, answers: &[Answer]) {
-    assert!(rt; answers == [Answer::Made(0), Answer::Made(1)].as_slice());
-    assert!(rt; session.ty(0).is_some());
-    assert!(rt; session.ty(0) == session.ty(1));
-}
-
-// A session of its own makes the same type twice.
-fn make_same_type_twice(rt: &impl Abort, alloc: Global) -> Result<(), Fail> {
-    let mut session: Session<Toy> = Session::new(alloc, Limits::default());
-    let edits = same_type_twice(alloc)?;
-    let answers = run_edits(&mut session, edits)?;
-    expect_same_type(rt, &session, answers.as_slice());
-    Ok(())
-}
-
-#[test]
-fn types_again(rt: HostRuntime) -> Result<(), Fail> {
-    let script = b"type 0\ntype 0\nop 0 t1 - - 0";
-    let output = "made t0\nmade t1\nmade o0\nv0:\n";
-    expect(&rt, rt.alloc(), script, 0, output, "")?;
-    make_same_type_twice(&rt, rt.alloc())?;
+    let wanted = "made t0\nrefused counter\nmade b0\nrefused counter\nrefused slots\nv0:\nb0:\n";
+    expect_written(&rt, printed.as_slice(), wanted);
     Ok(())
 }

@@ -13,4 +13,4 @@ pub use dumps::dump;
 pub use places::{
     Place, block_place, blocks_of, blocks_of_back, op_place, ops_of, ops_of_back, parent_of_region,
 };
-pub use tables::Tables;
+pub use tables::{NOWHERE, Tables, number_in};

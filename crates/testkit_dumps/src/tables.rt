@@ -6,7 +6,7 @@ use std::alloc::Global;
 use toy_dialect::Toy;
 
 /// Stands for the number of what is in no table.
-pub(crate) const NOWHERE: usize = usize::MAX;
+pub const NOWHERE: usize = usize::MAX;
 
 /// The types, operations, blocks, regions and values of a session by their numbers.
 #[derive(Drop)]
@@ -23,8 +23,8 @@ pub struct Tables {
     pub values: Vec<Value<Toy>>,
 }
 
-// The number of an item in a table.
-fn number_in<T: Copy + PartialEq + Drop>(table: &[T], item: T) -> usize {
+/// The number of an item in a table, or `NOWHERE`.
+pub fn number_in<T: Copy + PartialEq + Drop>(table: &[T], item: T) -> usize {
     let mut number = 0usize;
     for entry in table {
         if *entry == item {
@@ -48,27 +48,27 @@ impl Tables {
     }
 
     /// The number of a type.
-    pub(crate) fn type_number(&self, ty: TypeHandle) -> usize {
+    pub fn type_number(&self, ty: TypeHandle) -> usize {
         number_in(&self.types, ty)
     }
 
     /// The number of an operation.
-    pub(crate) fn op_number(&self, op: Ptr<Operation<Toy>>) -> usize {
+    pub fn op_number(&self, op: Ptr<Operation<Toy>>) -> usize {
         number_in(&self.ops, op)
     }
 
     /// The number of a block.
-    pub(crate) fn block_number(&self, block: Ptr<BasicBlock<Toy>>) -> usize {
+    pub fn block_number(&self, block: Ptr<BasicBlock<Toy>>) -> usize {
         number_in(&self.blocks, block)
     }
 
     /// The number of a region.
-    pub(crate) fn region_number(&self, region: Ptr<Region>) -> usize {
+    pub fn region_number(&self, region: Ptr<Region>) -> usize {
         number_in(&self.regions, region)
     }
 
     /// The number of a value.
-    pub(crate) fn value_number(&self, value: Value<Toy>) -> usize {
+    pub fn value_number(&self, value: Value<Toy>) -> usize {
         number_in(&self.values, value)
     }
 }

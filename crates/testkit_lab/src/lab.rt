@@ -12,6 +12,9 @@ use toy_dialect::Toy;
 // How many bytes an answer may have before it asks for memory.
 const ANSWER_ROOM: usize = 65_536;
 
+// How many uses of values, and of blocks, may be entered before that asks for memory.
+const USE_ROOM: usize = 256;
+
 /// What a lab is about.
 #[derive(Clone, Copy, Debug, Drop, PartialEq, Eq)]
 pub enum Mode {
@@ -53,8 +56,8 @@ impl Lab {
             session: new_session(alloc, Limits::default())?,
             context: new_context(alloc, Limits::default())?,
             tables: Tables::new(alloc),
-            value_uses: Vec::new(alloc),
-            block_uses: Vec::new(alloc),
+            value_uses: Vec::with_capacity(alloc, USE_ROOM)?,
+            block_uses: Vec::with_capacity(alloc, USE_ROOM)?,
             text,
         })
     }
@@ -79,8 +82,8 @@ impl Lab {
     fn forget(&mut self) {
         let alloc = self.alloc();
         self.tables = Tables::new(alloc);
-        self.value_uses = Vec::new(alloc);
-        self.block_uses = Vec::new(alloc);
+        self.value_uses.clear();
+        self.block_uses.clear();
     }
 
     /// The allocator.

@@ -8,21 +8,32 @@
 //! - The edits, as `testkit_edit_texts` writes and answers them.
 //! - `run EDIT ; EDIT ..`: in a session alone, all of these edits in one run. Their answers stand with ` ; ` between them.
 //! - `dump`: a line for each entry of the tables, as `testkit_dumps` writes them, each behind two spaces.
-//! - In a context alone, the words of `edit_words`: changes that are no edits of a session.
+//! - Questions: `room`, how many numbers and slots are left; `is-empty`, whether there is no operation, block and region; `place o0` or `place b0`, slot and version; `deref o0` or `deref b0`, and `find-index v0`, whose answer may be a fault's text; `id b0`.
+//! - In a context alone, the words of the group `edit`: direct calls that are no edits of a session. `edit_words` has them, each with its fields and its answer.
 #![tactic(auto)]
 
 mod context_definitions;
 mod context_edits;
 mod context_lists;
 mod context_uses;
+mod edit_words;
 mod entering;
 mod fields;
 mod finding;
 mod lab;
+mod naming;
+mod questions;
+mod redirecting;
 mod runs;
+mod setting;
+mod telling;
 mod words;
 
+pub use edit_words::answer_edit;
 pub use fields::{count, one, three, two};
 pub use lab::{Lab, Mode};
+pub use naming::{Line, Name, Named, Placed, name_of};
+pub use telling::{tell_done, tell_name, tell_number, tell_refused};
+pub use testkit_dumps::{NOWHERE, number_in};
 pub use testkit_edit_texts::{TextError, number, take_field};
 pub use words::answer;

@@ -3,6 +3,7 @@
 use crate::context_edits::carry_out;
 use crate::fields::two;
 use crate::lab::{Lab, Mode};
+use crate::questions;
 use crate::runs::run;
 use ir_base_dialects::{Answer, Limits};
 use ir_run_sessions::Edit;
@@ -19,6 +20,12 @@ pub fn answer(lab: &mut Lab, word: &str, rest: &str) -> Result<(), TextError> {
         "begin" => begin(lab, rest),
         "dump" => write_dump(lab),
         "run" => run(lab, rest),
+        "room" => questions::room(lab, rest),
+        "is-empty" => questions::is_empty(lab, rest),
+        "place" => questions::place(lab, rest),
+        "deref" => questions::deref(lab, rest),
+        "find-index" => questions::find_index(lab, rest),
+        "id" => questions::id(lab, rest),
         _ => edit(lab, word, rest),
     }
 }

@@ -17,13 +17,11 @@
 //! The dump has a line for each entry of the tables. What can be read in several ways is written once where all of them agree: a list as it is walked forward, with no word of the walk backward, the ends, the neighbours and the counts. Where they don't agree, both stand there.
 #![tactic(auto)]
 
-mod expectations;
 mod lab;
 mod questions;
 mod reading;
 mod texts;
 
-pub use expectations::{Unmet, expect, expect_within};
 pub use lab::Lab;
 pub use testkit_dumps::Place;
 pub use testkit_edit_texts::{EDIT_WORDS, GROWING, TextError};

@@ -80,12 +80,25 @@ fn answer_parts<W: Write>(
     ensures error { IfErr result (λ e. (e ≡ OutOfMemory) ⊎ (e ≡ Unwritable)) }
 {
     let mut session = Session::new(alloc, limits);
+    let ended = answer_all(&mut session, parts, output);
+    session.end(ended)
+}
+
+// Carries the parts out in this session, and prints.
+fn answer_all<W: Write>(
+    session: &mut Session<Toy>,
+    parts: Vec<Part>,
+    output: &mut W,
+) -> Result<(), ScriptError>
+    ensures error { IfErr result (λ e. (e ≡ OutOfMemory) ⊎ (e ≡ Unwritable)) }
+{
+    let alloc = session.ctx().alloc();
     let mut text = String::new(alloc);
     for part in parts {
-        answer_part(&mut text, &mut session, part)?;
+        answer_part(&mut text, session, part)?;
     }
     write_text(output, text.as_str())?;
-    let text = uses_text(alloc, &session)?;
+    let text = uses_text(alloc, session)?;
     write_text(output, text.as_str())
 }
 

@@ -1,0 +1,132 @@
+//! Direct calls by which uses come to name something else: one use, or those that a predicate chooses.
+
+use crate::fields::{count, three, two};
+use crate::lab::Lab;
+use crate::telling::tell_done;
+use ir_base_dialects::Ptr;
+use ir_checked::{CheckedErr, Context};
+use ir_view_parts::{
+    BasicBlock, BlockPlace, BlockPtr, BlockUses, Retarget, Use, UseQueries, Value, ValueEdits,
+    ValueQueries,
+};
+use testkit_edit_texts::{TextError, take_field};
+use toy_dialect::Toy;
+
+/// `USE VALUE`: the operand comes to name the value.
+pub(crate) fn replace_use_with(lab: &mut Lab, rest: &str) -> Result<(), TextError> {
+    let (used, value) = two(rest)?;
+    let (used, value) = (lab.value_use(used)?, lab.value(value)?);
+    let answer = ir_checked::replace_use(&mut lab.context, used, value);
+    tell_done(lab, answer)
+}
+
+/// `USE BLOCK`: the successor comes to name the block.
+pub(crate) fn retarget_pred_to(lab: &mut Lab, rest: &str) -> Result<(), TextError> {
+    let (used, block) = two(rest)?;
+    let (used, block) = (lab.block_use(used)?, lab.block(block)?);
+    let answer = ir_checked::retarget_pred(&mut lab.context, used, block);
+    tell_done(lab, answer)
+}
+
+// Which uses of a value come to name another one.
+#[derive(Clone, Copy, Drop)]
+struct Chosen {
+    value: Value<Toy>,
+    // All, where the value has so many uses in the context that is handed in.
+    count: usize,
+    // That of a first operand in any case.
+    first: bool,
+}
+
+// Whether a use is one of these, as the context that is handed in shows it.
+fn is_chosen(shown: &Context<Toy>, chosen: Chosen, used: Use<Value<Toy>>) -> bool {
+    let value = chosen.value;
+    value.is_live(shown) && value.num_uses(shown) == chosen.count
+        || chosen.first && used.try_find_index(shown) == Ok(0)
+}
+
+/// `VALUE OTHER counted COUNT`: the uses of the one value come to name the other where it has so many in the context that the predicate is handed. With `counted-or-first` in place of `counted` that of a first operand does so in any case.
+pub(crate) fn replace_some_uses_with(lab: &mut Lab, rest: &str) -> Result<(), TextError> {
+    let (value, rest) = take_field(rest).ok_or(TextError::Malformed)?;
+    let (other, word, number) = three(rest)?;
+    let (value, other) = (lab.value(value)?, lab.value(other)?);
+    let chosen = Chosen {
+        value,
+        count: count(number)?,
+        first: is_or_first(word)?,
+    };
+    let answer = replace_chosen(&mut lab.context, chosen, other);
+    tell_done(lab, answer)
+}
+
+// Whether a predicate's word chooses that of a first operand too.
+fn is_or_first(word: &str) -> Result<bool, TextError> {
+    match word {
+        "counted" => Ok(false),
+        "counted-or-first" => Ok(true),
+        _ => Err(TextError::Malformed),
+    }
+}
+
+fn replace_chosen(
+    ctx: &mut Context<Toy>,
+    chosen: Chosen,
+    other: Value<Toy>,
+) -> Result<(), CheckedErr> {
+    let value = chosen.value;
+    if !value.is_live(ctx) || !other.is_live(ctx) {
+        return Err(CheckedErr::Condition);
+    }
+    value.replace_some_uses_with(
+        ctx,
+        |shown: &Context<Toy>, used: Use<Value<Toy>>| is_chosen(shown, chosen, used),
+        other,
+    )?;
+    Ok(())
+}
+
+// Whether a block is the one that is meant or, where none is, whether something names it, as the context that is handed in shows it.
+fn is_meant(
+    shown: &Context<Toy>,
+    meant: Option<Ptr<BasicBlock<Toy>>>,
+    block: Ptr<BasicBlock<Toy>>,
+) -> bool {
+    match meant {
+        Some(one) => block == one,
+        None => block.is_live(shown) && block.has_pred(shown),
+    }
+}
+
+/// `BLOCK OTHER PRED`: the successors that name the one block come to name the other where they are of operations in the block PRED. With `named` in its place, where they are of operations in a block that something names in the context that the predicate is handed.
+pub(crate) fn retarget_some_preds_to(lab: &mut Lab, rest: &str) -> Result<(), TextError> {
+    let (block, other, pred) = three(rest)?;
+    let (block, other) = (lab.block(block)?, lab.block(other)?);
+    let meant = meant_by(lab, pred)?;
+    let answer = retarget_meant(&mut lab.context, block, meant, other);
+    tell_done(lab, answer)
+}
+
+// The block that a predicate's word means.
+fn meant_by(lab: &Lab, word: &str) -> Result<Option<Ptr<BasicBlock<Toy>>>, TextError> {
+    if word == "named" {
+        return Ok(None);
+    }
+    Ok(Some(lab.block(word)?))
+}
+
+fn retarget_meant(
+    ctx: &mut Context<Toy>,
+    block: Ptr<BasicBlock<Toy>>,
+    meant: Option<Ptr<BasicBlock<Toy>>>,
+    other: Ptr<BasicBlock<Toy>>,
+) -> Result<(), CheckedErr> {
+    if !block.is_live(ctx) || !other.is_live(ctx) || !block.preds_are_linked(ctx) {
+        return Err(CheckedErr::Condition);
+    }
+    block.retarget_some_preds_to(
+        ctx,
+        |shown: &Context<Toy>, pred: Ptr<BasicBlock<Toy>>| is_meant(shown, meant, pred),
+        other,
+    )?;
+    Ok(())
+}

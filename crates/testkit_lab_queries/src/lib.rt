@@ -1,0 +1,21 @@
+//! What a lab is asked by lines of text: operations, blocks, regions, values, uses, lists, and what stands in what.
+//!
+//! It supports tests, and promises nothing but safety: no contract says what a call answers.
+//!
+//! An answer is pairs of a name and what is read under it, with single blanks between them; `-` stands for nothing. Of what isn't live the text of the fault is answered. `words` has the words, and the function of each says what its fields and its answer are.
+#![tactic(auto)]
+
+mod at;
+mod blocks;
+mod edges;
+mod lists;
+mod nesting;
+mod ops;
+mod parts;
+mod strange;
+mod taking;
+mod uses;
+mod values;
+mod words;
+
+pub use words::answer;
