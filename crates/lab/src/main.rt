@@ -24,7 +24,7 @@ fn answer(lab: &mut Lab, line: &str) -> Result<(), TextError> {
         "op" | "block" | "region" | "value" | "use" | "list" | "nest" => {
             testkit_lab_queries::answer(lab, word, rest)
         }
-        _ => Err(TextError::Malformed),
+        _ => testkit_lab_types::answer(lab, word, rest),
     }
 }
 

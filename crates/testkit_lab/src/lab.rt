@@ -1,12 +1,15 @@
 //! The state of a lab.
 
+use crate::beside::{Beside, Saved};
 use crate::entering::read_session;
 use ir_base_dialects::{Limits, Ptr, TypeHandle};
+use ir_core_context::AuxDataIndex;
 use ir_run_sessions::Session;
 use ir_view_parts::{BasicBlock, Context, Operation, Region, Use, Value};
 use std::alloc::{AllocError, Global};
 use testkit_dumps::Tables;
 use testkit_edit_texts::{TextError, number};
+use testkit_small_dialect::SmallLab;
 use toy_dialect::Toy;
 
 // How many bytes an answer may have before it asks for memory.
@@ -39,6 +42,10 @@ pub struct Lab {
     pub value_uses: Vec<Use<Value<Toy>>>,
     /// The uses of blocks that were taken.
     pub block_uses: Vec<Use<Ptr<BasicBlock<Toy>>>>,
+    /// What was stored beside the forest.
+    pub beside: Beside,
+    /// A context of the small dialect.
+    pub small: SmallLab,
     /// The answer, without its last newline.
     pub text: String,
 }
@@ -58,6 +65,8 @@ impl Lab {
             tables: Tables::new(alloc),
             value_uses: Vec::with_capacity(alloc, USE_ROOM)?,
             block_uses: Vec::with_capacity(alloc, USE_ROOM)?,
+            beside: Beside::new(alloc)?,
+            small: SmallLab::new(alloc)?,
             text,
         })
     }
@@ -73,6 +82,7 @@ impl Lab {
         let alloc = self.alloc();
         self.session = new_session(alloc, limits)?;
         self.context = new_context(alloc, limits)?;
+        self.small.begin(alloc)?;
         self.mode = mode;
         self.forget();
         Ok(())
@@ -84,6 +94,7 @@ impl Lab {
         self.tables = Tables::new(alloc);
         self.value_uses.clear();
         self.block_uses.clear();
+        self.beside.forget(alloc);
     }
 
     /// The allocator.
@@ -93,10 +104,7 @@ impl Lab {
 
     /// The context that is asked.
     pub fn ctx(&self) -> &Context<Toy> {
-        match self.mode {
-            Mode::Session => self.session.ctx(),
-            Mode::Context => &self.context,
-        }
+        asked(self.mode, &self.session, &self.context)
     }
 
     /// Enters what the session has beside the entries that are there.
@@ -135,6 +143,16 @@ impl Lab {
         named('v', &self.tables.values, name)
     }
 
+    /// The index of auxiliary data with this name.
+    pub fn aux(&self, name: &str) -> Result<AuxDataIndex, TextError> {
+        named('a', &self.beside.aux, name)
+    }
+
+    /// The saved value with this name.
+    pub fn saved(&self, name: &str) -> Result<Saved, TextError> {
+        named('s', &self.beside.saved, name)
+    }
+
     /// The use of a value with this name.
     pub fn value_use(&self, name: &str) -> Result<Use<Value<Toy>>, TextError> {
         named('u', &self.value_uses, name)
@@ -143,6 +161,18 @@ impl Lab {
     /// The use of a block with this name.
     pub fn block_use(&self, name: &str) -> Result<Use<Ptr<BasicBlock<Toy>>>, TextError> {
         named('w', &self.block_uses, name)
+    }
+}
+
+/// The context that is asked in this mode, of a session and a context.
+pub fn asked<'a>(
+    mode: Mode,
+    session: &'a Session<Toy>,
+    context: &'a Context<Toy>,
+) -> &'a Context<Toy> {
+    match mode {
+        Mode::Session => session.ctx(),
+        Mode::Context => context,
     }
 }
 

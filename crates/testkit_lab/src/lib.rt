@@ -2,7 +2,7 @@
 //!
 //! It supports tests, and promises nothing but safety: no contract says what a call answers.
 //!
-//! Each line is a word and its fields, with single blanks between them, and is given an answer. Names are those of tables: `t0` is the first type, `o0` the first operation, `b`, `r` and `v` are blocks, regions and values, and `u` and `w` are uses of values and of blocks, which are entered where a word takes them.
+//! Each line is a word and its fields, with single blanks between them, and is given an answer. Names are those of tables: `t0` is the first type, `o0` the first operation, `b`, `r` and `v` are blocks, regions and values, `a` indices of auxiliary data and `s` what was saved, and `u` and `w` are uses of values and of blocks, which are entered where a word takes them.
 //!
 //! - `begin session` and `begin context`, with the four limits `VALUES USES SLOTS VERSION` or without: all begins anew. In a session each edit is a run of its own; in a context it is a direct call.
 //! - The edits, as `testkit_edit_texts` writes and answers them.
@@ -12,6 +12,7 @@
 //! - In a context alone, the words of the group `edit`: direct calls that are no edits of a session. `edit_words` has them, each with its fields and its answer.
 #![tactic(auto)]
 
+mod beside;
 mod context_definitions;
 mod context_edits;
 mod context_lists;
@@ -29,9 +30,10 @@ mod setting;
 mod telling;
 mod words;
 
+pub use beside::{Beside, Saved};
 pub use edit_words::answer_edit;
 pub use fields::{count, one, three, two};
-pub use lab::{Lab, Mode};
+pub use lab::{Lab, Mode, asked};
 pub use naming::{Line, Name, Named, Placed, name_of};
 pub use telling::{tell_done, tell_name, tell_number, tell_refused};
 pub use testkit_dumps::{NOWHERE, number_in};

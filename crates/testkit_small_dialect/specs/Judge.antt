@@ -7,7 +7,7 @@ use Rattle.ir_verify_checks.specs.Shown.{Shown}
 use Rattle.testkit_small_dialect.specs.declared.small_dialect.SmallAttr.{SmallAttr}
 use Rattle.testkit_small_dialect.specs.declared.small_dialect.SmallAttr.TheVariants.{Marked, Plain}
 use Rattle.testkit_small_dialect.specs.declared.small_dialect.SmallType.{SmallType}
-use Rattle.testkit_small_dialect.specs.declared.small_dialect.SmallType.TheVariants.{Bare, Listed, Sized}
+use Rattle.testkit_small_dialect.specs.declared.small_dialect.SmallType.TheVariants.{Bare, Listed, Pair, Sized}
 
 -- the numbers that are listed for a kind of operations
 abbrev pub op_list : ℕ → List ℕ
@@ -19,18 +19,19 @@ attr_list kind = if kind == 0 then 1 ∷ 2 ∷ [] else []
 
 -- the numbers that are listed for a kind of types
 abbrev pub type_list : ℕ → List ℕ
-type_list kind = if kind == 1 then 1 ∷ [] else (if kind == 2 then 2 ∷ 1 ∷ [] else [])
+type_list kind = if kind == 0 then 2 ∷ 1 ∷ [] else (if kind == 1 then 1 ∷ [] else [])
 
 -- the number that an attribute is
 abbrev pub number_in : SmallAttr → ℕ
 number_in (Marked a) = a.number
 number_in (Plain a) = a.number
 
--- the number that a type has
+-- the number that a type has: a pair has none
 abbrev pub number_of : SmallType → ℕ
-number_of (Bare n) = n
+number_of (Sized t) = t.number
 number_of (Listed t) = t.number
-number_of (Sized n) = n
+number_of (Pair t) = 0
+number_of (Bare n) = n
 
 -- a check with this code answers it where it is asked for, and that memory ran out where it is spent and not asked for
 abbrev pub answers : {X S : Type 0} → ℕ → ℕ → (X → ℕ) → Answers X S

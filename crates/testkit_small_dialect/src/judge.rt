@@ -50,14 +50,15 @@ fn number_in(attr: &SmallAttr) -> u32
     }
 }
 
-// What is added for a type.
+// What is added for a type: nothing for a pair.
 fn number_of(key: &SmallType) -> u32
     ensures { result ≡ number_of key.now }
 {
     match key {
-        SmallType::Bare(number) => *number,
+        SmallType::Sized(sized) => sized.number,
         SmallType::Listed(listed) => listed.number,
-        SmallType::Sized(number) => *number,
+        SmallType::Pair(_) => 0,
+        SmallType::Bare(number) => *number,
     }
 }
 
@@ -81,8 +82,8 @@ impl Verifiers<Small> for Judge {
 
     fn type_verifiers(&self, kind: u32) -> &[u32] {
         match kind {
+            0 => &[2, 1],
             1 => &[1],
-            2 => &[2, 1],
             _ => &[],
         }
     }

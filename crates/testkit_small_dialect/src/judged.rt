@@ -1,17 +1,13 @@
-//! What verification finds in a forest over the small dialect in which each sort of check is run somewhere.
+//! What verification finds at each root of the forest over the small dialect in which each sort of check is run somewhere.
 
-use crate::error::LabErr;
 use crate::finding::{
     block_found, interface_found, op_found, op_found_by_call, op_found_with_kind, region_found,
     type_found, type_found_by_call, typed_found, value_found,
 };
-use crate::judge::Judge;
-use crate::marked::{MarkedForest, MarkedTypes, argument_of, make_marked, result_of};
+use crate::marked::{MarkedForest, MarkedTypes, argument_of, result_of};
 use crate::small_dialect::Small;
 use crate::small_types::{ListedType, SizedInterface};
-use ir_checked::end;
-use ir_verify_checks::{Context, VerifyErr};
-use std::alloc::Global;
+use ir_verify_checks::{Context, Verifiers, VerifyErr};
 
 /// What is verified of the forest that `make_marked` makes.
 #[derive(Clone, Copy, Debug, Drop, PartialEq, Eq)]
@@ -52,93 +48,59 @@ pub enum JudgedRoot {
     SizedInterface,
 }
 
-// What is found at the root.
-fn judged_found(
+/// What is found at the root; none where it isn't there.
+pub fn judged_found<V: Verifiers<Small>>(
     ctx: &Context<Small>,
     forest: &MarkedForest,
     root: JudgedRoot,
-    judge: &Judge,
+    verifiers: &V,
 ) -> Option<Result<(), VerifyErr>> {
     match root {
-        JudgedRoot::Module => op_found(ctx, forest.module, judge),
-        JudgedRoot::ModuleByCall => op_found_by_call(ctx, forest.module, judge),
-        JudgedRoot::ModuleWithKind => op_found_with_kind(ctx, forest.module, judge),
-        JudgedRoot::Region => region_found(ctx, forest.region, judge),
-        JudgedRoot::Block => block_found(ctx, forest.block, judge),
-        JudgedRoot::Inner => op_found(ctx, forest.inner, judge),
-        JudgedRoot::Alone => op_found(ctx, forest.alone, judge),
-        _ => judged_value(ctx, forest, root, judge),
+        JudgedRoot::Module => op_found(ctx, forest.module, verifiers),
+        JudgedRoot::ModuleByCall => op_found_by_call(ctx, forest.module, verifiers),
+        JudgedRoot::ModuleWithKind => op_found_with_kind(ctx, forest.module, verifiers),
+        JudgedRoot::Region => region_found(ctx, forest.region, verifiers),
+        JudgedRoot::Block => block_found(ctx, forest.block, verifiers),
+        JudgedRoot::Inner => op_found(ctx, forest.inner, verifiers),
+        JudgedRoot::Alone => op_found(ctx, forest.alone, verifiers),
+        _ => judged_value(ctx, forest, root, verifiers),
     }
 }
 
 // What is found at the root, where it is a value or a type.
-fn judged_value(
+fn judged_value<V: Verifiers<Small>>(
     ctx: &Context<Small>,
     forest: &MarkedForest,
     root: JudgedRoot,
-    judge: &Judge,
+    verifiers: &V,
 ) -> Option<Result<(), VerifyErr>> {
     match root {
-        JudgedRoot::ListedResult => value_found(ctx, result_of(ctx, forest.inner, 0)?, judge),
-        JudgedRoot::SizedResult => value_found(ctx, result_of(ctx, forest.inner, 1)?, judge),
-        JudgedRoot::Argument => value_found(ctx, argument_of(ctx, forest.block)?, judge),
-        _ => judged_type(ctx, &forest.types, root, judge),
+        JudgedRoot::ListedResult => value_found(ctx, result_of(ctx, forest.inner, 0)?, verifiers),
+        JudgedRoot::SizedResult => value_found(ctx, result_of(ctx, forest.inner, 1)?, verifiers),
+        JudgedRoot::Argument => value_found(ctx, argument_of(ctx, forest.block)?, verifiers),
+        _ => judged_type(ctx, &forest.types, root, verifiers),
     }
 }
 
 // What is found at the root, where it is a type, and else none.
-fn judged_type(
+fn judged_type<V: Verifiers<Small>>(
     ctx: &Context<Small>,
     types: &MarkedTypes,
     root: JudgedRoot,
-    judge: &Judge,
+    verifiers: &V,
 ) -> Option<Result<(), VerifyErr>> {
     match root {
-        JudgedRoot::Listed => type_found(ctx, types.listed, judge),
-        JudgedRoot::Sized => type_found(ctx, types.sized, judge),
-        JudgedRoot::Bare => type_found(ctx, types.bare, judge),
-        JudgedRoot::ListedByCall => type_found_by_call(ctx, types.listed, judge),
-        JudgedRoot::SizedByCall => type_found_by_call(ctx, types.sized, judge),
+        JudgedRoot::Listed => type_found(ctx, types.listed, verifiers),
+        JudgedRoot::Sized => type_found(ctx, types.sized, verifiers),
+        JudgedRoot::Bare => type_found(ctx, types.bare, verifiers),
+        JudgedRoot::ListedByCall => type_found_by_call(ctx, types.listed, verifiers),
+        JudgedRoot::SizedByCall => type_found_by_call(ctx, types.sized, verifiers),
         JudgedRoot::ListedTyped => {
-            typed_found::<Small, ListedType, Judge>(ctx, types.listed, judge)
+            typed_found::<Small, ListedType, V>(ctx, types.listed, verifiers)
         }
         JudgedRoot::SizedInterface => {
-            interface_found::<Small, SizedInterface, Judge>(ctx, types.sized, judge)
+            interface_found::<Small, SizedInterface, V>(ctx, types.sized, verifiers)
         }
         _ => None,
     }
-}
-
-// Makes the forest, and answers what is found at the root by each judge.
-fn make_and_judge(
-    alloc: Global,
-    ctx: &mut Context<Small>,
-    root: JudgedRoot,
-    judges: &[Judge],
-) -> Result<Vec<Result<(), VerifyErr>>, LabErr> {
-    let forest = make_marked(ctx)?;
-    let mut all_found = Vec::new(alloc);
-    for judge in judges {
-        let Some(found) = judged_found(ctx, &forest, root, judge) else {
-            return Err(LabErr::NoRoot);
-        };
-        if all_found.push(found).is_err() {
-            return Err(LabErr::OutOfMemory);
-        }
-    }
-    Ok(all_found)
-}
-
-/// Makes the forest, verifies the root by each judge, and lets the forest go.
-///
-/// # Errors
-/// Where the core lacks something, or the root isn't there.
-pub fn found_by_judges(
-    alloc: Global,
-    root: JudgedRoot,
-    judges: &[Judge],
-) -> Result<Vec<Result<(), VerifyErr>>, LabErr> {
-    let mut ctx = Context::new(alloc);
-    let found = make_and_judge(alloc, &mut ctx, root, judges);
-    end(ctx, found)
 }

@@ -3,7 +3,7 @@
 use crate::error::LabErr;
 use crate::small_attributes::{MarkedAttr, PlainAttr};
 use crate::small_dialect::{Small, SmallType};
-use crate::small_types::ListedType;
+use crate::small_types::{ListedType, SizedType};
 use ir_base_dialects::attribute::Attribute;
 use ir_base_dialects::{CoreError, Identifier, Ptr, TypeHandle};
 use ir_view_parts::{
@@ -43,7 +43,7 @@ pub struct MarkedForest {
 // Makes the types.
 fn make_types(ctx: &mut Context<Small>) -> Result<MarkedTypes, CoreError> {
     let listed = ctx.instantiate_key(SmallType::Listed(ListedType { number: 1 }))?;
-    let sized = ctx.instantiate_key(SmallType::Sized(2))?;
+    let sized = ctx.instantiate_key(SmallType::Sized(SizedType { number: 2 }))?;
     let bare = ctx.instantiate_key(SmallType::Bare(3))?;
     Ok(MarkedTypes {
         listed,

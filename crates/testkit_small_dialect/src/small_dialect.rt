@@ -1,13 +1,15 @@
-//! The small dialect: types and attributes are numbers, of a few kinds each. Each text of an id lies in memory of its own, which is asked for at each question.
+//! The small dialect: attributes are numbers, and types are numbers or pairs of types, of a few kinds each. The name of the dialect in an id lies in memory of its own, which is asked for at each question.
 
 ghost use Rattle.std.specs.Prelude.{◌≡◌, ◌==◌, ◌&&◌, ◌||◌, None, codes, false, refl};
-ghost use Rattle.std.proofs.Common.{sym, true≢false};
+ghost use Rattle.std.proofs.Common.{rules, sym, true≢false};
+ghost use Rattle.testkit_small_dialect.specs.Names.{type_name};
 
 use crate::small_attributes::{MarkedAttr, PlainAttr};
-use crate::small_types::{ListedType, SIZED};
+use crate::small_types::{COMPOUND, ListedType, PairType, SIZED, SizedType};
 use ir_base_dialects::interfaces::{NO_TERMINATOR, TERMINATOR};
 use ir_base_dialects::{
-    AttrId, AttrName, CoreError, DialectName, Dialects, OpId, OpName, TypeHandle, TypeId, TypeName,
+    AttrId, AttrName, CoreError, DialectName, Dialects, Identifier, OpId, OpName, TypeHandle,
+    TypeId, TypeName,
 };
 use std::alloc::Global;
 
@@ -27,12 +29,26 @@ pub enum SmallAttr {
 /// A type of the small dialect.
 #[derive(Debug, Drop, PartialEq, Eq, Hash)]
 pub enum SmallType {
-    /// Kind 0, for which no checks are listed.
-    Bare(u32),
+    /// Kind 0, which implements the dialect's interface of sized types.
+    Sized(SizedType),
     /// Kind 1.
     Listed(ListedType),
-    /// Kind 2, which implements the dialect's own interface.
-    Sized(u32),
+    /// Kind 2, which implements the dialect's interface of compound types.
+    Pair(PairType),
+    /// Kind 3, for which no checks are listed.
+    Bare(u32),
+}
+
+// The name of a kind of types.
+fn type_name(kind: u32) -> Identifier
+    ensures { result ≡ type_name kind }
+{
+    match kind {
+        0 => Identifier::new("sized"),
+        1 => Identifier::new("listed"),
+        2 => Identifier::new("pair"),
+        _ => Identifier::new("bare"),
+    }
 }
 
 impl Dialects for Small {
@@ -43,7 +59,7 @@ impl Dialects for Small {
 
     type TypeKey = SmallType;
 
-    type TypeBody = u8;
+    type TypeBody = Option<TypeHandle>;
 
     type Saved = u64;
 
@@ -53,7 +69,7 @@ impl Dialects for Small {
 
     ghost unknown = { 0 };
 
-    ghost first_body = { 0 };
+    ghost first_body = { None };
 
     ghost op_impls_of = { λ kind interface. ((kind == 2) && (interface == 1)) || ((kind == 5) && (interface == 2)) };
 
@@ -61,9 +77,9 @@ impl Dialects for Small {
 
     ghost attr_impls_of = { λ _ _. false };
 
-    ghost type_kind_of = { elim [ ty.Bare _ ↦ 0 | ty.Listed _ ↦ 1 | ty.Sized _ ↦ 2 ] };
+    ghost type_kind_of = { elim [ ty.Sized _ ↦ 0 | ty.Listed _ ↦ 1 | ty.Pair _ ↦ 2 | ty.Bare _ ↦ 3 ] };
 
-    ghost type_impls_of = { λ kind interface. (kind == 2) && (interface == 16) };
+    ghost type_impls_of = { λ kind interface. ((kind == 0) && (interface == 16)) || ((kind == 2) && (interface == 17)) };
 
     ghost saved_kind_of = { λ _. 0 };
 
@@ -77,7 +93,7 @@ impl Dialects for Small {
 
     ghost attr_id_of = { λ _. record { dialect = codes "small"; name = codes "unknown" } };
 
-    ghost type_id_of = { λ _. record { dialect = codes "small"; name = codes "unknown" } };
+    ghost type_id_of = { λ kind. record { dialect = codes "small"; name = type_name kind } };
 
     fn op_impls(kind: u32, interface: u32) -> bool {
         kind == 2 && interface == TERMINATOR || kind == 5 && interface == NO_TERMINATOR
@@ -96,14 +112,15 @@ impl Dialects for Small {
 
     fn type_kind(key: &SmallType) -> u32 {
         match key {
-            SmallType::Bare(_) => 0,
+            SmallType::Sized(_) => 0,
             SmallType::Listed(_) => 1,
-            SmallType::Sized(_) => 2,
+            SmallType::Pair(_) => 2,
+            SmallType::Bare(_) => 3,
         }
     }
 
     fn type_impls(kind: u32, interface: u32) -> bool {
-        kind == 2 && interface == SIZED
+        kind == 0 && interface == SIZED || kind == 2 && interface == COMPOUND
     }
 
     fn saved_kind(_saved: &u64) -> u32 {
@@ -155,15 +172,15 @@ impl Dialects for Small {
         Ok(AttrId { dialect, name })
     }
 
-    fn type_id(alloc: Global, _kind: u32) -> Result<TypeId, CoreError> {
-        // The texts are names, so that only memory can lack.
+    fn type_id(alloc: Global, kind: u32) -> Result<TypeId, CoreError> {
+        // The text is a name, so that only memory can lack.
         let Ok(dialect) = DialectName::try_new(alloc, "small") else {
             return Err(CoreError::OutOfMemory);
         };
-        let Ok(name) = TypeName::try_new(alloc, "unknown") else {
-            return Err(CoreError::OutOfMemory);
-        };
-        Ok(TypeId { dialect, name })
+        Ok(TypeId {
+            dialect,
+            name: TypeName::from(type_name(kind)),
+        })
     }
 
     ghost default_loc = { λ l d. d };
@@ -172,7 +189,7 @@ impl Dialects for Small {
 
     ghost attr_kinds = { elim [ attr.Marked _ ↦ elim [ attr.Marked _ ↦ λ e. refl | attr.Plain _ ↦ λ e. absurd (true≢false (sym e)) ] | attr.Plain _ ↦ elim [ attr.Marked _ ↦ λ e. absurd (true≢false (sym e)) | attr.Plain _ ↦ λ e. refl ] ] };
 
-    ghost type_kinds = { elim [ ty.Bare _ ↦ elim [ ty.Bare _ ↦ λ e. refl | ty.Listed _ ↦ λ e. absurd (true≢false (sym e)) | ty.Sized _ ↦ λ e. absurd (true≢false (sym e)) ] | ty.Listed _ ↦ elim [ ty.Bare _ ↦ λ e. absurd (true≢false (sym e)) | ty.Listed _ ↦ λ e. refl | ty.Sized _ ↦ λ e. absurd (true≢false (sym e)) ] | ty.Sized _ ↦ elim [ ty.Bare _ ↦ λ e. absurd (true≢false (sym e)) | ty.Listed _ ↦ λ e. absurd (true≢false (sym e)) | ty.Sized _ ↦ λ e. refl ] ] };
+    ghost type_kinds = { Prim.search rules };
 
     ghost saved_kinds = { λ a b e. refl };
 

@@ -1,0 +1,80 @@
+//! Checks that ask for memory, for any dialect.
+
+ghost use Rattle.std.specs.Prelude.{◌≡◌, IfErr};
+ghost use Rattle.testkit_lab_types.specs.Asking.{asking};
+
+use ir_base_dialects::Dialects;
+use ir_verify_checks::{CheckErr, Context, OpObj, Verifiers};
+use std::alloc::Global;
+
+/// Checks that find nothing. Each asks for memory, and answers where it is refused.
+#[derive(Clone, Copy, Debug, Drop)]
+pub struct Asking;
+
+// Asks for memory, and gives it back.
+fn ask(alloc: Global) -> Result<(), CheckErr>
+    ensures { IfErr result (λ e. e ≡ CheckErr.OutOfMemory) }
+{
+    match String::from_str(alloc, "asked") {
+        Ok(_text) => Ok(()),
+        Err(_) => Err(CheckErr::OutOfMemory),
+    }
+}
+
+impl<D: Dialects> Verifiers<D> for Asking {
+    ghost handed_in = { λ _. asking };
+
+    fn op_verifiers(&self, _kind: u32) -> &[u32] {
+        // One check is listed for each kind of operations.
+        &[1]
+    }
+
+    fn attr_verifiers(&self, _kind: u32) -> &[u32] {
+        // One check is listed for each kind of attributes.
+        &[1]
+    }
+
+    fn type_verifiers(&self, _kind: u32) -> &[u32] {
+        // One check is listed for each kind of types.
+        &[1]
+    }
+
+    fn check_op_interface(
+        &self,
+        _number: u32,
+        _op: &OpObj<D>,
+        ctx: &Context<D>,
+    ) -> Result<(), CheckErr> {
+        ask(ctx.alloc())
+    }
+
+    fn check_attr_interface(
+        &self,
+        _number: u32,
+        _attr: &D::Attr,
+        ctx: &Context<D>,
+    ) -> Result<(), CheckErr> {
+        ask(ctx.alloc())
+    }
+
+    fn check_type_interface(
+        &self,
+        _number: u32,
+        _ty: &D::TypeKey,
+        ctx: &Context<D>,
+    ) -> Result<(), CheckErr> {
+        ask(ctx.alloc())
+    }
+
+    fn check_op(&self, _op: &OpObj<D>, ctx: &Context<D>) -> Result<(), CheckErr> {
+        ask(ctx.alloc())
+    }
+
+    fn check_attr(&self, _attr: &D::Attr, ctx: &Context<D>) -> Result<(), CheckErr> {
+        ask(ctx.alloc())
+    }
+
+    fn check_type(&self, _ty: &D::TypeKey, ctx: &Context<D>) -> Result<(), CheckErr> {
+        ask(ctx.alloc())
+    }
+}
