@@ -108,7 +108,7 @@ class Forest:
         return [definition.value for holder in (*self.operations.values(), *self.blocks.values()) for definition in holder.definitions]
 
     def users(self, definition):
-        """The operation of each place that names a value or a block: an operation that names it twice stands there twice."""
+        """The operation of each place that names a value or a block. One that names it twice is there twice."""
         found = []
         for name, operation in self.operations.items():
             names = operation.operands if definition[0] == 'v' else operation.successors

@@ -17,7 +17,8 @@ PLANTED = [
     'verify-skips-preds',
 ]
 
-# The seeds that are tried, from 1 on; how many bytes of answers `rt try` takes from one trial, and how many seconds a trial may take.
+# The seeds that are tried, from 1 on; how many bytes of answers `rt try` takes from one trial; and after how many seconds a trial
+# that has no end is given up, and counts for nothing.
 SEEDS, MOST_BYTES, SECONDS = 2, 1_000_000, '10'
 
 
@@ -69,23 +70,27 @@ def cases():
 
 
 def answers_of(copy, asked, folder):
-    """What the lab of a copy answers to each case, and what is said at last."""
+    """What the lab of a copy answers to each case that ends, the cases that end with a fault (a bad index, say), and what is said."""
     os.makedirs(f'{folder}/cases')
     for name, lines in asked.items():
         with open(f'{folder}/cases/{name}', 'w', encoding='utf-8') as file:
             file.writelines(f'{it.line}\n' for it in lines)
     ran = subprocess.run(['rt', 'try', '--seconds', SECONDS, '--cases', f'{folder}/cases'], cwd=f'{copy}/crates/lab', capture_output=True)
     texts = re.split(r'^== (.*)\n', ran.stdout.decode(errors='replace'), flags=re.M)
-    return dict(zip(texts[1::2], texts[2::2])), ran.stderr.decode(errors='replace').strip().splitlines()
+    said = ran.stderr.decode(errors='replace')
+    ended = re.findall(r'^case=(\S+) run=(\S+)', said, re.M)
+    given = dict(zip(texts[1::2], texts[2::2]))
+    answers = {name: given.get(name, '') for name, how in ended if how == 'ended'}
+    return answers, [name for name, how in ended if how == 'fault'], said.splitlines()
 
 
 def differences(asked, answers):
-    """The cases whose answers aren't the model's, each with its first difference."""
-    for name, lines in asked.items():
+    """The cases whose answers aren't the model's, each with the first line that is answered otherwise."""
+    for name, text in answers.items():
         try:
-            compare(lines, answers.get(name, '').removesuffix('\n'))
+            compare(asked[name], text.removesuffix('\n'))
         except Difference as it:
-            yield name, it
+            yield name, asked[name][it.at].line
 
 
 def try_one(top, name):
@@ -95,16 +100,15 @@ def try_one(top, name):
         if name:
             plant(copy, *edit_at(top, name))
         asked = cases()
-        answers, said = answers_of(copy, asked, folder)
-    if not answers:
+        answers, faults, said = answers_of(copy, asked, folder)
+    if not answers and not faults:
         print(f'{name}: NOT BUILT\n' + '\n'.join(said[-20:]))
         return False
-    found = list(differences(asked, answers))
-    kinds = sorted({re.sub(r'[-0-9]+$', '', case) for case, _ in found})
-    print(f'{name or "as it stands"}: {len(found)} of {len(asked)} trials differ: {", ".join(kinds) or "none"}')
-    if found:
-        case, it = found[0]
-        print(f'    {case}: {asked[case][it.at].line}')
+    found = dict(differences(asked, answers)) | dict.fromkeys(faults, 'a fault of the program')
+    kinds = sorted({re.sub(r'[-0-9]+$', '', case) for case in found})
+    print(f'{name or "as it stands"}: {len(found)} of {len(answers) + len(faults)} trials differ: {", ".join(kinds) or "none"}')
+    for case, line in list(found.items())[:1]:
+        print(f'    {case}: {line}')
     return bool(found) == bool(name)
 
 

@@ -6,7 +6,7 @@ from typing import NamedTuple
 from .drawing import LIST_WORDS, Source, beginning_of_lists, forest_edits
 from .faults import TEXTS, faults_at, faults_in, faults_of_type
 from .program import Asked, Test
-from .session import FORMS, Edit, Limits, Session
+from .session import CONDITION, FORMS, Edit, Limits, Session
 
 # The limits of sessions, each with a name.
 AMPLE = Limits()
@@ -82,8 +82,14 @@ def shown(session):
     return Asked('dump', '\n  '.join(['dump', *session.dump()]))
 
 
+def room(session):
+    """The line that asks for what is left, and the answer that is wanted."""
+    it = session.room()
+    return Asked('room', f'values {it.values} uses {it.uses} ops {it.operations} blocks {it.blocks} regions {it.regions}')
+
+
 def random_session(seed, mode, limits, count, tally):
-    """So many random edits, and all that is shown after each; in a session some in runs of several. At last all is verified, and in a context each block is swept."""
+    """So many random edits, and all that is shown and left after each; in a session some in runs of several. At last questions are asked, all is verified, and in a context each block is swept."""
     source, session = Source(seed), Session(limits)
     asked = [begin(mode, limits)]
     while count > 0:
@@ -93,16 +99,49 @@ def random_session(seed, mode, limits, count, tally):
             asked.append(joined(steps))
         else:
             asked += steps
-        asked.append(shown(session))
+        asked += [shown(session), room(session)]
         count -= len(steps)
-    return asked + verified(session, tally) + (swept(session) if mode == 'context' else [])
+    asked += questions(source, session) + verified(session, tally)
+    return asked + (swept(session) if mode == 'context' else [])
+
+
+class InAnyOrder(Test):
+    """A count and so many names, of which the order is open."""
+
+    def __init__(self, names):
+        self.names = sorted(names)
+
+    def is_right(self, given):
+        word, *fields = given.split(' ')
+        return word == 'len' and fields[:1] == [str(len(self.names))] and sorted(fields[1:]) == self.names
+
+    def __str__(self):
+        return ' '.join(['len', str(len(self.names)), *self.names])
+
+
+def questions(source, session):
+    """The lines that ask whether each entity can be erased, whether some stand inside others, and which blocks lead to each block."""
+    forest, asked = session.forest, []
+    for name in [name for letter in 'obr' for name in session.table(letter)]:
+        is_live = forest.is_live(name)
+        asked.append(Asked(f'nest.can_erase {name}', str(forest.is_closed(name)).lower() if is_live else CONDITION))
+        other = source.live(session, source.pick('obr'))
+        if is_live and forest.is_live(other):
+            asked.append(Asked(f'nest.is_inside {name} {other}', str(forest.is_inside(name, other)).lower()))
+            inside = source.pick(forest.subtree(name))
+            asked.append(Asked(f'nest.is_inside {inside} {name}', 'true'))
+    for block in session.table('b'):
+        parents = [forest.parent(user) for user in forest.users(block)]
+        is_asked = forest.is_live(block) and all(parents)
+        asked.append(Asked(f'block.preds {block}', InAnyOrder(parents) if is_asked else CONDITION))
+    return asked
 
 
 def swept(session):
     """The lines that sweep each block, and all that is shown after each."""
     asked = []
     for block in session.table('b'):
-        asked.append(Asked(f'sweep.sweep {block}', session.sweep(block) if session.is_named(block) else 'refused condition'))
+        asked.append(Asked(f'edit.sweep {block}', session.sweep(block) if session.is_named(block) else CONDITION))
         asked.append(shown(session))
     return asked
 
@@ -130,7 +169,7 @@ def runs_of_two(seed, tally):
     for _ in range(LISTS):
         asked += [joined([step(session, source.edit(session), tally) for _ in range(LIST)]), shown(session)]
     first, second = [
-        [begin('session', limits), joined(beginning[0]), *order, asked[0], Asked('name.id b3', f'block{slot}v3'), *asked[1:]]
+        [begin('session', limits), joined(beginning[0]), *order, asked[0], Asked('id b3', f'block{slot}v3'), *asked[1:]]
         for limits, order, slot in ((AMPLE, beginning[1], 3), (Limits(500, 500, 200, 3), beginning[1][::-1], 1))
     ]
     return first + second
@@ -195,7 +234,7 @@ def verified(session, tally, calls=CALLS):
     for letter in calls:
         for root in session.table(letter):
             if not session.is_named(root):
-                wanted = 'refused condition'
+                wanted = CONDITION
             elif letter in 'obr':
                 wanted = Found(faults_in(forest, found, root), names, tally)
             else:
