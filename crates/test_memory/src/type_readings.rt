@@ -10,7 +10,7 @@ use ir_view_types::{
 use std::alloc::Global;
 use std::process::Abort;
 use testkit_small_dialect::{
-    Judge, ListedType, MarkedForest, SizedInterface, Small, SmallType, interface_found,
+    Judge, ListedType, MarkedForest, SizedInterface, SizedType, Small, SmallType, interface_found,
     make_marked, typed_found,
 };
 
@@ -169,13 +169,13 @@ fn interface(ctx: &Context<Small>, ty: TypeHandle) -> bool {
     if !handle.is_known(ctx) {
         return false;
     }
-    *handle.deref(ctx) == SmallType::Sized(2)
+    *handle.deref(ctx) == SmallType::Sized(SizedType { number: 2 })
         && handle.to_handle() == ty
         && TypeHandle::from(handle) == ty
 }
 
 fn tables() -> bool {
-    type_impls::<SizedInterface, Small>(&SmallType::Sized(2))
+    type_impls::<SizedInterface, Small>(&SmallType::Sized(SizedType { number: 2 }))
         && !type_impls::<SizedInterface, Small>(&SmallType::Bare(2))
         && !type_impls_static::<ListedType, SizedInterface, Small>()
 }

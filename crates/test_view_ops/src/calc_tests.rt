@@ -1,6 +1,5 @@
 //! The example's dialect: what it makes, how it is named, and what is read back.
 
-use crate::calls::done;
 use example::{Calc, CalcType, Constant, Less};
 use ir_base_dialects::interfaces::PureOpInterface;
 use ir_base_dialects::{Dialects, Ptr};
@@ -8,7 +7,13 @@ use ir_checked::{Context, Operation, OperationPtr, Value, ValueQueries, end};
 use ir_core_queries::Named;
 use ir_view_parts::{Op, OperationKind, op_impls_static};
 use std::alloc::Global;
+use std::fmt::Debug;
 use std::process::Abort;
+
+// What the call answered. Where it was refused the test ends, also for want of memory.
+fn done<T, E: Debug>(rt: &impl Abort, answer: Result<T, E>) -> T {
+    answer.expect(rt, "the call was refused")
+}
 
 // The ids of the dialect's operations and types, one behind the other.
 fn ids(rt: &impl Abort, alloc: Global) -> String {

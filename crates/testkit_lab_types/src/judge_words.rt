@@ -2,7 +2,7 @@
 //!
 //! - `make`: the forest.
 //! - `codes ROOT`: each code up to 299 that is found where it is asked for; `spent ROOT`: each by whose check memory runs out where it does so. Behind what is found otherwise stands `?`.
-//! - `find ROOT ASKED SPENT`, `type PLACE ASKED SPENT`: what is found where the one code is asked for, and by the check of the other one memory runs out.
+//! - `type PLACE ASKED SPENT`: what is found at a type where the one code is asked for, and in the check of the other one memory runs out.
 //! - `well ROOT`: what is found where no code is; `asking ROOT`: by checks that ask for memory.
 //! - `get_opid`, `op_id`, `op_static_id`, `attr_id`, `attr_static_id`: ids, of the operation in the block and of a marked attribute.
 
@@ -30,7 +30,6 @@ pub(crate) fn answer(lab: &mut Lab, call: &str, rest: &str) -> Result<(), TextEr
         "make" => make(lab),
         "codes" => tell_codes(lab, Judging::Asked, rest),
         "spent" => tell_codes(lab, Judging::Spent, rest),
-        "find" => find(lab, rest),
         "type" => find_at_type(lab, rest),
         "well" => find_by(lab, rest, &Judge { asked: 0, spent: 0 }),
         "asking" => find_by(lab, rest, &Asking),
@@ -186,17 +185,6 @@ fn tell_text(text: &mut String, found: Option<Result<(), VerifyErr>>) -> Result<
         Some(Err(fault)) => Ok(write!(text, "{fault}")?),
         _ => tell_found(text, found),
     }
-}
-
-fn find(lab: &mut Lab, rest: &str) -> Result<(), TextError> {
-    let (root, asked, spent) = three(rest)?;
-    let judge = judge_with(asked, spent)?;
-    let root = root_of(root)?;
-    let Some(forest) = lab.small.forest else {
-        return tell_condition(&mut lab.text);
-    };
-    let found = found_at(&lab.small.context, &forest, root, &judge);
-    tell_text(&mut lab.text, found)
 }
 
 fn find_at_type(lab: &mut Lab, rest: &str) -> Result<(), TextError> {

@@ -5,7 +5,7 @@
 //! - `get_self_handle TYPE`: where it is stored.
 //! - `read PLACE`: whether the type is known, what has its place, its body and key, and below what `small_handles` tells of it.
 //! - `set_body PLACE PLACE|-`
-//! - `impls TYPE`: whether its kind implements the interfaces of sized and of compound types, asked of its type and of its key.
+//! - `impls TYPE`: whether its kind implements the interfaces of sized and of compound types, asked of its type and of its key, and whether the key gives the type back.
 //! - `type_id TYPE`, `static_type_id sized|listed|pair`
 //! - the words of `small_handles`.
 
@@ -166,8 +166,8 @@ fn set_body(lab: &mut Lab, rest: &str) -> Result<(), TextError> {
     tell_done(&mut lab.text)
 }
 
-// Whether a type's kind implements the interfaces: asked of the type, and of its key.
-fn questions<T: IrType<Small>>(ty: T) -> [bool; 4] {
+// Whether a type's kind implements the interfaces: asked of the type, and of its key; and whether the key gives the type back.
+fn questions<T: IrType<Small>>(ty: T) -> [bool; 5] {
     let sized = type_impls_static::<T, SizedInterface, Small>();
     let compound = type_impls_static::<T, CompoundInterface, Small>();
     let key = ty.to_key();
@@ -176,6 +176,7 @@ fn questions<T: IrType<Small>>(ty: T) -> [bool; 4] {
         compound,
         type_impls::<SizedInterface, Small>(&key),
         type_impls::<CompoundInterface, Small>(&key),
+        T::of_key(&key).is_some(),
     ]
 }
 
@@ -186,10 +187,10 @@ fn impls(lab: &mut Lab, rest: &str) -> Result<(), TextError> {
         SmallType::Pair(ty) => questions(ty),
         SmallType::Bare(_) => return Err(TextError::Malformed),
     };
-    let [sized, compound, of_key, compound_of_key] = answers;
+    let [sized, compound, sized_key, compound_key, given_back] = answers;
     Ok(write!(
         lab.text,
-        "sized {sized} compound {compound} key {of_key} {compound_of_key}"
+        "sized {sized} compound {compound} key {sized_key} {compound_key} back {given_back}"
     )?)
 }
 

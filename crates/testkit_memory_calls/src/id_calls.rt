@@ -77,8 +77,8 @@ impl MarkedCall for IdCall {
             IdCall::OfWrappedKind => has(InnerOp::get_opid_static(alloc), &SMALL),
             IdCall::OfAttribute => has(MarkedAttr { number: 9 }.get_attr_id(alloc), &SMALL),
             IdCall::OfAttributeKind => has(MarkedAttr::get_attr_id_static(alloc), &SMALL),
-            IdCall::OfType => has(ListedType { number: 9 }.get_type_id(alloc), &SMALL),
-            IdCall::OfTypeKind => has(ListedType::get_type_id_static(alloc), &SMALL),
+            IdCall::OfType => has(ListedType { number: 9 }.get_type_id(alloc), &LISTED),
+            IdCall::OfTypeKind => has(ListedType::get_type_id_static(alloc), &LISTED),
         }
     }
 }
@@ -86,8 +86,11 @@ impl MarkedCall for IdCall {
 // The texts of an id: its dialect's name and its own.
 type Texts = (&'static str, &'static str);
 
-// Of the small dialect, which has one id for all kinds.
+// Of the small dialect, which has one id for all kinds of operations and attributes.
 const SMALL: Texts = ("small", "unknown");
+
+// Of listed types.
+const LISTED: Texts = ("small", "listed");
 
 // Of constants.
 const CONSTANT: Texts = ("toy", "constant");
