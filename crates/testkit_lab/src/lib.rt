@@ -8,7 +8,7 @@
 //! - The edits, as `testkit_edit_texts` writes and answers them.
 //! - `run EDIT ; EDIT ..`: in a session alone, all of these edits in one run. Their answers stand with ` ; ` between them.
 //! - `dump`: a line for each entry of the tables, as `testkit_dumps` writes them, each behind two spaces.
-//! - Questions: `room`, how many numbers and slots are left; `is-empty`, whether there is no operation, block and region; `id b0`.
+//! - Questions: `room`, how many numbers and slots are left; `is-empty`, whether there is no operation, block and region.
 //! - In a context alone, the words of the group `edit`: direct calls that are no edits of a session. `edit_words` has them, each with its fields and its answer.
 #![tactic(auto)]
 

@@ -21,7 +21,6 @@ pub fn answer(lab: &mut Lab, word: &str, rest: &str) -> Result<(), TextError> {
         "dump" => write_dump(lab),
         "room" => questions::room(lab, rest),
         "is-empty" => questions::is_empty(lab, rest),
-        "id" => questions::id(lab, rest),
         "run" => run(lab, rest),
         _ => edit(lab, word, rest),
     }
