@@ -1,31 +1,9 @@
-//! Tests of the calls that may ask for memory, of each edit of a session, while a request for memory may be refused, and of the calls that ask for none.
+//! Tests of the calls that need no context, and of what is asked of a session, as `tools/refuse-memory` runs them: it refuses each request for memory in turn, and watches which calls make any.
 //!
-//! The list of the calls that may ask is `surface`. The calls with each name of the list are made, those on a context each on a small forest of its own. Where a call answers `OutOfMemory`, all that the context tells is as before; else its answer is the full one. Each edit of a session is the only one of a run. `tools/refuse-memory` refuses each request in turn.
-//!
-//! The list of the calls that ask for none is `quiet_surface`. The calls with each name of that list are made between two lines of output, so that whoever watches the requests for memory sees those in between: there is none, and none may be refused (`tools/refuse-memory`). Elsewhere stand the functions on the lists of two arenas (`test_base_arenas`) and the handle of an interface that is made of one of a kind (`test_view_types`).
-//!
-//! In both, a name without a call fails, and a call without a name.
+//! Each call is made between two lines of output, `ready` and `done`, below lines `call NAME` with its names in the list of all calls, `crates/lab/calls`. What the calls of the tests whose names end in `_with_memory` are made on is as before where they answer `OutOfMemory`. The calls of those whose names end in `_without_memory` ask for none. Calls on a context are words of the program `lab`.
 #![tactic(auto)]
 
 #[cfg(test)]
-mod edit_tests;
-#[cfg(test)]
-mod edits;
-#[cfg(test)]
-mod ending;
-#[cfg(test)]
-mod memory_tests;
-#[cfg(test)]
-mod quiet_surface;
+mod asking_tests;
 #[cfg(test)]
 mod quiet_tests;
-#[cfg(test)]
-mod quiet_trials;
-#[cfg(test)]
-mod session_readings;
-#[cfg(test)]
-mod surface;
-#[cfg(test)]
-mod trials;
-#[cfg(test)]
-mod type_readings;
