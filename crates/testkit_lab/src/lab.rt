@@ -1,5 +1,7 @@
 //! The state of a lab.
 
+ghost use Rattle.std.specs.Prelude.{◌<◌, ◌≤◌};
+
 use crate::beside::{Beside, Saved};
 use crate::entering::read_session;
 use ir_base_dialects::{Limits, Ptr, TypeHandle};

@@ -55,7 +55,10 @@ fn write_uses(
     let ty = type_at(lab, op, index);
     let operand = operand_at(lab, op, index);
     let successor = successor_at(lab, op, index);
-    Ok(write!(text, " type {ty} operand_use {operand} successor_use {successor}")?)
+    Ok(write!(
+        text,
+        " type {ty} operand_use {operand} successor_use {successor}"
+    )?)
 }
 
 fn type_at(lab: &Lab, op: &Operation<Toy>, index: usize) -> Name {
