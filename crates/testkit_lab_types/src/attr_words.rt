@@ -45,7 +45,7 @@ enum Owner {
 }
 
 // The operation or block with this name.
-fn owner(lab: &Lab, name: &str) -> Result<Owner, TextError> {
+fn owner_of(lab: &Lab, name: &str) -> Result<Owner, TextError> {
     if name.starts_with('o') {
         Ok(Owner::Op(lab.op(name)?))
     } else {
@@ -58,7 +58,7 @@ fn owner_before<'a>(lab: &Lab, text: &'a str) -> Result<(Owner, &'a str), TextEr
     let Some((name, rest)) = take_field(text) else {
         return Err(TextError::Malformed);
     };
-    Ok((owner(lab, name)?, rest))
+    Ok((owner_of(lab, name)?, rest))
 }
 
 // The attributes of what is live.
@@ -126,7 +126,7 @@ fn remove(lab: &mut Lab, rest: &str) -> Result<(), TextError> {
 }
 
 fn read(lab: &mut Lab, rest: &str) -> Result<(), TextError> {
-    let owner = owner(lab, one(rest)?)?;
+    let owner = owner_of(lab, one(rest)?)?;
     let ctx = asked(lab.mode, &lab.session, &lab.context);
     match attributes_of(ctx, owner) {
         Some(attributes) => tell_all(&mut lab.text, attributes),
@@ -147,7 +147,7 @@ fn tell_all(text: &mut String, attributes: &AttributeDict<Toy>) -> Result<(), Te
 
 fn get(lab: &mut Lab, rest: &str) -> Result<(), TextError> {
     let (name, key) = two(rest)?;
-    let owner = owner(lab, name)?;
+    let owner = owner_of(lab, name)?;
     let key = identifier(key)?;
     let ctx = asked(lab.mode, &lab.session, &lab.context);
     match attributes_of(ctx, owner) {
@@ -214,8 +214,8 @@ fn kinds(lab: &mut Lab) -> Result<(), TextError> {
 
 fn compare(lab: &mut Lab, rest: &str) -> Result<(), TextError> {
     let (first, second) = two(rest)?;
-    let first = owner(lab, first)?;
-    let second = owner(lab, second)?;
+    let first = owner_of(lab, first)?;
+    let second = owner_of(lab, second)?;
     let ctx = asked(lab.mode, &lab.session, &lab.context);
     match (attributes_of(ctx, first), attributes_of(ctx, second)) {
         (Some(first), Some(second)) => {
@@ -228,7 +228,7 @@ fn compare(lab: &mut Lab, rest: &str) -> Result<(), TextError> {
 }
 
 fn clone(lab: &mut Lab, rest: &str) -> Result<(), TextError> {
-    let owner = owner(lab, one(rest)?)?;
+    let owner = owner_of(lab, one(rest)?)?;
     let ctx = asked(lab.mode, &lab.session, &lab.context);
     match attributes_of(ctx, owner) {
         Some(attributes) => tell_copy(&mut lab.text, attributes, attributes.clone()),
@@ -237,7 +237,7 @@ fn clone(lab: &mut Lab, rest: &str) -> Result<(), TextError> {
 }
 
 fn clone_skip_outlined(lab: &mut Lab, rest: &str) -> Result<(), TextError> {
-    let owner = owner(lab, one(rest)?)?;
+    let owner = owner_of(lab, one(rest)?)?;
     let ctx = asked(lab.mode, &lab.session, &lab.context);
     match attributes_of(ctx, owner) {
         Some(attributes) => {

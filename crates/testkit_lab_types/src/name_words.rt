@@ -6,10 +6,11 @@
 ghost use Rattle.ir_view_parts.specs.State.{forest_of};
 
 use crate::telling::{Maybe, tell, tell_condition};
-use ir_base_dialects::{CoreError, Dialects, Identifier};
-use ir_checked::{BlockPtr, Context, ValueQueries};
+use ir_base_dialects::{CoreError, Dialects, Identifier, Ptr};
+use ir_checked::{BasicBlock, BlockPtr, Context, Value, ValueQueries};
 use ir_core_queries::Named;
 use testkit_lab::{Lab, TextError, one};
+use toy_dialect::Toy;
 
 /// Answers a word.
 pub(crate) fn answer(lab: &mut Lab, call: &str, rest: &str) -> Result<(), TextError> {
@@ -49,36 +50,46 @@ fn named<D: Dialects, T: Named<D>>(
 
 fn of_handle(lab: &mut Lab, naming: Naming, rest: &str) -> Result<(), TextError> {
     let name = one(rest)?;
-    if name.starts_with('v') {
-        of_value(lab, naming, name)
+    let told = if name.starts_with('v') {
+        value_name(lab.ctx(), lab.value(name)?, naming)
     } else {
-        of_block(lab, naming, name)
-    }
-}
-
-fn of_value(lab: &mut Lab, naming: Naming, name: &str) -> Result<(), TextError> {
-    let value = lab.value(name)?;
-    if !value.is_live(lab.ctx()) {
-        return tell_condition(&mut lab.text);
-    }
-    let told = named(lab.ctx(), &value, naming);
-    tell(&mut lab.text, told)
-}
-
-fn of_block(lab: &mut Lab, naming: Naming, name: &str) -> Result<(), TextError> {
-    let block = lab.block(name)?;
-    if !block.is_live(lab.ctx()) {
-        return tell_condition(&mut lab.text);
-    }
-    let told = named(lab.ctx(), &block, naming);
-    tell(&mut lab.text, told)
+        block_name(lab.ctx(), lab.block(name)?, naming)
+    };
+    tell_name(&mut lab.text, told)
 }
 
 fn of_record(lab: &mut Lab, naming: Naming, rest: &str) -> Result<(), TextError> {
-    let block = lab.block(one(rest)?)?;
-    if !block.is_live(lab.ctx()) {
-        return tell_condition(&mut lab.text);
+    let told = record_name(lab.ctx(), lab.block(one(rest)?)?, naming);
+    tell_name(&mut lab.text, told)
+}
+
+// A name, or none of what isn't live.
+type Told = Option<Result<Maybe<Identifier>, CoreError>>;
+
+fn tell_name(text: &mut String, told: Told) -> Result<(), TextError> {
+    match told {
+        Some(told) => tell(text, told),
+        None => tell_condition(text),
     }
-    let told = named(lab.ctx(), block.deref(lab.ctx()), naming);
-    tell(&mut lab.text, told)
+}
+
+fn value_name(ctx: &Context<Toy>, value: Value<Toy>, naming: Naming) -> Told {
+    if !value.is_live(ctx) {
+        return None;
+    }
+    Some(named(ctx, &value, naming))
+}
+
+fn block_name(ctx: &Context<Toy>, block: Ptr<BasicBlock<Toy>>, naming: Naming) -> Told {
+    if !block.is_live(ctx) {
+        return None;
+    }
+    Some(named(ctx, &block, naming))
+}
+
+fn record_name(ctx: &Context<Toy>, block: Ptr<BasicBlock<Toy>>, naming: Naming) -> Told {
+    if !block.is_live(ctx) {
+        return None;
+    }
+    Some(named(ctx, block.deref(ctx), naming))
 }

@@ -14,7 +14,7 @@ use ir_base_dialects::Ptr;
 use ir_base_dialects::interfaces::{IsTerminatorInterface, PureOpInterface};
 use ir_checked::{Context, Operation, OperationPtr};
 use ir_view_parts::{Op, OpObj, OperationKind, op_impls, op_impls_static};
-use testkit_lab::{Lab, Line, TextError, one, two};
+use testkit_lab::{Lab, Line, TextError, asked, one, two};
 use toy_dialect::Toy;
 
 /// Answers a word.
@@ -44,14 +44,15 @@ fn wraps<T: Op<Toy> + Drop>(given: Option<T>, op: Ptr<Operation<Toy>>) -> Maybe<
 
 fn read(lab: &mut Lab, rest: &str) -> Result<(), TextError> {
     let op = lab.op(one(rest)?)?;
-    if !op.is_live(lab.ctx()) {
+    let ctx = asked(lab.mode, &lab.session, &lab.context);
+    if !op.is_live(ctx) {
         return tell_condition(&mut lab.text);
     }
-    let pair = op.get_op_dyn(lab.ctx());
+    let pair = op.get_op_dyn(ctx);
     let kind = pair.kind();
     let itself = pair.get_operation() == op;
-    let (is_constant, constant) = under::<Constant>(lab.ctx(), op);
-    let (is_return, last) = under::<Return>(lab.ctx(), op);
+    let (is_constant, constant) = under::<Constant>(ctx, op);
+    let (is_return, last) = under::<Return>(ctx, op);
     Ok(write!(
         lab.text,
         "kind {kind} itself {itself} constant {is_constant} {constant} return {is_return} {last}"
@@ -116,19 +117,21 @@ fn compare(lab: &mut Lab, rest: &str) -> Result<(), TextError> {
 fn loc(lab: &mut Lab, rest: &str) -> Result<(), TextError> {
     let op = lab.op(one(rest)?)?;
     let constant = Constant::wrap(&op);
-    if !op.is_live(lab.ctx()) {
+    let ctx = asked(lab.mode, &lab.session, &lab.context);
+    if !op.is_live(ctx) {
         return tell_condition(&mut lab.text);
     }
-    let line = Line(*constant.loc(lab.ctx()));
+    let line = Line(*constant.loc(ctx));
     Ok(write!(lab.text, "{line}")?)
 }
 
 fn get_opid(lab: &mut Lab, rest: &str) -> Result<(), TextError> {
     let op = lab.op(one(rest)?)?;
-    if !op.is_live(lab.ctx()) {
+    let ctx = asked(lab.mode, &lab.session, &lab.context);
+    if !op.is_live(ctx) {
         return tell_condition(&mut lab.text);
     }
-    let id = op.get_opid(lab.ctx());
+    let id = op.get_opid(ctx);
     tell(&mut lab.text, id)
 }
 
