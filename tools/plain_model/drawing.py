@@ -4,13 +4,14 @@ import random
 from .session import FORMS, Edit
 
 # How often each edit is drawn beside the others.
-SHARES = dict.fromkeys(FORMS, 2) | {'new-op': 16, 'new-block': 7, 'op-back': 8, 'block-back': 6, 'push-operand': 3}
-SHARES['new-type'] = 1
+SHARES = dict.fromkeys(FORMS, 2) | {
+    'new-type': 5, 'new-op': 16, 'new-block': 7, 'op-back': 8, 'block-back': 6, 'push-operand': 3,
+}
 
 # The edits of lists and of regions that move.
 LIST_WORDS = [word for word in FORMS if word.partition('-')[0] in ('op', 'block', 'unlink', 'append', 'move')]
 
-KEYS = ['0', '1', '8', '32', 'list', 'i32']
+KEYS = ['0', '1', '8', '32', 'list']
 LABELS = [None, None, 'entry', 'exit']
 
 # One in so many edits is drawn without a look at what holds. The others are drawn up to so many times, until the condition holds.

@@ -169,7 +169,7 @@ def runs_of_two(seed, tally):
     for _ in range(LISTS):
         asked += [joined([step(session, source.edit(session), tally) for _ in range(LIST)]), shown(session)]
     first, second = [
-        [begin('session', limits), joined(beginning[0]), *order, asked[0], Asked('id b3', f'block{slot}v3'), *asked[1:]]
+        [begin('session', limits), joined(beginning[0]), *order, asked[0], Asked('name.id b3', f'block{slot}v3'), *asked[1:]]
         for limits, order, slot in ((AMPLE, beginning[1], 3), (Limits(500, 500, 200, 3), beginning[1][::-1], 1))
     ]
     return first + second
