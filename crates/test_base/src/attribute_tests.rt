@@ -213,7 +213,7 @@ fn number_at(dict: &Dict, place: usize) -> Option<i64> {
 // Whether the keys up to a place have their numbers, and no others are there.
 fn counts_to(dict: &Dict, end: usize) -> bool {
     for place in 0..end {
-        if number_at(dict, place) != Some(place as i64) {
+        if number_at(dict, place) != i64::try_from(place).ok() {
             return false;
         }
     }
