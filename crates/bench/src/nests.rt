@@ -109,13 +109,18 @@ pub(crate) fn module_erased<C: CpuClock>(
     Ok(module_outcome(count / 8))
 }
 
+// Puts a level into an operation: a block with an operation of one region, which it answers.
+fn level_inside(ctx: &mut ToyContext, outer: ToyOp) -> Result<ToyOp, CheckedErr> {
+    let inside = region(ctx, outer, 0)?;
+    let block = add_block(ctx, inside, &[])?;
+    add_op(ctx, block, 5, &[], &[], 1)
+}
+
 // Puts so many levels into an operation, each into the one before, and answers the innermost operation.
 fn nest_inside(ctx: &mut ToyContext, outer: ToyOp, levels: usize) -> Result<ToyOp, CheckedErr> {
     let mut inner = outer;
     for _i in 0..levels {
-        let inside = region(ctx, inner, 0)?;
-        let block = add_block(ctx, inside, &[])?;
-        inner = add_op(ctx, block, 5, &[], &[], 1)?;
+        inner = level_inside(ctx, inner)?;
     }
     Ok(inner)
 }

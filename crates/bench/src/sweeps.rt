@@ -152,6 +152,16 @@ fn users_to_back(
     Ok(())
 }
 
+// Makes a pure operation at the back of a block that uses nothing, and answers its result.
+fn result_to_back(
+    ctx: &mut ToyContext,
+    block: ToyBlock,
+    types: &[TypeHandle],
+) -> Result<ToyValue, CheckedErr> {
+    let op = add_op(ctx, block, 1, types, &[], 0)?;
+    result(ctx, op, 0)
+}
+
 // Makes so many pure operations at the back of a block that use nothing, and puts their results behind the others.
 fn results_to_back(
     ctx: &mut ToyContext,
@@ -162,13 +172,24 @@ fn results_to_back(
 ) -> Result<(), CheckedErr> {
     let types = [ty];
     for _i in 0..count {
-        let op = add_op(ctx, block, 1, &types, &[], 0)?;
-        keep(made, result(ctx, op, 0)?)?;
+        let value = result_to_back(ctx, block, &types)?;
+        keep(made, value)?;
     }
     Ok(())
 }
 
-// Makes pairs at the front of a block, so many: an operation that uses nothing, and in front of it one that uses the operation in front of which the pair stands, and then this one.
+// Makes a pair at the front of a block: an operation that uses nothing, and in front of it one that uses the operation in front of which the pair stands, and then this one.
+fn pair_to_front(
+    ctx: &mut ToyContext,
+    ty: TypeHandle,
+    block: ToyBlock,
+    last: ToyValue,
+) -> Result<ToyValue, CheckedErr> {
+    let tooth = put_in_front(ctx, ty, block, &[])?;
+    put_in_front(ctx, ty, block, &[last, tooth])
+}
+
+// Makes so many such pairs at the front of a block.
 fn comb_to_front(
     ctx: &mut ToyContext,
     ty: TypeHandle,
@@ -178,9 +199,7 @@ fn comb_to_front(
 ) -> Result<(), CheckedErr> {
     let mut last = first;
     for _i in 0..count {
-        let tooth = put_in_front(ctx, ty, block, &[])?;
-        let operands = [last, tooth];
-        last = put_in_front(ctx, ty, block, &operands)?;
+        last = pair_to_front(ctx, ty, block, last)?;
     }
     Ok(())
 }

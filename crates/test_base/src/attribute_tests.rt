@@ -221,11 +221,12 @@ fn counts_to(dict: &Dict, end: usize) -> bool {
 }
 
 // Puts the next number where it belongs. Where memory is refused, asserts that nothing has changed and that the next call puts it there, and the test ends.
-fn put_next(rt: &impl Abort, dict: &mut Dict, place: usize) {
-    let answer = dict.set(key(place), number(place as i64));
+fn put_next(rt: &impl Abort, dict: &mut Dict, next: u32) {
+    let place = next as usize;
+    let answer = dict.set(key(place), number(i64::from(next)));
     if answer.is_err() {
         expect_same(rt, counts_to(dict, place), true);
-        put(rt, dict, place, number(place as i64));
+        put(rt, dict, place, number(i64::from(next)));
     }
     expect_same(rt, counts_to(dict, place + 1), true);
     answer.expect(rt, "memory");
@@ -235,8 +236,8 @@ fn put_next(rt: &impl Abort, dict: &mut Dict, place: usize) {
 #[test]
 fn refused_set_changes_nothing(rt: HostRuntime) {
     let mut dict = Dict::new(rt.alloc());
-    for place in 0..4usize {
-        put_next(&rt, &mut dict, place);
+    for next in 0..4u32 {
+        put_next(&rt, &mut dict, next);
     }
     let answer = dict.set(key(3), number(3));
     expect_same(&rt, (answer, counts_to(&dict, 4)), (Ok(()), true));
