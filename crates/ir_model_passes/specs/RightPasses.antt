@@ -1,0 +1,14 @@
+-- What makes a pass right, and that it stays so when another one follows.
+use Rattle.std.specs.Prelude.{ℕ}
+use Rattle.ir_model.specs.Ids.{Ids}
+use Rattle.ir_model.specs.Forest.{Dialect, Behaviour, Forest}
+use Rattle.ir_model.specs.Nesting.{WellFormed}
+use Rattle.ir_model_passes.specs.Meaning.{Interpretation, KeepsMeaning}
+use Rattle.ir_model_passes.specs.Merging.{OperandsMoveBack}
+
+module _ {N : Ids} {W : Dialect} (B : Behaviour W) {V : Type 0} (gives : Interpretation W V) (keys : ℕ) where
+  -- all names lead somewhere, what stays sees the same values, and it names nothing that comes later than what it named
+  pub record IsRight (f g : Forest N W) : Type 0 where
+    pub formed : WellFormed g keys
+    pub meaning : KeepsMeaning B gives f g
+    pub move_back : OperandsMoveBack f g

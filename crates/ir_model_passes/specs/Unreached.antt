@@ -1,0 +1,53 @@
+-- The blocks of a region that no way from its first block reaches, and what goes with them.
+use Rattle.std.specs.Prelude.{◌≡◌, ◌↔◌, ℕ, Bool, not, if◌then◌else◌, None, Some, IsTrue, filter}
+use Rattle.std.specs.Option.{option_map}
+use Rattle.ir_model.specs.Ids.{Ids}
+use Rattle.ir_model.specs.Forest.{Dialect, Behaviour, Forest, Value, Entity, an_op, a_block, a_region, Named, owner}
+use Rattle.ir_model.specs.Nesting.{In, Inside, WellFormed, ops_of, blocks_of, names_of}
+use Rattle.ir_model.specs.Changes.{DropsUses, Removes}
+use Rattle.ir_model.specs.Parent.{first_of}
+use Rattle.ir_model.specs.BlockGraph.{targets_of}
+use Rattle.ir_model_passes.specs.Meaning.{Interpretation, Consistent, SeesTheSame}
+
+module _ {N : Ids} {W : Dialect} (f : Forest N W) (region : N.Region) where
+  -- a block of the region is reached where it is the first, or an operation in the list of a reached one names it as a successor, whether its kind ends blocks or not
+  pub data Reached : N.Block → Type 0 where
+    at_first : {b : N.Block} → first_of (blocks_of f region) ≡ Some b → Reached b
+    by_successor : {a b : N.Block} (o : N.Op) → Reached a → In o (ops_of f a) → In b (targets_of f o) → In b (blocks_of f region) → Reached b
+
+  -- it stands in the region and is not reached
+  abbrev pub IsUnreached : N.Block → Type 0
+  IsUnreached b = In b (blocks_of f region) × (Reached b → ⊥)
+
+  -- it is an unreached block, or inside one
+  abbrev pub GoesUnreached : Entity N → Type 0
+  GoesUnreached x = (b : N.Block) × IsUnreached b × Inside f (a_block b) x
+
+  -- each operation that names a definition inside an unreached block is inside an unreached one
+  abbrev pub NamesStayInside : Type 0
+  NamesStayInside = (user : N.Op) (d : Named N) → In d (names_of f user) → GoesUnreached (owner N d) → GoesUnreached (an_op user)
+
+  -- the unreached blocks are gone with all inside them, and all else is as it was
+  pub record DropsUnreached (g : Forest N W) : Type 0 where
+    pub is_gone : Entity N → Bool
+    pub decides : (x : Entity N) → IsTrue (is_gone x) ↔ GoesUnreached x
+    pub ops : (o : N.Op) → g.ops o ≡ (if is_gone (an_op o) then None else f.ops o)
+    pub blocks : (c : N.Block) → g.blocks c ≡ (if is_gone (a_block c) then None else f.blocks c)
+    pub regions : (r : N.Region) → g.regions r ≡ (if is_gone (a_region r) then None else option_map (filter (λ b. not (is_gone (a_block b)))) (f.regions r))
+
+module _ {N : Ids} {W : Dialect} (B : Behaviour W) {V : Type 0} (gives : Interpretation W V) (f : Forest N W) (keys : ℕ) (region : N.Region) (g : Forest N W) where
+  -- what it leaves when the unreached blocks of a region are dropped
+  pub record DropTells : Type 0 where
+    -- nothing else would be it
+    pub only : (h : Forest N W) → DropsUnreached f region h → h ≡ g
+    pub formed : NamesStayInside f region → WellFormed g keys
+    -- no block that is left is unreached
+    pub none_unreached : (b : N.Block) → IsUnreached g region b → ⊥
+    pub sees_the_same : (a : Value N → V) → Consistent B gives a f → SeesTheSame B gives f g a
+
+module _ {N : Ids} {W : Dialect} (f : Forest N W) (region : N.Region) where
+  -- uses inside unreached blocks were dropped, and such blocks erased with all inside them, one after the other
+  pub data DropsSome : Forest N W → Type 0 where
+    none_dropped : DropsSome f
+    uses_dropped : {g h : Forest N W} (b : N.Block) → DropsSome g → IsUnreached f region b → DropsUses g (a_block b) h → DropsSome h
+    block_erased : {g h : Forest N W} (b : N.Block) → DropsSome g → IsUnreached f region b → Removes g (a_block b) h → DropsSome h
