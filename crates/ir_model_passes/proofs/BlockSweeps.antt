@@ -13,10 +13,10 @@ use Rattle.ir_model.specs.Dead.{Dead, dead, GoesWith, inside_it, inside_dead, Sw
 use Rattle.ir_model.proofs.Loops.{Lawful}
 use Rattle.ir_model.proofs.Nests.{In-map, In-map_back, Absent-not_in, Within-fewer, Within-trans}
 use Rattle.ir_model.proofs.Decided.{Decided, says, holds, says_true, instead, both, bit_so, some, in_list}
-use Rattle.ir_model_passes.specs.SweepAll as all
-use Rattle.ir_model_passes.specs.SweepAll.{DeadInside, GoesAlong, IsSweptAll, SweepsAll, SweptCount, ListedInside, ListsLive, NoneIsClosedInside, SweepsBlocks, none_swept, one_swept, ErasesSome, none_erased, one_erased}
+use Rattle.ir_model_passes.specs.SweepInside as all
+use Rattle.ir_model_passes.specs.SweepInside.{DeadInside, GoesAlong, IsSweptInside, SweepsInside, SweptCount, ListedInside, ListsLive, NoneIsClosedInside, SweepsBlocks, none_swept, one_swept, ErasesSome, none_erased, one_erased}
 use Rattle.ir_model_passes.proofs.Going.{filter_same, same_test, owner_inside, Taken, TakesOut, Out, op_case, block_case, region_case, child_left, child_still, fewer, inside_still, names_still, names_were, formed}
-use Rattle.ir_model_passes.proofs.SweptAll.{block_takes}
+use Rattle.ir_model_passes.proofs.SweptInside.{block_takes}
 use Rattle.ir_model_passes.proofs.Climb.{inside_so}
 
 -- ## Tests
@@ -289,19 +289,19 @@ module _ {N : Ids} {W : Dialect} (L : Lawful N) (B : Behaviour W) (root : Entity
         in_or_gone o user (all.inside_dead {p = p} d v) = inr (deeper p (an_op user) v (all_gone p d))
 
       -- what is swept is taken, and what is taken is swept
-      swept_taken : (x : Entity N) → IsSweptAll B f root x → Taken f G x
+      swept_taken : (x : Entity N) → IsSweptInside B f root x → Taken f G x
       swept_taken x k = deeper k.0 x k.2 (all_gone k.0 k.1)
 
-      taken_swept : (x : Entity N) → Taken f G x → IsSweptAll B f root x
+      taken_swept : (x : Entity N) → Taken f G x → IsSweptInside B f root x
       taken_swept x t = (t.0, s.are_dead t.0 t.1, t.2)
 
-      abbrev swept_so : (x : Entity N) → Decided (IsSweptAll B f root x)
+      abbrev swept_so : (x : Entity N) → Decided (IsSweptInside B f root x)
       swept_so x = instead (taken_swept x) (swept_taken x) (so x)
 
       by_test : {A : Type 0} (x : Entity N) (now left : Option A) → (Taken f G x → now ≡ None) → (Out f G g s.takes x → now ≡ left) → now ≡ cond (says (swept_so x)) None left
       by_test x now left gone out = by (swept_so x)
         where
-          by : (d : Decided (IsSweptAll B f root x)) → now ≡ cond (says d) None left
+          by : (d : Decided (IsSweptInside B f root x)) → now ≡ cond (says d) None left
           by (inl k) = gone (swept_taken x k)
           by (inr n) = out (λ t. n (taken_swept x t))
 
@@ -327,7 +327,7 @@ module _ {N : Ids} {W : Dialect} (L : Lawful N) (B : Behaviour W) (root : Entity
 
       -- the operations of the list that are swept, each once
       abbrev Listing : List (Entity N) → Type 0
-      Listing xs = (gone : List N.Op) × Distinct gone × ((o : N.Op) → In o gone ↔ (In {A = Entity N} (an_op o) xs × IsSweptAll B f root (an_op o)))
+      Listing xs = (gone : List N.Op) × Distinct gone × ((o : N.Op) → In o gone ↔ (In {A = Entity N} (an_op o) xs × IsSweptInside B f root (an_op o)))
 
       counts : (xs : List (Entity N)) → Listing xs
       counts [] = ([], tt, λ o. (λ k. elim k [ ], λ k. k.0))
@@ -352,13 +352,13 @@ module _ {N : Ids} {W : Dialect} (L : Lawful N) (B : Behaviour W) (root : Entity
           op_is : (o : N.Op) → ◌≡◌ {A = Entity N} (an_op o) (an_op p) → o ≡ p
           op_is o e = cc
 
-          by : (more : Listing xs) → Decided (IsSweptAll B f root (an_op p)) → Decided (In p more.0) → Listing (an_op p ∷ xs)
+          by : (more : Listing xs) → Decided (IsSweptInside B f root (an_op p)) → Decided (In p more.0) → Listing (an_op p ∷ xs)
           by more (inr stays) d = (
             more.0,
             more.1,
             λ o. (
               λ k. (let m = (more.2 o).0 k in (inr m.0, m.1)),
-              λ k. (more.2 o).1 (elim k.0 [ inl e ↦ absurd (stays (subst (λ z. IsSweptAll B f root z) e k.1)) | inr m ↦ m ], k.1),
+              λ k. (more.2 o).1 (elim k.0 [ inl e ↦ absurd (stays (subst (λ z. IsSweptInside B f root z) e k.1)) | inr m ↦ m ], k.1),
             ),
           )
           by more (inl goes) (inl here) = (
@@ -373,19 +373,19 @@ module _ {N : Ids} {W : Dialect} (L : Lawful N) (B : Behaviour W) (root : Entity
             p ∷ more.0,
             (Absent-not_in p more.0 new, more.1),
             λ o. (
-              λ k. elim k [ inl e ↦ (inl (ap an_op e), subst (λ z. IsSweptAll B f root (an_op z)) (sym e) goes) | inr m ↦ (let q = (more.2 o).0 m in (inr q.0, q.1)) ],
+              λ k. elim k [ inl e ↦ (inl (ap an_op e), subst (λ z. IsSweptInside B f root (an_op z)) (sym e) goes) | inr m ↦ (let q = (more.2 o).0 m in (inr q.0, q.1)) ],
               λ k. elim k.0 [ inl e ↦ inl (op_is o e) | inr m ↦ inr ((more.2 o).1 (m, k.1)) ],
             ),
           )
 
-      swept_live : (o : N.Op) → IsSweptAll B f root (an_op o) → IsLive f (an_op o)
+      swept_live : (o : N.Op) → IsSweptInside B f root (an_op o) → IsLive f (an_op o)
       swept_live o (p, d, itself) = dead_live o d
       swept_live o (p, d, below {c = c} h v) = w.nested.live (an_op o) c h
 
       counted : (n : ℕ) × SweptCount B f root n
       counted = let c = counts live in (length c.0, (c.0, c.1, λ o. (λ k. ((c.2 o).0 k).1, λ k. (c.2 o).1 (lists (an_op o) (swept_live o k), k)), refl))
 
-      pub sweeps_all : (n : ℕ) × SweepsAll B f root g n
+      pub sweeps_all : (n : ℕ) × SweepsInside B f root g n
       sweeps_all = (
         counted.0,
         record {
@@ -430,7 +430,7 @@ module _ {N : Ids} {W : Dialect} (L : Lawful N) (B : Behaviour W) (root : Entity
   partly g (one_swept {g = e} {count = count} c more inside s) =
       more_gone L B root f keys w live lists e (partly e more) (Dead B e c) g (block_takes B e c g count s) (block_dead e c inside) (λ o k. (s.decides o).0 k) (block_users e c inside)
 
-  pub blocks_swept : (g : Forest N W) → SweepsBlocks B root f g → NoneIsClosedInside B root g → (n : ℕ) × SweepsAll B f root g n
+  pub blocks_swept : (g : Forest N W) → SweepsBlocks B root f g → NoneIsClosedInside B root g → (n : ℕ) × SweepsInside B f root g n
   blocks_swept g s none = sweeps_all L B root f keys w live lists g (partly g s) none
 
   -- ## Operations that go one after the other
@@ -468,7 +468,7 @@ module _ {N : Ids} {W : Dialect} (L : Lawful N) (B : Behaviour W) (root : Entity
       (λ p same. (L.ops p o).0 same)
       (λ p user d same h i. (o, refl, closed user d h (subst (λ z. Inside e (an_op z) (owner N d)) same i)))
 
-  pub erased_all : (g : Forest N W) → ErasesSome B root f g → NoneIsClosedInside B root g → (n : ℕ) × SweepsAll B f root g n
+  pub erased_all : (g : Forest N W) → ErasesSome B root f g → NoneIsClosedInside B root g → (n : ℕ) × SweepsInside B f root g n
   erased_all g s none = sweeps_all L B root f keys w live lists g (partly_erased g s) none
 
   pub erased_formed : (g : Forest N W) → ErasesSome B root f g → WellFormed g keys

@@ -11,7 +11,7 @@ use Rattle.ir_model.proofs.KeepsErase.{same_self, same_tells}
 use Rattle.ir_model.proofs.Entries.{AddsOne-in}
 use Rattle.ir_model.proofs.Removal.{splits, AddsOne-length}
 use Rattle.ir_model.proofs.Decided.{Decided, instead, one, in_list, some}
-use Rattle.ir_model_passes.specs.SweepAll.{ListsLive}
+use Rattle.ir_model_passes.specs.SweepInside.{ListsLive}
 
 -- what is inside is the thing itself, or a child of something inside
 inside_by : {E : Type 0} {lists : E → List E} (e a : E) → Within lists e a → (e ≡ a) ⊎ ((c : E) × In a (lists c) × Within lists e c)

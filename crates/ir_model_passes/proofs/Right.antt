@@ -8,7 +8,7 @@ use Rattle.ir_model.specs.Nesting.{In, list_of, children, WellFormed, ops_of, op
 use Rattle.ir_model.specs.Dead.{Dead, Sweeps}
 use Rattle.ir_model.proofs.Loops.{Lawful}
 use Rattle.ir_model_passes.specs.Meaning.{SameAttributes, Interpretation, Respects, OnlyPureGo}
-use Rattle.ir_model_passes.specs.SweepAll.{DeadInside, SweepsAll}
+use Rattle.ir_model_passes.specs.SweepInside.{DeadInside, SweepsInside}
 use Rattle.ir_model_passes.specs.Merging.{StandsBefore, MergesSome, IsGivenBefore, MovesBack, OperandsMoveBack}
 use Rattle.ir_model_passes.specs.RightPasses.{IsRight}
 use Rattle.ir_model_passes.proofs.Preorder.{meaning_then, came_from, is_there, fewer_children}
@@ -19,7 +19,7 @@ use Rattle.ir_model_passes.specs.InOrder.{InOrder}
 use Rattle.ir_model_passes.proofs.Merged.{before_in, of_op_one}
 use Rattle.ir_model_passes.proofs.InOrder.{before_still, zip_back}
 use Rattle.ir_model_passes.proofs.Going.{TakesOut, op_case}
-use Rattle.ir_model_passes.proofs.SweptAll.{block_takes, all_takes, block_keeps_meaning, all_keeps_meaning, all_formed}
+use Rattle.ir_model_passes.proofs.SweptInside.{block_takes, all_takes, block_keeps_meaning, all_keeps_meaning, all_formed}
 use Rattle.ir_model_passes.proofs.BlockSweeps.{block_formed}
 use Rattle.ir_model_passes.proofs.Merges.{before_kept, before_then, given_then, all_zip_then, all_zip_same, some_formed, some_keep_meaning, some_move_back}
 
@@ -67,7 +67,7 @@ module _ {N : Ids} {W : Dialect} (B : Behaviour W) {V : Type 0} (gives : Interpr
   right_then f g h w a b = record {
     formed = b.formed;
     meaning = meaning_then B gives f g h a.meaning b.meaning;
-    move_back = back_then B f g a.meaning.only_pure keys w h b.meaning.only_pure a.move_back b.move_back;
+    moves_back = back_then B f g a.meaning.only_pure keys w h b.meaning.only_pure a.moves_back b.moves_back;
   }
 
   module _ (f g : Forest N W) (w : WellFormed f keys) where
@@ -82,21 +82,21 @@ module _ {N : Ids} {W : Dialect} (B : Behaviour W) {V : Type 0} (gives : Interpr
     sweep_right b count s = record {
       formed = block_formed B f keys w b g count s;
       meaning = block_keeps_meaning B f gives b g count w.nested s;
-      move_back = none_moved (Dead B f b) (block_takes B f b g count s);
+      moves_back = none_moved (Dead B f b) (block_takes B f b g count s);
     }
 
-    pub sweep_all_right : (root : Entity N) (count : ℕ) → SweepsAll B f root g count → IsRight B gives keys f g
-    sweep_all_right root count s = record {
+    pub sweep_inside_right : (root : Entity N) (count : ℕ) → SweepsInside B f root g count → IsRight B gives keys f g
+    sweep_inside_right root count s = record {
       formed = all_formed B f root g count s keys w;
       meaning = all_keeps_meaning B f root g count s gives w.nested;
-      move_back = none_moved (DeadInside B f root) (all_takes B f root g count s);
+      moves_back = none_moved (DeadInside B f root) (all_takes B f root g count s);
     }
 
     pub merges_right : Lawful N → (same : SameAttributes W) → Respects W V same gives → (b : N.Block) (count : ℕ) → MergesSome B same b f g count → IsRight B gives keys f g
     merges_right L same respects b count s = record {
       formed = some_formed L B same b keys f g count w s;
       meaning = some_keep_meaning L B same b keys gives respects f g count w s;
-      move_back = some_move_back L B same b keys f g count w s;
+      moves_back = some_move_back L B same b keys f g count w s;
     }
 
 -- ## Blocks in order

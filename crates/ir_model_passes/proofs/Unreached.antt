@@ -12,14 +12,14 @@ use Rattle.ir_model.proofs.Nests.{In-map, In-map_back, Distinct-map, NoCycle-few
 use Rattle.ir_model.proofs.Keeps.{is_some-map, Distinct-unmap}
 use Rattle.ir_model.proofs.Filters.{In-filter, In-kept, Distinct-filter}
 use Rattle.ir_model_passes.specs.Meaning.{Interpretation, Consistent, SeesTheSame}
-use Rattle.ir_model_passes.specs.Unreached.{Reached, IsUnreached, at_first, by_successor, GoesUnreached, NamesStayInside, DropsUnreached, DropTells}
+use Rattle.ir_model_passes.specs.Unreached.{Reached, IsUnreached, at_first, by_successor, GoesUnreached, NamesStayInside, RemovesUnreached, UnreachedTells}
 use Rattle.ir_model_passes.proofs.Going.{same_test, none_is_not_some, some_one}
 
-module _ {N : Ids} {W : Dialect} (f : Forest N W) (region : N.Region) (g : Forest N W) (s : DropsUnreached f region g) where
+module _ {N : Ids} {W : Dialect} (f : Forest N W) (region : N.Region) (g : Forest N W) (s : RemovesUnreached f region g) where
   abbrev left_by : (Entity N → Bool) → N.Region → Option (List N.Block)
   left_by is_gone r = option_map (filter (λ b. not (is_gone (a_block b)))) (f.regions r)
 
-  only : (h : Forest N W) → DropsUnreached f region h → h ≡ g
+  only : (h : Forest N W) → RemovesUnreached f region h → h ≡ g
   only h t = λ i. record {
     ops = fun_ext (λ o. t.ops o ∙ ap (λ p. cond (p (an_op o)) None (f.ops o)) one_test ∙ sym (s.ops o)) i;
     blocks = fun_ext (λ c. t.blocks c ∙ ap (λ p. cond (p (a_block c)) None (f.blocks c)) one_test ∙ sym (s.blocks c)) i;
@@ -280,8 +280,8 @@ module _ {N : Ids} {W : Dialect} (f : Forest N W) (region : N.Region) (g : Fores
       known = λ d t h. w.known d t (some_definition (λ x. x.ty) d t h);
     }
 
-pub drop_tells : {N : Ids} {W : Dialect} (B : Behaviour W) {V : Type 0} (gives : Interpretation W V) (f : Forest N W) (keys : ℕ) (region : N.Region) (g : Forest N W) → WellFormed f keys → DropsUnreached f region g → DropTells B gives f keys region g
-drop_tells B gives f keys region g w s = record {
+pub removal_tells : {N : Ids} {W : Dialect} (B : Behaviour W) {V : Type 0} (gives : Interpretation W V) (f : Forest N W) (keys : ℕ) (region : N.Region) (g : Forest N W) → WellFormed f keys → RemovesUnreached f region g → UnreachedTells B gives f keys region g
+removal_tells B gives f keys region g w s = record {
   only = only f region g s;
   formed = formed f region g s keys w;
   none_unreached = none_unreached f region g s w.nested;

@@ -11,4 +11,4 @@ module _ {N : Ids} {W : Dialect} (B : Behaviour W) {V : Type 0} (gives : Interpr
   pub record IsRight (f g : Forest N W) : Type 0 where
     pub formed : WellFormed g keys
     pub meaning : KeepsMeaning B gives f g
-    pub move_back : OperandsMoveBack f g
+    pub moves_back : OperandsMoveBack f g

@@ -28,7 +28,7 @@ module _ {N : Ids} {W : Dialect} (f : Forest N W) (region : N.Region) where
   NamesStayInside = (user : N.Op) (d : Named N) → In d (names_of f user) → GoesUnreached (owner N d) → GoesUnreached (an_op user)
 
   -- the unreached blocks are gone with all inside them, and all else is as it was
-  pub record DropsUnreached (g : Forest N W) : Type 0 where
+  pub record RemovesUnreached (g : Forest N W) : Type 0 where
     pub is_gone : Entity N → Bool
     pub decides : (x : Entity N) → IsTrue (is_gone x) ↔ GoesUnreached x
     pub ops : (o : N.Op) → g.ops o ≡ (if is_gone (an_op o) then None else f.ops o)
@@ -37,9 +37,9 @@ module _ {N : Ids} {W : Dialect} (f : Forest N W) (region : N.Region) where
 
 module _ {N : Ids} {W : Dialect} (B : Behaviour W) {V : Type 0} (gives : Interpretation W V) (f : Forest N W) (keys : ℕ) (region : N.Region) (g : Forest N W) where
   -- what it leaves when the unreached blocks of a region are dropped
-  pub record DropTells : Type 0 where
+  pub record UnreachedTells : Type 0 where
     -- nothing else would be it
-    pub only : (h : Forest N W) → DropsUnreached f region h → h ≡ g
+    pub only : (h : Forest N W) → RemovesUnreached f region h → h ≡ g
     pub formed : NamesStayInside f region → WellFormed g keys
     -- no block that is left is unreached
     pub none_unreached : (b : N.Block) → IsUnreached g region b → ⊥
@@ -47,7 +47,7 @@ module _ {N : Ids} {W : Dialect} (B : Behaviour W) {V : Type 0} (gives : Interpr
 
 module _ {N : Ids} {W : Dialect} (f : Forest N W) (region : N.Region) where
   -- uses inside unreached blocks were dropped, and such blocks erased with all inside them, one after the other
-  pub data DropsSome : Forest N W → Type 0 where
-    none_dropped : DropsSome f
-    uses_dropped : {g h : Forest N W} (b : N.Block) → DropsSome g → IsUnreached f region b → DropsUses g (a_block b) h → DropsSome h
-    block_erased : {g h : Forest N W} (b : N.Block) → DropsSome g → IsUnreached f region b → Removes g (a_block b) h → DropsSome h
+  pub data RemovesSome : Forest N W → Type 0 where
+    none_removed : RemovesSome f
+    uses_dropped : {g h : Forest N W} (b : N.Block) → RemovesSome g → IsUnreached f region b → DropsUses g (a_block b) h → RemovesSome h
+    block_erased : {g h : Forest N W} (b : N.Block) → RemovesSome g → IsUnreached f region b → Removes g (a_block b) h → RemovesSome h

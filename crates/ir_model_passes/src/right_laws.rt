@@ -2,12 +2,12 @@
 
 ghost use Rattle.ir_model.specs.Forest.{Behaviour};
 ghost use Rattle.ir_model_passes.specs.Meaning.{Interpretation, SameAttributes};
-ghost use Rattle.ir_model_passes.specs.PassLaws.{SweepIsRight, SweepAllIsRight, MergesAreRight, RightKeepsOrder, RightPassesFollow};
+ghost use Rattle.ir_model_passes.specs.PassLaws.{SweepIsRight, SweepInsideIsRight, MergesAreRight, RightKeepsOrder, RightPassesFollow};
 
 /// Sweeps are right.
 pub fn sweeps_are_right<Key, Body, Attr, Saved, Aux, Loc, V>()
     ensures of_a_block { (behaviour : Behaviour (record { Key = Key; Body = Body; Attr = Attr; Saved = Saved; Aux = Aux; Loc = Loc })) (gives : Interpretation (record { Key = Key; Body = Body; Attr = Attr; Saved = Saved; Aux = Aux; Loc = Loc }) V) → SweepIsRight behaviour gives }
-    ensures of_a_root { (behaviour : Behaviour (record { Key = Key; Body = Body; Attr = Attr; Saved = Saved; Aux = Aux; Loc = Loc })) (gives : Interpretation (record { Key = Key; Body = Body; Attr = Attr; Saved = Saved; Aux = Aux; Loc = Loc }) V) → SweepAllIsRight behaviour gives }
+    ensures of_a_root { (behaviour : Behaviour (record { Key = Key; Body = Body; Attr = Attr; Saved = Saved; Aux = Aux; Loc = Loc })) (gives : Interpretation (record { Key = Key; Body = Body; Attr = Attr; Saved = Saved; Aux = Aux; Loc = Loc }) V) → SweepInsideIsRight behaviour gives }
 {}
 
 /// Mergings in a block are right, if equal attributes give equal values.

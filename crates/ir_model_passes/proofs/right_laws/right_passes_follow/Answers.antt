@@ -5,4 +5,4 @@ pub returns-clause-right : goal.returns-clause-right
 returns-clause-right g c = λ behaviour gives f h e keys w a b. right_then behaviour gives keys f h e w a b
 
 pub returns-clause-order : goal.returns-clause-order
-returns-clause-order g c = λ behaviour gives f h keys b w a. still_in_order behaviour f h keys w a.meaning.only_pure a.move_back b
+returns-clause-order g c = λ behaviour gives f h keys b w a. still_in_order behaviour f h keys w a.meaning.only_pure a.moves_back b

@@ -13,8 +13,8 @@ use Rattle.ir_model.specs.Dead.{Dead, dead, Sweeps}
 use Rattle.ir_model.proofs.Nests.{In-map, In-map_back, Within-fewer}
 use Rattle.ir_model.proofs.Removal.{length-same}
 use Rattle.ir_model_passes.specs.Meaning.{Interpretation, KeepsMeaning}
-use Rattle.ir_model_passes.specs.SweepAll as all
-use Rattle.ir_model_passes.specs.SweepAll.{DeadInside, GoesAlong, IsSweptAll, SweepsAll, ListedInside, ListsLive, NoneIsClosedInside}
+use Rattle.ir_model_passes.specs.SweepInside as all
+use Rattle.ir_model_passes.specs.SweepInside.{DeadInside, GoesAlong, IsSweptInside, SweepsInside, ListedInside, ListsLive, NoneIsClosedInside}
 use Rattle.ir_model_passes.proofs.Going.{same_test, TakesOut, keeps_meaning, formed, op_case, Out, child_left, fewer, inside_still, names_still}
 
 -- what isn't true is false
@@ -60,10 +60,10 @@ module _ {N : Ids} {W : Dialect} (B : Behaviour W) (f : Forest N W) where
     abbrev left_by : (Entity N → Bool) → N.Block → Option (BlockRecord N W)
     left_by is_swept c = option_map (on_ops (filter (λ o. not (is_swept (an_op o))))) (f.blocks c)
 
-    not_swept : (g : Forest N W) (count : ℕ) (s : SweepsAll B f root g count) (x : Entity N) → (IsSweptAll B f root x → ⊥) → s.is_swept x ≡ false
+    not_swept : (g : Forest N W) (count : ℕ) (s : SweepsInside B f root g count) (x : Entity N) → (IsSweptInside B f root x → ⊥) → s.is_swept x ≡ false
     not_swept g count s x out = not_true (s.is_swept x) (λ e. out ((s.decides x).0 e))
 
-    pub all_takes : (g : Forest N W) (count : ℕ) → SweepsAll B f root g count → TakesOut f D g
+    pub all_takes : (g : Forest N W) (count : ℕ) → SweepsInside B f root g count → TakesOut f D g
     all_takes g count s = record {
       is_gone = λ o. s.is_swept (an_op o);
       dead_gone = λ o d. (s.decides (an_op o)).1 (o, d, itself);
@@ -80,14 +80,14 @@ module _ {N : Ids} {W : Dialect} (B : Behaviour W) (f : Forest N W) where
     all_pure o (all.dead here is_pure goes) = is_pure
 
     -- what names a definition that is swept is swept
-    users_swept : (p user : N.Op) (d : Named N) → D p → In d (names_of f user) → Inside f (an_op p) (owner N d) → IsSweptAll B f root (an_op user)
+    users_swept : (p user : N.Op) (d : Named N) → D p → In d (names_of f user) → Inside f (an_op p) (owner N d) → IsSweptInside B f root (an_op user)
     users_swept p user d (all.dead here is_pure goes) h i = elim (goes user d h i) [
       | all.inside_it v ↦ (p, all.dead here is_pure goes, v)
       | all.inside_dead {p = q} e v ↦ (q, e, v)
     ]
 
-    module _ (g : Forest N W) (count : ℕ) (s : SweepsAll B f root g count) where
-      pub all_one_outcome : (h : Forest N W) (other : ℕ) → SweepsAll B f root h other → (h ≡ g) × (other ≡ count)
+    module _ (g : Forest N W) (count : ℕ) (s : SweepsInside B f root g count) where
+      pub all_one_outcome : (h : Forest N W) (other : ℕ) → SweepsInside B f root h other → (h ≡ g) × (other ≡ count)
       all_one_outcome h other t = (
         λ i. record {
           ops = fun_ext (λ o. t.ops o ∙ ap (λ p. cond (p (an_op o)) None (f.ops o)) one_test ∙ sym (s.ops o)) i;
@@ -126,7 +126,7 @@ module _ {N : Ids} {W : Dialect} (B : Behaviour W) (f : Forest N W) where
           by (Some r) h = refl
 
       pub all_none_left : (live : List (Entity N)) → ListsLive f live → NoneIsClosedInside B root g
-      all_none_left live lists o here is_pure closed = decided (IsSweptAll B f root) live (λ known. was.1 (all.dead was.0 pure_before (goes known)))
+      all_none_left live lists o here is_pure closed = decided (IsSweptInside B f root) live (λ known. was.1 (all.dead was.0 pure_before (goes known)))
         where
           was : ListedInside f root o × (D o → ⊥)
           was = listed_was o here
@@ -137,7 +137,7 @@ module _ {N : Ids} {W : Dialect} (B : Behaviour W) (f : Forest N W) where
             | inr kept ↦ subst (λ m. option_map_or (λ (q : OpRecord N W). B.op_impls q.kind pure_interface) m false ≡ true) kept.1 is_pure
           ]
 
-          goes : ((u : Entity N) → In u live → IsSweptAll B f root u ⊎ (IsSweptAll B f root u → ⊥)) → (user : N.Op) (d : Named N) → In d (names_of f user) → Inside f (an_op o) (owner N d) → GoesAlong B f root o user
+          goes : ((u : Entity N) → In u live → IsSweptInside B f root u ⊎ (IsSweptInside B f root u → ⊥)) → (user : N.Op) (d : Named N) → In d (names_of f user) → Inside f (an_op o) (owner N d) → GoesAlong B f root o user
           goes known user d named i = elim (known (an_op user) (lists (an_op user) (names_live user d named))) [
             | inl sw ↦ all.inside_dead {p = sw.0} sw.1 sw.2
             | inr out ↦ (

@@ -14,8 +14,8 @@ use Rattle.ir_model.proofs.Keeps.{list_of-map}
 use Rattle.ir_model.proofs.Filters.{In-filter, In-kept}
 use Rattle.ir_model.proofs.KeepsErase.{gone_or_out}
 use Rattle.ir_model.proofs.Decided.{Decided, says, holds, says_true, instead, both, bit_so, some}
-use Rattle.ir_model_passes.specs.SweepAll.{ListsLive}
-use Rattle.ir_model_passes.specs.Unreached.{IsUnreached, GoesUnreached, DropsUnreached, DropsSome, none_dropped, uses_dropped, block_erased}
+use Rattle.ir_model_passes.specs.SweepInside.{ListsLive}
+use Rattle.ir_model_passes.specs.Unreached.{IsUnreached, GoesUnreached, RemovesUnreached, RemovesSome, none_removed, uses_dropped, block_erased}
 use Rattle.ir_model_passes.proofs.Going.{filter_same, same_test}
 use Rattle.ir_model_passes.proofs.Preorder.{all_pass}
 use Rattle.ir_model_passes.proofs.BlockSweeps.{both_kept, or_left, or_right, one_or_other}
@@ -27,7 +27,7 @@ module _ {N : Ids} {W : Dialect} (L : Lawful N) (f : Forest N W) (region : N.Reg
   TakenBy gone x = (b : N.Block) × IsTrue (gone b) × Inside f (a_block b) x
 
   -- some unreached blocks are gone; what is inside unreached ones may have lost its uses; all else is as it was
-  pub record Dropped (g : Forest N W) : Type 0 where
+  pub record Removed (g : Forest N W) : Type 0 where
     pub gone : N.Block → Bool
     pub unreached : (b : N.Block) → IsTrue (gone b) → IsUnreached f region b
     pub ops_gone : (o : N.Op) → TakenBy gone (an_op o) → g.ops o ≡ None
@@ -38,7 +38,7 @@ module _ {N : Ids} {W : Dialect} (L : Lawful N) (f : Forest N W) (region : N.Reg
     pub regions_gone : (r : N.Region) → TakenBy gone (a_region r) → g.regions r ≡ None
     pub regions_left : (r : N.Region) → (TakenBy gone (a_region r) → ⊥) → g.regions r ≡ option_map (filter (λ b. not (gone b))) (f.regions r)
 
-  nothing_yet : Dropped f
+  nothing_yet : Removed f
   nothing_yet = record {
     gone = λ b. false;
     unreached = λ b e. absurd cc;
@@ -58,7 +58,7 @@ module _ {N : Ids} {W : Dialect} (L : Lawful N) (f : Forest N W) (region : N.Reg
   listed_live : (b : N.Block) → In b (blocks_of f region) → In {A = Entity N} (a_block b) live
   listed_live b h = lists (a_block b) (w.nested.live (a_block b) (a_region region) (In-map a_block b (blocks_of f region) h))
 
-  module _ (g : Forest N W) (s : Dropped g) where
+  module _ (g : Forest N W) (s : Removed g) where
     abbrev T : Entity N → Type 0
     T x = TakenBy s.gone x
 
@@ -128,7 +128,7 @@ module _ {N : Ids} {W : Dialect} (L : Lawful N) (f : Forest N W) (region : N.Reg
 
     -- ## Uses go
 
-    pub uses_go : (h : Forest N W) (b : N.Block) → IsUnreached f region b → DropsUses g (a_block b) h → Dropped h
+    pub uses_go : (h : Forest N W) (b : N.Block) → IsUnreached f region b → DropsUses g (a_block b) h → Removed h
     uses_go h b un drops = record {
       gone = s.gone;
       unreached = s.unreached;
@@ -182,7 +182,7 @@ module _ {N : Ids} {W : Dialect} (L : Lawful N) (f : Forest N W) (region : N.Reg
       stays_none then was drops none (inl e) k = e
       stays_none then was drops none (inr e) k = e.1 ∙ ap drops k ∙ none
 
-      pub block_goes : Dropped h
+      pub block_goes : Removed h
       block_goes = record {
         gone = now;
         unreached = λ c e. elim (one_or_other (s.gone c) (N.same_block c b) e) [ inl k ↦ s.unreached c k | inr k ↦ subst (IsUnreached f region) (sym ((L.blocks c b).0 k)) un ];
@@ -246,8 +246,8 @@ module _ {N : Ids} {W : Dialect} (L : Lawful N) (f : Forest N W) (region : N.Reg
           by None e = refl
           by (Some bs) e = ap (λ cs. Some cs) (filter_same _ _ bs (λ b k. ap not (one_test b (subst (λ m. In b (list_of (λ (q : List N.Block). q) m)) (sym e) k))))
 
-      pub drops_all : DropsUnreached f region g
-      drops_all = record {
+      pub removes_all : RemovesUnreached f region g
+      removes_all = record {
         is_gone = λ x. says (gone_so x);
         decides = λ x. (holds (gone_so x), says_true (gone_so x));
         ops = λ o. by_test (an_op o) (g.ops o) (f.ops o) (s.ops_gone o) (s.ops_left o);
@@ -255,10 +255,10 @@ module _ {N : Ids} {W : Dialect} (L : Lawful N) (f : Forest N W) (region : N.Reg
         regions = λ r. by_test (a_region r) (g.regions r) _ (s.regions_gone r) (λ n. s.regions_left r (λ t. n (goes (a_region r) t)) ∙ same_lists r (λ t. n (goes (a_region r) t)));
       }
 
-  dropped_so : (g : Forest N W) → DropsSome f region g → Dropped g
-  dropped_so g none_dropped = nothing_yet
-  dropped_so g (uses_dropped {g = e} b more un drops) = uses_go e (dropped_so e more) g b un drops
-  dropped_so g (block_erased {g = e} b more un removes) = block_goes e (dropped_so e more) g b un removes
+  removed_so : (g : Forest N W) → RemovesSome f region g → Removed g
+  removed_so g none_removed = nothing_yet
+  removed_so g (uses_dropped {g = e} b more un drops) = uses_go e (removed_so e more) g b un drops
+  removed_so g (block_erased {g = e} b more un removes) = block_goes e (removed_so e more) g b un removes
 
-  pub steps_drop : (g : Forest N W) → DropsSome f region g → ((b : N.Block) → In b (blocks_of g region) → IsUnreached f region b → ⊥) → DropsUnreached f region g
-  steps_drop g some none = drops_all g (dropped_so g some) none
+  pub steps_remove_unreached : (g : Forest N W) → RemovesSome f region g → ((b : N.Block) → In b (blocks_of g region) → IsUnreached f region b → ⊥) → RemovesUnreached f region g
+  steps_remove_unreached g some none = removes_all g (removed_so g some) none

@@ -12,7 +12,7 @@ use Rattle.ir_model.proofs.Keeps.{Distinct-unmap}
 use Rattle.ir_model_passes.specs.Meaning.{SameAttributes, named_values, result_types}
 use Rattle.ir_model_passes.specs.Merging.{StandsBefore, redirect_results, Alike, MergesOne, MergesSome, none_merges, one_merges, NoneAlike, Merges}
 use Rattle.ir_model_passes.specs.InOrder.{InOrder, LeavesInOrder}
-use Rattle.ir_model_passes.specs.OnePass.{OnePass, at_end, keeps_it, merges_it}
+use Rattle.ir_model_passes.specs.FrontToBack.{FrontToBack, at_end, keeps_it, merges_it}
 use Rattle.ir_model_passes.proofs.Merged.{one_formed, list_left}
 use Rattle.ir_model_passes.proofs.InOrder.{leaves_in_order}
 use Rattle.ir_model_passes.proofs.Preorder.{all_pass}
@@ -108,7 +108,7 @@ module _ {N : Ids} {W : Dialect} (L : Lawful N) (B : Behaviour W) (same : SameAt
         in_both x y (z ∷ zs) (inr h) = let more = in_both x y zs h in (inr more.0, inr more.1)
 
   one_way : (start f g : Forest N W) (kept rest : List N.Op) (k n : ℕ) → WellFormed f keys → InOrder f b → ops_of f b ≡ kept ++ rest → NoneAlikeIn f kept → MergesSome B same b start f k
-      → OnePass B same b f kept rest g n → MergesSome B same b start g (k + n) × NoneAlike B same b g
+      → FrontToBack B same b f kept rest g n → MergesSome B same b start g (k + n) × NoneAlike B same b g
   one_way start f g kept rest k n w order list none some at_end = (
     subst (MergesSome B same b start f) (let e : k ≡ k + 0 = omega arith in e) some,
     λ o p before alike. none o p (subst (StandsBefore o p) (list ∙ append_none kept) before) alike,
@@ -125,8 +125,8 @@ module _ {N : Ids} {W : Dialect} (L : Lawful N) (B : Behaviour W) (same : SameAt
       (list_now f e kept rest w m order place) (still_none f e kept rest w m order place none) (one_merges some m) more in
       (subst (MergesSome B same b start g) (let s : suc k + n ≡ k + suc n = omega arith in s) step.0, step.1)
 
-  pub one_pass : (f g : Forest N W) (n : ℕ) → WellFormed f keys → InOrder f b → OnePass B same b f [] (ops_of f b) g n → Merges B same b f g n
-  one_pass f g n w order pass =
+  pub front_to_back : (f g : Forest N W) (n : ℕ) → WellFormed f keys → InOrder f b → FrontToBack B same b f [] (ops_of f b) g n → Merges B same b f g n
+  front_to_back f g n w order pass =
       let done = one_way f f g [] (ops_of f b) 0 n w order refl (λ o p before alike. before) none_merges pass in
       record { steps = subst (MergesSome B same b f g) (let e : 0 + n ≡ n = omega arith in e) done.0; none_alike = done.1 }
 
@@ -175,7 +175,7 @@ module _ {N : Ids} {W : Dialect} (L : Lawful N) (B : Behaviour W) (same : SameAt
         (subst (λ x. Removes (redirect_results f x n.earlier) (an_op x) g) l (subst (λ x. Removes (redirect_results f m.later x) (an_op m.later) g) e m.removes))
 
     one_outcome : (f g h : Forest N W) (kept rest : List N.Op) (n k : ℕ) → WellFormed f keys → InOrder f b → ops_of f b ≡ kept ++ rest → NoneAlikeIn f kept
-        → OnePass B same b f kept rest g n → OnePass B same b f kept rest h k → (h ≡ g) × (k ≡ n)
+        → FrontToBack B same b f kept rest g n → FrontToBack B same b f kept rest h k → (h ≡ g) × (k ≡ n)
     one_outcome f g h kept rest n k w order list none at_end at_end = (refl, refl)
     one_outcome f g h kept _ n k w order list none (keeps_it {rest = rest} o apart more) (keeps_it p away others) =
         one_outcome f g h (kept ++ o ∷ []) rest n k w order (list ∙ sym (append_assoc kept (o ∷ []) rest))
@@ -190,8 +190,8 @@ module _ {N : Ids} {W : Dialect} (L : Lawful N) (B : Behaviour W) (same : SameAt
         let partner = one_partner f kept o m.earlier l.earlier none here there (subst (λ x. Alike B same f m.earlier x) is m.alike) (subst (λ x. Alike B same f l.earlier x) was l.alike) in
         let after : d ≡ e = same_after f e d m l partner (is ∙ sym was) in
         let more_so = one_outcome e g h kept rest n k (one_formed L B same f keys b e w m) (leaves f e kept rest w m order place).in_order
-        (list_now f e kept rest w m order place) (still_none f e kept rest w m order place none) more (subst (λ x. OnePass B same b x kept rest h k) after others) in
+        (list_now f e kept rest w m order place) (still_none f e kept rest w m order place none) more (subst (λ x. FrontToBack B same b x kept rest h k) after others) in
         (more_so.0, ap suc more_so.1)
 
-    pub one_pass_is_one : (f g h : Forest N W) (n k : ℕ) → WellFormed f keys → InOrder f b → OnePass B same b f [] (ops_of f b) g n → OnePass B same b f [] (ops_of f b) h k → (h ≡ g) × (k ≡ n)
-    one_pass_is_one f g h n k w order first second = one_outcome f g h [] (ops_of f b) n k w order refl (λ o p before alike. before) first second
+    pub front_to_back_is_one : (f g h : Forest N W) (n k : ℕ) → WellFormed f keys → InOrder f b → FrontToBack B same b f [] (ops_of f b) g n → FrontToBack B same b f [] (ops_of f b) h k → (h ≡ g) × (k ≡ n)
+    front_to_back_is_one f g h n k w order first second = one_outcome f g h [] (ops_of f b) n k w order refl (λ o p before alike. before) first second

@@ -1,5 +1,5 @@
-use Rattle.ir_model_passes.proofs.SweptAll.{all_one_outcome, all_formed, all_none_left}
-use Rattle.ir_model_passes.proofs.sweep_laws.sweep_all_is_one.Goals as goal
+use Rattle.ir_model_passes.proofs.SweptInside.{all_one_outcome, all_formed, all_none_left}
+use Rattle.ir_model_passes.proofs.sweep_laws.sweep_inside_is_one.Goals as goal
 
 pub returns : goal.returns
 returns g c = λ behaviour f h keys count root w s. record {
