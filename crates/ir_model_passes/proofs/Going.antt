@@ -3,13 +3,13 @@ use mathlib.Core.Path.{◌≡◌, refl, sym, ap, ◌∙◌, subst}
 use Rattle.std.proofs.Common.{ℕ, ◌⊎◌, inl, inr, Bool, true, false, not, cond, Option, Some, None, List, [], ◌∷◌, ◌++◌, map, is_some, IsSome}
 use Rattle.std.specs.Prelude.{IsTrue}
 use Rattle.std.specs.List.{filter}
-use Rattle.std.specs.Option.{option_map}
+use Rattle.std.specs.Option.{option_map, option_map_or}
 use Rattle.ir_model.specs.Ids.{Ids, Distinct}
 use Rattle.ir_model.specs.Forest.{Dialect, Behaviour, Definer, of_op, of_block, Entity, an_op, a_block, a_region, Definition, OpRecord, BlockRecord, Forest, Value, Operand, Successor, Named, a_value, the_block, definer_entity, owner}
 use Rattle.ir_model.specs.Nesting.{In, Within, itself, below, list_of, children, Inside, IsLive, IsLiveNamed, Nested, WellFormed, use_numbers_of, names_of, regions_of, ops_of, blocks_of, definitions_of}
 use Rattle.ir_model.specs.Changes.{on_ops}
 use Rattle.ir_model.specs.BlockGraph.{implements, pure_interface}
-use Rattle.ir_model.proofs.Nests.{In-map, In-map_back, Distinct-map, NoCycle-fewer, OneList-fewer}
+use Rattle.ir_model.proofs.Nests.{In-map, In-map_back, Distinct-map, NoCycle-fewer, OneList-fewer, Within-trans}
 use Rattle.ir_model.proofs.Keeps.{list_of-map, is_some-map, Distinct-unmap}
 use Rattle.ir_model.proofs.KeepsErase.{gone_or_out}
 use Rattle.ir_model.proofs.Filters.{In-filter, In-kept, Distinct-filter}
@@ -159,6 +159,18 @@ module _ {N : Ids} {W : Dialect} (f : Forest N W) (D : N.Op → Type 0) (g : For
 
   -- ## What stays sees the same
 
+  pub sees_the_same : (B : Behaviour W) {V : Type 0} (gives : Interpretation W V) (a : Value N → V) → Consistent B gives a f → SeesTheSame B gives f g a
+  sees_the_same B gives a was = record {
+    consistent = λ o r place d e plain at. elim (op_case o) [
+      | inl gone ↦ absurd (none_is_not_some r (sym gone ∙ e))
+      | inr kept ↦ was o r place d (sym kept.1 ∙ e) plain at
+    ];
+    values = λ o live. elim (op_case o) [
+      | inl gone ↦ absurd (let k : false ≡ true = sym (ap is_some gone) ∙ live in cc)
+      | inr kept ↦ ap (λ m. map (λ (p : Operand N). a p.value) (list_of (λ (q : OpRecord N W). q.operands) m)) kept.1
+    ];
+  }
+
   module _ (B : Behaviour W) (pures : (o : N.Op) → D o → IsTrue (implements B f pure_interface o)) (n : Nested f) where
     -- where a block stays, those of its operations that are no dead ones are there, and the dead ones are not
     there : (c : N.Block) (o : N.Op) → Out (a_block c) → In o (ops_of f c) → not (s.is_gone o) ≡ is_some (g.ops o)
@@ -189,6 +201,18 @@ module _ {N : Ids} {W : Dialect} (f : Forest N W) (D : N.Op → Type 0) (g : For
             = filter_same _ _ q.ops (λ o h. there c o out (subst (λ m. In o (list_of (λ (b : BlockRecord N W). b.ops) m)) (sym e) h)) in
             (q, e, same ∙ ap (λ os. record q { ops = os }) lists)
 
+    taken_gone : (x : Entity N) → Taken f D x → IsLive g x → ⊥
+    taken_gone (an_op o) t live = (let k : false ≡ true = sym (ap is_some (s.ops_gone o t)) ∙ live in cc)
+    taken_gone (a_block c) t live = (let k : false ≡ true = sym (ap is_some (s.blocks_gone c t)) ∙ live in cc)
+    taken_gone (a_region r) t live = (let k : false ≡ true = sym (ap is_some (s.regions_gone r t)) ∙ live in cc)
+
+    -- a pure operation that is gone was taken
+    went : (p : N.Op) → IsTrue (implements B f pure_interface p) → g.ops p ≡ None → Out (an_op p) → ⊥
+    went p is_pure gone out =
+        let none : f.ops p ≡ None = sym (s.ops_left p out) ∙ gone in
+        let k : false ≡ true = sym (ap (λ m. option_map_or (λ (q : OpRecord N W). B.op_impls q.kind pure_interface) m false) none) ∙ is_pure in
+        cc
+
     pub only_pure : OnlyPureGo B f g
     only_pure = record {
       stays = λ x live alone. live_out x (λ sw. alone (sw.0, pures sw.0 sw.1, s.ops_gone sw.0 (sw.0, sw.1, itself), sw.2)) live;
@@ -201,22 +225,11 @@ module _ {N : Ids} {W : Dialect} (f : Forest N W) (D : N.Op → Type 0) (g : For
         | inl gone ↦ absurd (none_is_not_some bs (sym gone ∙ e))
         | inr kept ↦ sym kept.1 ∙ e
       ];
-    }
-
-    pub sees_the_same : {V : Type 0} (gives : Interpretation W V) (a : Value N → V) → Consistent B gives a f → SeesTheSame B gives f g a
-    sees_the_same gives a was = record {
-      consistent = λ o r place d e plain at. elim (op_case o) [
-        | inl gone ↦ absurd (none_is_not_some r (sym gone ∙ e))
-        | inr kept ↦ was o r place d (sym kept.1 ∙ e) plain at
-      ];
-      values = λ o live. elim (op_case o) [
-        | inl gone ↦ absurd (let k : false ≡ true = sym (ap is_some gone) ∙ live in cc)
-        | inr kept ↦ ap (λ m. map (λ (p : Operand N). a p.value) (list_of (λ (q : OpRecord N W). q.operands) m)) kept.1
-      ];
+      goes = λ x w live. went w.0 w.1 w.2 (λ t. taken_gone x (t.0, t.1, Within-trans (children f) (children f) (an_op t.0) (an_op w.0) x t.2 w.3) live);
     }
 
     pub keeps_meaning : {V : Type 0} (gives : Interpretation W V) → KeepsMeaning B gives f g
-    keeps_meaning gives = record { only_pure = only_pure; same = sees_the_same gives }
+    keeps_meaning gives = record { only_pure = only_pure; values = sees_the_same B gives }
 
   -- ## What stays is well formed
 

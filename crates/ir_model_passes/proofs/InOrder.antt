@@ -16,22 +16,7 @@ use Rattle.ir_model_passes.specs.Merging.{StandsBefore, MergesOne, MovesBack, Op
 use Rattle.ir_model_passes.specs.InOrder.{InOrder, EachIsSeen, SeesEarlier, LeavesInOrder}
 use Rattle.ir_model_passes.proofs.Preorder.{is_there}
 use Rattle.ir_model_passes.proofs.Merged.{moved, moved_case, pairs, given_so, before_in, before_differs, list_left, op_case, op_was, of_op_one}
-use Rattle.ir_model_passes.proofs.Merges.{before_then}
-
--- where both pass the test, they stand as they stood
-pub before_still : {A : Type 0} (t : A → Bool) (x y : A) (xs : List A) → t x ≡ true → t y ≡ true → StandsBefore x y xs → StandsBefore x y (filter t xs)
-before_still t x y [] e k h = h
-before_still {A = A} t x y (z ∷ zs) e k h = by (t z) refl (before_still t x y zs e k) h
-  where
-    by : (s : Bool) → t z ≡ s → (StandsBefore x y zs → StandsBefore x y (filter t zs)) → StandsBefore x y (z ∷ zs) → StandsBefore x y (cond s (z ∷ filter t zs) (filter t zs))
-    by true q more (inl i) = inl (i.0, In-kept t y zs i.1 k)
-    by true q more (inr i) = inr (more i)
-    by false q more (inl i) = absurd (let no : true ≡ false = sym e ∙ ap t i.0 ∙ q in cc)
-    by false q more (inr i) = more i
-
--- of two neither stands before and behind the other
-one_way : {A : Type 0} (x y : A) (xs : List A) → Distinct xs → StandsBefore x y xs → StandsBefore y x xs → ⊥
-one_way x y xs d h k = before_differs x x xs d (before_then x y x xs d h k) refl
+use Rattle.ir_model_passes.proofs.Merges.{before_kept, before_then}
 
 map_fixed : {A : Type 0} (h : A → A) (xs : List A) → ((x : A) → In x xs → h x ≡ x) → map h xs ≡ xs
 map_fixed h [] e = refl
@@ -59,8 +44,7 @@ module _ {N : Ids} {W : Dialect} (L : Lawful N) (B : Behaviour W) (same : SameAt
       unmoved : (p : Operand N) → In p (operands_of f o) → move p ≡ p
       unmoved p here = elim (moved_case L (of_op m.later) (of_op m.earlier) (pairs L B same f keys b g w m) (given_so L B same f keys b g w m) p) [
         | inl k ↦ k
-        | inr k ↦ absurd (one_way o m.later (ops_of f b) once before
-            (order o m.later p (before_in o m.later (ops_of f b) before).0 (before_in o m.later (ops_of f b) before).1 here k.0))
+        | inr k ↦ absurd (order o m.later p here k.0 before)
       ]
 
       by : (k : Option (OpRecord N W)) → f.ops o ≡ k → option_map (on_operands (map move)) k ≡ k
@@ -68,35 +52,24 @@ module _ {N : Ids} {W : Dialect} (L : Lawful N) (B : Behaviour W) (same : SameAt
       by (Some r) e = ap (λ ps. Some (record r { operands = ps })) (map_fixed move r.operands (λ p h. unmoved p (subst (λ k. In p (list_of (λ (x : OpRecord N W). x.operands) k)) (sym e) h)))
 
   in_order : InOrder g b
-  in_order user o p user_in o_in named given = subst (StandsBefore o user) (sym lists) (before_still (λ x. not (N.same_op x m.later)) o user (ops_of f b) o_was.1 user_was.1 stood)
+  in_order user o p named given before = elim (moved_case L (of_op m.later) (of_op m.earlier) (pairs L B same f keys b g w m) (given_so L B same f keys b g w m) at.0) [
+    | inl k ↦ order user o at.0 at.1 (ap (λ (z : Operand N). z.value.definer) (sym (at.2 ∙ k)) ∙ given) stood
+    | inr k ↦ (
+        let one : o ≡ m.earlier = of_op_one (sym given ∙ ap (λ (z : Operand N). z.value.definer) at.2 ∙ k.1) in
+        order user m.later at.0 at.1 k.0 (before_then user m.earlier m.later (ops_of f b) once (subst (λ z. StandsBefore user z (ops_of f b)) one stood) m.in_order))
+  ]
     where
-      lists : ops_of g b ≡ filter (λ x. not (N.same_op x m.later)) (ops_of f b)
-      lists = list_left L B same f keys b g w m b
+      stood : StandsBefore user o (ops_of f b)
+      stood = before_kept (λ x. not (N.same_op x m.later)) user o (ops_of f b) (subst (StandsBefore user o) (list_left L B same f keys b g w m b) before)
 
-      user_was : In user (ops_of f b) × (not (N.same_op user m.later) ≡ true)
-      user_was = In-filter (λ x. not (N.same_op x m.later)) user (ops_of f b) (subst (In user) lists user_in)
-
-      o_was : In o (ops_of f b) × (not (N.same_op o m.later) ≡ true)
-      o_was = In-filter (λ x. not (N.same_op x m.later)) o (ops_of f b) (subst (In o) lists o_in)
-
-      some_record : {X : Type 0} (of : OpRecord N W → List X) (k : Option (OpRecord N W)) (x : X) → In x (list_of of k) → IsSome k
-      some_record of None x h = elim h [ ]
-      some_record of (Some r) x h = refl
+      some_record : (k : Option (OpRecord N W)) → In p (list_of (λ (x : OpRecord N W). x.operands) k) → IsSome k
+      some_record None h = elim h [ ]
+      some_record (Some r) h = refl
 
       at : (q : Operand N) × In q (operands_of f user) × (p ≡ move q)
       at =
-          let there = is_there (g.ops user) (some_record (λ (x : OpRecord N W). x.operands) (g.ops user) p named) in
+          let there = is_there (g.ops user) (some_record (g.ops user) named) in
           In-map_back move p (operands_of f user) (subst (In p) (operands_now user there.0 there.1) named)
-
-      stood : StandsBefore o user (ops_of f b)
-      stood = elim (moved_case L (of_op m.later) (of_op m.earlier) (pairs L B same f keys b g w m) (given_so L B same f keys b g w m) at.0) [
-        | inl k ↦ order user o at.0 user_was.0 o_was.0 at.1 (ap (λ (z : Operand N). z.value.definer) (sym (at.2 ∙ k)) ∙ given)
-        | inr k ↦ (
-            let one : m.earlier ≡ o = of_op_one (sym k.1 ∙ ap (λ (z : Operand N). z.value.definer) (sym at.2) ∙ given) in
-            let later_in = (before_in m.earlier m.later (ops_of f b) m.in_order).1 in
-            subst (λ z. StandsBefore z user (ops_of f b)) one
-            (before_then m.earlier m.later user (ops_of f b) once m.in_order (order user m.later at.0 user_was.0 later_in at.1 k.0)))
-      ]
 
   pub leaves_in_order : LeavesInOrder B same f b g m
   leaves_in_order = record { in_order = in_order; front = front }

@@ -236,8 +236,17 @@ module _ {N : Ids} {W : Dialect} (L : Lawful N) (B : Behaviour W) (f : Forest N 
     ops = λ o r e. (let was = record_was o r e in (was.0, was.1, subst (SameButNamed was.0) (sym was.2) (record { rest = refl; uses = map_twice (λ (p : Operand N). p.use_number) (moved ps) was.0.operands ∙ map_same _ _ (moved_number ps) was.0.operands })));
     blocks = λ c r e. (let was = sym (ap (λ (k : N.Block → Option (BlockRecord N W)). k c) (each_blocks ps f)) ∙ e in (r, was, ap (λ os. record r { ops = os }) (sym (all_pass (λ o. is_some (replaced.ops o)) r.ops (listed c r was)))));
     regions = λ c bs e. sym (ap (λ (k : N.Region → Option (List N.Block)). k c) (each_regions ps f)) ∙ e;
+    goes = λ x z live. still_there z.0 z.1 z.2;
   }
     where
+      -- a pure operation is there as it was
+      still_there : (p : N.Op) → IsTrue (implements B f pure_interface p) → replaced.ops p ≡ None → ⊥
+      still_there p is_pure gone = by (f.ops p) is_pure (sym (each_ops ps f p) ∙ gone)
+        where
+          by : (m : Option (OpRecord N W)) → option_map_or (λ (q : OpRecord N W). B.op_impls q.kind pure_interface) m false ≡ true → option_map (on_operands (map (moved ps))) m ≡ None → ⊥
+          by None e k = cc
+          by (Some r) e k = cc
+
       stays : (x : Entity N) → IsLive f x → (GoesWithPure B f replaced x → ⊥) → IsLive replaced x
       stays (an_op o) live out = ap is_some (each_ops ps f o) ∙ is_some-map (on_operands (map (moved ps))) (f.ops o) ∙ live
       stays (a_block c) live out = ap (λ (k : N.Block → Option (BlockRecord N W)). is_some (k c)) (each_blocks ps f) ∙ live
@@ -248,7 +257,7 @@ module _ {N : Ids} {W : Dialect} (L : Lawful N) (B : Behaviour W) (f : Forest N 
           ∙ n.live (an_op o) (a_block c) (subst (λ m. In {A = Entity N} (an_op o) (map an_op (list_of (λ (q : BlockRecord N W). q.ops) m))) (sym e) (In-map {B = Entity N} an_op o r.ops h))
 
   pub replaced_keeps : {V : Type 0} (gives : Interpretation W V) → ((a : Value N → V) → Consistent B gives a f → (q : Value N × Value N) → In q ps → a q.0 ≡ a q.1) → KeepsMeaning B gives f replaced
-  replaced_keeps gives agrees = record { only_pure = replaced_only; same = seen }
+  replaced_keeps gives agrees = record { only_pure = replaced_only; values = seen }
     where
       still : (a : Value N → _) → Consistent B gives a f → (xs : List (Operand N)) → map (λ (p : Operand N). a p.value) (map (moved ps) xs) ≡ map (λ (p : Operand N). a p.value) xs
       still a was xs = map_twice (λ (p : Operand N). a p.value) (moved ps) xs ∙ map_same _ _ (moved_value L a ps (agrees a was)) xs
@@ -389,12 +398,38 @@ module _ {N : Ids} {W : Dialect} (L : Lawful N) (B : Behaviour W) (same : SameAt
   is_pure : IsTrue (implements B f pure_interface m.later)
   is_pure = ap (λ k. option_map_or (λ (q : OpRecord N W). B.op_impls q.kind pure_interface) k false) m.alike.other_is ∙ m.alike.other_plain.is_pure
 
-  only_pure : OnlyPureGo B f g
+  -- a pure operation that is gone is the later one, in which there is nothing else
+  op_went : (p : N.Op) → IsTrue (implements B f pure_interface p) → g.ops p ≡ None → p ≡ m.later
+  op_went p pure_one gone = elim (op_case p) [
+    | inl k ↦ k.0
+    | inr k ↦ by (f.ops p) pure_one (sym k.2 ∙ gone)
+  ]
+    where
+      by : (q : Option (OpRecord N W)) → option_map_or (λ (r : OpRecord N W). B.op_impls r.kind pure_interface) q false ≡ true → option_map (on_operands (map (moved pairs))) q ≡ None → p ≡ m.later
+      by None e k = absurd cc
+      by (Some r) e k = absurd cc
+
+  alone_before : (x : Entity N) → Inside f (an_op m.later) x → x ≡ an_op m.later
+  alone_before x itself = refl
+  alone_before x (below {c = c} h v) =
+      let k : In x (children f (an_op m.later)) = subst (λ y. In x (children f y)) (alone_before c v) h in
+      let rs : regions_of f m.later ≡ [] = ap (list_of (λ (r : OpRecord N W). r.regions)) m.alike.other_is ∙ m.alike.other_plain.no_regions in
+      absurd (let n : In x (map a_region []) = subst (λ (l : List N.Region). In x (map {A = N.Region} {B = Entity N} a_region l)) rs k in n)
+
+  gone_with : {p : N.Op} (x : Entity N) → p ≡ m.later → Inside f (an_op p) x → IsLive g x → ⊥
+  gone_with x one inside live =
+      let is : x ≡ an_op m.later = alone_before x (subst (λ q. Inside f (an_op q) x) one inside) in
+      let k : IsLive g (an_op m.later) = subst (IsLive g) is live in
+      let no : false ≡ true = sym (ap is_some op_gone) ∙ k in
+      cc
+
+  pub only_pure : OnlyPureGo B f g
   only_pure = record {
     stays = λ x live apart. stays x live (λ e. apart (m.later, is_pure, op_gone, subst (λ z. Inside f (an_op m.later) z) (sym e) itself));
     ops = λ o r e. (let was = op_was o r e in (was.0, was.1, subst (SameButNamed was.0) (sym was.2) (same_but_named was.0)));
     blocks = block_was;
     regions = λ c bs e. sym (region_left c) ∙ e;
+    goes = λ x z live. gone_with x (op_went z.0 z.1 z.2) z.3 live;
   }
 
   -- ## The meaning
@@ -425,7 +460,7 @@ module _ {N : Ids} {W : Dialect} (L : Lawful N) (B : Behaviour W) (same : SameAt
     }
 
   pub one_keeps_meaning : {V : Type 0} (gives : Interpretation W V) → Respects W V same gives → KeepsMeaning B gives f g
-  one_keeps_meaning gives respects = record { only_pure = only_pure; same = sees_the_same gives respects }
+  one_keeps_meaning gives respects = record { only_pure = only_pure; values = sees_the_same gives respects }
 
   -- ## What is left is well formed
 

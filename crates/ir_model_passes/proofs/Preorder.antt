@@ -6,11 +6,11 @@ use Rattle.std.specs.List.{filter}
 use Rattle.std.specs.Option.{option_map_or}
 use Rattle.ir_model.specs.Ids.{Ids}
 use Rattle.ir_model.specs.Forest.{Dialect, Behaviour, Entity, an_op, a_block, a_region, OpRecord, BlockRecord, Forest}
-use Rattle.ir_model.specs.Nesting.{In, itself, below, list_of, children, Inside, Nested, regions_of}
+use Rattle.ir_model.specs.Nesting.{In, itself, below, list_of, children, Inside, IsLive, Nested, regions_of}
 use Rattle.ir_model.specs.Changes.{on_ops}
 use Rattle.ir_model.specs.BlockGraph.{implements, pure_interface}
 use Rattle.ir_model.proofs.Nests.{In-map, In-map_back, Within-fewer}
-use Rattle.ir_model.proofs.Filters.{In-filter}
+use Rattle.ir_model.proofs.Filters.{In-filter, In-kept}
 use Rattle.ir_model_passes.specs.Meaning.{Interpretation, OnlyPureGo, KeepsMeaning, PureHaveNoRegions, EffectsStay}
 use Rattle.ir_model_passes.proofs.Going.{none_is_not_some}
 
@@ -84,7 +84,80 @@ module _ {N : Ids} {W : Dialect} (B : Behaviour W) (f g : Forest N W) (s : OnlyP
         subst (λ m. In x (map a_block (list_of (λ (q : List N.Block). q) m))) (some.1 ∙ sym was) h)
   ]
 
+  pure_now : (o : N.Op) (r : OpRecord N W) → g.ops o ≡ Some r → IsTrue (implements B f pure_interface o) → IsTrue (implements B g pure_interface o)
+  pure_now o r e is_pure =
+      let was = s.ops o r e in
+      let kinds : r.kind ≡ was.0.kind = ap (λ (x : OpRecord N W). x.kind) was.2.rest in
+      ap (λ m. option_map_or (λ (q : OpRecord N W). B.op_impls q.kind pure_interface) m false) e ∙ ap (λ k. B.op_impls k pure_interface) kinds
+      ∙ sym (ap (λ m. option_map_or (λ (q : OpRecord N W). B.op_impls q.kind pure_interface) m false) was.1) ∙ is_pure
+
+  -- a child that is there, of what is there, is one still
+  child_still : (x y : Entity N) → IsLive g y → IsLive g x → In x (children f y) → In x (children g y)
+  child_still x (an_op o) live here k =
+      let at = is_there (g.ops o) live in
+      let was = s.ops o at.0 at.1 in
+      let same : at.0.regions ≡ was.0.regions = ap (λ (r : OpRecord N W). r.regions) was.2.rest in
+      let l : In {A = Entity N} x (map a_region was.0.regions) = subst (λ m. In x (map a_region (list_of (λ (q : OpRecord N W). q.regions) m))) was.1 k in
+      subst (λ m. In x (map a_region (list_of (λ (q : OpRecord N W). q.regions) m))) (sym at.1) (subst (λ rs. In {A = Entity N} x (map a_region rs)) (sym same) l)
+  child_still x (a_block c) live here k =
+      let at = is_there (g.blocks c) live in
+      let was = s.blocks c at.0 at.1 in
+      let l : In {A = Entity N} x (map an_op was.0.ops) = subst (λ m. In x (map an_op (list_of (λ (q : BlockRecord N W). q.ops) m))) was.1 k in
+      let o = In-map_back an_op x was.0.ops l in
+      let kept = In-map {B = Entity N} an_op o.0 (filter (λ o. is_some (g.ops o)) was.0.ops) (In-kept (λ o. is_some (g.ops o)) o.0 was.0.ops o.1 (subst (IsLive g) o.2 here)) in
+      let now : In {A = Entity N} x (map an_op at.0.ops) = subst (λ (r : BlockRecord N W). In {A = Entity N} x (map an_op r.ops)) (sym was.2) (subst (λ z. In z (map an_op (filter (λ o. is_some (g.ops o)) was.0.ops))) (sym o.2) kept) in
+      subst (λ m. In x (map an_op (list_of (λ (q : BlockRecord N W). q.ops) m))) (sym at.1) now
+  child_still x (a_region r) live here k =
+      let at = is_there (g.regions r) live in
+      subst (λ m. In x (map a_block (list_of (λ (q : List N.Block). q) m))) (s.regions r at.0 at.1 ∙ sym at.1) k
+
+  -- what has a child has a record
+  has_record : (x y : Entity N) → In x (children f y) → IsLive f y
+  has_record x (an_op o) k = by (f.ops o) k
+    where
+      by : (m : Option (OpRecord N W)) → In x (map a_region (list_of (λ (q : OpRecord N W). q.regions) m)) → IsSome m
+      by None h = elim h [ ]
+      by (Some q) h = refl
+  has_record x (a_block c) k = by (f.blocks c) k
+    where
+      by : (m : Option (BlockRecord N W)) → In x (map an_op (list_of (λ (q : BlockRecord N W). q.ops) m)) → IsSome m
+      by None h = elim h [ ]
+      by (Some q) h = refl
+  has_record x (a_region r) k = by (f.regions r) k
+    where
+      by : (m : Option (List N.Block)) → In x (map a_block (list_of (λ (q : List N.Block). q) m)) → IsSome m
+      by None h = elim h [ ]
+      by (Some q) h = refl
+
+  bit : {A : Type 0} (m : Option A) → (IsSome m → ⊥) ⊎ IsSome m
+  bit None = inl (λ e. (let k : false ≡ true = e in cc))
+  bit (Some x) = inr refl
+
+  live_or_not : (x : Entity N) → (IsLive g x → ⊥) ⊎ IsLive g x
+  live_or_not (an_op o) = bit (g.ops o)
+  live_or_not (a_block c) = bit (g.blocks c)
+  live_or_not (a_region r) = bit (g.regions r)
+
+  -- what something stands in that is there is there
+  owner_live : (x y : Entity N) → In x (children f y) → IsLive g x → IsLive g y
+  owner_live x y k here = elim (live_or_not y) [
+    | inl gone ↦ absurd (gone (s.stays y (has_record x y k) (λ z. s.goes x (z.0, z.1, z.2, below k z.3) here)))
+    | inr live ↦ live
+  ]
+
+  -- what is there lies inside what it lay inside
+  pub inside_still : (e x : Entity N) → Inside f e x → IsLive g x → Inside g e x
+  inside_still e x itself here = itself
+  inside_still e x (below {c = c} k w) here =
+      let live = owner_live x c k here in
+      below (child_still x c live here k) (inside_still e c w live)
+
   module _ (h : Forest N W) (t : OnlyPureGo B g h) where
+    live_before : (x : Entity N) → IsLive h x → IsLive g x
+    live_before (an_op o) live = let at = is_there (h.ops o) live in ap is_some (t.ops o at.0 at.1).1
+    live_before (a_block c) live = let at = is_there (h.blocks c) live in ap is_some (t.blocks c at.0 at.1).1
+    live_before (a_region r) live = let at = is_there (h.regions r) live in ap is_some (t.regions r at.0 at.1)
+
     gone_after : (o : N.Op) → g.ops o ≡ None → h.ops o ≡ None
     gone_after o e = elim (there_or_not (h.ops o)) [
       | inl none ↦ none
@@ -109,15 +182,19 @@ module _ {N : Ids} {W : Dialect} (B : Behaviour W) (f g : Forest N W) (s : OnlyP
       ops = λ o r e. let a = t.ops o r e in let b = s.ops o a.0 a.1 in (b.0, b.1, record { rest = a.2.rest ∙ b.2.rest; uses = a.2.uses ∙ b.2.uses });
       blocks = lists_of;
       regions = λ c bs e. s.regions c bs (t.regions c bs e);
+      goes = λ x z live. elim (there_or_not (g.ops z.0)) [
+        | inl none ↦ s.goes x (z.0, z.1, none, z.3) (live_before x live)
+        | inr some ↦ t.goes x (z.0, pure_now z.0 some.0 some.1 z.1, z.2, inside_still (an_op z.0) x z.3 (live_before x live)) live
+      ];
     }
 
 module _ {N : Ids} {W : Dialect} (B : Behaviour W) {V : Type 0} (gives : Interpretation W V) where
   pub meaning_then : (f g h : Forest N W) → KeepsMeaning B gives f g → KeepsMeaning B gives g h → KeepsMeaning B gives f h
   meaning_then f g h s t = record {
     only_pure = only_pure_then B f g s.only_pure h t.only_pure;
-    same = λ a was.
-        let first = s.same a was in
-        let second = t.same a first.consistent in
+    values = λ a was.
+        let first = s.values a was in
+        let second = t.values a first.consistent in
         record {
           consistent = second.consistent;
           values = λ o live. second.values o live ∙ first.values o (let at = is_there (h.ops o) live in ap is_some (t.only_pure.ops o at.0 at.1).1);
@@ -136,9 +213,13 @@ module _ {N : Ids} {W : Dialect} (B : Behaviour W) {V : Type 0} (gives : Interpr
             (subst (λ m. In {A = Entity N} (an_op o) (map an_op (list_of (λ (q : BlockRecord N W). q.ops) m))) (sym e) (In-map {B = Entity N} an_op o r.ops h))))),
       );
       regions = λ c bs e. e;
+      goes = λ x z live. still_pure z.0 z.1 z.2;
     };
-    same = λ a was. record { consistent = was; values = λ o live. refl };
+    values = λ a was. record { consistent = was; values = λ o live. refl };
   }
+    where
+      still_pure : (p : N.Op) → IsTrue (implements B f pure_interface p) → f.ops p ≡ None → ⊥
+      still_pure p is_pure none = (let k : false ≡ true = sym (ap (λ m. option_map_or (λ (q : OpRecord N W). B.op_impls q.kind pure_interface) m false) none) ∙ is_pure in cc)
 
 module _ {N : Ids} {W : Dialect} (B : Behaviour W) (f g : Forest N W) (none : PureHaveNoRegions B f) where
   pure_record : (m : Option (OpRecord N W)) → option_map_or (λ (q : OpRecord N W). B.op_impls q.kind pure_interface) m false ≡ true → (r : OpRecord N W) × (m ≡ Some r) × IsTrue (B.op_impls r.kind pure_interface)

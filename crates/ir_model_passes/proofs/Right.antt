@@ -7,17 +7,16 @@ use Rattle.ir_model.specs.Forest.{Dialect, Behaviour, Entity, an_op, a_block, of
 use Rattle.ir_model.specs.Nesting.{In, list_of, children, WellFormed, ops_of, operands_of}
 use Rattle.ir_model.specs.Dead.{Dead, Sweeps}
 use Rattle.ir_model.proofs.Loops.{Lawful}
-use Rattle.ir_model_passes.specs.Meaning.{SameAttributes, Interpretation, Respects, OnlyPureGo}
+use Rattle.ir_model_passes.specs.Meaning.{SameAttributes, Interpretation, Respects, OnlyPureGo, KeepsMeaning}
 use Rattle.ir_model_passes.specs.SweepInside.{DeadInside, SweepsInside}
 use Rattle.ir_model_passes.specs.Merging.{StandsBefore, MergesSome, IsGivenBefore, MovesBack, OperandsMoveBack}
 use Rattle.ir_model_passes.specs.RightPasses.{IsRight}
-use Rattle.ir_model_passes.proofs.Preorder.{meaning_then, came_from, is_there, fewer_children}
-use Rattle.ir_model.proofs.Nests.{In-map, In-map_back}
+use Rattle.ir_model_passes.proofs.Preorder.{meaning_then, meaning_stays, only_pure_then, came_from, is_there}
+use Rattle.ir_model.proofs.Nests.{In-map}
 use Rattle.ir_model.proofs.Keeps.{Distinct-unmap}
-use Rattle.ir_model.proofs.Filters.{In-filter}
 use Rattle.ir_model_passes.specs.InOrder.{InOrder}
 use Rattle.ir_model_passes.proofs.Merged.{before_in, of_op_one}
-use Rattle.ir_model_passes.proofs.InOrder.{before_still, zip_back}
+use Rattle.ir_model_passes.proofs.InOrder.{zip_back}
 use Rattle.ir_model_passes.proofs.Going.{TakesOut, op_case}
 use Rattle.ir_model_passes.proofs.SweptInside.{block_takes, all_takes, block_keeps_meaning, all_keeps_meaning, all_formed}
 use Rattle.ir_model_passes.proofs.BlockSweeps.{block_formed}
@@ -63,86 +62,67 @@ module _ {N : Ids} {W : Dialect} (B : Behaviour W) (f g : Forest N W) (s : OnlyP
         all_zip_then (MovesBack f g) (MovesBack g h) (MovesBack f h) step (operands_of f o) (operands_of g o) (operands_of h o) (a o (ap is_some (t.ops o at.0 at.1).1)) (b o live)
 
 module _ {N : Ids} {W : Dialect} (B : Behaviour W) {V : Type 0} (gives : Interpretation W V) (keys : ℕ) where
+  meaning_of : (f g : Forest N W) → IsRight B gives keys f g → KeepsMeaning B gives f g
+  meaning_of f g a = record { only_pure = a.only_pure; values = a.values }
+
+  pub right_by : (f g : Forest N W) → WellFormed g keys → KeepsMeaning B gives f g → OperandsMoveBack f g → IsRight B gives keys f g
+  right_by f g formed meaning back = record { formed = formed; only_pure = meaning.only_pure; values = meaning.values; moves_back = back }
+
+  -- what changes nothing is right
+  pub stays_right : (f : Forest N W) → WellFormed f keys → IsRight B gives keys f f
+  stays_right f w = right_by f f w (meaning_stays B gives f w.nested) (λ o live. all_zip_same (MovesBack f f) (λ p. inl refl) (operands_of f o))
+
   pub right_then : (f g h : Forest N W) → WellFormed f keys → IsRight B gives keys f g → IsRight B gives keys g h → IsRight B gives keys f h
   right_then f g h w a b = record {
     formed = b.formed;
-    meaning = meaning_then B gives f g h a.meaning b.meaning;
-    moves_back = back_then B f g a.meaning.only_pure keys w h b.meaning.only_pure a.moves_back b.moves_back;
+    only_pure = only_pure_then B f g a.only_pure h b.only_pure;
+    values = (meaning_then B gives f g h (meaning_of f g a) (meaning_of g h b)).values;
+    moves_back = back_then B f g a.only_pure keys w h b.only_pure a.moves_back b.moves_back;
   }
 
   module _ (f g : Forest N W) (w : WellFormed f keys) where
     -- where what stays is as it was, no operand moved
-    none_moved : (D : N.Op → Type 0) → TakesOut f D g → OperandsMoveBack f g
+    pub none_moved : (D : N.Op → Type 0) → TakesOut f D g → OperandsMoveBack f g
     none_moved D s o live = elim (op_case f D g s o) [
       | inl gone ↦ absurd (let k : false ≡ true = sym (ap is_some gone) ∙ live in cc)
       | inr kept ↦ subst (λ m. AllZip (MovesBack f g) (operands_of f o) (list_of (λ (r : OpRecord N W). r.operands) m)) (sym kept.1) (all_zip_same (MovesBack f g) (λ p. inl refl) (operands_of f o))
     ]
 
     pub sweep_right : (b : N.Block) (count : ℕ) → Sweeps B f b g count → IsRight B gives keys f g
-    sweep_right b count s = record {
-      formed = block_formed B f keys w b g count s;
-      meaning = block_keeps_meaning B f gives b g count w.nested s;
-      moves_back = none_moved (Dead B f b) (block_takes B f b g count s);
-    }
+    sweep_right b count s = right_by f g (block_formed B f keys w b g count s) (block_keeps_meaning B f gives b g count w.nested s) (none_moved (Dead B f b) (block_takes B f b g count s))
 
     pub sweep_inside_right : (root : Entity N) (count : ℕ) → SweepsInside B f root g count → IsRight B gives keys f g
-    sweep_inside_right root count s = record {
-      formed = all_formed B f root g count s keys w;
-      meaning = all_keeps_meaning B f root g count s gives w.nested;
-      moves_back = none_moved (DeadInside B f root) (all_takes B f root g count s);
-    }
+    sweep_inside_right root count s = right_by f g (all_formed B f root g count s keys w) (all_keeps_meaning B f root g count s gives w.nested) (none_moved (DeadInside B f root) (all_takes B f root g count s))
 
     pub merges_right : Lawful N → (same : SameAttributes W) → Respects W V same gives → (b : N.Block) (count : ℕ) → MergesSome B same b f g count → IsRight B gives keys f g
-    merges_right L same respects b count s = record {
-      formed = some_formed L B same b keys f g count w s;
-      meaning = some_keep_meaning L B same b keys gives respects f g count w s;
-      moves_back = some_move_back L B same b keys f g count w s;
-    }
+    merges_right L same respects b count s = right_by f g (some_formed L B same b keys f g count w s) (some_keep_meaning L B same b keys gives respects f g count w s) (some_move_back L B same b keys f g count w s)
 
 -- ## Blocks in order
 
 module _ {N : Ids} {W : Dialect} (B : Behaviour W) (f g : Forest N W) (keys : ℕ) (w : WellFormed f keys) (s : OnlyPureGo B f g) (back : OperandsMoveBack f g) (b : N.Block) where
-  -- what stood before something stands before it still, where both are there
-  stands_still : (o p : N.Op) → In o (ops_of g b) → In p (ops_of g b) → StandsBefore o p (ops_of f b) → StandsBefore o p (ops_of g b)
-  stands_still o p h k before = by (g.blocks b) refl h k
-    where
-      by : (m : Option (BlockRecord N W)) → g.blocks b ≡ m → In o (list_of (λ (r : BlockRecord N W). r.ops) m) → In p (list_of (λ (r : BlockRecord N W). r.ops) m) → StandsBefore o p (ops_of g b)
-      by None e i j = elim i [ ]
-      by (Some r) e i j =
-          let was = s.blocks b r e in
-          let list : ops_of f b ≡ was.0.ops = ap (list_of (λ (r : BlockRecord N W). r.ops)) was.1 in
-          let here = In-filter (λ x. is_some (g.ops x)) o was.0.ops (subst (λ (q : BlockRecord N W). In o q.ops) was.2 i) in
-          let there = In-filter (λ x. is_some (g.ops x)) p was.0.ops (subst (λ (q : BlockRecord N W). In p q.ops) was.2 j) in
-          let still = before_still (λ x. is_some (g.ops x)) o p was.0.ops here.1 there.1 (subst (StandsBefore o p) list before) in
-          subst (λ m. StandsBefore o p (list_of (λ (r : BlockRecord N W). r.ops) m)) (sym e) (subst (λ (q : BlockRecord N W). StandsBefore o p q.ops) (sym was.2) still)
-
-  -- what is listed was listed
-  listed_was : (o : N.Op) → In o (ops_of g b) → In o (ops_of f b)
-  listed_was o h =
-      let at = In-map_back an_op (an_op o) (ops_of f b) (fewer_children B f g s (an_op o) (a_block b) (In-map {B = Entity N} an_op o (ops_of g b) h)) in
-      let one : o ≡ at.0 = cc in subst (λ x. In x (ops_of f b)) (sym one) at.1
-
   there_is : (k : Option (OpRecord N W)) (p : Operand N) → In p (list_of (λ (x : OpRecord N W). x.operands) k) → IsSome k
   there_is None p h = elim h [ ]
   there_is (Some r) p h = refl
 
   pub still_in_order : InOrder f b → InOrder g b
-  still_in_order order user o p user_in o_in named given = stands_still o user o_in user_in (stood at.2)
+  still_in_order order user o p named given before = by_move at.2
     where
+      stood : StandsBefore user o (ops_of f b)
+      stood = stood_before B f g s b user o before
+
       at : (q : Operand N) × In q (operands_of f user) × MovesBack f g q p
       at = zip_back (MovesBack f g) (operands_of f user) (operands_of g user) (back user (there_is (g.ops user) p named)) p named
 
-      stood : MovesBack f g at.0 p → StandsBefore o user (ops_of f b)
-      stood (inl e) = order user o at.0 (listed_was user user_in) (listed_was o o_in) at.1 (ap (λ (z : Operand N). z.value.definer) (sym e) ∙ given)
-      stood (inr k) = by k.1.0 k.1.1 k.1.2 k.1.3 k.1.4 k.1.5
+      by_move : MovesBack f g at.0 p → ⊥
+      by_move (inl e) = order user o at.0 at.1 (ap (λ (z : Operand N). z.value.definer) (sym e) ∙ given) stood
+      by_move (inr k) = by k.1.0 k.1.1 k.1.2 k.1.3 k.1.4 k.1.5
         where
-          by : (c : N.Block) (x q : N.Op) → p.value.definer ≡ of_op x → at.0.value.definer ≡ of_op q → StandsBefore x q (ops_of f c) → StandsBefore o user (ops_of f b)
-          by c x q px atq before =
-              let one : o ≡ x = of_op_one (sym given ∙ px) in
-              let o_there : In {A = Entity N} (an_op o) (children f (a_block b)) = In-map {B = Entity N} an_op o (ops_of f b) (listed_was o o_in) in
-              let o_here : In {A = Entity N} (an_op o) (children f (a_block c)) = In-map {B = Entity N} an_op o (ops_of f c) (subst (λ z. In z (ops_of f c)) (sym one) (before_in x q (ops_of f c) before).0) in
+          by : (c : N.Block) (x q : N.Op) → p.value.definer ≡ of_op x → at.0.value.definer ≡ of_op q → StandsBefore x q (ops_of f c) → ⊥
+          by c x q px atq earlier =
+              let one : x ≡ o = of_op_one (sym px ∙ given) in
+              let o_there : In {A = Entity N} (an_op o) (children f (a_block b)) = In-map {B = Entity N} an_op o (ops_of f b) (before_in user o (ops_of f b) stood).1 in
+              let o_here : In {A = Entity N} (an_op o) (children f (a_block c)) = In-map {B = Entity N} an_op o (ops_of f c) (subst (λ z. In z (ops_of f c)) one (before_in x q (ops_of f c) earlier).0) in
               let blocks : a_block c ≡ a_block b = w.nested.one_list (an_op o) (a_block c) (a_block b) o_here o_there in
               let same : c ≡ b = cc in
-              let before_b : StandsBefore o q (ops_of f b) = subst (λ z. StandsBefore o q (ops_of f z)) same (subst (λ z. StandsBefore z q (ops_of f c)) (sym one) before) in
-              before_then o q user (ops_of f b) (Distinct-unmap an_op (ops_of f b) (w.nested.once (a_block b))) before_b
-              (order user q at.0 (listed_was user user_in) (before_in o q (ops_of f b) before_b).1 at.1 atq)
+              let earlier_here : StandsBefore o q (ops_of f b) = subst (λ z. StandsBefore o q (ops_of f z)) same (subst (λ z. StandsBefore z q (ops_of f c)) one earlier) in
+              order user q at.0 at.1 atq (before_then user o q (ops_of f b) (Distinct-unmap an_op (ops_of f b) (w.nested.once (a_block b))) stood earlier_here)

@@ -1,20 +1,21 @@
 -- What a sweep of all that lies inside a root leaves, and of one block.
 use mathlib.Core.Path.{◌≡◌, refl, sym, ap, ◌∙◌, subst, fun_ext}
-use Rattle.std.proofs.Common.{ℕ, ◌⊎◌, inl, inr, Bool, true, false, not, cond, Option, Some, None, List, [], ◌∷◌, ◌++◌, map, IsSome}
+use Rattle.std.proofs.Common.{ℕ, ◌⊎◌, inl, inr, Bool, true, false, not, cond, Option, Some, None, List, [], ◌∷◌, ◌++◌, map, is_some, IsSome, length, ◌+◌}
 use Rattle.std.specs.Prelude.{IsTrue}
 use Rattle.std.specs.List.{filter}
 use Rattle.std.specs.Option.{option_map, option_map_or}
 use Rattle.ir_model.specs.Ids.{Ids}
 use Rattle.ir_model.specs.Forest.{Dialect, Behaviour, Entity, an_op, a_block, a_region, OpRecord, BlockRecord, Forest, Operand, Successor, Named, a_value, the_block, owner}
-use Rattle.ir_model.specs.Nesting.{In, itself, list_of, children, Inside, Nested, WellFormed, names_of, ops_of}
+use Rattle.ir_model.specs.Nesting.{In, itself, below, list_of, children, Inside, IsLive, Nested, WellFormed, names_of, ops_of}
 use Rattle.ir_model.specs.Changes.{on_ops}
 use Rattle.ir_model.specs.BlockGraph.{implements, pure_interface}
 use Rattle.ir_model.specs.Dead.{Dead, dead, Sweeps}
-use Rattle.ir_model.proofs.Nests.{In-map, In-map_back, Within-fewer}
+use Rattle.ir_model.proofs.Nests.{In-map, In-map_back, In-append, In-left, In-right, Distinct-append, Within-fewer}
+use Rattle.std.proofs.lemmas.List.{length-append}
 use Rattle.ir_model.proofs.Removal.{length-same}
 use Rattle.ir_model_passes.specs.Meaning.{Interpretation, KeepsMeaning}
 use Rattle.ir_model_passes.specs.SweepInside as all
-use Rattle.ir_model_passes.specs.SweepInside.{DeadInside, GoesAlong, IsSweptInside, SweepsInside, ListedInside, ListsLive, NoneIsClosedInside}
+use Rattle.ir_model_passes.specs.SweepInside.{DeadInside, GoesAlong, IsSweptInside, SweepsInside, ListedInside, ListsLive, ListsOps, NoneIsClosedInside}
 use Rattle.ir_model_passes.proofs.Going.{same_test, TakesOut, keeps_meaning, formed, op_case, Out, child_left, fewer, inside_still, names_still}
 
 -- what isn't true is false
@@ -79,6 +80,13 @@ module _ {N : Ids} {W : Dialect} (B : Behaviour W) (f : Forest N W) where
     all_pure : (o : N.Op) → D o → IsTrue (implements B f pure_interface o)
     all_pure o (all.dead here is_pure goes) = is_pure
 
+    pure_live : (p : N.Op) → IsTrue (implements B f pure_interface p) → IsSome (f.ops p)
+    pure_live p is_pure = by (f.ops p) is_pure
+      where
+        by : (m : Option (OpRecord N W)) → option_map_or (λ (q : OpRecord N W). B.op_impls q.kind pure_interface) m false ≡ true → IsSome m
+        by None e = (let k : false ≡ true = e in absurd cc)
+        by (Some r) e = refl
+
     -- what names a definition that is swept is swept
     users_swept : (p user : N.Op) (d : Named N) → D p → In d (names_of f user) → Inside f (an_op p) (owner N d) → IsSweptInside B f root (an_op user)
     users_swept p user d (all.dead here is_pure goes) h i = elim (goes user d h i) [
@@ -106,6 +114,41 @@ module _ {N : Ids} {W : Dialect} (B : Behaviour W) (f : Forest N W) where
 
       pub all_keeps_meaning : {V : Type 0} (gives : Interpretation W V) → Nested f → KeepsMeaning B gives f g
       all_keeps_meaning gives n = keeps_meaning f D g (all_takes g count s) B all_pure n gives
+
+      -- the operations that were there are those that are there and those that went
+      pub all_so_many : (keys : ℕ) → WellFormed f keys → (before after : List N.Op) → ListsOps f before → ListsOps g after → length before ≡ length after + count
+      all_so_many keys w before after was now =
+          length-same before (after ++ s.counted.0) was.0 (Distinct-append after s.counted.0 now.0 s.counted.1 (λ o h k. gone_then o h ((s.counted.2 o).0 k))) there back
+          ∙ length-append after s.counted.0 ∙ ap (λ n. length after + n) s.counted.3
+        where
+          gone_then : (o : N.Op) → In o after → IsSweptInside B f root (an_op o) → ⊥
+          gone_then o h sw = (let k : false ≡ true = sym (ap is_some ((all_takes g count s).ops_gone o sw)) ∙ (now.1 o).0 h in cc)
+
+          there : (o : N.Op) → In o before → In o (after ++ s.counted.0)
+          there o h = by (s.is_swept (an_op o)) refl
+            where
+              by : (t : Bool) → s.is_swept (an_op o) ≡ t → In o (after ++ s.counted.0)
+              by true e = In-right o after s.counted.0 ((s.counted.2 o).1 ((s.decides (an_op o)).0 e))
+              by false e = In-left o after s.counted.0 ((now.1 o).1 (ap is_some (s.ops o ∙ ap (λ t. cond t None (f.ops o)) e) ∙ (was.1 o).0 h))
+
+          live_swept : (o : N.Op) → IsSweptInside B f root (an_op o) → IsSome (f.ops o)
+          live_swept o (p, d, i) = by (an_op o) i refl
+            where
+              by : (x : Entity N) → Inside f (an_op p) x → x ≡ an_op o → IsSome (f.ops o)
+              by x itself e = (let one : p ≡ o = cc in subst (λ z. IsSome (f.ops z)) one (pure_live p (all_pure p d)))
+              by x (below {c = c} h v) e = subst (IsLive f) e (w.nested.live x c h)
+
+          was_live : (o : N.Op) → IsSome (g.ops o) → IsSome (f.ops o)
+          was_live o h = elim (op_case f D g (all_takes g count s) o) [
+            | inl gone ↦ absurd (let k : false ≡ true = sym (ap is_some gone) ∙ h in cc)
+            | inr kept ↦ sym (ap is_some kept.1) ∙ h
+          ]
+
+          back : (o : N.Op) → In o (after ++ s.counted.0) → In o before
+          back o h = elim (In-append o after s.counted.0 h) [
+            | inl k ↦ (was.1 o).1 (was_live o ((now.1 o).0 k))
+            | inr k ↦ (was.1 o).1 (live_swept o ((s.counted.2 o).0 k))
+          ]
 
       taken : TakesOut f D g
       taken = all_takes g count s

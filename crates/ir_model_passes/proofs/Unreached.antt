@@ -1,30 +1,36 @@
 -- What is left of a forest when the unreached blocks of a region went with all that lies inside them.
 use mathlib.Core.Path.{◌≡◌, refl, sym, ap, ◌∙◌, subst, fun_ext}
-use Rattle.std.proofs.Common.{ℕ, ◌⊎◌, inl, inr, Bool, true, false, not, cond, Option, Some, None, List, [], ◌∷◌, ◌++◌, map, is_some, IsSome}
-use Rattle.std.specs.List.{filter}
+use Rattle.std.proofs.Common.{ℕ, suc, ◌+◌, ◌⊎◌, inl, inr, Bool, true, false, not, cond, Option, Some, None, List, [], ◌∷◌, ◌++◌, map, is_some, IsSome, length, arith}
+use Rattle.std.specs.List.{filter, count_by, AllZip}
 use Rattle.std.specs.Option.{option_map}
+use Rattle.std.proofs.lemmas.List.Sums.{length-filter}
 use Rattle.ir_model.specs.Ids.{Ids, Distinct}
 use Rattle.ir_model.specs.Forest.{Dialect, Behaviour, Definer, of_op, of_block, Entity, an_op, a_block, a_region, Definition, OpRecord, BlockRecord, Forest, Value, Operand, Successor, Named, a_value, the_block, definer_entity, owner}
-use Rattle.ir_model.specs.Nesting.{In, Within, itself, below, list_of, children, Inside, IsLive, IsLiveNamed, Nested, WellFormed, use_numbers_of, names_of, regions_of, ops_of, blocks_of, definitions_of}
+use Rattle.ir_model.specs.Nesting.{In, Within, itself, below, list_of, children, Inside, IsLive, IsLiveNamed, Nested, WellFormed, use_numbers_of, names_of, operands_of, regions_of, ops_of, blocks_of, definitions_of}
 use Rattle.ir_model.specs.Parent.{first_of}
 use Rattle.ir_model.specs.BlockGraph.{targets_of}
 use Rattle.ir_model.proofs.Nests.{In-map, In-map_back, Distinct-map, NoCycle-fewer, OneList-fewer}
 use Rattle.ir_model.proofs.Keeps.{is_some-map, Distinct-unmap}
 use Rattle.ir_model.proofs.Filters.{In-filter, In-kept, Distinct-filter}
-use Rattle.ir_model_passes.specs.Meaning.{Interpretation, Consistent, SeesTheSame}
+use Rattle.ir_model_passes.specs.Meaning.{Interpretation, KeepsValues}
+use Rattle.ir_model_passes.specs.Merging.{MovesBack, OperandsMoveBack}
+use Rattle.ir_model_passes.proofs.Merges.{all_zip_same}
 use Rattle.ir_model_passes.specs.Unreached.{Reached, IsUnreached, at_first, by_successor, GoesUnreached, NamesStayInside, RemovesUnreached, UnreachedTells}
 use Rattle.ir_model_passes.proofs.Going.{same_test, none_is_not_some, some_one}
 
-module _ {N : Ids} {W : Dialect} (f : Forest N W) (region : N.Region) (g : Forest N W) (s : RemovesUnreached f region g) where
+module _ {N : Ids} {W : Dialect} (f : Forest N W) (region : N.Region) (g : Forest N W) (count : ℕ) (s : RemovesUnreached f region g count) where
   abbrev left_by : (Entity N → Bool) → N.Region → Option (List N.Block)
   left_by is_gone r = option_map (filter (λ b. not (is_gone (a_block b)))) (f.regions r)
 
-  only : (h : Forest N W) → RemovesUnreached f region h → h ≡ g
-  only h t = λ i. record {
-    ops = fun_ext (λ o. t.ops o ∙ ap (λ p. cond (p (an_op o)) None (f.ops o)) one_test ∙ sym (s.ops o)) i;
-    blocks = fun_ext (λ c. t.blocks c ∙ ap (λ p. cond (p (a_block c)) None (f.blocks c)) one_test ∙ sym (s.blocks c)) i;
-    regions = fun_ext (λ r. t.regions r ∙ ap (λ p. cond (p (a_region r)) None (left_by p r)) one_test ∙ sym (s.regions r)) i;
-  }
+  pub only : (h : Forest N W) (other : ℕ) → RemovesUnreached f region h other → (h ≡ g) × (other ≡ count)
+  only h other t = (
+    λ i. record {
+      ops = fun_ext (λ o. t.ops o ∙ ap (λ p. cond (p (an_op o)) None (f.ops o)) one_test ∙ sym (s.ops o)) i;
+      blocks = fun_ext (λ c. t.blocks c ∙ ap (λ p. cond (p (a_block c)) None (f.blocks c)) one_test ∙ sym (s.blocks c)) i;
+      regions = fun_ext (λ r. t.regions r ∙ ap (λ p. cond (p (a_region r)) None (left_by p r)) one_test ∙ sym (s.regions r)) i;
+    },
+    t.counted ∙ ap (λ p. count_by (λ b. p (a_block b)) (blocks_of f region)) one_test ∙ sym s.counted,
+  )
     where
       one_test : t.is_gone ≡ s.is_gone
       one_test = fun_ext (λ x. same_test (t.is_gone x) (s.is_gone x) (λ e. (s.decides x).1 ((t.decides x).0 e)) (λ e. (t.decides x).1 ((s.decides x).0 e)))
@@ -107,8 +113,8 @@ module _ {N : Ids} {W : Dialect} (f : Forest N W) (region : N.Region) (g : Fores
 
   -- ## What stays sees the same
 
-  sees_the_same : (B : Behaviour W) {V : Type 0} (gives : Interpretation W V) (a : Value N → V) → Consistent B gives a f → SeesTheSame B gives f g a
-  sees_the_same B gives a was = record {
+  values : (B : Behaviour W) {V : Type 0} (gives : Interpretation W V) → KeepsValues B gives f g
+  values B gives a was = record {
     consistent = λ o r place d e plain at. elim (op_case o) [
       | inl k ↦ absurd (none_is_not_some r (sym k.1 ∙ e))
       | inr k ↦ was o r place d (sym k.2 ∙ e) plain at
@@ -118,6 +124,12 @@ module _ {N : Ids} {W : Dialect} (f : Forest N W) (region : N.Region) (g : Fores
       | inr k ↦ ap (λ m. map (λ (p : Operand N). a p.value) (list_of (λ (q : OpRecord N W). q.operands) m)) k.2
     ];
   }
+
+  moves_back : OperandsMoveBack f g
+  moves_back o live = elim (op_case o) [
+    | inl k ↦ absurd (let z : false ≡ true = sym (ap is_some k.1) ∙ live in cc)
+    | inr k ↦ subst (λ m. AllZip (MovesBack f g) (operands_of f o) (list_of (λ (q : OpRecord N W). q.operands) m)) (sym k.2) (all_zip_same (MovesBack f g) (λ p. inl refl) (operands_of f o))
+  ]
 
   module _ (n : Nested f) where
     owner_inside : (x y e : Entity N) → In x (children f y) → Inside f e x → (x ≡ e) ⊎ Inside f e y
@@ -150,6 +162,52 @@ module _ {N : Ids} {W : Dialect} (f : Forest N W) (region : N.Region) (g : Fores
       | inl e ↦ (let one : b ≡ k.0 = cc in k.1.1 (subst (Reached f region) one r))
       | inr v ↦ n.no_cycle (a_block k.0) (a_region region) (In-map a_block k.0 (blocks_of f region) k.1.0) v
     ]
+
+    -- all inside a reached block is left
+    inside_out : (b : N.Block) (x : Entity N) → Reached f region b → Inside f (a_block b) x → Out x
+    inside_out b x r i k = elim (one_of (a_block b) (a_block k.0) x i k.2) [
+      | inl v ↦ never k.0 k.1 v
+      | inr v ↦ reached_out b r (k.0, k.1, v)
+    ]
+      where
+        -- of two that have something inside, the one is inside the other
+        one_of : (d e x : Entity N) → Inside f d x → Inside f e x → Inside f d e ⊎ Inside f e d
+        one_of d e x itself v = inr v
+        one_of d e x (below {c = c} h w) v = elim (owner_inside x c e h v) [
+          | inl is ↦ inl (subst (Within (children f) d) is (below h w))
+          | inr v2 ↦ one_of d e c w v2
+        ]
+
+        -- no unreached block is inside the reached one
+        never : (c : N.Block) → IsUnreached f region c → Inside f (a_block b) (a_block c) → ⊥
+        never c un v = elim (owner_inside (a_block c) (a_region region) (a_block b) (In-map a_block c (blocks_of f region) un.0) v) [
+          | inl is ↦ (let one : b ≡ c = cc in un.1 (subst (Reached f region) one r))
+          | inr v2 ↦ n.no_cycle (a_block b) (a_region region) (In-map a_block b (blocks_of f region) (in_region b r)) v2
+        ]
+
+    reached_stay : (b : N.Block) (x : Entity N) → Reached f region b → Inside f (a_block b) x → IsLive f x → IsLive g x
+    reached_stay b x r i live = live_out x (inside_out b x r i) live
+
+    region_stays : Out (a_region region)
+    region_stays k = n.no_cycle (a_block k.0) (a_region region) (In-map a_block k.0 (blocks_of f region) k.1.0) k.2
+
+    shorter : length (blocks_of f region) ≡ length (blocks_of g region) + count
+    shorter =
+        let list = ap length (list_left region (region_left region region_stays)) in
+        let parts = split (λ b. s.is_gone (a_block b)) (blocks_of f region) in
+        let so_many = s.counted in
+        let gone = length-filter (λ b. s.is_gone (a_block b)) (blocks_of f region) in
+        omega (arith, list, parts, so_many, gone)
+      where
+        -- those that pass a test and those that fail it are all
+        split : {A : Type 0} (p : A → Bool) (xs : List A) → length xs ≡ length (filter (λ x. not (p x)) xs) + length (filter p xs)
+        split p [] = refl
+        split {A = A} p (x ∷ xs) = by (p x) (split p xs)
+          where
+            by : (t : Bool) → length xs ≡ length (filter (λ y. not (p y)) xs) + length (filter p xs)
+                → suc (length xs) ≡ length (cond (not t) (x ∷ filter (λ y. not (p y)) xs) (filter (λ y. not (p y)) xs)) + length (cond t (x ∷ filter p xs) (filter p xs))
+            by true more = omega (arith, more)
+            by false more = omega (arith, more)
 
     region_out : (b : N.Block) → Reached f region b → Out (a_region region)
     region_out b r k = n.no_cycle (a_block k.0) (a_region region) (In-map a_block k.0 (blocks_of f region) k.1.0) k.2
@@ -280,10 +338,14 @@ module _ {N : Ids} {W : Dialect} (f : Forest N W) (region : N.Region) (g : Fores
       known = λ d t h. w.known d t (some_definition (λ x. x.ty) d t h);
     }
 
-pub removal_tells : {N : Ids} {W : Dialect} (B : Behaviour W) {V : Type 0} (gives : Interpretation W V) (f : Forest N W) (keys : ℕ) (region : N.Region) (g : Forest N W) → WellFormed f keys → RemovesUnreached f region g → UnreachedTells B gives f keys region g
-removal_tells B gives f keys region g w s = record {
-  only = only f region g s;
-  formed = formed f region g s keys w;
-  none_unreached = none_unreached f region g s w.nested;
-  sees_the_same = sees_the_same f region g s B gives;
+pub removal_tells : {N : Ids} {W : Dialect} (B : Behaviour W) {V : Type 0} (gives : Interpretation W V) (f : Forest N W) (keys : ℕ) (region : N.Region) (g : Forest N W) (count : ℕ) → WellFormed f keys → RemovesUnreached f region g count
+    → UnreachedTells B gives f keys region g count
+removal_tells B gives f keys region g count w s = record {
+  only = only f region g count s;
+  formed = formed f region g count s keys w;
+  reached_stay = reached_stay f region g count s w.nested;
+  none_unreached = none_unreached f region g count s w.nested;
+  values = values f region g count s B gives;
+  moves_back = moves_back f region g count s;
+  shorter = shorter f region g count s w.nested;
 }

@@ -1,8 +1,8 @@
--- Unreached blocks that lose their uses and are erased, one after the other, until none is left, are dropped.
+-- Unreached blocks that lose their uses and are erased, one after the other, until none is left, are removed.
 use mathlib.Core.Path.{◌≡◌, refl, sym, ap, ◌∙◌, subst}
 use Rattle.std.proofs.Common.{ℕ, ◌⊎◌, inl, inr, Bool, true, false, not, cond, ◌||◌, Option, Some, None, List, [], map}
 use Rattle.std.specs.Prelude.{IsTrue}
-use Rattle.std.specs.List.{filter}
+use Rattle.std.specs.List.{filter, count_by}
 use Rattle.std.specs.Option.{option_map}
 use Rattle.ir_model.specs.Ids.{Ids}
 use Rattle.ir_model.specs.Forest.{Dialect, Entity, an_op, a_block, a_region, OpRecord, BlockRecord, Forest, same_entity}
@@ -246,19 +246,23 @@ module _ {N : Ids} {W : Dialect} (L : Lawful N) (f : Forest N W) (region : N.Reg
           by None e = refl
           by (Some bs) e = ap (λ cs. Some cs) (filter_same _ _ bs (λ b k. ap not (one_test b (subst (λ m. In b (list_of (λ (q : List N.Block). q) m)) (sym e) k))))
 
-      pub removes_all : RemovesUnreached f region g
-      removes_all = record {
-        is_gone = λ x. says (gone_so x);
-        decides = λ x. (holds (gone_so x), says_true (gone_so x));
-        ops = λ o. by_test (an_op o) (g.ops o) (f.ops o) (s.ops_gone o) (s.ops_left o);
-        blocks = λ c. by_test (a_block c) (g.blocks c) (f.blocks c) (s.blocks_gone c) (λ n. s.blocks_left c (λ t. n (goes (a_block c) t)));
-        regions = λ r. by_test (a_region r) (g.regions r) _ (s.regions_gone r) (λ n. s.regions_left r (λ t. n (goes (a_region r) t)) ∙ same_lists r (λ t. n (goes (a_region r) t)));
-      }
+      pub removes_all : (count : ℕ) × RemovesUnreached f region g count
+      removes_all = (
+        count_by (λ b. says (gone_so (a_block b))) (blocks_of f region),
+        record {
+          is_gone = λ x. says (gone_so x);
+          decides = λ x. (holds (gone_so x), says_true (gone_so x));
+          ops = λ o. by_test (an_op o) (g.ops o) (f.ops o) (s.ops_gone o) (s.ops_left o);
+          blocks = λ c. by_test (a_block c) (g.blocks c) (f.blocks c) (s.blocks_gone c) (λ n. s.blocks_left c (λ t. n (goes (a_block c) t)));
+          regions = λ r. by_test (a_region r) (g.regions r) _ (s.regions_gone r) (λ n. s.regions_left r (λ t. n (goes (a_region r) t)) ∙ same_lists r (λ t. n (goes (a_region r) t)));
+          counted = refl;
+        },
+      )
 
   removed_so : (g : Forest N W) → RemovesSome f region g → Removed g
   removed_so g none_removed = nothing_yet
   removed_so g (uses_dropped {g = e} b more un drops) = uses_go e (removed_so e more) g b un drops
   removed_so g (block_erased {g = e} b more un removes) = block_goes e (removed_so e more) g b un removes
 
-  pub steps_remove_unreached : (g : Forest N W) → RemovesSome f region g → ((b : N.Block) → In b (blocks_of g region) → IsUnreached f region b → ⊥) → RemovesUnreached f region g
+  pub steps_remove_unreached : (g : Forest N W) → RemovesSome f region g → ((b : N.Block) → In b (blocks_of g region) → IsUnreached f region b → ⊥) → (count : ℕ) × RemovesUnreached f region g count
   steps_remove_unreached g some none = removes_all g (removed_so g some) none

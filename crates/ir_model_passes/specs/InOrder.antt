@@ -7,9 +7,9 @@ use Rattle.ir_model_passes.specs.Meaning.{SameAttributes}
 use Rattle.ir_model_passes.specs.Merging.{StandsBefore, IsGivenBefore, MergesOne}
 
 module _ {N : Ids} {W : Dialect} where
-  -- each operation of the block stands behind those of the block whose results it names
+  -- no operation of the block stands before one of the block whose result it names
   abbrev pub InOrder : Forest N W → N.Block → Type 0
-  InOrder f b = (user o : N.Op) (p : Operand N) → In user (ops_of f b) → In o (ops_of f b) → In p (operands_of f user) → p.value.definer ≡ of_op o → StandsBefore o user (ops_of f b)
+  InOrder f b = (user o : N.Op) (p : Operand N) → In p (operands_of f user) → p.value.definer ≡ of_op o → StandsBefore user o (ops_of f b) → ⊥
 
   -- each operand names what its operation may see, by some test
   abbrev pub EachIsSeen : (Value N → N.Op → Bool) → Forest N W → Type 0

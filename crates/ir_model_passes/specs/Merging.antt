@@ -52,7 +52,7 @@ module _ {N : Ids} {W : Dialect} where
     pub record MergesPartly (b : N.Block) (g : Forest N W) : Type 0 where
       pub earlier : N.Op
       pub later : N.Op
-      pub in_order : StandsBefore earlier later (ops_of f b)
+      pub stand_in_block : StandsBefore earlier later (ops_of f b)
       pub alike : Alike earlier later
       pub count : ℕ
       pub redirects : g ≡ redirect_each f (take count (zip (values_given f later) (values_given f earlier)))
