@@ -1,0 +1,25 @@
+//! What a merging of alike operations leaves.
+
+ghost use Rattle.ir_model_passes.specs.PassLaws.{PartKeepsMeaning, MergesAreCounted, MergesLeaveOrder, FrontToBackIsOne, FrontToBackMerges, SeenStaysSeen};
+
+/// One merging in a block in order leaves it in order, and leaves all that stands before the operation that went as it was. Where operands moved back, each operation still names only what it may see.
+pub fn merges_keep_order<Key, Body, Attr, Saved, Aux, Loc>()
+    ensures in_block { MergesLeaveOrder (record { Key = Key; Body = Body; Attr = Attr; Saved = Saved; Aux = Aux; Loc = Loc }) }
+    ensures seen { SeenStaysSeen (record { Key = Key; Body = Body; Attr = Attr; Saved = Saved; Aux = Aux; Loc = Loc }) }
+{}
+
+/// The list of a block is shorter by the operations that were merged.
+pub fn merges_are_counted<Key, Body, Attr, Saved, Aux, Loc>()
+    ensures { MergesAreCounted (record { Key = Key; Body = Body; Attr = Attr; Saved = Saved; Aux = Aux; Loc = Loc }) }
+{}
+
+/// In a block in order one way from its front to its back merges all alike operations. Where the test of attributes is symmetric and transitive, that way has one outcome.
+pub fn front_to_back_merges<Key, Body, Attr, Saved, Aux, Loc>()
+    ensures all { FrontToBackMerges (record { Key = Key; Body = Body; Attr = Attr; Saved = Saved; Aux = Aux; Loc = Loc }) }
+    ensures only { FrontToBackIsOne (record { Key = Key; Body = Body; Attr = Attr; Saved = Saved; Aux = Aux; Loc = Loc }) }
+{}
+
+/// A merging that is broken off before the operation goes leaves a well-formed forest in which each operation sees the values that it saw, where equal attributes give equal values.
+pub fn part_keeps_meaning<Key, Body, Attr, Saved, Aux, Loc, V>()
+    ensures { PartKeepsMeaning (record { Key = Key; Body = Body; Attr = Attr; Saved = Saved; Aux = Aux; Loc = Loc }) V }
+{}
