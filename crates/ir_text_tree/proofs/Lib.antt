@@ -1,0 +1,4 @@
+mod ParsingSteps
+mod TreeClauses
+mod TreesFound
+mod TreesRead

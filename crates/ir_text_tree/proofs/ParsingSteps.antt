@@ -1,0 +1,95 @@
+-- One step of the loop.
+use Rattle.std.proofs.Common.{◌≡◌, ◌≤◌, ◌+◌, ℕ, zero, suc, Bool, true, false, List, [], ◌∷◌, ◌++◌, Option, Some, None, Result, Ok, Err, refl, sym, ap, ◌∙◌, append_assoc, arith}
+use Rattle.std.proofs.lemmas.List.{append-nil}
+use Rattle.ir_text_tree.specs.declared.row.Part.{Part}
+use Rattle.ir_text_tree.specs.declared.row.Row.{Row}
+use Rattle.ir_text_tree.specs.declared.row.Span.{Span}
+use Rattle.ir_text_tree.specs.declared.sort.Piece.{Piece}
+use Rattle.ir_text_tree.specs.declared.sort.Sort.{Sort}
+use Rattle.ir_text_tree.specs.declared.fault.Wanted.{Wanted}
+use Rattle.ir_text_tree.specs.declared.fault.Fault.{Fault}
+use Rattle.ir_text_tree.specs.declared.fault.Fault.TheVariants as faults
+use Rattle.ir_text_tree.specs.declared.text_step.Bracket.{Bracket}
+use Rattle.ir_text_tree.specs.declared.tree_step.Mode.{Mode}
+use Rattle.ir_text_tree.specs.declared.tree_step.Action.{Action}
+use Rattle.ir_text_tree.specs.declared.tree_step.Action.TheVariants as action
+use Rattle.ir_text_tree.specs.declared.tree_step.Step.{Step}
+use Rattle.ir_text_tree.specs.declared.tree_step.Step.TheVariants.{Go, Bad}
+use Rattle.ir_text_tree.specs.TextSteps.{innermost}
+use Rattle.ir_text_tree.specs.TreeSteps.{tree_step, is_whole, wanted}
+use Rattle.ir_text_tree.specs.Parsings.{is_inside, ended_row, token_row, text_behind, brackets_behind, depth_behind, behind_row, behind_rows, before_rows, listed, last_row, parsing}
+
+pub parsing_goes : (end : ℕ) (m : Mode) (d : ℕ) (bs : List Bracket) (t : Span) (x : Piece) (xs : List Piece) (ended : Option Part) (a : Action) (to : Mode)
+    → tree_step m (is_inside d) (innermost bs) x.sort ≡ Go ended a to
+    → parsing end m d bs t (x ∷ xs) ≡ behind_row (ended_row ended t) (behind_row (token_row a x.span t) (parsing end to (depth_behind a d) (brackets_behind a bs) (text_behind a x.span t) xs))
+unfolding parsing
+parsing_goes end m d bs t x xs ended a to e = rw (parsing, e) refl
+
+pub parsing_stops : (end : ℕ) (m : Mode) (d : ℕ) (bs : List Bracket) (t : Span) (x : Piece) (xs : List Piece)
+    → tree_step m (is_inside d) (innermost bs) x.sort ≡ Bad
+    → parsing end m d bs t (x ∷ xs) ≡ Err (faults.Expected (wanted m (is_inside d)) x.span.start)
+unfolding parsing
+parsing_stops end m d bs t x xs e = rw (parsing, e) refl
+
+pub parsing_done : (end : ℕ) (m : Mode) (d : ℕ) (bs : List Bracket) (t : Span) → is_whole m (is_inside d) ≡ true → parsing end m d bs t [] ≡ Ok (listed (last_row m t))
+unfolding parsing
+parsing_done end m d bs t e = rw (parsing, e) refl
+
+pub parsing_breaks_off : (end : ℕ) (m : Mode) (d : ℕ) (bs : List Bracket) (t : Span) → is_whole m (is_inside d) ≡ false → parsing end m d bs t [] ≡ Err (faults.Expected (wanted m (is_inside d)) end)
+unfolding parsing
+parsing_breaks_off end m d bs t e = rw (parsing, e) refl
+
+-- where the rest is read, all is
+pub parsing_reads : (end : ℕ) (m : Mode) (d : ℕ) (bs : List Bracket) (t : Span) (x : Piece) (xs : List Piece) (ended : Option Part) (a : Action) (to : Mode) (rows : List Row)
+    → tree_step m (is_inside d) (innermost bs) x.sort ≡ Go ended a to
+    → parsing end to (depth_behind a d) (brackets_behind a bs) (text_behind a x.span t) xs ≡ Ok rows
+    → parsing end m d bs t (x ∷ xs) ≡ Ok (before_rows (ended_row ended t) (before_rows (token_row a x.span t) rows))
+parsing_reads end m d bs t x xs ended a to rows e h =
+    parsing_goes end m d bs t x xs ended a to e ∙ ap (λ (y : Result (List Row) Fault). behind_row (ended_row ended t) (behind_row (token_row a x.span t) y)) h
+
+-- where all is read, the rest is
+pub rest_read : (y : Result (List Row) Fault) (r q : Option Row) (out : List Row) → behind_row r (behind_row q y) ≡ Ok out → (rows : List Row) × (y ≡ Ok rows)
+rest_read (Ok rows) r q out h = (rows, refl)
+rest_read (Err e) r q out h = absurd cc
+
+-- two rows more behind those that were read
+pub behind_two : (front : List Row) (r q : Option Row) (y : Result (List Row) Fault) → behind_rows ((front ++ listed r) ++ listed q) y ≡ behind_rows front (behind_row r (behind_row q y))
+behind_two front r q (Err e) = refl
+behind_two front None None (Ok rows) = ap (λ (x : List Row). Ok (x ++ rows)) (append-nil (front ++ []) ∙ append-nil front)
+behind_two front None (Some q) (Ok rows) = ap (λ (x : List Row). Ok x) (ap (λ (x : List Row). (x ++ q ∷ []) ++ rows) (append-nil front) ∙ append_assoc front (q ∷ []) rows)
+behind_two front (Some r) None (Ok rows) = ap (λ (x : List Row). Ok x) (ap (λ (x : List Row). x ++ rows) (append-nil (front ++ r ∷ [])) ∙ append_assoc front (r ∷ []) rows)
+behind_two front (Some r) (Some q) (Ok rows) = ap (λ (x : List Row). Ok x) (append_assoc (front ++ r ∷ []) (q ∷ []) rows ∙ append_assoc front (r ∷ []) (q ∷ rows))
+
+-- what the step of the code is
+pub step_is : (m : Mode) (i j : Bool) (a b : Option Bracket) (x : Sort) (r st : Step) → r ≡ tree_step m i a x → i ≡ j → a ≡ b → r ≡ st → tree_step m j b x ≡ st
+step_is m i j a b x r st e f g h = ap (λ (k : Bool). tree_step m k b x) (sym f) ∙ ap (λ (o : Option Bracket). tree_step m i o x) (sym g) ∙ sym e ∙ h
+
+pub is_bad : (st : Step) → ((ended : Option Part) (a : Action) (to : Mode) → st ≡ Go ended a to → ⊥) → st ≡ Bad
+is_bad (Go ended a to) h = absurd (h ended a to refl)
+is_bad Bad h = refl
+
+pub told : (m : Mode) (i j : Bool) (w : Wanted) (at : ℕ) (all : Result (List Row) Fault) → w ≡ wanted m i → i ≡ j → all ≡ Err (faults.Expected (wanted m j) at) → all ≡ Err (faults.Expected w at)
+told m i j w at all e f h = h ∙ ap (λ (v : Wanted). Err (faults.Expected v at)) (ap (wanted m) (sym f) ∙ sym e)
+
+pub whole_is : (m : Mode) (i j r s : Bool) → r ≡ is_whole m i → i ≡ j → r ≡ s → is_whole m j ≡ s
+whole_is m i j r s e f g = ap (is_whole m) (sym f) ∙ sym e ∙ g
+
+-- the loop went on
+pub goes_on : (front out : List Row) (r q : Option Row) (end : ℕ) (to : Mode) (d e : ℕ) (bs cs : List Bracket) (t u : Span) (xs : List Piece) (all : Result (List Row) Fault)
+    → out ≡ (front ++ listed r) ++ listed q → e ≡ d → cs ≡ bs → u ≡ t
+    → behind_rows front (behind_row r (behind_row q (parsing end to d bs t xs))) ≡ all
+    → behind_rows out (parsing end to e cs u xs) ≡ all
+goes_on front out r q end to d e bs cs t u xs all a f g h k =
+    ap (λ (o : List Row). behind_rows o (parsing end to e cs u xs)) a
+    ∙ ap (λ (n : ℕ). behind_rows ((front ++ listed r) ++ listed q) (parsing end to n cs u xs)) f
+    ∙ ap (λ (b : List Bracket). behind_rows ((front ++ listed r) ++ listed q) (parsing end to d b u xs)) g
+    ∙ ap (λ (v : Span). behind_rows ((front ++ listed r) ++ listed q) (parsing end to d bs v xs)) h
+    ∙ behind_two front r q (parsing end to d bs t xs)
+    ∙ k
+
+-- a token opens one region at most
+pub deepens : (a : Action) (d : ℕ) → depth_behind a d ≤ d + 1
+deepens action.Open d = omega arith
+deepens action.Close zero = omega arith
+deepens action.Close (suc d) = omega arith
+deepens _ d = omega arith

@@ -1,0 +1,194 @@
+//! From tokens to the flat tree, by one loop.
+ghost use Rattle.std.specs.Prelude.{◌≡◌, ◌+◌, ◌<◌, ◌^◌, ◌++◌, reverse, Ok, IfOk, OnOk};
+ghost use Rattle.ir_text_tree.specs.TextSteps.{innermost, renested};
+ghost use Rattle.ir_text_tree.specs.Trees.{Body, IsWholeText, Spells, tree_rows};
+ghost use Rattle.ir_text_tree.specs.Parsings.{IsParsing, is_inside, ended_row, token_row, last_row, listed, text_behind, brackets_behind, depth_behind, rows_read};
+ghost use Rattle.ir_text_tree.specs.Rows.{joined};
+
+use crate::fault::Fault;
+use crate::row::{Part, Row, Span};
+use crate::sort::Piece;
+use crate::text_step::{Bracket, Nesting};
+use crate::tree_step::{Action, Mode, Step, is_whole, tree_step, wanted};
+use std::alloc::{AllocError, Global};
+
+// The last of the open brackets.
+fn last_of(brackets: &Vec<Bracket>) -> Option<Bracket>
+    ensures { result ≡ innermost (reverse brackets.now.items) }
+{
+    brackets.last().copied()
+}
+
+// Whether at least one region is open.
+fn is_inside(depth: usize) -> bool
+    ensures { result ≡ is_inside depth }
+{
+    depth > 0
+}
+
+// Opens a bracket, or closes the last.
+fn renest(brackets: &mut Vec<Bracket>, nesting: Nesting) -> Result<(), AllocError>
+    ensures { OnOk result (reverse brackets.new.items ≡ renested nesting (reverse brackets.old.items)) }
+{
+    match nesting {
+        Nesting::Kept => {}
+        Nesting::Opened(bracket) => brackets.push(bracket)?,
+        Nesting::Closed => {
+            brackets.pop();
+        }
+    }
+    Ok(())
+}
+
+// What becomes of the open brackets.
+fn nest(brackets: &mut Vec<Bracket>, action: Action) -> Result<(), AllocError>
+    ensures { OnOk result (reverse brackets.new.items ≡ brackets_behind action (reverse brackets.old.items)) }
+{
+    match action {
+        Action::Start(nesting) => {
+            brackets.clear();
+            renest(brackets, nesting)
+        }
+        Action::Extend(nesting) => renest(brackets, nesting),
+        _ => Ok(()),
+    }
+}
+
+// How many regions are open behind a token.
+fn depth_behind(action: Action, depth: usize) -> usize
+    requires { depth + 1 < 2 ^ 64 }
+    ensures { result ≡ depth_behind action depth }
+{
+    match action {
+        Action::Open => depth + 1,
+        Action::Close => depth.saturating_sub(1),
+        _ => depth,
+    }
+}
+
+// The text with a token behind it.
+fn joined(text: Span, token: Span) -> Span
+    ensures { result ≡ joined text token }
+{
+    Span {
+        start: text.start,
+        end: token.end,
+    }
+}
+
+// The text behind a token.
+fn text_behind(action: Action, token: Span, text: Span) -> Span
+    ensures { result ≡ text_behind action token text }
+{
+    match action {
+        Action::Start(_) => token,
+        Action::Extend(_) => joined(text, token),
+        _ => text,
+    }
+}
+
+// The row of the text that ends before a token, if one does.
+fn ended_row(ended: Option<Part>, text: Span) -> Option<Row>
+    ensures { result ≡ ended_row ended text }
+{
+    match ended {
+        None => None,
+        Some(part) => Some(Row { part, span: text }),
+    }
+}
+
+// The row of a token, if it has one.
+fn token_row(action: Action, token: Span, text: Span) -> Option<Row>
+    ensures { result ≡ token_row action token text }
+{
+    match action {
+        Action::Put(part) => Some(Row { part, span: token }),
+        Action::Join(part) => Some(Row {
+            part,
+            span: joined(text, token),
+        }),
+        Action::Open => Some(Row {
+            part: Part::Open,
+            span: token,
+        }),
+        Action::Close => Some(Row {
+            part: Part::Close,
+            span: token,
+        }),
+        Action::Skip | Action::Start(_) | Action::Extend(_) => None,
+    }
+}
+
+// The row of a type that ends where the tokens end, if one does.
+fn last_row(mode: Mode, text: Span) -> Option<Row>
+    ensures { result ≡ last_row mode text }
+{
+    match mode {
+        Mode::Bare => Some(Row {
+            part: Part::ResultType,
+            span: text,
+        }),
+        _ => None,
+    }
+}
+
+// Puts a row, if there is one.
+fn put(rows: &mut Vec<Row>, row: Option<Row>) -> Result<(), AllocError>
+    ensures { OnOk result (rows.new.items ≡ rows.old.items ++ listed row) }
+{
+    if let Some(row) = row {
+        rows.push(row)?;
+    }
+    Ok(())
+}
+
+// Reads all of the tokens of a text that ends at that index.
+fn read_all(alloc: Global, end: u32, pieces: &[Piece]) -> Result<Vec<Row>, Fault>
+    ensures { IsParsing (λ v. v.items) result (rows_read end pieces.now) }
+{
+    let mut rows = Vec::new(alloc);
+    let mut brackets = Vec::new(alloc);
+    let mut mode = Mode::Start;
+    let mut depth = 0;
+    let mut span = Span { start: 0, end: 0 };
+    for piece in pieces {
+        let inside = is_inside(depth);
+        let step = tree_step(mode, inside, last_of(&brackets), piece.sort);
+        let Step::Go { ended, action, to } = step else {
+            return Err(Fault::Expected {
+                wanted: wanted(mode, inside),
+                at: piece.span.start,
+            });
+        };
+        put(&mut rows, ended_row(ended, span))?;
+        put(&mut rows, token_row(action, piece.span, span))?;
+        nest(&mut brackets, action)?;
+        depth = depth_behind(action, depth);
+        span = text_behind(action, piece.span, span);
+        mode = to;
+    }
+    let inside = is_inside(depth);
+    if !is_whole(mode, inside) {
+        return Err(Fault::Expected {
+            wanted: wanted(mode, inside),
+            at: end,
+        });
+    }
+    put(&mut rows, last_row(mode, span))?;
+    Ok(rows)
+}
+
+/// The rows of the tokens of a text of so many bytes: of operations with all that stands in them, in the order of the text.
+///
+/// # Errors
+/// `OutOfMemory`, and else the first fault.
+pub fn parse(alloc: Global, end: u32, pieces: &[Piece]) -> Result<Vec<Row>, Fault>
+    // What is read is a tree: the tokens spell it, and these are its rows.
+    ensures found { IfOk result (λ v. (b : Body) × IsWholeText b × Spells pieces.now b × (v.items ≡ tree_rows b)) }
+    // Tokens that spell a tree are read as its rows, unless memory runs out.
+    ensures only { (b : Body) → IsWholeText b → Spells pieces.now b → IsParsing (λ v. v.items) result (Ok (tree_rows b)) }
+    // Which fault it is, and where.
+    ensures exact { IsParsing (λ v. v.items) result (rows_read end pieces.now) }
+{
+    read_all(alloc, end, pieces)
+}
