@@ -98,15 +98,26 @@ fn write_successors_of(
 /// `OP`: how many uses its results have as they are walked, and their places.
 pub(crate) fn of_op(text: &mut String, lab: &Lab, rest: &str) -> Result<(), TextError> {
     let op = lab.op(one(rest)?)?;
-    let ctx = lab.ctx();
-    if !op.is_live(ctx) {
+    let Some(count) = walked(lab.ctx(), op) else {
         return tell_refused(text, CheckedErr::Condition);
-    }
-    write!(text, "len {}", op.uses(ctx).count())?;
+    };
+    write!(text, "len {count}")?;
     for user in &lab.tables.ops {
         write_uses_by(text, lab, op, *user)?;
     }
     Ok(())
+}
+
+// How many uses the results of an operation have as they are walked; none where it isn't live.
+fn walked(ctx: &Context<Toy>, op: Ptr<Operation<Toy>>) -> Option<usize> {
+    if !op.is_live(ctx) {
+        return None;
+    }
+    let mut count = 0usize;
+    for _used in op.uses(ctx) {
+        count = count.saturating_add(1);
+    }
+    Some(count)
 }
 
 // Writes the places of those operands of the user that are among the uses of the operation's results.
