@@ -48,6 +48,11 @@ fn tell_typed<T: IrType<Small> + Debug>(
     }
 }
 
+// Writes the place of a handle, and what it leads to.
+fn tell_at<T: Debug>(text: &mut String, place: usize, value: &T) -> Result<(), TextError> {
+    Ok(write!(text, "\n  {place} {value:?}")?)
+}
+
 // Writes what a handle names and leads to.
 fn tell_value<T: IrType<Small> + Debug>(
     text: &mut String,
@@ -58,7 +63,7 @@ fn tell_value<T: IrType<Small> + Debug>(
     if !typed.is_known(ctx) {
         return Ok(write!(text, "\n  {place} unknown")?);
     }
-    Ok(write!(text, "\n  {place} {:?}", typed.deref(ctx))?)
+    tell_at(text, place, typed.deref(ctx))
 }
 
 // Writes what is told of a type as one with the interface.
@@ -86,7 +91,7 @@ fn tell_key<I: TypeInterfaceMarker>(
     if !handle.is_known(ctx) {
         return Ok(write!(text, "\n  {place} unknown")?);
     }
-    Ok(write!(text, "\n  {place} {:?}", handle.deref(ctx))?)
+    tell_at(text, place, handle.deref(ctx))
 }
 
 /// Shows the faults.
@@ -141,25 +146,49 @@ fn turn_typed<I: TypeInterfaceMarker, T: TypeImplsInterface<I, Small>>(
     Ok(write!(lab.text, "{place} plain {plain} {turned}")?)
 }
 
-// Whether both are equal, and whether a copy of the first is equal and hashes equally.
-fn comparisons<T: Clone + Eq + Hash + Drop>(first: &T, second: &T) -> Result<[bool; 3], CoreError> {
+// Whether two handles are equal, and whether a copy of the first is equal and hashes equally.
+#[derive(Clone, Copy, Drop)]
+struct Compared {
+    equal: bool,
+    copied: bool,
+    hashed: bool,
+}
+
+// Compares them.
+fn comparisons<T: Clone + Eq + Hash + Drop>(first: &T, second: &T) -> Result<Compared, CoreError> {
     let copy = first.clone()?;
-    Ok([
-        *first == *second,
-        copy == *first,
-        hash_of(&copy) == hash_of(first),
-    ])
+    Ok(Compared {
+        equal: *first == *second,
+        copied: copy == *first,
+        hashed: hash_of(&copy) == hash_of(first),
+    })
+}
+
+// Writes the three answers.
+fn tell_compared(text: &mut String, compared: Compared) -> Result<(), TextError> {
+    let equal = compared.equal;
+    let copied = compared.copied;
+    let hashed = compared.hashed;
+    Ok(write!(text, "[{equal}, {copied}, {hashed}]")?)
+}
+
+// Writes the answers of both comparisons.
+fn tell_both(text: &mut String, typed: Compared, turned: Compared) -> Result<(), TextError> {
+    tell_compared(text, typed)?;
+    text.push_str(" turned ")?;
+    tell_compared(text, turned)
 }
 
 // Compares two handles, and both as turned.
 fn compare_both<I: TypeInterfaceMarker, T: TypeImplsInterface<I, Small>>(
     first: TypedHandle<T, Small>,
     second: TypedHandle<T, Small>,
-) -> Result<([bool; 3], [bool; 3]), CoreError> {
+) -> Result<(Compared, Compared), CoreError> {
     let handle: TypeInterfaceHandle<I, Small> = first.into();
     let other: TypeInterfaceHandle<I, Small> = second.into();
     let typed = comparisons(&first, &second)?;
-    Ok((typed, comparisons(&handle, &other)?))
+    let turned = comparisons(&handle, &other)?;
+    Ok((typed, turned))
 }
 
 /// Compares two handles.
@@ -184,7 +213,7 @@ fn compare_typed<I: TypeInterfaceMarker, T: TypeImplsInterface<I, Small>>(
         return tell_condition(&mut lab.text);
     };
     match compare_both::<I, T>(first, second) {
-        Ok((typed, turned)) => Ok(write!(lab.text, "{typed:?} turned {turned:?}")?),
+        Ok((typed, turned)) => tell_both(&mut lab.text, typed, turned),
         Err(error) => tell_refusal(&mut lab.text, error),
     }
 }
