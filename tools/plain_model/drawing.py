@@ -168,3 +168,17 @@ def last_edit(source, _):
         Edit('block-front', (block, region)), Edit('erase-block', (block,)), Edit('push-operand', (op, 'v0')),
         *[Edit('op-back', (op, block))] * 6,
     ])
+
+
+# How many operations there are where a block is swept, and how many operands they get: so many, and up to as many again.
+SWEPT, SWEPT_OPERANDS = 12, 8
+
+
+def sweep_edits(source):
+    """Edits that make a block of operations with a result each, most of them pure, some of which use others, in front of them or behind; and one operation in another block."""
+    yield from (Edit('new-type', ('8',)), Edit('new-block', (None, ())), Edit('new-block', (None, ())))
+    for number in range(SWEPT):
+        yield Edit('new-op', (source.pick([0, 1, 1, 1, 4]), ('t0',), (), (), 0))
+        yield Edit(source.pick(['op-back', 'op-front']), (f'o{number}', 'b0' if number else 'b1'))
+    for _ in range(SWEPT_OPERANDS + source.below(SWEPT_OPERANDS)):
+        yield Edit('push-operand', (f'o{source.below(SWEPT)}', f'v{source.below(SWEPT)}'))

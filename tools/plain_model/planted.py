@@ -11,10 +11,14 @@ from .runs import Tally, trials
 
 # The worked wrong bodies that a session, its dump and verification can show.
 PLANTED = [
-    'append-leaves-container', 'can-erase-own-results', 'entry-pred-local', 'entry-pred-local-own', 'erase-leaves-children',
-    'insert-into-itself', 'instantiate-copies', 'move-fills-the-gap', 'ir_base_arenas/number-given-again', 'replace-leaves-old-set',
-    'room-is-zero', 'run-always-memory', 'run-stops-early', 'table-number-reused', 'verify-constant-fault', 'verify-constant-ok',
-    'verify-skips-preds',
+    'append-leaves-container', 'block-number-given-again', 'block-predicate-asked-again', 'can-erase-own-results',
+    'can-erase-says-no', 'entry-pred-local', 'entry-pred-local-own', 'erase-leaves-children', 'insert-into-itself',
+    'instantiate-copies', 'move-fills-the-gap', 'ir_base_arenas/number-given-again', 'ir_core_context/number-given-again',
+    'number-never-retires', 'pop-operand-forgets-what-was-handed-out', 'predicate-asked-again', 'preds-without-doubles',
+    'removed-use-number-again', 'removed-value-number-again', 'replace-leaves-old-set', 'replace-renumbers', 'room-is-zero',
+    'run-always-memory', 'run-stops-early', 'sweep-one-pass-from-the-back', 'sweep-one-pass-from-the-front',
+    'table-number-reused', 'teardown-removes-twice', 'value-number-given-again', 'verify-constant-fault',
+    'verify-constant-memory', 'verify-constant-ok', 'verify-skips-preds',
 ]
 
 # The seeds that are tried, from 1 on; how many bytes of answers `rt try` takes from one trial; and after how many seconds a trial

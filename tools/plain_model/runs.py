@@ -1,9 +1,10 @@
-"""What is tried with a seed: sessions of random edits, lists alone, one list of edits in two sessions, and forests that are verified."""
+"""What is tried with a seed: sessions of random edits, lists alone, one list of edits in two sessions, forests that are verified, and blocks that are swept."""
 import collections
 import re
 from typing import NamedTuple
 
-from .drawing import LIST_WORDS, Source, beginning_of_lists, forest_edits
+from .direct import WORDS, direct_call
+from .drawing import LIST_WORDS, Source, beginning_of_lists, forest_edits, sweep_edits
 from .faults import TEXTS, faults_at, faults_in, faults_of_type
 from .program import Asked, Test
 from .session import CONDITION, FORMS, Edit, Limits, Session
@@ -21,6 +22,9 @@ LIMITS = {
 # How many edits a session of ample limits has, one of other limits, and the lists.
 EDITS, FEW_EDITS, LIST_EDITS = 200, 100, 1000
 
+# How many direct calls that are no edits there are at the end of a session of direct calls.
+DIRECT_CALLS = 40
+
 # How many operations, blocks and regions there are where lists alone are tried, and after how many edits all is shown.
 NODES, PAUSE = 7, 5
 
@@ -29,6 +33,9 @@ PAIRS, LISTS, LIST = 5, 4, 10
 
 # How many forests there are with a seed, and how many of them are tried in one go.
 FORESTS, GROUP = 125, 25
+
+# How many blocks are made and swept with a seed.
+SWEEPS = 25
 
 
 class Trial(NamedTuple):
@@ -44,10 +51,14 @@ class Tally:
     def __init__(self):
         self.answers = collections.defaultdict(collections.Counter)
         self.found = collections.Counter()
+        self.calls = collections.Counter()
         self.forests = 0
 
     def count_answer(self, edit, answer):
         self.answers[edit.word][answer if answer.startswith('refused') else 'accepted'] += 1
+
+    def count_call(self, line, answer):
+        self.calls[line.split(' ')[0]] += answer != CONDITION
 
     def count_found(self, given):
         self.found[re.sub('".*"', '"{}"', given)] += 1
@@ -89,7 +100,7 @@ def room(session):
 
 
 def random_session(seed, mode, limits, count, tally):
-    """So many random edits, and all that is shown and left after each; in a session some in runs of several. At last questions are asked, all is verified, and in a context each block is swept."""
+    """So many random edits, and all that is shown and left after each; in a session some in runs of several. At last questions are asked, all is verified, and in a context direct calls are made that are no edits, and each block is swept."""
     source, session = Source(seed), Session(limits)
     asked = [begin(mode, limits)]
     while count > 0:
@@ -101,8 +112,21 @@ def random_session(seed, mode, limits, count, tally):
             asked += steps
         asked += [shown(session), room(session)]
         count -= len(steps)
+    if mode == 'context':
+        asked += direct_calls(source, session, tally)
     asked += questions(source, session) + verified(session, tally)
     return asked + (swept(session) if mode == 'context' else [])
+
+
+def direct_calls(source, session, tally):
+    """Calls of a context that are no edits, and all that is shown and left after each."""
+    asked = []
+    for _ in range(DIRECT_CALLS):
+        call = direct_call(source, session)
+        if call:
+            tally.count_call(*call)
+            asked += [Asked(*call), shown(session), room(session)]
+    return asked
 
 
 class InAnyOrder(Test):
@@ -256,6 +280,17 @@ def random_forests(source, tally):
     return asked
 
 
+def random_sweeps(source, tally):
+    """A few random blocks, each swept."""
+    asked = []
+    for _ in range(SWEEPS):
+        session = Session()
+        asked.append(begin('context'))
+        asked += [step(session, edit, tally) for edit in sweep_edits(source)]
+        asked += swept(session)
+    return asked
+
+
 # All of them
 
 
@@ -272,10 +307,11 @@ def trials(seed, tally):
     source = Source(f'forests {seed}')
     for number in range(FORESTS // GROUP):
         yield Trial(f'forests-{seed}-{number}', random_forests(source, tally))
+    yield Trial(f'sweeps-{seed}', random_sweeps(Source(f'sweeps {seed}'), tally))
 
 
 # How often at least, a seed, each edit is accepted, each is refused for its condition, numbers and slots are spent, and each answer of
-# verification is met.
+# verification and each direct call that is no edit is met.
 ACCEPTED, REFUSED, SPENT, MET = 5, 0.25, 20, 2.5
 
 
@@ -293,3 +329,6 @@ def lacking(tally, count):
     for fault in ['ok', *TEXTS]:
         if tally.found[fault] < count * MET:
             yield f'{fault} is found {tally.found[fault]} times'
+    for word in WORDS:
+        if tally.calls[word] < count * MET:
+            yield f'{word} is done {tally.calls[word]} times'

@@ -104,6 +104,8 @@ class Session:
         self.limits = limits
         self.forest = Forest()
         self.keys = []
+        # The values that direct calls have saved, each once.
+        self.saved = []
         self.counts = {'o': 0, 'b': 0, 'r': 0, 'v': 0}
         self.uses = 0
         self.slots = {letter: Slots(limits) for letter in 'obr'}

@@ -1,16 +1,15 @@
 -- How each change of the slots as they lie in memory keeps an arena laid out.
-use Rattle.std.proofs.Common.{◌≡◌, ℕ, ◌+◌, ◌-◌, ◌<◌, ◌≤◌, nat_eq, nat_le, true, false, List, [], ◌∷◌, ◌++◌, length, map, set, Some, None, IsSome, cond, count_by, refl, sym, ap, subst, ◌∙◌, inl, inr, arith, is_some, true≢false}
+use Rattle.std.proofs.Common.{◌≡◌, ℕ, ◌+◌, ◌-◌, ◌<◌, ◌≤◌, nat_eq, nat_le, true, false, List, [], ◌∷◌, ◌++◌, length, length-set, slice_index_or, map, set, Some, None, IsSome, cond, count_by, refl, sym, ap, subst, ◌∙◌, inl, inr, arith, is_some, true≢false}
 use Rattle.std.proofs.Math.ListN.{get_or-map}
 use Rattle.std.proofs.lemmas.Bool.Decides.{eqb_tells, leb_tells}
-use Rattle.std.proofs.lemmas.List.{length-map, map-set, map-append, get_or-set_same, get_or-set_other, set-get_or}
+use Rattle.std.proofs.lemmas.List.{length-map, map-set, map-append, get_or-set_same, get_or-set_other, set-get_or, set-set, get_or_read}
 use Rattle.std.proofs.lemmas.List.Sums.{sum_by-cons}
 use Rattle.ir_model.specs.declared.ids.ArenaIndex.{ArenaIndex}
-use Rattle.ir_model.specs.Slots.{slot_in, slot_at, find, item_under, put_in, put_slot}
-use Rattle.ir_model.specs.Arenas.{IsNew, IsWhole, room}
-use Rattle.ir_model.proofs.Slots.{IsTaken, taken_at, slot_at-next, find_past, put-next, put_in-set, put_in-push, item_under_cases}
-use Rattle.ir_base_arenas.specs.declared.arena.Slot.{Slot as Held}
-use Rattle.ir_base_arenas.specs.declared.arena.Slot.TheVariants.{Full, Free}
-use Rattle.ir_base_arenas.specs.ArenaSound.{slot_shown, next_in, with_item, held_in, IsFreeChain, SlotsAreSound, IsLaid}
+use Rattle.ir_model.specs.Slots.{Slot, slot_in, slot_at, find, item_under, put_in, put_slot}
+use Rattle.ir_model.specs.Arenas.{Arena, IsNew, IsLiveIn, IsWhole, room, fill, cut}
+use Rattle.ir_model.proofs.Slots.{IsTaken, taken_at, slot_at-next, find_past, put-next, put-set, put_in-set, put_in-push, item_under_cases}
+use Rattle.ir_base_arenas.specs.declared.arena.Slot.{Slot as Laid}
+use Rattle.ir_base_arenas.specs.ArenaSound.{Held, Full, Free, held, slot_shown, next_in, with_item, held_in, IsFreeChain, SlotsAreSound, IsLaid}
 use Rattle.ir_base_arenas.proofs.ArenaSound.{reusable_is, offered, IsSound-rewrite, IsSound-reuse, IsSound-extend, offered_is_new, end_is_new, whole_is, room_is, vacate_listed, vacate_retired, unlisted_at, taken_counts}
 
 module _ {T : Type 0} where
@@ -31,6 +30,27 @@ module _ {T : Type 0} where
   pub find-shown : (slots : List (Held T)) (id : ArenaIndex) (k : ℕ) → id.slot ≡ k + 1 → find (map slot_shown slots) id ≡ item_under (slot_shown (held_in slots k)) id.version
   unfolding find
   find-shown slots id k is = ap (λ s. item_under s id.version) (ap (slot_at (map slot_shown slots)) is ∙ slot_at-next (map slot_shown slots) k ∙ shown-at slots k)
+
+  -- the slot of a live id, as it lies in memory
+  pub record IsHeld (slots : List (Held T)) (id : ArenaIndex) : Type 0 where
+    pub numbered : 1 ≤ id.slot
+    pub within : id.slot - 1 < length slots
+    pub some : IsSome (slot_shown (held_in slots (id.slot - 1))).item
+    pub found : find (map slot_shown slots) id ≡ (slot_shown (held_in slots (id.slot - 1))).item
+    pub under : item_under (slot_shown (held_in slots (id.slot - 1))) id.version ≡ (slot_shown (held_in slots (id.slot - 1))).item
+
+  pub held_at : (slots : List (Held T)) (id : ArenaIndex) → IsSome (find (map slot_shown slots) id) → IsHeld slots id
+  held_at slots id live =
+      let taken = taken_at (map slot_shown slots) id live in
+      let here = shown-at slots (id.slot - 1) in
+      let found = taken.found ∙ ap (λ s. s.item) here in
+      record {
+        numbered = taken.numbered;
+        within = omega (arith, taken.within, length-map slots slot_shown);
+        some = subst (λ s. IsSome s.item) here taken.some;
+        found = found;
+        under = sym (find-shown slots id (id.slot - 1) (omega (arith, taken.numbered))) ∙ found;
+      }
 
   pub find-past : (slots : List (Held T)) (id : ArenaIndex) → length slots < id.slot → find (map slot_shown slots) id ≡ None
   find-past slots id past = find_past (map slot_shown slots) id (omega (arith, past, length-map slots slot_shown))
@@ -57,6 +77,7 @@ module _ {T : Type 0} where
     pub within : k < length slots
     pub fits : (slot_shown (held_in slots k)).version + 2 ≤ last
     pub some : 1 ≤ free
+    pub vacant : (slot_shown (held_in slots k)).item ≡ None
     pub fresh : IsNew (record { slots = map slot_shown slots; limit = limit; last_version = last; removals = n }) (record { slot = k + 1; version = (slot_shown (held_in slots k)).version + 2 })
     pub more : (w : T) → IsLaid (set slots k (Full ((slot_shown (held_in slots k)).version + 2) w)) (next_in (held_in slots k)) (free - 1) (len + 1) limit last
 
@@ -73,6 +94,7 @@ module _ {T : Type 0} where
             within = omega (arith, one.within, length-map slots slot_shown);
             fits = rw (← here) is.1;
             some = omega (arith, measured);
+            vacant = rw (← here) is.0;
             fresh = rw (← here) (offered_is_new (map slot_shown slots) rest len limit last j n sound);
             more = λ w. record {
               places = rest;
@@ -185,6 +207,61 @@ module _ {T : Type 0} where
 
   pub cut-shown : (slots : List (Held T)) (id : ArenaIndex) (k next : ℕ) → id.slot ≡ k + 1 → k < length slots → map slot_shown (set slots k (Free id.version next)) ≡ put_slot (map slot_shown slots) id.slot (record { version = id.version; item = None })
   cut-shown slots id k next is within = write-shown slots k (Free id.version next) within ∙ ap (λ n. put_slot (map slot_shown slots) n (record { version = id.version; item = None })) (sym is)
+
+  -- the number of a free slot is less than what stands for a record
+  pub first_fits : {slots : List (Held T)} {first free len limit last : ℕ} → IsLaid slots first free len limit last → first < 4294967295
+  first_fits {slots} {first} {free} {len} {limit} {last} laid = by_places laid.places laid.chained laid.sound
+    where
+      by_places : (places : List ℕ) → IsFreeChain slots first places → SlotsAreSound (map slot_shown slots) places len limit last → first < 4294967295
+      by_places [] chain sound = omega (arith, chain)
+      by_places (k ∷ rest) chain sound =
+          let one = offered (map slot_shown slots) rest len limit last k sound in
+          omega (arith, chain.0, one.within, sound.within, sound.numbered)
+
+  -- what a slot in memory stands for
+  pub held_version : (s : Laid T) → (slot_shown (held s)).version ≡ s.version
+  held_version s = elim (eqb_tells s.next 4294967295) [ inl eq ↦ rw eq.0 refl | inr ne ↦ rw ne.0 refl ]
+
+  pub held_free : (s : Laid T) → s.next < 4294967295 → held s ≡ Free s.version s.next
+  held_free s below = elim (eqb_tells s.next 4294967295) [ inl eq ↦ absurd (omega (arith, eq.1)) | inr ne ↦ rw ne.0 refl ]
+
+  pub held_full : (s : Laid T) → IsSome (slot_shown (held s)).item → (slot_shown (held s)).item ≡ Some s.item
+  held_full s some = elim (eqb_tells s.next 4294967295) [ inl eq ↦ rw eq.0 refl | inr ne ↦ absurd (true≢false (sym (rw ne.0 at some))) ]
+
+  pub held_next : (s : Laid T) → (slot_shown (held s)).item ≡ None → next_in (held s) ≡ s.next
+  held_next s none = elim (eqb_tells s.next 4294967295) [ inl eq ↦ absurd (true≢false (ap is_some (rw eq.0 at none))) | inr ne ↦ rw ne.0 refl ]
+
+  pub held_with : (s : Laid T) (w : T) → held (record s { item = w }) ≡ with_item (held s) w
+  held_with s w = elim (eqb_tells s.next 4294967295) [ inl eq ↦ rw eq.0 refl | inr ne ↦ rw ne.0 refl ]
+
+  -- the slot that was read
+  pub held-read : (slots : List (Laid T)) (k : ℕ) (s : Laid T) → k < length slots → s ≡ slice_index_or slots k s → held_in (map held slots) k ≡ held s
+  held-read slots k s within is =
+      let inside : k < length (map held slots) = omega (arith, within, length-map slots held) in
+      sym (get_or_read (map held slots) k (held s) inside (ap held is ∙ sym (get_or-map held slots k s)) (Free 0 0))
+
+  -- the slot of a live id is freed where it lies
+  pub held-freed : (slots : List (Laid T)) (first free len limit last : ℕ) (id : ArenaIndex) (s : Laid T) → IsLaid (map held slots) first free len limit last → IsTaken (map slot_shown (map held slots)) id → s ≡ slice_index_or slots (id.slot - 1) s → map held (set slots (id.slot - 1) (record s { next = first })) ≡ set (map held slots) (id.slot - 1) (Free id.version first)
+  held-freed slots first free len limit last id s laid live is =
+      let k = id.slot - 1 in
+      let within : k < length slots = omega (arith, live.within, length-map (map held slots) slot_shown, length-map slots held) in
+      let version : s.version ≡ id.version = sym (held_version s) ∙ ap (λ h. (slot_shown h).version) (sym (held-read slots k s within is)) ∙ ap (λ h. h.version) (sym (shown-at (map held slots) k)) ∙ live.version in
+      map-set held slots k (record s { next = first }) ∙ ap (λ h. set (map held slots) k h) (held_free (record s { next = first }) (first_fits laid) ∙ ap (λ v. Free v first) version)
+
+  -- a second write of one slot is the only one
+  pub put-put : (slots : List (Slot T)) (id : ArenaIndex) (s t : Slot T) → IsTaken slots id → put_slot (put_slot slots id.slot s) id.slot t ≡ put_slot slots id.slot t
+  put-put slots id s t live =
+      let k = id.slot - 1 in
+      let size = length-set slots k s in
+      put-set (put_slot slots id.slot s) id.slot t live.numbered (rw (put-set slots id.slot s live.numbered live.within) (omega (arith, size, live.within)))
+      ∙ ap (λ l. set l k t) (put-set slots id.slot s live.numbered live.within)
+      ∙ set-set slots k s t
+      ∙ sym (put-set slots id.slot t live.numbered live.within)
+
+  pub cut-fill : (a : Arena T) (id : ArenaIndex) (w : T) → IsLiveIn a id → cut (fill a id w) id ≡ cut a id
+  cut-fill a id w live =
+      let slots = put-put a.slots id (record { version = id.version; item = Some w }) (record { version = id.version; item = None }) (taken_at a.slots id live) in
+      λ i. record { slots = slots i; limit = a.limit; last_version = a.last_version; removals = a.removals + 1 }
 
 -- a test that is false at each number below b
 pub not_below : (a b : ℕ) → (a < b → false ≡ true) → b ≤ a

@@ -1,4 +1,6 @@
 pub mod ArenaSound
+pub mod CellsMemory
+pub mod PlainLists
 pub mod ArenaChain
 pub mod ListArena
 pub mod ListChains

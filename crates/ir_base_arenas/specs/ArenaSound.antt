@@ -2,10 +2,18 @@
 use Rattle.std.specs.Prelude.{◌≡◌, ℕ, ◌+◌, ◌<◌, ◌≤◌, nat_eq, cond, List, [], ◌∷◌, map, length, count_by, slice_index_or, Some, None}
 use Rattle.ir_model.specs.Slots.{Slot, is_taken, is_reusable, is_retired, slot_in}
 use Rattle.ir_model.specs.Arenas.{IsInRange}
-use Rattle.ir_base_arenas.specs.declared.arena.Slot.{Slot as Held}
-use Rattle.ir_base_arenas.specs.declared.arena.Slot.TheVariants.{Full, Free}
+use Rattle.ir_base_arenas.specs.declared.arena.Slot.{Slot as Laid}
+
+-- a slot as it is used: its version, with its record, or with the number of the free slot after it
+pub data Held (T : Type 0) : Type 0 where
+  Full : ℕ → T → Held T
+  Free : ℕ → ℕ → Held T
 
 module _ {T : Type 0} where
+  -- the slot that lies in memory, where one with a record names a slot that there can't be
+  abbrev pub held : Laid T → Held T
+  held s = cond (nat_eq s.next 4294967295) (Full s.version s.item) (Free s.version s.next)
+
   -- the slot as contracts see it
   abbrev pub slot_shown : Held T → Slot T
   slot_shown (Full version item) = record { version = version; item = Some item }

@@ -6,3 +6,7 @@ pub mod Walks
 pub mod SeqLends
 pub mod ShortSeqLends
 pub mod Link
+pub mod CellsLends
+pub mod PlainItems
+pub mod PlaceLends
+pub mod PlainSeqLends

@@ -2,26 +2,30 @@
 //!
 //! A slot keeps the version that it handed out last. A slot whose record was removed is handed out again under the version two above, the slot freed last first, unless that is past the last version: then the slot stays empty for good. Free slots are chained through themselves, so that a removal takes no memory, and an insertion takes memory only where no free slot is left.
 
-ghost use Rattle.std.specs.Prelude.{◌≡◌, ◌⊎◌, ◌+◌, ◌<◌, ◌≤◌, ◌==◌, ◌↔◌, IsTrue, IfOk, IfErr, IfNone, OnErr, OnSome, OnOk, if◌then◌else◌, is_some, None, Err, option_copied, nat_le};
+ghost use Rattle.std.specs.Prelude.{◌≡◌, ◌⊎◌, ◌+◌, ◌<◌, ◌≤◌, ◌==◌, ◌↔◌, IsTrue, IfOk, IfErr, IfNone, OnErr, OnSome, OnOk, Some, None, Err, option_copied, nat_le};
 ghost use Rattle.std.specs.Option.{option_copied_mut};
-ghost use Rattle.std.specs.Borrow.{LendsIf, sem};
+ghost use Rattle.std.specs.Borrow.{sem};
 ghost use Rattle.ir_model.specs.Slots.{item_under};
 ghost use Rattle.ir_base_arenas.specs.declared.ptr.Ptr.{Ptr as Handle};
 ghost use Rattle.ir_base_arenas.specs.Arena.{empty, get, IsLiveIn, IsWhole, IsNew, cut, miss, room, unused, arena_len, Inserts};
 
+use crate::take_out::TakeOut;
 use crate::tally::Tally;
 use crate::{ArenaIndex, CoreError, Ptr};
 use std::alloc::Global;
 use std::marker::Model;
-use std::mem::{replace, size_of};
+use std::mem::size_of;
 
-/// A slot: the version that was handed out last, with its record, or with the number of the free slot after it.
+// What `next` is in a slot with a record: no slot has this number.
+const FULL: u32 = 4294967295;
+
+/// A slot: the version that was handed out last, and its record, or what was left of the last one.
 #[derive(Drop)]
-pub enum Slot<T> {
-    /// A slot with a record.
-    Full { version: u32, item: T },
-    /// An empty slot.
-    Free { version: u32, next: u32 },
+pub struct Slot<T> {
+    version: u32,
+    // `FULL` in a slot with a record, and else the number of the free slot after this one, or 0.
+    next: u32,
+    item: T,
 }
 
 // A slot takes 8 bytes more than its record.
@@ -30,71 +34,16 @@ const _: () = prove!(size_of::<Slot<[u64; 4]>>() == size_of::<[u64; 4]>() + 8);
 const _: () = prove!(size_of::<Slot<[u32; 3]>>() == size_of::<[u32; 3]>() + 8);
 
 impl<T> Slot<T> {
-    ghost use Rattle.ir_base_arenas.specs.contracts.arena.Slot.{the_row};
-    ghost use Rattle.ir_base_arenas.specs.ArenaSound.{slot_shown, next_in, with_item};
-
-    // The version that was handed out last.
-    fn version(&self) -> u32
-        ensures { result ≡ (slot_shown self.now).version }
-    {
-        match self {
-            Slot::Full { version, .. } => *version,
-            Slot::Free { version, .. } => *version,
-        }
-    }
-
-    // The number of the free slot after this one, or 0.
-    fn next(&self) -> u32
-        ensures { result ≡ next_in self.now }
-    {
-        match self {
-            Slot::Full { .. } => 0,
-            Slot::Free { next, .. } => *next,
-        }
-    }
+    ghost use Rattle.ir_base_arenas.specs.ArenaSound.{slot_shown, held};
 
     // The record under a version.
     fn item(&self, under: u32) -> Option<&T>
-        ensures { option_copied result ≡ item_under (slot_shown self.now) under }
+        ensures { option_copied result ≡ item_under (slot_shown (held self.now)) under }
     {
-        match self {
-            Slot::Full { version, item } => { if *version == under { Some(item) } else { None } }
-            Slot::Free { .. } => None,
+        if self.version == under && self.next == FULL {
+            return Some(&self.item);
         }
-    }
-
-    // The record under a version, for writing.
-    fn item_mut(&mut self, under: u32) -> Option<&mut T>
-        ensures* lends { sem 𝓛 (LendsIf (the_row T.row) T.row self.entry result (with_item self.old) self.old) }
-        ensures value { option_copied_mut result ≡ item_under (slot_shown self.old) under }
-    {
-        if self.version() != under {
-            return None;
-        }
-        match self {
-            Slot::Full { item, .. } => Some(item),
-            Slot::Free { .. } => None,
-        }
-    }
-
-    // Takes the record under a version out. The slot then names the free slot after it.
-    fn vacate(&mut self, under: u32, next: u32) -> Option<T>
-        ensures value { result ≡ item_under (slot_shown self.old) under }
-        ensures left { self.new ≡ (if is_some result then Slot.Free under next else self.old) }
-    {
-        if self.item(under).is_none() {
-            return None;
-        }
-        match replace(
-            self,
-            Slot::Free {
-                version: under,
-                next,
-            },
-        ) {
-            Slot::Full { item, .. } => Some(item),
-            Slot::Free { .. } => unreachable!(),
-        }
+        None
     }
 }
 
@@ -123,11 +72,11 @@ impl<T> Model for Arena<T> {
 
     ghost coded = { arena_code T.code };
 
-    ghost use Rattle.ir_base_arenas.specs.ArenaSound.{slot_shown, IsLaid};
+    ghost use Rattle.ir_base_arenas.specs.ArenaSound.{slot_shown, held, IsLaid};
 
-    ghost view = { λ a. record { slots = map slot_shown a.slots.items; limit = a.limit; last_version = a.last_version; removals = a.removals.count } };
+    ghost view = { λ a. record { slots = map slot_shown (map held a.slots.items); limit = a.limit; last_version = a.last_version; removals = a.removals.count } };
 
-    ghost invariant = { λ a. IsLaid a.slots.items a.first_free a.free a.len a.limit a.last_version };
+    ghost invariant = { λ a. IsLaid (map held a.slots.items) a.first_free a.free a.len a.limit a.last_version };
 }
 
 // Whether a slot with this version may be handed out again.
@@ -203,10 +152,10 @@ impl<T> Arena<T> {
         ensures* writes_back { sem 𝓛 (lends_get T.row self.entry ptr.index result) }
         ensures value { option_copied_mut result ≡ get self.old ptr.index }
     {
-        let id = ptr.index;
-        let place = (id.slot as usize).checked_sub(1)?;
-        let record = self.slots.get_mut(place)?.item_mut(id.version)?;
-        Some(record)
+        if !self.is_live(ptr) {
+            return None;
+        }
+        Some(self.at_mut(ptr))
     }
 
     /// The record under a live `ptr`.
@@ -214,10 +163,8 @@ impl<T> Arena<T> {
         requires { IsLiveIn self.now ptr.index }
         ensures { get self.now ptr.index ≡ Some result.now }
     {
-        match self.get(ptr) {
-            Some(record) => record,
-            None => unreachable!(),
-        }
+        let place = ptr.index.slot as usize - 1;
+        &self.slots[place].item
     }
 
     /// The record under a live `ptr`, for writing.
@@ -226,10 +173,8 @@ impl<T> Arena<T> {
         ensures* writes_back { sem 𝓛 (lends_record T.row self.entry ptr.index result) }
         ensures value { get self.old ptr.index ≡ Some result.now }
     {
-        match self.get_mut(ptr) {
-            Some(record) => record,
-            None => unreachable!(),
-        }
+        let place = ptr.index.slot as usize - 1;
+        &mut self.slots[place].item
     }
 
     /// Stores what `make` answers for a new handle, and answers the handle. `make` is called only where no refusal comes: a caller promises that it can be called with a new handle, and where the arena has no room, none is new.
@@ -254,14 +199,17 @@ impl<T> Arena<T> {
         if self.first_free > 0 {
             let place = self.first_free as usize - 1;
             let slot = &self.slots[place];
-            let version = slot.version() + 2;
-            let next = slot.next();
+            let version = slot.version + 2;
+            let next = slot.next;
             let ptr = Ptr::from_index(ArenaIndex {
                 slot: self.first_free,
                 version,
             });
             let item = make(ptr);
-            self.slots[place] = Slot::Full { version, item };
+            let slot = &mut self.slots[place];
+            slot.version = version;
+            slot.next = FULL;
+            slot.item = item;
             self.first_free = next;
             self.free -= 1;
             self.len += 1;
@@ -279,28 +227,47 @@ impl<T> Arena<T> {
             version: 1,
         });
         let item = make(ptr);
-        self.slots.push_reserved(Slot::Full { version: 1, item });
+        self.slots.push_reserved(Slot {
+            version: 1,
+            next: FULL,
+            item,
+        });
         self.len += 1;
         Ok(ptr)
     }
 
-    /// Takes the record under `ptr` out, if it is live. It takes no memory. Each call counts as a removal.
-    pub fn remove(&mut self, ptr: Ptr<T>) -> Option<T>
-        ensures value { result ≡ get self.old ptr.index }
-        ensures cut { OnSome result (self.new ≡ cut self.old ptr.index) }
-        ensures gone { get self.new ptr.index ≡ None }
-        ensures absent { IfNone result (self.new ≡ miss self.old) }
+    // Frees the slot of a live record, which is left where it lies until the slot is handed out again.
+    fn vacate(&mut self, ptr: Ptr<T>)
+        requires { IsLiveIn self.old ptr.index }
+        ensures { self.new ≡ cut self.old ptr.index }
     {
         self.removals = self.removals.next();
         let id = ptr.index;
-        let next = self.first_free;
-        let place = (id.slot as usize).checked_sub(1)?;
-        let item = self.slots.get_mut(place)?.vacate(id.version, next)?;
+        let place = id.slot as usize - 1;
+        self.slots[place].next = self.first_free;
         self.len -= 1;
         if has_next(id.version, self.last_version) {
             self.first_free = id.slot;
             self.free += 1;
         }
+    }
+
+    /// Takes the record under `ptr` out, if it is live, with the memory that it owns. It takes no memory. Each call counts as a removal.
+    #[inline(always)]
+    pub fn remove(&mut self, ptr: Ptr<T>) -> Option<T>
+    where
+        T: TakeOut,
+        ensures value { result ≡ get self.old ptr.index }
+        ensures cut { OnSome result (self.new ≡ cut self.old ptr.index) }
+        ensures gone { get self.new ptr.index ≡ None }
+        ensures absent { IfNone result (self.new ≡ miss self.old) }
+    {
+        if !self.is_live(ptr) {
+            self.removals = self.removals.next();
+            return None;
+        }
+        let item = self.at_mut(ptr).take_out();
+        self.vacate(ptr);
         Some(item)
     }
 }

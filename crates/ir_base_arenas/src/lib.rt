@@ -3,21 +3,26 @@
 
 mod arena;
 pub mod arena_laws;
+mod cells;
 mod link;
 pub mod linked_list;
 mod list_iter;
 pub mod list_laws;
+mod plain_seq;
 mod ptr;
 mod room;
 mod seq;
 mod short_seq;
+mod take_out;
 mod tally;
 
 pub use arena::Arena;
 pub use ir_model::{ArenaIndex, CoreError};
 pub use link::Link;
 pub use list_iter::Iter;
+pub use plain_seq::{Plain, PlainSeq};
 pub use ptr::Ptr;
 pub use room::Room;
 pub use seq::Seq;
 pub use short_seq::ShortSeq;
+pub use take_out::TakeOut;

@@ -76,6 +76,7 @@ pub trait ContainsLinkedList<T> {
 }
 
 // A link to a live record: its index has a slot.
+#[inline(always)]
 fn link_to<T>(records: &Arena<T>, index: ArenaIndex) -> Link
     requires { IsLiveIn records.now index }
     ensures { result ≡ Some index }
@@ -130,6 +131,7 @@ fn set_prev_of<T: LinkedList, C: ContainsLinkedList<T>>(
 }
 
 // Sets all links of a node.
+#[inline(always)]
 fn set_links<T: LinkedList>(
     nodes: &mut Arena<T>,
     node: ArenaIndex,
@@ -149,6 +151,7 @@ fn set_links<T: LinkedList>(
 }
 
 // Puts an unlinked node between two neighbours, or at an end of the container where there is none.
+#[inline(always)]
 fn link_between<T: LinkedList, C: ContainsLinkedList<T>>(
     nodes: &mut Arena<T>,
     containers: &mut Arena<C>,
@@ -181,6 +184,7 @@ fn link_between<T: LinkedList, C: ContainsLinkedList<T>>(
 /// Puts an unlinked node at the front of a container's list. It stands for pliron's `insert_at_front`.
 ///
 /// It asks for a live node that is in no list and a live container, which `is_linked` and `Arena::is_live` test.
+#[inline(always)]
 pub fn insert_at_front<T: LinkedList, C: ContainsLinkedList<T>>(
     nodes: &mut Arena<T>,
     containers: &mut Arena<C>,
@@ -207,6 +211,7 @@ pub fn insert_at_front<T: LinkedList, C: ContainsLinkedList<T>>(
 /// Puts an unlinked node at the back of a container's list. It stands for pliron's `insert_at_back`.
 ///
 /// It asks for a live node that is in no list and a live container, which `is_linked` and `Arena::is_live` test.
+#[inline(always)]
 pub fn insert_at_back<T: LinkedList, C: ContainsLinkedList<T>>(
     nodes: &mut Arena<T>,
     containers: &mut Arena<C>,
@@ -233,6 +238,7 @@ pub fn insert_at_back<T: LinkedList, C: ContainsLinkedList<T>>(
 /// Puts an unlinked node right after a linked one. It stands for pliron's `insert_after`.
 ///
 /// It asks for a live node that is in no list and a mark that is in one, which `is_linked` and `Arena::is_live` test.
+#[inline(always)]
 pub fn insert_after<T: LinkedList, C: ContainsLinkedList<T>>(
     nodes: &mut Arena<T>,
     containers: &mut Arena<C>,
@@ -262,6 +268,7 @@ pub fn insert_after<T: LinkedList, C: ContainsLinkedList<T>>(
 /// Puts an unlinked node right before a linked one. It stands for pliron's `insert_before`.
 ///
 /// It asks for a live node that is in no list and a mark that is in one, which `is_linked` and `Arena::is_live` test.
+#[inline(always)]
 pub fn insert_before<T: LinkedList, C: ContainsLinkedList<T>>(
     nodes: &mut Arena<T>,
     containers: &mut Arena<C>,
@@ -291,6 +298,7 @@ pub fn insert_before<T: LinkedList, C: ContainsLinkedList<T>>(
 /// Takes a linked node out of its list, and clears its links. It stands for pliron's `unlink`.
 ///
 /// It asks for a node that is in a list, which `is_linked` tests.
+#[inline(always)]
 pub fn unlink<T: LinkedList, C: ContainsLinkedList<T>>(
     nodes: &mut Arena<T>,
     containers: &mut Arena<C>,

@@ -9,6 +9,7 @@ ghost use Rattle.ir_base_arenas.specs.SeqLends.{lends_item};
 
 use std::alloc::{AllocError, Global};
 use std::marker::Model;
+use std::mem::replace;
 
 /// A list of items in one order. It stands for the vectors in pliron's records.
 #[derive(Drop)]
@@ -170,5 +171,14 @@ impl<T> Seq<T> {
         ensures { self.new ≡ [] }
     {
         self.items.clear()
+    }
+
+    /// All items, with the memory that they lie in. The list is empty then, and owns no memory.
+    pub fn take(&mut self) -> Self
+        ensures value { result ≡ self.old }
+        ensures left { self.new ≡ [] }
+    {
+        let alloc = *self.items.allocator();
+        replace(self, Seq::new(alloc))
     }
 }

@@ -11,6 +11,7 @@ use smallvec::SmallVec;
 use std::alloc::{AllocError, Global};
 use std::default::MadeWith;
 use std::marker::Model;
+use std::mem::replace;
 
 /// A list of items in one order, of which up to `N` take no allocation. It stands for the short vectors in pliron's records.
 ///
@@ -82,6 +83,15 @@ impl<T: MadeWith<Global> + Drop, const N: usize> ShortSeq<T, N> {
     {
         ShortSeq {
             items: SmallVec::new(alloc),
+        }
+    }
+
+    /// As many items as lie in the list itself, in order. It allocates nothing.
+    pub fn full(alloc: Global, items: [T; N]) -> Self
+        ensures { result ≡ items }
+    {
+        ShortSeq {
+            items: SmallVec::from_buf(alloc, items),
         }
     }
 
@@ -180,5 +190,14 @@ impl<T: MadeWith<Global> + Drop, const N: usize> ShortSeq<T, N> {
         ensures { self.new ≡ [] }
     {
         self.items.clear()
+    }
+
+    /// All items, with the memory that they lie in. The list is empty then, and owns no memory.
+    pub fn take(&mut self) -> Self
+        ensures value { result ≡ self.old }
+        ensures left { self.new ≡ [] }
+    {
+        let alloc = *self.items.allocator();
+        replace(self, ShortSeq::new(alloc))
     }
 }

@@ -201,6 +201,17 @@ impl<D: Dialects> AttributeDict<D> {
         }
     }
 
+    /// All pairs, with the memory that they own. The dictionary is empty then.
+    pub fn take(&mut self) -> Self
+        ensures value { result ≡ self.old }
+        ensures left { self.new ≡ [] }
+    {
+        AttributeDict {
+            table: self.table.take(),
+            alloc: self.alloc,
+        }
+    }
+
     /// The pairs in their order.
     pub fn iter(&self) -> Iter<'_, Identifier, D::Attr>
         ensures rest { result ≡ self.now }

@@ -15,7 +15,9 @@ mod type_store;
 mod verifier_lists;
 
 pub use dialects::{Dialects, unknown_loc};
-pub use ir_base_arenas::{Arena, Iter, Ptr, Room, Seq, ShortSeq, linked_list, list_laws};
+pub use ir_base_arenas::{
+    Arena, Iter, Plain, PlainSeq, Ptr, Room, Seq, ShortSeq, TakeOut, linked_list, list_laws,
+};
 pub use ir_base_identifiers::{
     AttrId, AttrName, DialectName, Id, IdentErr, Identifier, Legaliser, MalformedIdentifierErr,
     Name, OfAttr, OfDialect, OfOp, OfType, OpId, OpName, TypeId, TypeName, ident,

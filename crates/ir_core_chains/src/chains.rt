@@ -17,6 +17,7 @@ use ir_core_records::{Records, UseIndex};
 use std::alloc::AllocError;
 
 // Takes the last place out, and its use with it. It tells what the place named.
+#[inline(always)]
 pub(crate) fn pop_linked<D: Dialects, N: Named<D>>(records: &mut Records<D>, user: ArenaIndex) -> N
     requires linked { LinkedBut NoHole (N.places_at records.old) (N.uses_at records.old) }
     requires live { IsLiveIn records.old.ops user }
@@ -33,6 +34,7 @@ pub(crate) fn pop_linked<D: Dialects, N: Named<D>>(records: &mut Records<D>, use
 }
 
 // Puts the use into the list of what is named, and a place with a new number at the end, which is at about this index: both or neither.
+#[inline(always)]
 pub(crate) fn push_linked<D: Dialects, N: Named<D>>(
     records: &mut Records<D>,
     user: ArenaIndex,
@@ -60,6 +62,7 @@ pub(crate) fn push_linked<D: Dialects, N: Named<D>>(
 }
 
 // Takes all places of an operation out, and their uses with them.
+#[inline(always)]
 pub(crate) fn unlink_all<D: Dialects, N: Named<D>>(records: &mut Records<D>, user: ArenaIndex)
     requires linked { LinkedBut NoHole (N.places_at records.old) (N.uses_at records.old) }
     requires live { IsLiveIn records.old.ops user }
@@ -74,6 +77,7 @@ pub(crate) fn unlink_all<D: Dialects, N: Named<D>>(records: &mut Records<D>, use
 }
 
 // Gives an operation without places these, numbered from `first` on, and puts their uses into the lists of what they name: all or none.
+#[inline(always)]
 pub(crate) fn link_all<D: Dialects, N: Named<D>, V: Names<N>>(
     records: &mut Records<D>,
     user: ArenaIndex,

@@ -17,6 +17,7 @@ use ir_core_records::{Records, UseIndex};
 use std::alloc::AllocError;
 
 // Takes a use out that no place stands for. The last use moves into its place.
+#[inline(always)]
 fn release<D: Dialects, N: Named<D>>(records: &mut Records<D>, named: N, index: usize)
     requires linked { LinkedBesides named index (N.places_at records.old) (N.uses_at records.old) }
     requires named { N.IsNamed records.old named }
@@ -31,6 +32,7 @@ fn release<D: Dialects, N: Named<D>>(records: &mut Records<D>, named: N, index: 
 }
 
 // Takes the place at an index out, and its use with it. It tells what the place named.
+#[inline(always)]
 pub(crate) fn remove_linked<D: Dialects, N: Named<D>>(
     records: &mut Records<D>,
     user: ArenaIndex,
@@ -80,6 +82,7 @@ pub(crate) fn insert_linked<D: Dialects, N: Named<D>>(
 }
 
 // Puts a place with a new number where another one stands, and the use of that one goes.
+#[inline(always)]
 pub(crate) fn replace_linked<D: Dialects, N: Named<D>>(
     records: &mut Records<D>,
     user: ArenaIndex,

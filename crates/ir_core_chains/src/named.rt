@@ -49,6 +49,7 @@ impl Names<BlockIndex> for BlockIndex {
 impl<D: Dialects> Names<BlockIndex> for Ptr<BasicBlock<D>> {
     ghost named = { λ p. record { index = p.index } };
 
+    #[inline(always)]
     fn named_index(&self) -> BlockIndex {
         BlockIndex { index: self.index }
     }
@@ -57,6 +58,7 @@ impl<D: Dialects> Names<BlockIndex> for Ptr<BasicBlock<D>> {
 impl<D: Dialects> Names<ValueIndex> for Value<D> {
     ghost named = { λ v. v.index };
 
+    #[inline(always)]
     fn named_index(&self) -> ValueIndex {
         self.index
     }
@@ -185,6 +187,7 @@ impl<D: Dialects> Named<D> for ValueIndex {
 
     ghost chain = { chain-values };
 
+    #[inline(always)]
     fn place_count(records: &Records<D>, user: ArenaIndex) -> usize {
         records.ops.at(Ptr::from_index(user)).operands.len()
     }
@@ -193,6 +196,7 @@ impl<D: Dialects> Named<D> for ValueIndex {
         *records.ops.at(Ptr::from_index(user)).operands.at(index)
     }
 
+    #[inline(always)]
     fn reserve_places(
         records: &mut Records<D>,
         user: ArenaIndex,
@@ -205,6 +209,7 @@ impl<D: Dialects> Named<D> for ValueIndex {
             .reserve(additional)
     }
 
+    #[inline(always)]
     fn push_place(
         records: &mut Records<D>,
         user: ArenaIndex,
@@ -239,6 +244,7 @@ impl<D: Dialects> Named<D> for ValueIndex {
         )
     }
 
+    #[inline(always)]
     fn replace_place(
         records: &mut Records<D>,
         user: ArenaIndex,
@@ -256,6 +262,7 @@ impl<D: Dialects> Named<D> for ValueIndex {
         replace(operation.operands.at_mut(index), new)
     }
 
+    #[inline(always)]
     fn remove_place(
         records: &mut Records<D>,
         user: ArenaIndex,
@@ -268,6 +275,7 @@ impl<D: Dialects> Named<D> for ValueIndex {
             .remove(index)
     }
 
+    #[inline(always)]
     fn set_place(records: &mut Records<D>, moved: UseIndex, near: usize, index: usize) {
         let operands = &mut records.ops.at_mut(Ptr::from_index(moved.user)).operands;
         match find_place_near(operands.as_slice(), moved.number, near) {
@@ -276,6 +284,7 @@ impl<D: Dialects> Named<D> for ValueIndex {
         }
     }
 
+    #[inline(always)]
     fn push_use(
         records: &mut Records<D>,
         named: ValueIndex,
@@ -294,6 +303,7 @@ impl<D: Dialects> Named<D> for ValueIndex {
         }
     }
 
+    #[inline(always)]
     fn take_use(records: &mut Records<D>, named: ValueIndex, index: usize) -> Option<KeptUse> {
         match named.definer {
             Definer::Op(op) => {
@@ -324,6 +334,7 @@ impl<D: Dialects> Named<D> for BlockIndex {
 
     ghost chain = { chain-blocks };
 
+    #[inline(always)]
     fn place_count(records: &Records<D>, user: ArenaIndex) -> usize {
         records.ops.at(Ptr::from_index(user)).successors.len()
     }
@@ -332,6 +343,7 @@ impl<D: Dialects> Named<D> for BlockIndex {
         *records.ops.at(Ptr::from_index(user)).successors.at(index)
     }
 
+    #[inline(always)]
     fn reserve_places(
         records: &mut Records<D>,
         user: ArenaIndex,
@@ -344,6 +356,7 @@ impl<D: Dialects> Named<D> for BlockIndex {
             .reserve(additional)
     }
 
+    #[inline(always)]
     fn push_place(
         records: &mut Records<D>,
         user: ArenaIndex,
@@ -395,6 +408,7 @@ impl<D: Dialects> Named<D> for BlockIndex {
         replace(operation.successors.at_mut(index), new)
     }
 
+    #[inline(always)]
     fn remove_place(
         records: &mut Records<D>,
         user: ArenaIndex,
@@ -407,6 +421,7 @@ impl<D: Dialects> Named<D> for BlockIndex {
             .remove(index)
     }
 
+    #[inline(always)]
     fn set_place(records: &mut Records<D>, moved: UseIndex, near: usize, index: usize) {
         let successors = &mut records.ops.at_mut(Ptr::from_index(moved.user)).successors;
         match find_place_near(successors.as_slice(), moved.number, near) {
@@ -415,6 +430,7 @@ impl<D: Dialects> Named<D> for BlockIndex {
         }
     }
 
+    #[inline(always)]
     fn push_use(
         records: &mut Records<D>,
         named: BlockIndex,
@@ -428,6 +444,7 @@ impl<D: Dialects> Named<D> for BlockIndex {
         )
     }
 
+    #[inline(always)]
     fn take_use(records: &mut Records<D>, named: BlockIndex, index: usize) -> Option<KeptUse> {
         take_use(
             &mut records.blocks.at_mut(Ptr::from_index(named.index)).uses,

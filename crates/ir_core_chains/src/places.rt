@@ -20,6 +20,7 @@ use std::alloc::AllocError;
 ///
 /// # Errors
 /// Where a list had to grow and couldn't. Then nothing has changed.
+#[inline(always)]
 pub fn push_operand<D: Dialects>(
     records: &mut Records<D>,
     user: ArenaIndex,
@@ -92,6 +93,7 @@ pub fn pop_successor<D: Dialects>(records: &mut Records<D>, user: ArenaIndex) ->
 ///
 /// # Errors
 /// Where a list had to grow and couldn't. Then the forest is as it was.
+#[inline(always)]
 pub fn link_operands<D: Dialects, V: Names<ValueIndex>>(
     records: &mut Records<D>,
     user: ArenaIndex,
@@ -113,6 +115,7 @@ pub fn link_operands<D: Dialects, V: Names<ValueIndex>>(
 }
 
 /// Takes all operands out, and their uses with them.
+#[inline(always)]
 pub fn unlink_operands<D: Dialects>(records: &mut Records<D>, user: ArenaIndex)
     requires linked { AreLinked (chains_of records.old) }
     requires live { IsLiveIn records.old.ops user }
@@ -127,6 +130,7 @@ pub fn unlink_operands<D: Dialects>(records: &mut Records<D>, user: ArenaIndex)
 ///
 /// # Errors
 /// Where a list had to grow and couldn't. Then the forest is as it was.
+#[inline(always)]
 pub fn link_successors<D: Dialects, V: Names<BlockIndex>>(
     records: &mut Records<D>,
     user: ArenaIndex,
@@ -148,6 +152,7 @@ pub fn link_successors<D: Dialects, V: Names<BlockIndex>>(
 }
 
 /// Takes all successors out, and their uses with them.
+#[inline(always)]
 pub fn unlink_successors<D: Dialects>(records: &mut Records<D>, user: ArenaIndex)
     requires linked { AreLinked (chains_of records.old) }
     requires live { IsLiveIn records.old.ops user }

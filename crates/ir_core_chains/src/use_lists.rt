@@ -4,10 +4,12 @@ ghost use Rattle.std.specs.Prelude.{◌≡◌, ◌<◌, ◌++◌, ◌∷◌, [],
 ghost use Rattle.std.specs.List.{swap_remove};
 ghost use Rattle.ir_core_records.specs.declared.record.UseIndex.{UseIndex as PlainUse};
 
+use ir_base_dialects::Plain;
 use ir_core_records::{KeptUse, UseIndex, Uses};
 use std::alloc::AllocError;
 
 // Puts a use whose place stands at about this index at the end, and tells where it stands itself.
+#[inline(always)]
 pub(crate) fn push_use(uses: &mut Uses, new: UseIndex, near: usize) -> Result<usize, AllocError>
     ensures uses { uses.new ≡ (if is_ok result then uses.old ++ new ∷ [] else uses.old) }
     ensures place { IfOk result (λ place. place ≡ length uses.old) }
@@ -18,6 +20,7 @@ pub(crate) fn push_use(uses: &mut Uses, new: UseIndex, near: usize) -> Result<us
 }
 
 // Takes the use at a place out. The last one moves there, and is given back.
+#[inline(always)]
 pub(crate) fn take_use(uses: &mut Uses, place: usize) -> Option<KeptUse>
     requires { place < length uses.old }
     ensures uses { (past : PlainUse) → uses.new ≡ swap_remove uses.old place past }
@@ -25,7 +28,7 @@ pub(crate) fn take_use(uses: &mut Uses, place: usize) -> Option<KeptUse>
 {
     uses.swap_remove(place);
     match uses.get(place) {
-        Some(moved) => Some(moved.copy()),
+        Some(moved) => Some(moved.copied()),
         None => None,
     }
 }

@@ -40,6 +40,7 @@ pub trait BlockPtr<D: Dialects> {
 impl<D: Dialects> BlockPtr<D> for Ptr<BasicBlock<D>> {
     ghost index_of = { λ p. p.index };
 
+    #[inline(always)]
     fn is_live(self, ctx: &Context<D>) -> bool {
         ctx.records.blocks.is_live(self)
     }
@@ -49,6 +50,7 @@ impl<D: Dialects> BlockPtr<D> for Ptr<BasicBlock<D>> {
         ctx.records.blocks.at(self)
     }
 
+    #[inline(always)]
     fn try_deref(self, ctx: &Context<D>) -> Result<&BasicBlock<D>, DanglingPtrDerefError> {
         ctx.recall_well_formed();
         ctx.records.blocks.get(self).ok_or(DanglingPtrDerefError)

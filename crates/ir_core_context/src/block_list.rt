@@ -82,6 +82,7 @@ impl<D: Dialects> BlockList<D> for Ptr<BasicBlock<D>> {
         block_list::insert_at_front(&mut ctx.records, self.index, container.index);
     }
 
+    #[inline(always)]
     fn insert_at_back(self, container: Ptr<Region>, ctx: &mut Context<D>) {
         block_list::insert_at_back(&mut ctx.records, self.index, container.index);
     }
@@ -94,6 +95,7 @@ impl<D: Dialects> BlockList<D> for Ptr<BasicBlock<D>> {
         block_list::insert_after(&mut ctx.records, self.index, mark.index);
     }
 
+    #[inline(always)]
     fn unlink(self, ctx: &mut Context<D>) {
         block_list::unlink(&mut ctx.records, self.index);
     }

@@ -115,6 +115,7 @@ impl<D: Dialects> OperandEdits<D> for Ptr<Operation<D>> {
 
     ghost value_of = { λ v. value_in v.index };
 
+    #[inline(always)]
     fn push_operand(self, ctx: &mut Context<D>, value: Value<D>) -> Result<usize, CoreError> {
         has_use_number(ctx)?;
         let index = ctx.records.ops.at(self).get_num_operands();
@@ -141,6 +142,7 @@ impl<D: Dialects> OperandEdits<D> for Ptr<Operation<D>> {
         Ok(())
     }
 
+    #[inline(always)]
     fn replace_operand(
         self,
         ctx: &mut Context<D>,
@@ -159,6 +161,7 @@ impl<D: Dialects> OperandEdits<D> for Ptr<Operation<D>> {
         Ok(())
     }
 
+    #[inline(always)]
     fn remove_operand(self, ctx: &mut Context<D>, index: usize) -> Value<D> {
         let value = remove_operand(&mut ctx.records, self.index, index);
         Value::from_index(value)

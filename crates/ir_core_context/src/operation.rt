@@ -40,15 +40,18 @@ pub trait OperationPtr<D: Dialects> {
 impl<D: Dialects> OperationPtr<D> for Ptr<Operation<D>> {
     ghost index_of = { λ p. p.index };
 
+    #[inline(always)]
     fn is_live(self, ctx: &Context<D>) -> bool {
         ctx.records.ops.is_live(self)
     }
 
+    #[inline(always)]
     fn deref(self, ctx: &Context<D>) -> &Operation<D> {
         ctx.recall_well_formed();
         ctx.records.ops.at(self)
     }
 
+    #[inline(always)]
     fn try_deref(self, ctx: &Context<D>) -> Result<&Operation<D>, DanglingPtrDerefError> {
         ctx.recall_well_formed();
         ctx.records.ops.get(self).ok_or(DanglingPtrDerefError)

@@ -77,22 +77,27 @@ impl<D: Dialects> OperationList<D> for Ptr<Operation<D>> {
 
     ghost container_index_of = { λ p. p.index };
 
+    #[inline(always)]
     fn insert_at_front(self, container: Ptr<BasicBlock<D>>, ctx: &mut Context<D>) {
         operation_list::insert_at_front(&mut ctx.records, self.index, container.index);
     }
 
+    #[inline(always)]
     fn insert_at_back(self, container: Ptr<BasicBlock<D>>, ctx: &mut Context<D>) {
         operation_list::insert_at_back(&mut ctx.records, self.index, container.index);
     }
 
+    #[inline(always)]
     fn insert_before(self, ctx: &mut Context<D>, mark: Self) {
         operation_list::insert_before(&mut ctx.records, self.index, mark.index);
     }
 
+    #[inline(always)]
     fn insert_after(self, ctx: &mut Context<D>, mark: Self) {
         operation_list::insert_after(&mut ctx.records, self.index, mark.index);
     }
 
+    #[inline(always)]
     fn unlink(self, ctx: &mut Context<D>) {
         operation_list::unlink(&mut ctx.records, self.index);
     }

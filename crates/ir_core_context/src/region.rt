@@ -45,6 +45,7 @@ pub trait RegionPtr<D: Dialects> {
 impl<D: Dialects> RegionPtr<D> for Ptr<Region> {
     ghost index_of = { λ p. p.index };
 
+    #[inline(always)]
     fn is_live(self, ctx: &Context<D>) -> bool {
         ctx.records.regions.is_live(self)
     }
@@ -57,6 +58,7 @@ impl<D: Dialects> RegionPtr<D> for Ptr<Region> {
         ctx.records.regions.get(self).ok_or(DanglingPtrDerefError)
     }
 
+    #[inline(always)]
     fn get_parent_op(self, ctx: &Context<D>) -> Ptr<Operation<D>> {
         Ptr::from_index(ctx.records.regions.at(self).parent)
     }

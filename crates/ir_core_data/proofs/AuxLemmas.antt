@@ -1,11 +1,9 @@
 -- What the arena of auxiliary data means after each change of it.
 use mathlib.Core.Path.{fun_ext}
-use Rattle.std.proofs.Common.{◌≡◌, ◌≢◌, ◌↔◌, ℕ, zero, suc, Bool, true, false, cond, if◌then◌else◌, Option, Some, None, IsSome, IsTrue, is_some, Result, Ok, Err, refl, sym, ap, subst, ◌∙◌, inl, inr, arith}
+use Rattle.std.proofs.Common.{◌≡◌, ◌≢◌, ◌↔◌, ℕ, zero, suc, Bool, true, false, cond, if◌then◌else◌, Option, Some, None, IsSome, IsTrue, is_some, refl, sym, ap, subst, ◌∙◌, inl, inr, arith}
 use Rattle.std.specs.Prelude.{OnSome, IfNone}
 use Rattle.std.specs.Option.{option_copied_mut, option_map}
 use Rattle.std.specs.Borrow.{MutBor}
-use Rattle.ir_model.specs.declared.error.CoreError.{CoreError}
-use Rattle.ir_model.specs.declared.error.CoreError.TheVariants.{OutOfMemory, SlotsSpent}
 use Rattle.ir_model.specs.declared.ids.ArenaIndex.{ArenaIndex}
 use Rattle.ir_model.specs.declared.ids.Limits.{Limits}
 use Rattle.ir_model.specs.ContextIds.{same_id}
@@ -108,26 +106,7 @@ module _ {D A K B S X L : Type 0} (s : SideData D A K B S X L) where
           let same = one_count (TakesSlot limits (is_passed s.aux) (IsLiveIn s.aux)) has.0 lacks.0 has.1 lacks.1 in
           absurd (omega (arith, has.2, lacks.2, same))
 
--- a refusal that is handed on is one for slots exactly where it was
-pub handed_on : {A B : Type 0} {P : Type 0} (was : Result A CoreError) (is : Result B CoreError) (e : CoreError) → was ≡ Err e → is ≡ Err e → (was ≡ Err SlotsSpent) ↔ P → (is ≡ Err SlotsSpent) ↔ P
-handed_on was is e at to spent = (
-  λ h. spent.0 (let same : e ≡ SlotsSpent = cc in at ∙ ap Err same),
-  λ p. let refused : was ≡ Err SlotsSpent = spent.1 p in let same : e ≡ SlotsSpent = cc in to ∙ ap Err same,
-)
-
--- and what is answered is none
-pub answered : {A B : Type 0} {P : Type 0} (was : Result A CoreError) (is : Result B CoreError) (a : A) (b : B) → was ≡ Ok a → is ≡ Ok b → (was ≡ Err SlotsSpent) ↔ P → (is ≡ Err SlotsSpent) ↔ P
-answered was is a b at to spent = (λ h. absurd (cc), λ p. let refused : was ≡ Err SlotsSpent = spent.1 p in absurd (cc))
-
 -- what is lent is there
 pub lent-live : {A : Type 0} (lent : Option (MutBor A)) (m : Option A) → option_copied_mut lent ≡ m → IsSome lent → IsSome m
 lent-live None m is some = absurd (cc)
 lent-live (Some r) m is some = ap is_some (sym is)
-
--- an answer is no refusal for memory
-pub answered-memory : {A : Type 0} {P : Type 0} (is : Result A CoreError) (a : A) → is ≡ Ok a → is ≡ Err OutOfMemory → P
-answered-memory is a at refused = absurd (cc)
-
--- and a refusal for memory that is handed on was one
-pub handed-memory : {A B : Type 0} {P : Type 0} (was : Result A CoreError) (is : Result B CoreError) (e : CoreError) → was ≡ Err e → is ≡ Err e → (was ≡ Err OutOfMemory → P) → is ≡ Err OutOfMemory → P
-handed-memory was is e at to told refused = told (let same : e ≡ OutOfMemory = cc in at ∙ ap Err same)

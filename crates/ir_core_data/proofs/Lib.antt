@@ -1,3 +1,5 @@
+pub mod WrappedArenas
+pub mod Refusals
 pub mod NameLemmas
 pub mod AuxLemmas
 pub mod FreedSlots

@@ -3,6 +3,7 @@
 //! Each call says, in the words of the definitions, what it leaves of all three.
 #![tactic(auto)]
 
+mod aux_arena;
 mod aux_index;
 mod aux_names;
 mod side_data;

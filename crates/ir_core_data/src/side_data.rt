@@ -10,9 +10,10 @@ ghost use Rattle.ir_model.specs.Stores.{with_aux_name, without_aux};
 ghost use Rattle.ir_base_arenas.specs.Arena.{IsWhole, room};
 ghost use Rattle.ir_core_records.specs.DialectAnswers.{kinds_of};
 
+use crate::aux_arena::AuxArena;
 use crate::aux_index::AuxDataIndex;
 use crate::aux_names::AuxNames;
-use ir_base_dialects::{Arena, Dialects, Identifier, Ptr, UniqueStore};
+use ir_base_dialects::{Dialects, Identifier, Ptr, UniqueStore};
 use ir_model::CoreError;
 use std::alloc::Global;
 
@@ -22,7 +23,7 @@ pub struct SideData<D: Dialects> {
     /// The saved data.
     pub saved: UniqueStore<D::Saved>,
     /// The auxiliary data.
-    pub aux: Arena<D::Aux>,
+    pub aux: AuxArena<D::Aux>,
     /// The names of auxiliary data.
     pub names: AuxNames,
 }
@@ -39,7 +40,7 @@ impl<D: Dialects> SideData<D> {
     {
         SideData {
             saved: UniqueStore::new(alloc),
-            aux: Arena::new(alloc, slots, last_version),
+            aux: AuxArena::new(alloc, slots, last_version),
             names: AuxNames::new(alloc),
         }
     }
@@ -77,7 +78,7 @@ impl<D: Dialects> SideData<D> {
         ensures grown { (limits : Limits) → Keeps limits self.old.aux → (result ≡ Err CoreError.OutOfMemory) → NoFreedSlot limits (beside_in self.old) }
         ensures err { OnErr result (self.new ≡ self.old) }
     {
-        let ptr = self.aux.insert_with(|_ptr: Ptr<D::Aux>| value)?;
+        let ptr = self.aux.insert(value)?;
         Ok(AuxDataIndex { index: ptr.index })
     }
 

@@ -16,6 +16,7 @@ use ir_core_chains::{unlink_operands, unlink_successors};
 use ir_core_records::{EntityIndex, Records};
 
 // Drops the uses of one entity: those of an operation, and none of a block or a region.
+#[inline(always)]
 fn drop_uses<D: Dialects>(records: &mut Records<D>, entity: EntityIndex)
     requires linked { AreLinked (chains_of records.old) }
     requires live { IsLive (forest_in records.old) (entity_of entity) }
@@ -30,6 +31,7 @@ fn drop_uses<D: Dialects>(records: &mut Records<D>, entity: EntityIndex)
 }
 
 /// Takes the operands and successors of all operations inside a live entity out, also its own. It takes no memory. It stands for pliron's `drop_all_uses`.
+#[inline(always)]
 pub fn drop_all_uses<D: Dialects>(records: &mut Records<D>, entity: EntityIndex)
     requires nested { AreNested (tree_of records.old) }
     requires formed { Nested (forest_in records.old) }

@@ -21,6 +21,7 @@ use ir_core_nesting::{
 use ir_core_records::{EntityIndex, Records};
 
 // Takes an operation out of its block, if it stands in one.
+#[inline(always)]
 fn detach_operation<D: Dialects>(records: &mut Records<D>, op: ArenaIndex)
     requires nested { AreNested (tree_of records.old) }
     requires formed { Nested (forest_in records.old) }
@@ -34,6 +35,7 @@ fn detach_operation<D: Dialects>(records: &mut Records<D>, op: ArenaIndex)
 }
 
 // Takes a block out of its region, if it stands in one.
+#[inline(always)]
 fn detach_block<D: Dialects>(records: &mut Records<D>, block: ArenaIndex)
     requires nested { AreNested (tree_of records.old) }
     requires formed { Nested (forest_in records.old) }
@@ -47,6 +49,7 @@ fn detach_block<D: Dialects>(records: &mut Records<D>, block: ArenaIndex)
 }
 
 // Removes an operation without regions.
+#[inline(always)]
 fn remove_operation<D: Dialects>(records: &mut Records<D>, op: ArenaIndex)
     requires nested { AreNested (tree_of records.old) }
     requires formed { Nested (forest_in records.old) }
@@ -62,6 +65,7 @@ fn remove_operation<D: Dialects>(records: &mut Records<D>, op: ArenaIndex)
 }
 
 // Removes a block without operations.
+#[inline(always)]
 fn remove_block<D: Dialects>(records: &mut Records<D>, block: ArenaIndex)
     requires nested { AreNested (tree_of records.old) }
     requires formed { Nested (forest_in records.old) }
@@ -76,6 +80,7 @@ fn remove_block<D: Dialects>(records: &mut Records<D>, block: ArenaIndex)
 }
 
 // Removes a region without blocks.
+#[inline(always)]
 fn remove_region<D: Dialects>(records: &mut Records<D>, region: ArenaIndex)
     requires nested { AreNested (tree_of records.old) }
     requires formed { Nested (forest_in records.old) }
@@ -87,6 +92,7 @@ fn remove_region<D: Dialects>(records: &mut Records<D>, region: ArenaIndex)
 }
 
 // Removes an entity in which nothing stands, which uses nothing, and of which nothing is used.
+#[inline(always)]
 pub(crate) fn remove_leaf<D: Dialects>(records: &mut Records<D>, entity: EntityIndex)
     requires nested { AreNested (tree_of records.old) }
     requires formed { Nested (forest_in records.old) }

@@ -20,6 +20,7 @@ use ir_core_nesting::{are_one, parent_of, recall_depths_follow};
 use ir_core_records::{BasicBlock, EntityIndex, Operation, Records, Region};
 
 // The last of what stands in an entity, as the records say.
+#[inline(always)]
 fn last_in_record<D: Dialects>(records: &Records<D>, entity: EntityIndex) -> Option<EntityIndex>
     ensures { option_map entity_of result ≡ kept_last (tree_of records.now) (entity_of entity) }
 {
@@ -46,6 +47,7 @@ fn last_in_record<D: Dialects>(records: &Records<D>, entity: EntityIndex) -> Opt
 }
 
 // The item before the first place of an item in a list.
+#[inline(always)]
 fn first_before(items: &[ArenaIndex], item: ArenaIndex) -> Option<ArenaIndex>
     ensures { result ≡ before_from None item items.now }
 {
@@ -60,6 +62,7 @@ fn first_before(items: &[ArenaIndex], item: ArenaIndex) -> Option<ArenaIndex>
 }
 
 // Where an item of a list would stand if the slots were spread evenly from the first item's to the last item's, as they are where regions were made one after the other.
+#[inline(always)]
 fn likely_place(items: &[ArenaIndex], item: ArenaIndex) -> usize {
     let (Some(first), Some(last)) = (items.first(), items.last()) else {
         return 0;
@@ -71,6 +74,7 @@ fn likely_place(items: &[ArenaIndex], item: ArenaIndex) -> usize {
 }
 
 // The item before an item in a list that has none twice. The likely place is tried first, and the answer doesn't depend on it.
+#[inline(always)]
 fn item_before(items: &[ArenaIndex], item: ArenaIndex) -> Option<ArenaIndex>
     requires { Distinct items.now }
     ensures { result ≡ before_from None item items.now }
@@ -83,6 +87,7 @@ fn item_before(items: &[ArenaIndex], item: ArenaIndex) -> Option<ArenaIndex>
 }
 
 // The one before an entity in its list, as the records say.
+#[inline(always)]
 fn previous_in_record<D: Dialects>(records: &Records<D>, entity: EntityIndex) -> Option<EntityIndex>
     requires { Nested (forest_in records.now) }
     ensures { option_map entity_of result ≡ kept_previous (tree_of records.now) (entity_of entity) }
@@ -106,6 +111,7 @@ fn previous_in_record<D: Dialects>(records: &Records<D>, entity: EntityIndex) ->
 }
 
 /// The entity that last children lead to, in which nothing stands. A walk over all inside `start` begins there.
+#[inline(always)]
 pub fn deepest<D: Dialects>(records: &Records<D>, start: EntityIndex) -> EntityIndex
     requires nested { AreNested (tree_of records.now) }
     requires formed { Nested (forest_in records.now) }
@@ -122,6 +128,7 @@ pub fn deepest<D: Dialects>(records: &Records<D>, start: EntityIndex) -> EntityI
 }
 
 /// What comes after an entity in the walk over all inside the root: the deepest of the one before it in its list, or else what it stands in. After the root comes nothing.
+#[inline(always)]
 pub fn next_inside<D: Dialects>(
     records: &Records<D>,
     root: EntityIndex,

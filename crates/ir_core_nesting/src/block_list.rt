@@ -37,6 +37,7 @@ pub fn insert_at_front<D: Dialects>(records: &mut Records<D>, block: ArenaIndex,
 }
 
 /// Puts a block that stands in no list at the back of a region's. It stands for pliron's `insert_at_back`.
+#[inline(always)]
 pub fn insert_at_back<D: Dialects>(records: &mut Records<D>, block: ArenaIndex, region: ArenaIndex)
     requires nested { AreNested (tree_of records.old) }
     requires live { IsLiveIn records.old.blocks block }
@@ -97,6 +98,7 @@ pub fn insert_after<D: Dialects>(records: &mut Records<D>, block: ArenaIndex, ma
 }
 
 /// Takes a block that stands in a list out of it. It stands for pliron's `unlink`.
+#[inline(always)]
 pub fn unlink<D: Dialects>(records: &mut Records<D>, block: ArenaIndex)
     requires nested { AreNested (tree_of records.old) }
     requires linked { IsLinked (forest_in records.old) (a_block block) }

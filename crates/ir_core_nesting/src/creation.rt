@@ -26,13 +26,14 @@ use ir_base_dialects::attribute::AttributeDict;
 use ir_base_dialects::list_laws::{
     container_changes_keep_lists, lists_are_one, lists_hold_nodes, node_changes_keep_lists,
 };
-use ir_base_dialects::{Arena, ArenaIndex, Dialects, Identifier, Ptr, Seq, ShortSeq, unknown_loc};
+use ir_base_dialects::{Arena, ArenaIndex, Dialects, Identifier, PlainSeq, Ptr, Seq, unknown_loc};
 use ir_core_records::{
     BasicBlock, BasicBlockMut, Definitions, Operation, OperationMut, OpsInBlock, Records, Region,
 };
 use std::alloc::{AllocError, Global};
 
 // An operation of this kind with these results, and with nothing else.
+#[inline(always)]
 fn new_operation<D: Dialects>(
     alloc: Global,
     index: ArenaIndex,
@@ -45,7 +46,7 @@ fn new_operation<D: Dialects>(
         index,
         kind,
         results,
-        operands: ShortSeq::new(alloc),
+        operands: PlainSeq::new(alloc),
         successors: Seq::new(alloc),
         regions: Seq::new(alloc),
         next: Link::none(),
@@ -59,6 +60,7 @@ fn new_operation<D: Dialects>(
 }
 
 // A block with this label and these arguments, and with nothing else.
+#[inline(always)]
 fn new_block<D: Dialects>(
     alloc: Global,
     index: ArenaIndex,
@@ -70,7 +72,7 @@ fn new_block<D: Dialects>(
     BasicBlock {
         index,
         arguments,
-        uses: ShortSeq::new(alloc),
+        uses: PlainSeq::new(alloc),
         next: Link::none(),
         prev: Link::none(),
         parent: Link::none(),
@@ -90,6 +92,7 @@ fn new_block<D: Dialects>(
 ///
 /// # Errors
 /// Where the arena had to grow and couldn't. Then nothing has changed.
+#[inline(always)]
 pub fn insert_operation<D: Dialects>(
     records: &mut Records<D>,
     alloc: Global,
@@ -127,6 +130,7 @@ pub fn insert_operation<D: Dialects>(
 ///
 /// # Errors
 /// Where the arena had to grow and couldn't. Then nothing has changed.
+#[inline(always)]
 pub fn insert_block<D: Dialects>(
     records: &mut Records<D>,
     alloc: Global,
@@ -163,6 +167,7 @@ pub fn insert_block<D: Dialects>(
 }
 
 // Puts a region at the end of the list of a live operation, or leaves the list as it was.
+#[inline(always)]
 pub(crate) fn push_region<D: Dialects>(
     ops: &mut Arena<Operation<D>>,
     op: ArenaIndex,
@@ -175,6 +180,7 @@ pub(crate) fn push_region<D: Dialects>(
 }
 
 // Takes the last region out of the list of a live operation.
+#[inline(always)]
 fn pop_region<D: Dialects>(ops: &mut Arena<Operation<D>>, op: ArenaIndex) -> ArenaIndex
     requires live { IsLiveIn ops.old op }
     requires some { ¬ (in_record op_regions [] (get ops.old op) ≡ []) }
@@ -187,6 +193,7 @@ fn pop_region<D: Dialects>(ops: &mut Arena<Operation<D>>, op: ArenaIndex) -> Are
 ///
 /// # Errors
 /// Where the arena or the operation's list had to grow and couldn't. Then the forest is as it was, and at most one id is skipped.
+#[inline(always)]
 pub fn add_region<D: Dialects>(
     records: &mut Records<D>,
     op: ArenaIndex,
@@ -233,6 +240,7 @@ pub fn add_region<D: Dialects>(
 }
 
 /// Takes back a live operation that stands in no block, has no regions, operands and successors, and of which no result is used. It takes no memory.
+#[inline(always)]
 pub fn remove_bare_operation<D: Dialects>(records: &mut Records<D>, op: ArenaIndex)
     requires nested { AreNested (tree_of records.old) }
     requires live { IsLiveIn records.old.ops op }
@@ -258,6 +266,7 @@ pub fn remove_bare_operation<D: Dialects>(records: &mut Records<D>, op: ArenaInd
 }
 
 /// Takes back the last region of a live operation, which is empty. It takes no memory.
+#[inline(always)]
 pub fn remove_last_region<D: Dialects>(records: &mut Records<D>, op: ArenaIndex)
     requires nested { AreNested (tree_of records.old) }
     requires live { IsLiveIn records.old.ops op }

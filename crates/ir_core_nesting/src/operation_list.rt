@@ -17,6 +17,7 @@ use ir_base_dialects::{ArenaIndex, Dialects, Ptr, linked_list};
 use ir_core_records::{BasicBlock, Operation, Records};
 
 /// Puts an operation that stands in no list at the front of a block's. It stands for pliron's `insert_at_front`.
+#[inline(always)]
 pub fn insert_at_front<D: Dialects>(records: &mut Records<D>, op: ArenaIndex, block: ArenaIndex)
     requires nested { AreNested (tree_of records.old) }
     requires live { IsLiveIn records.old.ops op }
@@ -37,6 +38,7 @@ pub fn insert_at_front<D: Dialects>(records: &mut Records<D>, op: ArenaIndex, bl
 }
 
 /// Puts an operation that stands in no list at the back of a block's. It stands for pliron's `insert_at_back`.
+#[inline(always)]
 pub fn insert_at_back<D: Dialects>(records: &mut Records<D>, op: ArenaIndex, block: ArenaIndex)
     requires nested { AreNested (tree_of records.old) }
     requires live { IsLiveIn records.old.ops op }
@@ -57,6 +59,7 @@ pub fn insert_at_back<D: Dialects>(records: &mut Records<D>, op: ArenaIndex, blo
 }
 
 /// Puts an operation that stands in no list right before one that stands in one. It stands for pliron's `insert_before`.
+#[inline(always)]
 pub fn insert_before<D: Dialects>(records: &mut Records<D>, op: ArenaIndex, mark: ArenaIndex)
     requires nested { AreNested (tree_of records.old) }
     requires live { IsLiveIn records.old.ops op }
@@ -77,6 +80,7 @@ pub fn insert_before<D: Dialects>(records: &mut Records<D>, op: ArenaIndex, mark
 }
 
 /// Puts an operation that stands in no list right behind one that stands in one. It stands for pliron's `insert_after`.
+#[inline(always)]
 pub fn insert_after<D: Dialects>(records: &mut Records<D>, op: ArenaIndex, mark: ArenaIndex)
     requires nested { AreNested (tree_of records.old) }
     requires live { IsLiveIn records.old.ops op }
@@ -97,6 +101,7 @@ pub fn insert_after<D: Dialects>(records: &mut Records<D>, op: ArenaIndex, mark:
 }
 
 /// Takes an operation that stands in a list out of it. It stands for pliron's `unlink`.
+#[inline(always)]
 pub fn unlink<D: Dialects>(records: &mut Records<D>, op: ArenaIndex)
     requires nested { AreNested (tree_of records.old) }
     requires linked { IsLinked (forest_in records.old) (an_op op) }

@@ -16,6 +16,7 @@ use ir_base_dialects::{Dialects, Ptr};
 use ir_core_records::{BasicBlock, EntityIndex, Operation, Records, Region};
 
 // What an entity stands in, as its record says.
+#[inline(always)]
 fn parent_in_record<D: Dialects>(records: &Records<D>, entity: EntityIndex) -> Option<EntityIndex>
     ensures { option_map entity_of result ≡ kept_parent (tree_of records.now) (entity_of entity) }
 {
@@ -40,6 +41,7 @@ fn parent_in_record<D: Dialects>(records: &Records<D>, entity: EntityIndex) -> O
 }
 
 /// Whether the entities are one.
+#[inline(always)]
 pub fn are_one(a: EntityIndex, b: EntityIndex) -> bool
     ensures { result ≡ same_entity context_ids (entity_of a) (entity_of b) }
 {
@@ -52,6 +54,7 @@ pub fn are_one(a: EntityIndex, b: EntityIndex) -> bool
 }
 
 /// What an entity stands in: an operation in a block, a block in a region, a region in an operation. It is `None` where the entity stands in no list, or isn't live. It stands for pliron's `get_parent_block`, `get_parent_region` and `get_parent_op`.
+#[inline(always)]
 pub fn parent_of<D: Dialects>(records: &Records<D>, entity: EntityIndex) -> Option<EntityIndex>
     requires nested { AreNested (tree_of records.now) }
     requires formed { Nested (forest_in records.now) }
@@ -63,6 +66,7 @@ pub fn parent_of<D: Dialects>(records: &Records<D>, entity: EntityIndex) -> Opti
 }
 
 /// Whether `inner` is `outer` or stands inside it, however deep. It climbs from `inner`, a step a level.
+#[inline(always)]
 pub fn is_inside<D: Dialects>(records: &Records<D>, outer: EntityIndex, inner: EntityIndex) -> bool
     requires nested { AreNested (tree_of records.now) }
     requires formed { Nested (forest_in records.now) }

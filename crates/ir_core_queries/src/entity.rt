@@ -29,6 +29,7 @@ pub enum Entity<D: Dialects> {
 
 impl<D: Dialects> Entity<D> {
     /// The entity as an index.
+    #[inline(always)]
     pub fn index(self) -> EntityIndex
         ensures { entity_of result ≡ meant self }
     {
@@ -41,6 +42,7 @@ impl<D: Dialects> Entity<D> {
 }
 
 // Whether an entity stands in a list.
+#[inline(always)]
 pub(crate) fn is_linked<D: Dialects>(ctx: &Context<D>, entity: EntityIndex) -> bool
     ensures { IsTrue result ↔ IsLinked (forest_of ctx.now) (entity_of entity) }
 {
@@ -50,6 +52,7 @@ pub(crate) fn is_linked<D: Dialects>(ctx: &Context<D>, entity: EntityIndex) -> b
 }
 
 // Whether nothing stands in an entity.
+#[inline(always)]
 fn is_childless<D: Dialects>(records: &Records<D>, entity: EntityIndex) -> bool
     requires { AreNested (tree_of records.now) }
     ensures { IsTrue result → children (forest_in records.now) (entity_of entity) ≡ [] }
@@ -71,6 +74,7 @@ fn is_childless<D: Dialects>(records: &Records<D>, entity: EntityIndex) -> bool
 }
 
 // Whether nothing stands in any of these regions.
+#[inline(always)]
 fn are_childless<D: Dialects>(records: &Records<D>, regions: &[ArenaIndex]) -> bool
     requires { AreNested (tree_of records.now) }
     ensures { IsTrue result → All (λ g. children (forest_in records.now) (a_region g) ≡ []) regions.now }
@@ -79,6 +83,7 @@ fn are_childless<D: Dialects>(records: &Records<D>, regions: &[ArenaIndex]) -> b
 }
 
 // Whether nothing stands in what stands in an entity: an operation has no region with a block, a block no operation, a region no block.
+#[inline(always)]
 fn is_shallow<D: Dialects>(records: &Records<D>, entity: EntityIndex) -> bool
     requires { AreNested (tree_of records.now) }
     ensures { IsTrue result → IsShallow (children (forest_in records.now)) (entity_of entity) }
@@ -93,6 +98,7 @@ fn is_shallow<D: Dialects>(records: &Records<D>, entity: EntityIndex) -> bool
 }
 
 // Whether `inner` is `outer` or stands in its list.
+#[inline(always)]
 fn is_at<D: Dialects>(records: &Records<D>, inner: EntityIndex, outer: EntityIndex) -> bool
     requires nested { AreNested (tree_of records.now) }
     requires formed { Nested (forest_in records.now) }
@@ -110,6 +116,7 @@ fn is_at<D: Dialects>(records: &Records<D>, inner: EntityIndex, outer: EntityInd
 /// Whether `inner` is `outer` or stands inside it, however deep. It asks for no live handles: in a dead one nothing stands but itself.
 ///
 /// It climbs from `inner`, a step a level, and one step at most where nothing but empty regions stands in `outer`.
+#[inline(always)]
 pub fn is_inside<D: Dialects>(ctx: &Context<D>, inner: Entity<D>, outer: Entity<D>) -> bool
     ensures { IsTrue result ↔ Inside (forest_of ctx.now) (meant outer) (meant inner) }
 {
@@ -125,6 +132,7 @@ pub fn is_inside<D: Dialects>(ctx: &Context<D>, inner: Entity<D>, outer: Entity<
 }
 
 /// Whether a live entity can be erased: exactly where each operand or successor that names a definition of its subtree belongs to an operation of the subtree. It takes no memory, and asks each use of what is inside once.
+#[inline(always)]
 pub fn can_erase<D: Dialects>(ctx: &Context<D>, entity: Entity<D>) -> bool
     requires { IsLive (forest_of ctx.now) (meant entity) }
     ensures { IsTrue result ↔ IsClosed (forest_of ctx.now) (meant entity) }

@@ -24,6 +24,7 @@ use ir_core_records::{
 use std::alloc::Global;
 
 // The results or arguments of what defines a value, where it is live.
+#[inline(always)]
 fn definitions<D: Dialects>(records: &Records<D>, definer: Definer) -> Option<&Definitions>
     ensures found { IfSome result (λ definitions. definitions.now ≡ definitions_at records.now definer) }
     ensures live { IsSome result ↔ IsLive (forest_in records.now) (definer_entity context_ids (definer_of definer)) }
@@ -35,6 +36,7 @@ fn definitions<D: Dialects>(records: &Records<D>, definer: Definer) -> Option<&D
 }
 
 // What a value lacks that isn't found where it was defined.
+#[inline(always)]
 fn missing(definer: Definer) -> ValueError
     ensures { result ≡ missing_from definer }
 {
@@ -119,10 +121,12 @@ pub trait ValueQueries<D: Dialects> {
 impl<D: Dialects> ValueQueries<D> for Value<D> {
     ghost index_of = { λ v. v.index };
 
+    #[inline(always)]
     fn is_live(self, ctx: &Context<D>) -> bool {
         self.try_find_index(ctx).is_ok()
     }
 
+    #[inline(always)]
     fn try_find_index(self, ctx: &Context<D>) -> Result<usize, IndexErr> {
         let definer = self.index.definer;
         match definitions(ctx.records(), definer) {
@@ -141,6 +145,7 @@ impl<D: Dialects> ValueQueries<D> for Value<D> {
         }
     }
 
+    #[inline(always)]
     fn num_uses(self, ctx: &Context<D>) -> usize {
         ctx.recall_uses_exact();
         uses(ctx.records(), self.index).len()
@@ -156,6 +161,7 @@ impl<D: Dialects> ValueQueries<D> for Value<D> {
         copy_uses(ctx.alloc(), uses(ctx.records(), self.index).as_slice())
     }
 
+    #[inline(always)]
     fn get_type(self, ctx: &Context<D>) -> TypeHandle {
         ctx.recall_well_formed();
         TypeHandle::at(definition(ctx.records(), self.index).ty)

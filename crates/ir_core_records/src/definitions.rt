@@ -8,7 +8,7 @@ ghost use Rattle.ir_core_records.specs.Lends.{lends_definition_uses};
 
 use crate::numbered::find_numbered;
 use crate::record::{Definition, Uses};
-use ir_base_dialects::{Identifier, ShortSeq, TypeHandle};
+use ir_base_dialects::{Identifier, PlainSeq, ShortSeq, TypeHandle};
 use std::alloc::{AllocError, Global};
 use std::marker::Model;
 
@@ -31,6 +31,7 @@ impl Model for Definitions {
 }
 
 // A definition with this number and type, and neither name nor uses.
+#[inline(always)]
 fn new_definition(alloc: Global, number: u64, ty: TypeHandle) -> Definition
     ensures { result ≡ unused_definition number ty.place }
 {
@@ -38,11 +39,12 @@ fn new_definition(alloc: Global, number: u64, ty: TypeHandle) -> Definition
         number,
         ty: ty.place,
         name: None,
-        uses: ShortSeq::new(alloc),
+        uses: PlainSeq::new(alloc),
     }
 }
 
 // Unused and unnamed definitions of these types, numbered from `first` on.
+#[inline(always)]
 fn new_definitions(
     alloc: Global,
     first: u64,
@@ -51,6 +53,9 @@ fn new_definitions(
     requires { first + length types.now < 2 ^ 64 }
     ensures { IfOk result (λ definitions. definitions ≡ definitions_from first types.now) }
 {
+    if let [ty] = types {
+        return Ok(ShortSeq::full(alloc, [new_definition(alloc, first, *ty)]));
+    }
     let mut definitions = ShortSeq::new(alloc);
     definitions.reserve(types.len())?;
     let mut number = first;
@@ -82,6 +87,7 @@ impl Definitions {
     ///
     /// # Errors
     /// Where there is no memory for them.
+    #[inline(always)]
     pub fn of_types(
         alloc: Global,
         first: u64,
@@ -95,6 +101,7 @@ impl Definitions {
     }
 
     /// How many there are.
+    #[inline(always)]
     pub fn len(&self) -> usize
         ensures { result ≡ length self.now }
     {
@@ -102,6 +109,7 @@ impl Definitions {
     }
 
     /// The definition at `index`.
+    #[inline(always)]
     pub fn at(&self, index: usize) -> &Definition
         requires { index < length self.now }
         ensures { slice_get self.now index ≡ Some result.now }
@@ -110,6 +118,7 @@ impl Definitions {
     }
 
     /// The definitions as a slice.
+    #[inline(always)]
     pub fn as_slice(&self) -> &[Definition]
         ensures { result.now ≡ self.now }
     {
@@ -117,6 +126,7 @@ impl Definitions {
     }
 
     /// The place of the definition with this number.
+    #[inline(always)]
     pub fn find(&self, number: u64) -> Option<usize>
         ensures { result ≡ position (λ r. r.number == number) self.now }
     {
@@ -124,6 +134,7 @@ impl Definitions {
     }
 
     /// The definition with this number.
+    #[inline(always)]
     pub fn with_number(&self, number: u64) -> &Definition
         requires { HasNumber self.now number }
         ensures is { IsDefinition self.now number result.now }
@@ -136,6 +147,7 @@ impl Definitions {
     }
 
     /// The uses of the definition with this number, for writing.
+    #[inline(always)]
     pub fn uses_mut(&mut self, number: u64) -> &mut Uses
         requires { HasNumber self.old number }
         ensures* writes_back { sem 𝓛 (lends_definition_uses self.entry number result) }
@@ -151,6 +163,7 @@ impl Definitions {
     ///
     /// # Errors
     /// Where the list had to grow and couldn't. Then the definitions are as before.
+    #[inline(always)]
     pub fn insert(
         &mut self,
         alloc: Global,
@@ -173,6 +186,16 @@ impl Definitions {
         ensures distinct { HaveDistinctNumbers self.old }
     {
         self.items.remove(index)
+    }
+
+    /// All definitions, with the memory that they own. None is left.
+    pub fn take(&mut self) -> Self
+        ensures value { result ≡ self.old }
+        ensures left { self.new ≡ [] }
+    {
+        Definitions {
+            items: self.items.take(),
+        }
     }
 
     /// Gives the definition with this number this type.

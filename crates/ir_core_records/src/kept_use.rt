@@ -5,7 +5,7 @@
 ghost use Rattle.std.specs.Prelude.{◌≡◌};
 
 use crate::record::UseIndex;
-use ir_base_dialects::ArenaIndex;
+use ir_base_dialects::{ArenaIndex, Plain};
 use std::marker::Model;
 
 /// A use in the list of what it names. A contract sees the use.
@@ -46,19 +46,18 @@ impl KeptUse {
         self.used.user
     }
 
-    /// The same use again.
-    pub fn copy(&self) -> Self
-        ensures { result ≡ self.now }
-    {
+    /// Where its place stood. It may have moved since.
+    pub fn near(&self) -> usize {
+        self.near
+    }
+}
+
+impl Plain for KeptUse {
+    fn copied(&self) -> KeptUse {
         KeptUse {
             used: self.used,
             near: self.near,
         }
-    }
-
-    /// Where its place stood. It may have moved since.
-    pub fn near(&self) -> usize {
-        self.near
     }
 }
 

@@ -14,6 +14,7 @@ mod operation;
 mod reads;
 mod record;
 mod records;
+mod take_out;
 
 pub use definitions::Definitions;
 pub use handles::{DefiningEntity, Use, Value};

@@ -32,6 +32,7 @@ impl<N> Numbered for UsePlace<N> {
 }
 
 // Where the item with this number stands if numbers go up or down one by one from the first item's.
+#[inline(always)]
 fn from_first<T: Numbered>(items: &[T], number: u64) -> usize {
     match items.first() {
         Some(first) => number.abs_diff(first.number()) as usize,
@@ -77,6 +78,7 @@ fn nearer<T: Numbered>(items: &[T], number: u64, one: usize, other: usize) -> us
 }
 
 // Whether the item with this number stands at a place.
+#[inline(always)]
 fn is_at<T: Numbered>(items: &[T], place: usize, number: u64) -> bool
     requires { Distinct (map (λ x. T.number_of x) items.now) }
     ensures { IsTrue result ↔ position (λ x. T.number_of x == number) items.now ≡ Some place }
@@ -130,6 +132,7 @@ fn find_elsewhere<T: Numbered>(items: &[T], number: u64, first: usize, near: usi
 }
 
 // The place of the item with this number. It is first tried where it stands if numbers go on from the first item's, and the answer doesn't depend on that.
+#[inline(always)]
 pub(crate) fn find_numbered<T: Numbered>(items: &[T], number: u64) -> Option<usize>
     requires { Distinct (map (λ x. T.number_of x) items.now) }
     ensures { result ≡ position (λ x. T.number_of x == number) items.now }
@@ -142,6 +145,7 @@ pub(crate) fn find_numbered<T: Numbered>(items: &[T], number: u64) -> Option<usi
 }
 
 // The place of the item with this number, which was near a place once. It is first tried there, and the answer doesn't depend on that.
+#[inline(always)]
 pub(crate) fn find_near<T: Numbered>(items: &[T], number: u64, near: usize) -> Option<usize>
     requires { Distinct (map (λ x. T.number_of x) items.now) }
     ensures { result ≡ position (λ x. T.number_of x == number) items.now }

@@ -10,6 +10,7 @@ use crate::records::Records;
 use ir_base_dialects::{Dialects, Ptr};
 
 /// The uses of a live block as a successor.
+#[inline(always)]
 pub fn block_uses<D: Dialects>(records: &Records<D>, block: BlockIndex) -> &Uses
     requires { IsLiveBlock records.now block }
     ensures { result.now ≡ block_uses_at records.now block }
@@ -18,6 +19,7 @@ pub fn block_uses<D: Dialects>(records: &Records<D>, block: BlockIndex) -> &Uses
 }
 
 /// The result or the argument that a live value is.
+#[inline(always)]
 pub fn definition<D: Dialects>(records: &Records<D>, value: ValueIndex) -> &Definition
     requires { IsValue records.now value }
     ensures is { IsDefinition (definitions_at records.now value.definer) value.number result.now }
@@ -36,6 +38,7 @@ pub fn definition<D: Dialects>(records: &Records<D>, value: ValueIndex) -> &Defi
 }
 
 /// The uses of a live value.
+#[inline(always)]
 pub fn uses<D: Dialects>(records: &Records<D>, value: ValueIndex) -> &Uses
     requires { IsValue records.now value }
     ensures { result.now ≡ uses_at records.now value }
@@ -52,6 +55,7 @@ pub fn find_place<N>(places: &[UsePlace<N>], number: u64) -> Option<usize>
 }
 
 /// The index of the operand or successor with this number. It is first sought where it was near once, and the answer doesn't depend on that.
+#[inline(always)]
 pub fn find_place_near<N>(places: &[UsePlace<N>], number: u64, near: usize) -> Option<usize>
     requires { HaveDistinctUses places.now }
     ensures { result ≡ position (λ a. a.number == number) places.now }

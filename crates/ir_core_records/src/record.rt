@@ -6,7 +6,7 @@ use crate::definitions::Definitions;
 use crate::kept_use::KeptUse;
 use ir_base_arenas::Link;
 use ir_base_dialects::attribute::AttributeDict;
-use ir_base_dialects::{ArenaIndex, Dialects, Identifier, Seq, ShortSeq};
+use ir_base_dialects::{ArenaIndex, Dialects, Identifier, Plain, PlainSeq, Seq};
 use std::alloc::Global;
 use std::default::MadeWith;
 
@@ -56,7 +56,7 @@ pub struct UseIndex {
 }
 
 /// The uses of a definition, in any order. Two of them take no allocation.
-pub type Uses = ShortSeq<KeptUse, 2>;
+pub type Uses = PlainSeq<KeptUse, 2>;
 
 /// An operand or a successor: a place that names a definition.
 #[derive(Clone, Copy, Drop)]
@@ -70,7 +70,7 @@ pub struct UsePlace<N> {
 }
 
 /// The operands of an operation, in order. Two of them take no allocation.
-pub type Operands = ShortSeq<UsePlace<ValueIndex>, 2>;
+pub type Operands = PlainSeq<UsePlace<ValueIndex>, 2>;
 
 /// The successors of an operation, in order. Most operations have none, so they lie outside the record.
 pub type Successors = Seq<UsePlace<BlockIndex>>;
@@ -218,13 +218,19 @@ impl<N: Default> Default for UsePlace<N> {
     }
 }
 
+impl<N: Copy> Plain for UsePlace<N> {
+    fn copied(&self) -> UsePlace<N> {
+        *self
+    }
+}
+
 impl MadeWith<Global> for Definition {
     fn made_with(alloc: Global) -> Definition {
         Definition {
             number: 0,
             ty: 0,
             name: None,
-            uses: ShortSeq::new(alloc),
+            uses: PlainSeq::new(alloc),
         }
     }
 }

@@ -1,8 +1,7 @@
--- What it does to a chain that several uses go to another definition at once: both lists are taken out, places are renamed, and the lists are put back.
-use Rattle.std.proofs.Common.{◌≡◌, ◌⊎◌, ℕ, zero, suc, ◌+◌, ◌-◌, ◌<◌, ◌≤◌, List, [], ◌∷◌, ◌++◌, length, map, Option, Some, None, slice_get, Bool, true, false, cond, refl, sym, ap, subst, ◌∙◌, inl, inr, arith}
+-- What it does to a chain that several uses go to another definition at once: lists are taken out, places are renamed, and lists are put back.
+use Rattle.std.proofs.Common.{◌≡◌, ◌⊎◌, ℕ, zero, suc, ◌+◌, ◌<◌, ◌≤◌, List, [], ◌∷◌, ◌++◌, length, map, Option, Some, None, slice_get, Bool, true, false, cond, refl, sym, ap, subst, ◌∙◌, inl, inr, arith}
 use Rattle.std.specs.Prelude.{◌↔◌}
 use Rattle.std.proofs.lemmas.Bool.{cases_eq, cases_lt}
-use Rattle.std.proofs.lemmas.List.{length-append}
 use Rattle.std.proofs.lemmas.Option.{slice_get_within, same_Some}
 use Rattle.ir_model.specs.declared.ids.ArenaIndex.{ArenaIndex}
 use Rattle.ir_model.specs.ContextIds.{context_ids}
@@ -64,17 +63,6 @@ half-below (inr l) x y h = absurd (omega (arith, l, h))
 half-above : {P : Type 0} {p k : ℕ} (c : (p < k) ⊎ (k ≤ p)) (x y : P) → k ≤ p → by_half c x y ≡ y
 half-above (inl l) x y h = absurd (omega (arith, l, h))
 half-above (inr l) x y h = refl
-
--- what stands behind others
-pub from_behind : (xs ys ws : List UseIndex) (start i : ℕ) (u : UseIndex) → ws ≡ xs ++ ys → start ≡ length xs → start ≤ i → slice_get ws i ≡ Some u → slice_get ys (i - start) ≡ Some u
-from_behind xs ys ws start i u whole at_start le at =
-    let e : length xs + (i - start) ≡ i = omega (arith, at_start, le) in
-    sym (get-behind xs ys (i - start)) ∙ ap (slice_get (xs ++ ys)) e ∙ ap (λ (zs : List UseIndex). slice_get zs i) (sym whole) ∙ at
-
-pub all_behind : (xs ys ws : List UseIndex) (start i : ℕ) → ws ≡ xs ++ ys → start ≡ length xs → length ws ≤ i → length ys ≤ i - start
-all_behind xs ys ws start i whole at_start le =
-    let size = ap length whole ∙ length-append xs ys in
-    omega (arith, size, at_start, le)
 
 module _ {N : Type 0} where
   -- where uses go once those below k have gone
@@ -223,7 +211,7 @@ module _ {N : Type 0} (tell : (v w : N) → (v ≡ w) ⊎ (¬ (v ≡ w))) (from 
         (λ o i a at ne. chosen-else o i a at ne (is_chosen (us from) bs (record { user = o; number = a.number })) refl)
 
 module _ {S N : Type 0} (Live : S → ArenaIndex → Type 0) (ps : S → ArenaIndex → List (UsePlace N)) (put_ps : S → ArenaIndex → List (UsePlace N) → S) (us : S → N → List UseIndex) (put_us : S → N → List UseIndex → S) where
-  -- the places of the uses of a definition were renamed so, since both lists were taken out of the old state
+  -- the places of the uses of a definition were renamed so, since lists were taken out of the old state
   pub record Renaming (from : N) (goes : ℕ → N × ℕ) (old opened now : S) : Type 0 where
     pub places : Renamed from goes (ps old) (ps now)
     pub uses : us now ≡ us opened
@@ -259,6 +247,95 @@ module _ {S N : Type 0} {Live : S → ArenaIndex → Type 0} {ps : S → ArenaIn
   -- all of them
   pub renamed_all : (t r s : S) (from : N) (goes : ℕ → N × ℕ) (k : ℕ) → Linked t → IsRenaming from (gone_to from goes k) t r s → length (us t from) ≤ k → Renamed from goes (ps t) (ps s)
   renamed_all t r s from goes k L G past = renamed-goes from (gone_to from goes k) goes (ps t) (ps s) (us t) L (λ p w at_p. let l = slice_get_within (us t from) p w at_p in gone-all from goes k p (omega (arith, l, past))) G.places
+
+  -- the uses of a definition are taken out, and stand behind those of another: at once where that one has some, and once their places are renamed where it has none
+  module _ (t r : S) (from to : N) (L : Linked t) (has_from : Has t from) (has_to : Has t to) (ne : ¬ (from ≡ to)) (taken : r ≡ put_us t from []) where
+    taken_rest : Rewrites put_ps put_us t r
+    taken_rest = by_uses t r from [] unchanged taken
+
+    pub taken_from : Has r from
+    taken_from = rewrites-has C t r from taken_rest has_from
+
+    pub taken_to : Has r to
+    taken_to = rewrites-has C t r to taken_rest has_to
+
+    none_left : us r from ≡ []
+    none_left = ap (λ (x : S). us x from) taken ∙ C.use_lists.here t from [] has_from
+
+    taken_others : (v : N) → ¬ (v ≡ from) → us r v ≡ us t v
+    taken_others v away = ap (λ (x : S). us x v) taken ∙ C.use_lists.others t from [] has_from v away
+
+    pub to_stays : us r to ≡ us t to
+    to_stays = taken_others to (λ e. ne (sym e))
+
+    -- what was put back makes the state that it was
+    pub given_back : (s z : S) (vs : List UseIndex) → s ≡ r → vs ≡ us t from → z ≡ put_us s from vs → z ≡ t
+    given_back s z vs same is e =
+        e
+        ∙ ap (put_us s from) is
+        ∙ ap (λ (x : S). put_us x from (us t from)) (same ∙ taken)
+        ∙ C.use_lists.twice t from [] (us t from) has_from
+        ∙ C.use_lists.self t from
+
+    -- it is ready
+    abbrev with_all : S
+    with_all = put_us r to (us r to ++ us t from)
+
+    ready_places : (none : Bool) (s : S) → s ≡ cond none r with_all → ps s ≡ ps t
+    ready_places true s ready = ap ps ready ∙ ap ps taken ∙ C.places_stay t from []
+    ready_places false s ready = ap ps ready ∙ C.places_stay r to (us r to ++ us t from) ∙ ap ps taken ∙ C.places_stay t from []
+
+    pub ready_rest : (none : Bool) (s : S) → s ≡ cond none r with_all → Rewrites put_ps put_us t s
+    ready_rest true s ready = by_uses t s from [] unchanged (ready ∙ taken)
+    ready_rest false s ready = by_uses r s to (us r to ++ us t from) taken_rest ready
+
+    -- nothing is renamed yet
+    pub ready_renaming : (none : Bool) (s : S) (goes : ℕ → N × ℕ) (k : ℕ) → s ≡ cond none r with_all → k ≡ 0 → IsRenaming from (gone_to from goes k) t s s
+    ready_renaming none s goes k ready e = record {
+      places = renamed-goes from (λ p. (from, p)) (gone_to from goes k) (ps t) (ps s) (us t) L (λ p w at_p. gone-none from goes p ∙ ap (λ (j : ℕ). gone_to from goes j p) (sym e)) (subst (Renamed from (λ p. (from, p)) (ps t)) (sym (ready_places none s ready)) (renamed-none from (ps t)));
+      uses = refl;
+      rest = ready_rest none s ready;
+    }
+
+    -- the places are renamed
+    module _ (s q z : S) (start k : ℕ) (at_start : start ≡ length (us t to)) (G : IsRenaming from (gone_to from (go_behind to start) k) t s q) (past : length (us t from) ≤ k) where
+      late_uses : (v : N) → us q v ≡ us s v
+      late_uses v = ap (λ (xs : N → List UseIndex). xs v) G.uses
+
+      pub ready_to : Has q to
+      ready_to = rewrites-has C t q to G.rest has_to
+
+      all_renamed : ps z ≡ ps q → Renamed from (go_behind to start) (ps t) (ps z)
+      all_renamed same = subst (Renamed from (go_behind to start) (ps t)) (sym same) (renamed_all t s q from (go_behind to start) k L G past)
+
+      linked_so : ps z ≡ ps q → us z from ≡ [] → us z to ≡ us t to ++ us t from → ((v : N) → ¬ (v ≡ from) → ¬ (v ≡ to) → us z v ≡ us t v) → Linked z
+      linked_so same at_from at_to others =
+          renamed-linked C.tell from to (go_behind to start) (ps t) (ps z) (all_renamed same) (us t) (us z) L
+          (subst (λ (j : ℕ). UsesMove from to (go_behind to j) (us t) (us z)) (sym at_start) (all_move from to (us t) (us z) at_from at_to others))
+
+      pub all_names : ps z ≡ ps q → (passes : N → Bool) → ((v : N) → (passes v ≡ true) ↔ (v ≡ from)) → (o : ArenaIndex) → names_in (ps z o) ≡ map (named_by passes to) (names_in (ps t o))
+      all_names same passes is = all_named C.tell from to (ps t) (ps z) start (all_renamed same) passes is
+
+      -- the other had uses
+      pub behind_linked : z ≡ q → s ≡ with_all → Linked z
+      behind_linked e ready =
+          let now = λ (v : N). ap (λ (x : S). us x v) e ∙ late_uses v ∙ ap (λ (x : S). us x v) ready in
+          linked_so (ap ps e)
+          (now from ∙ C.use_lists.others r to (us r to ++ us t from) taken_to from ne ∙ none_left)
+          (now to ∙ C.use_lists.here r to (us r to ++ us t from) taken_to ∙ ap (λ (xs : List UseIndex). xs ++ us t from) to_stays)
+          (λ v away differs. now v ∙ C.use_lists.others r to (us r to ++ us t from) taken_to v differs ∙ taken_others v away)
+
+      -- the other had none
+      pub handed_places : z ≡ put_us q to (us t from) → ps z ≡ ps q
+      handed_places e = ap ps e ∙ C.places_stay q to (us t from)
+
+      pub handed_linked : z ≡ put_us q to (us t from) → s ≡ r → us t to ≡ [] → Linked z
+      handed_linked e ready none =
+          let now = λ (v : N) (differs : ¬ (v ≡ to)). ap (λ (x : S). us x v) e ∙ C.use_lists.others q to (us t from) ready_to v differs ∙ late_uses v ∙ ap (λ (x : S). us x v) ready in
+          linked_so (handed_places e)
+          (now from ne ∙ none_left)
+          (ap (λ (x : S). us x to) e ∙ C.use_lists.here q to (us t from) ready_to ∙ ap (λ (xs : List UseIndex). xs ++ us t from) (sym none))
+          (λ v away differs. now v differs ∙ taken_others v away)
 
   -- both lists are taken out
   module _ (t r : S) (from to : N) (L : Linked t) (has_from : Has t from) (has_to : Has t to) (ne : ¬ (from ≡ to)) (opened : r ≡ put_us (put_us t from []) to []) where
@@ -337,17 +414,6 @@ module _ {S N : Type 0} {Live : S → ArenaIndex → Type 0} {ps : S → ArenaIn
 
       pub closed_linked : UsesMove from to goes (us t) (us z) → Linked z
       closed_linked M = renamed-linked C.tell from to goes (ps t) (ps z) closed_renamed (us t) (us z) L M
-
-    -- all uses go behind those of the other
-    module _ (q z : S) (start k : ℕ) (at_start : start ≡ length (us t to)) (G : IsRenaming from (gone_to from (go_behind to start) k) t r q) (past : length (us t from) ≤ k) (ws : List UseIndex) (e : z ≡ put_us (put_us q to ws) from []) where
-      pub all_linked : ws ≡ us t to ++ us t from → Linked z
-      all_linked whole =
-          closed_linked q z (go_behind to start) k G past ws [] e
-          (subst (λ (j : ℕ). UsesMove from to (go_behind to j) (us t) (us z)) (sym at_start)
-          (all_move from to (us t) (us z) (closed_from q z (go_behind to start) k G past ws [] e) (closed_to q z (go_behind to start) k G past ws [] e ∙ whole) (closed_others q z (go_behind to start) k G past ws [] e)))
-
-      pub all_names : (passes : N → Bool) → ((v : N) → (passes v ≡ true) ↔ (v ≡ from)) → (o : ArenaIndex) → names_in (ps z o) ≡ map (named_by passes to) (names_in (ps t o))
-      all_names passes is = all_named C.tell from to (ps t) (ps z) start (closed_renamed q z (go_behind to start) k G past ws [] e) passes is
 
     -- those that are chosen do
     module _ (q z : S) (start k : ℕ) (bs : List Bool) (at_start : start ≡ length (us t to)) (G : IsRenaming from (gone_to from (go_chosen from to start bs) k) t r q) (past : length (us t from) ≤ k) (ws vs : List UseIndex) (e : z ≡ put_us (put_us q to ws) from vs) where

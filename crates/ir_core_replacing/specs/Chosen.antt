@@ -1,5 +1,5 @@
 -- Sets of uses, as they are chosen to be redirected.
-use Rattle.std.specs.Prelude.{◌≡◌, Result, Ok, Err, Bool, true, false, ◌&&◌, if◌then◌else◌, nat_eq, ℕ, zero, suc, List, [], ◌∷◌}
+use Rattle.std.specs.Prelude.{Bool, true, false, ◌&&◌, if◌then◌else◌, nat_eq, ℕ, zero, suc, List, [], ◌∷◌}
 use Rattle.ir_model.specs.ContextIds.{context_ids, same_id}
 use Rattle.ir_model.specs.Uses.{Use}
 use Rattle.ir_core_records.specs.declared.record.UseIndex.{UseIndex}
@@ -26,11 +26,6 @@ abbrev pub left_out : List UseIndex → List Bool → List UseIndex
 left_out [] answers = []
 left_out (u ∷ us) [] = u ∷ us
 left_out (u ∷ us) (answer ∷ answers) = if answer then left_out us answers else u ∷ left_out us answers
-
--- an error gives this back
-abbrev pub IfBack : {A T : Type 0} → Result A T → T → Type 0
-IfBack (Ok x) t = Unit {0}
-IfBack (Err e) t = e ≡ t
 
 -- how many of the first n answers are yes
 abbrev pub count_yes : List Bool → ℕ → ℕ

@@ -1,8 +1,8 @@
 //! Uses that move from one definition to another, whatever is named.
 //!
-//! Uses that move together are put into the list that receives them before the first place is renamed: then nothing can fail any more.
+//! Memory for uses that move together is there before the first place is renamed: then nothing can fail any more.
 
-ghost use Rattle.std.specs.Prelude.{◌≡◌, ◌↔◌, Bool, true, [], length, map, IsOk, OnOk, OnErr};
+ghost use Rattle.std.specs.Prelude.{◌≡◌, ◌↔◌, ◌+◌, ◌==◌, ◌++◌, Bool, true, [], length, map, if◌then◌else◌, IsOk, OnOk, OnErr, IfOk};
 ghost use Rattle.ir_model.specs.declared.ids.ArenaIndex.{ArenaIndex};
 ghost use Rattle.ir_core_records.specs.declared.record.UsePlace.{UsePlace as PlainPlace};
 ghost use Rattle.ir_core_records.specs.Chains.{names_in};
@@ -13,9 +13,9 @@ ghost use Rattle.ir_core_replacing.specs.Chosen.{is_chosen, same_use};
 ghost use Rattle.ir_core_replacing.specs.Renamed.{named_by, renamed, IsPlaceOf};
 
 use crate::renames::Renames;
-use crate::use_lists::{append, append_chosen, keep_others};
+use crate::use_lists::{append_chosen, keep_others};
 use ir_base_dialects::Dialects;
-use ir_core_records::{Records, UseIndex, Uses};
+use ir_core_records::{KeptUse, Records, UseIndex, Uses};
 use std::alloc::{AllocError, Global};
 
 // Lets one use name another definition: it goes to the end of the uses there, and of those that it leaves the last one moves into its place.
@@ -81,7 +81,27 @@ fn keep_both<D: Dialects, N: Renames<D>>(
     N::replace_uses(records, from, from_uses);
 }
 
-// Lets all uses of one definition name another: their list goes behind the other one whole.
+// Makes a definition ready for these uses, and tells how many it will have. Where it has some, copies stand behind those. Where it has none, it takes the list itself once their places are renamed, which needs no memory.
+fn make_ready<D: Dialects, N: Renames<D>>(
+    records: &mut Records<D>,
+    to: N,
+    start: usize,
+    moved: &[KeptUse],
+) -> Result<usize, AllocError>
+    requires named { N.IsNamed records.old to }
+    requires start { start ≡ length (N.uses_at records.old to) }
+    ensures end { IfOk result (λ end. end ≡ start + length moved.now) }
+    ensures ready { OnOk result (records.new ≡ (if start == 0 then records.old else N.with_uses records.old to (N.uses_at records.old to ++ moved.now))) }
+    ensures err { OnErr result (records.new ≡ records.old) }
+{
+    if start == 0 {
+        return Ok(moved.len());
+    }
+    N::append_uses(records, to, moved)?;
+    Ok(N::use_count(records, to))
+}
+
+// Lets all uses of one definition name another, behind those of the other.
 pub(crate) fn redirect_all<D: Dialects, N: Renames<D>>(
     records: &mut Records<D>,
     alloc: Global,
@@ -100,17 +120,20 @@ pub(crate) fn redirect_all<D: Dialects, N: Renames<D>>(
     if from.is_same(to) {
         return Ok(());
     }
-    let (moved, mut uses) = take_both::<D, N>(records, alloc, from, to);
-    let start = uses.len();
-    if let Err(moved) = append(&mut uses, moved) {
-        keep_both::<D, N>(records, from, moved, to, uses);
+    let moved = N::replace_uses(records, from, Uses::new(alloc));
+    let start = N::use_count(records, to);
+    let Ok(end) = make_ready::<D, N>(records, to, start, moved.as_slice()) else {
+        N::replace_uses(records, from, moved);
         return Err(AllocError);
-    }
-    for index in start..uses.len() {
-        let used = uses.at(index);
+    };
+    for index in start..end {
+        let used = moved.at(index - start);
         N::rename_place(records, used.used(), used.near(), to, index);
     }
-    keep_both::<D, N>(records, from, Uses::new(alloc), to, uses);
+    if start > 0 {
+        return Ok(());
+    }
+    N::replace_uses(records, to, moved);
     Ok(())
 }
 

@@ -1,6 +1,6 @@
 //! What places name and the lists of uses, written anew.
 
-ghost use Rattle.std.specs.Prelude.{◌≡◌, ◌↔◌, IsTrue};
+ghost use Rattle.std.specs.Prelude.{◌≡◌, ◌↔◌, ◌++◌, length, IsTrue, is_ok, if◌then◌else◌};
 ghost use Rattle.ir_base_arenas.specs.Arena.{IsLiveIn};
 ghost use Rattle.ir_core_records.specs.Links.{IsPlaced};
 ghost use Rattle.ir_core_records.specs.Lists.{HaveDistinctUses};
@@ -9,8 +9,10 @@ ghost use Rattle.ir_core_replacing.specs.Renamed.{put_name, IsPlaceOf};
 use ir_base_dialects::{ArenaIndex, Dialects, Ptr};
 use ir_core_chains::Named;
 use ir_core_records::{
-    BlockIndex, Definer, Records, UseIndex, UsePlace, Uses, ValueIndex, find_place, find_place_near,
+    BlockIndex, Definer, KeptUse, Records, UseIndex, UsePlace, Uses, ValueIndex, find_place,
+    find_place_near,
 };
+use std::alloc::AllocError;
 use std::mem;
 
 /// What a place names, where the place can come to name another.
@@ -44,6 +46,20 @@ pub(crate) trait Renames<D: Dialects>: Named<D> {
         requires { Self.IsNamed records.old named }
         ensures records { records.new ≡ Self.with_uses records.old named uses }
         ensures kept { result ≡ Self.uses_at records.old named };
+
+    // How many uses of what is live there are.
+    fn use_count(records: &Records<D>, named: Self) -> usize
+        requires { Self.IsNamed records.now named }
+        ensures { result ≡ length (Self.uses_at records.now named) };
+
+    // Puts copies of these uses behind those of what is live: all or none.
+    fn append_uses(
+        records: &mut Records<D>,
+        named: Self,
+        uses: &[KeptUse],
+    ) -> Result<(), AllocError>
+        requires { Self.IsNamed records.old named }
+        ensures { records.new ≡ (if is_ok result then Self.with_uses records.old named (Self.uses_at records.old named ++ uses.now) else records.old) };
 }
 
 impl<D: Dialects> Renames<D> for ValueIndex {
@@ -92,6 +108,36 @@ impl<D: Dialects> Renames<D> for ValueIndex {
             }
         }
     }
+
+    fn use_count(records: &Records<D>, named: ValueIndex) -> usize {
+        match named.definer {
+            Definer::Op(op) => {
+                let operation = records.ops.at(Ptr::from_index(op));
+                operation.results.with_number(named.number).uses.len()
+            }
+            Definer::Block(block) => {
+                let block = records.blocks.at(Ptr::from_index(block));
+                block.arguments.with_number(named.number).uses.len()
+            }
+        }
+    }
+
+    fn append_uses(
+        records: &mut Records<D>,
+        named: ValueIndex,
+        uses: &[KeptUse],
+    ) -> Result<(), AllocError> {
+        match named.definer {
+            Definer::Op(op) => {
+                let operation = records.ops.at_mut(Ptr::from_index(op));
+                operation.results.uses_mut(named.number).extend(uses)
+            }
+            Definer::Block(block) => {
+                let block = records.blocks.at_mut(Ptr::from_index(block));
+                block.arguments.uses_mut(named.number).extend(uses)
+            }
+        }
+    }
 }
 
 impl<D: Dialects> Renames<D> for BlockIndex {
@@ -131,5 +177,18 @@ impl<D: Dialects> Renames<D> for BlockIndex {
     fn replace_uses(records: &mut Records<D>, named: BlockIndex, uses: Uses) -> Uses {
         let block = records.blocks.at_mut(Ptr::from_index(named.index));
         mem::replace(&mut block.uses, uses)
+    }
+
+    fn use_count(records: &Records<D>, named: BlockIndex) -> usize {
+        records.blocks.at(Ptr::from_index(named.index)).uses.len()
+    }
+
+    fn append_uses(
+        records: &mut Records<D>,
+        named: BlockIndex,
+        uses: &[KeptUse],
+    ) -> Result<(), AllocError> {
+        let block = records.blocks.at_mut(Ptr::from_index(named.index));
+        block.uses.extend(uses)
     }
 }

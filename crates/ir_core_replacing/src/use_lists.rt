@@ -1,49 +1,19 @@
 //! The uses of two definitions, while some go from one list to the other.
 
-ghost use Rattle.std.specs.Prelude.{◌≡◌, ◌+◌, ◌<◌, ◌≤◌, ◌++◌, ◌∷◌, [], length, set, slice_get, Some, is_ok, if◌then◌else◌, OnOk, OnErr};
+ghost use Rattle.std.specs.Prelude.{◌≡◌, ◌+◌, ◌<◌, ◌≤◌, ◌++◌, ◌∷◌, [], length, set, slice_get, Some, is_ok, if◌then◌else◌};
 ghost use Rattle.ir_core_records.specs.declared.record.UseIndex.{UseIndex as PlainUse};
-ghost use Rattle.ir_core_replacing.specs.Chosen.{chosen, left_out, IfBack};
+ghost use Rattle.ir_core_replacing.specs.Chosen.{chosen, left_out};
 
+use ir_base_dialects::Plain;
 use ir_core_records::{KeptUse, Uses};
 use std::alloc::AllocError;
-
-// Puts copies of these uses behind the others, in one growth: all or none.
-fn append_copies(uses: &mut Uses, from: &[KeptUse]) -> Result<(), AllocError>
-    ensures { uses.new ≡ (if is_ok result then uses.old ++ from.now else uses.old) }
-{
-    let start = uses.len();
-    uses.reserve(from.len())?;
-    for used in from {
-        if uses.push(used.copy()).is_err() {
-            uses.truncate(start);
-            return Err(AllocError);
-        }
-    }
-    Ok(())
-}
-
-// Puts the uses behind the others, in one growth. Where there are no others it needs no memory, and where there is none, the uses are given back.
-pub(crate) fn append(uses: &mut Uses, moved: Uses) -> Result<(), Uses>
-    ensures done { OnOk result (uses.new ≡ uses.old ++ moved) }
-    ensures err { OnErr result (uses.new ≡ uses.old) }
-    ensures back { IfBack result moved }
-{
-    if uses.is_empty() {
-        *uses = moved;
-        return Ok(());
-    }
-    if append_copies(uses, moved.as_slice()).is_err() {
-        return Err(moved);
-    }
-    Ok(())
-}
 
 // Puts a use behind the others, if it is to be there.
 fn push_if(uses: &mut Uses, used: &KeptUse, answer: bool) -> Result<(), AllocError>
     ensures { uses.new ≡ (if is_ok result then uses.old ++ (if answer then used.now ∷ [] else []) else uses.old) }
 {
     if answer {
-        uses.push(used.copy())
+        uses.push(used.copied())
     } else {
         Ok(())
     }
@@ -78,7 +48,7 @@ fn put_down(uses: &mut Uses, kept: usize, index: usize, answer: bool) -> usize
     if answer {
         return kept;
     }
-    let used = uses.at(index).copy();
+    let used = uses.at(index).copied();
     *uses.at_mut(kept) = used;
     // Its contract tells that so many can be counted.
     let _end = uses.len();

@@ -12,6 +12,7 @@ use Rattle.ir_model.proofs.Keeps.{Distinct-unmap}
 use Rattle.ir_model_passes.specs.Meaning.{SameAttributes, named_values, result_types}
 use Rattle.ir_model_passes.specs.Merging.{StandsBefore, redirect_results, Alike, MergesOne, MergesSome, none_merges, one_merges, NoneAlike, Merges}
 use Rattle.ir_model_passes.specs.InOrder.{InOrder, LeavesInOrder}
+use Rattle.ir_model_passes.specs.FrontWalk.{NoneAlikeAmong}
 use Rattle.ir_model_passes.specs.FrontToBack.{FrontToBack, at_end, keeps_it, merges_it}
 use Rattle.ir_model_passes.proofs.Merged.{one_formed, list_left}
 use Rattle.ir_model_passes.proofs.InOrder.{leaves_in_order}
@@ -22,12 +23,12 @@ use Rattle.ir_model.proofs.Removal.{only}
 
 -- ## Lists
 
-append_none : {A : Type 0} (xs : List A) → xs ++ [] ≡ xs
+pub append_none : {A : Type 0} (xs : List A) → xs ++ [] ≡ xs
 append_none [] = refl
 append_none (x ∷ xs) = ap (λ ys. x ∷ ys) (append_none xs)
 
 -- what stands in the first part stands before what begins the second
-before_here : {A : Type 0} (x y : A) (xs ys : List A) → In x xs → StandsBefore x y (xs ++ y ∷ ys)
+pub before_here : {A : Type 0} (x y : A) (xs ys : List A) → In x xs → StandsBefore x y (xs ++ y ∷ ys)
 before_here x y [] ys h = elim h [ ]
 before_here x y (z ∷ xs) ys (inl e) = inl (e, In-right y xs (y ∷ ys) (inl refl))
 before_here x y (z ∷ xs) ys (inr h) = inr (before_here x y xs ys h)
@@ -44,7 +45,7 @@ in_or_last x y [] (inr h) = absurd h
 in_or_last x y (z ∷ xs) (inl e) = inl (inl e)
 in_or_last x y (z ∷ xs) (inr h) = elim (in_or_last x y xs h) [ inl k ↦ inl (inr k) | inr e ↦ inr e ]
 
-before_or_last : {A : Type 0} (x y z : A) (xs : List A) → StandsBefore x y (xs ++ z ∷ []) → StandsBefore x y xs ⊎ (In x xs × (y ≡ z))
+pub before_or_last : {A : Type 0} (x y z : A) (xs : List A) → StandsBefore x y (xs ++ z ∷ []) → StandsBefore x y xs ⊎ (In x xs × (y ≡ z))
 before_or_last x y z [] (inl h) = absurd h.1
 before_or_last x y z [] (inr h) = absurd h
 before_or_last x y z (w ∷ xs) (inl h) = elim (in_or_last y z xs h.1) [ inl k ↦ inl (inl (h.0, k)) | inr e ↦ inr (inl h.0, e) ]
@@ -63,12 +64,8 @@ not_twice x y (z ∷ xs) ys d (inl h) e = not_in-Absent z (xs ++ x ∷ ys) d.0 (
 not_twice x y (z ∷ xs) ys d (inr h) e = not_twice x y xs ys d.1 h e
 
 module _ {N : Ids} {W : Dialect} (L : Lawful N) (B : Behaviour W) (same : SameAttributes W) (b : N.Block) (keys : ℕ) where
-  -- no two of the list are alike
-  abbrev NoneAlikeIn : Forest N W → List N.Op → Type 0
-  NoneAlikeIn f xs = (o p : N.Op) → StandsBefore o p xs → Alike B same f o p → ⊥
-
   module _ (f g : Forest N W) (kept rest : List N.Op) (w : WellFormed f keys) (m : MergesOne B same f b g) (order : InOrder f b) (list : ops_of f b ≡ kept ++ m.later ∷ rest) where
-    leaves : LeavesInOrder B same f b g m
+    pub leaves : LeavesInOrder B same f b g m
     leaves = leaves_in_order L B same f keys b g w m order
 
     pub list_now : ops_of g b ≡ kept ++ rest
@@ -85,10 +82,10 @@ module _ {N : Ids} {W : Dialect} (L : Lawful N) (B : Behaviour W) (same : SameAt
             by false e = refl
 
     -- the kept ones are as they were
-    kept_same : (o : N.Op) → In o kept → g.ops o ≡ f.ops o
+    pub kept_same : (o : N.Op) → In o kept → g.ops o ≡ f.ops o
     kept_same o h = leaves.front o (subst (StandsBefore o m.later) (sym list) (before_here o m.later kept rest h))
 
-    pub still_none : NoneAlikeIn f kept → NoneAlikeIn g kept
+    pub still_none : NoneAlikeAmong B same b f kept → NoneAlikeAmong B same b g kept
     still_none none o p before alike = none o p before (record {
       one = alike.one;
       other = alike.other;
@@ -107,7 +104,7 @@ module _ {N : Ids} {W : Dialect} (L : Lawful N) (B : Behaviour W) (same : SameAt
         in_both x y (z ∷ zs) (inl h) = (inl h.0, inr h.1)
         in_both x y (z ∷ zs) (inr h) = let more = in_both x y zs h in (inr more.0, inr more.1)
 
-  one_way : (start f g : Forest N W) (kept rest : List N.Op) (k n : ℕ) → WellFormed f keys → InOrder f b → ops_of f b ≡ kept ++ rest → NoneAlikeIn f kept → MergesSome B same b start f k
+  one_way : (start f g : Forest N W) (kept rest : List N.Op) (k n : ℕ) → WellFormed f keys → InOrder f b → ops_of f b ≡ kept ++ rest → NoneAlikeAmong B same b f kept → MergesSome B same b start f k
       → FrontToBack B same b f kept rest g n → MergesSome B same b start g (k + n) × NoneAlike B same b g
   one_way start f g kept rest k n w order list none some at_end = (
     subst (MergesSome B same b start f) (let e : k ≡ k + 0 = omega arith in e) some,
@@ -163,7 +160,7 @@ module _ {N : Ids} {W : Dialect} (L : Lawful N) (B : Behaviour W) (same : SameAt
     ]
 
     -- a merged operation is alike to one kept one alone
-    one_partner : (f : Forest N W) (kept : List N.Op) (o k l : N.Op) → NoneAlikeIn f kept → In k kept → In l kept → Alike B same f k o → Alike B same f l o → k ≡ l
+    one_partner : (f : Forest N W) (kept : List N.Op) (o k l : N.Op) → NoneAlikeAmong B same b f kept → In k kept → In l kept → Alike B same f k o → Alike B same f l o → k ≡ l
     one_partner f kept o k l none h i x y = elim (either_first k l kept h i) [
       | inl e ↦ e
       | inr (inl before) ↦ absurd (none k l before (both_alike f k l o x y))
@@ -174,7 +171,7 @@ module _ {N : Ids} {W : Dialect} (L : Lawful N) (B : Behaviour W) (same : SameAt
     same_after f g h m n e l = only (redirect_results f n.later n.earlier) h (an_op n.later) n.removes g
         (subst (λ x. Removes (redirect_results f x n.earlier) (an_op x) g) l (subst (λ x. Removes (redirect_results f m.later x) (an_op m.later) g) e m.removes))
 
-    one_outcome : (f g h : Forest N W) (kept rest : List N.Op) (n k : ℕ) → WellFormed f keys → InOrder f b → ops_of f b ≡ kept ++ rest → NoneAlikeIn f kept
+    one_outcome : (f g h : Forest N W) (kept rest : List N.Op) (n k : ℕ) → WellFormed f keys → InOrder f b → ops_of f b ≡ kept ++ rest → NoneAlikeAmong B same b f kept
         → FrontToBack B same b f kept rest g n → FrontToBack B same b f kept rest h k → (h ≡ g) × (k ≡ n)
     one_outcome f g h kept rest n k w order list none at_end at_end = (refl, refl)
     one_outcome f g h kept _ n k w order list none (keeps_it {rest = rest} o apart more) (keeps_it p away others) =

@@ -216,6 +216,94 @@ module _ {N : Ids} {W : Dialect} (B : Behaviour W) (same : SameAttributes W) (f 
         ∙ ap (λ ts. gives q.kind q.attributes (map (λ (p : Operand N). a p.value) q.operands) ts i) (sym alike.types)
         ∙ sym (was earlier q i y alike.one_is alike.one_plain (sym (ap (λ l. slice_get l i) earlier_results) ∙ k)))
 
+-- ## The results of an operation are replaced by those of an alike one
+
+module _ {N : Ids} {W : Dialect} (L : Lawful N) (B : Behaviour W) (same : SameAttributes W) (f : Forest N W) (keys : ℕ) (w : WellFormed f keys) (earlier later : N.Op) (apart : earlier ≡ later → ⊥) (alike : Alike B same f earlier later) where
+  both : List (Value N × Value N)
+  both = zip (values_given f later) (values_given f earlier)
+
+  between_both : Forest N W
+  between_both = redirect_results f later earlier
+
+  -- the first of a pair is given by the later, the second by the earlier
+  both_given : (q : Value N × Value N) → In q both → (q.0.definer ≡ of_op later) × (q.1.definer ≡ of_op earlier)
+  unfolding both
+  both_given = pairs_all (given_by later) (given_by earlier) (λ v u. (v.definer ≡ of_op later) × (u.definer ≡ of_op earlier)) (definitions_of f (of_op later)) (definitions_of f (of_op earlier)) (λ i x y h k. (refl, refl))
+
+  pub replaced_given : (q : Value N × Value N) → In q (zip (values_given f later) (values_given f earlier)) → (q.0.definer ≡ of_op later) × (q.1.definer ≡ of_op earlier)
+  unfolding both
+  replaced_given = both_given
+
+  both_ops : (o : N.Op) → between_both.ops o ≡ option_map (on_operands (map (moved both))) (f.ops o)
+  unfolding both between_both
+  both_ops o = each_ops both f o
+
+  both_formed : WellFormed between_both keys
+  unfolding both between_both
+  both_formed = each_formed both f keys w (second_live B same f earlier later alike)
+
+  pub replaced_formed : WellFormed (redirect_results f later earlier) keys
+  unfolding between_both
+  replaced_formed = both_formed
+
+  -- nothing is inside the later one but itself
+  alone_both : (x : Entity N) → Inside between_both (an_op later) x → x ≡ an_op later
+  alone_both x itself = refl
+  alone_both x (below {c = c} h v) =
+      let k : In x (children between_both (an_op later)) = subst (λ y. In x (children between_both y)) (alone_both c v) h in
+      let rs : regions_of between_both later ≡ [] = ap (list_of (λ (r : OpRecord N W). r.regions)) (both_ops later ∙ ap (option_map (on_operands (map (moved both)))) alike.other_is) ∙ alike.other_plain.no_regions in
+      absurd (let n : In x (map a_region []) = subst (λ (l : List N.Region). In x (map {A = N.Region} {B = Entity N} a_region l)) rs k in n)
+
+  pub replaced_alone : (x : Entity N) → Inside (redirect_results f later earlier) (an_op later) x → x ≡ an_op later
+  unfolding between_both
+  replaced_alone = alone_both
+
+  results_both : definitions_of between_both (of_op later) ≡ alike.other.results
+  results_both =
+      ap (list_of (λ (r : OpRecord N W). r.results)) (both_ops later)
+      ∙ list_of-map (λ (r : OpRecord N W). r.results) (on_operands (map (moved both))) (λ r. refl) (f.ops later)
+      ∙ later_results B same f earlier later alike
+
+  operands_both : (o : N.Op) → operands_of between_both o ≡ map (moved both) (operands_of f o)
+  operands_both o = ap (list_of (λ (r : OpRecord N W). r.operands)) (both_ops o) ∙ by (f.ops o)
+    where
+      by : (k : Option (OpRecord N W)) → list_of (λ (r : OpRecord N W). r.operands) (option_map (on_operands (map (moved both))) k) ≡ map (moved both) (list_of (λ (r : OpRecord N W). r.operands) k)
+      by None = refl
+      by (Some r) = refl
+
+  -- each result of the later one stands first in a pair
+  first_of : (d : Definition N W) → In d (definitions_of f (of_op later)) → (q : Value N × Value N) × In q both × (q.0 ≡ given_by later d)
+  unfolding both
+  first_of = first_paired (given_by later) (given_by earlier) (λ (d : Definition N W). d.ty) (λ (d : Definition N W). d.ty) (definitions_of f (of_op later)) (definitions_of f (of_op earlier)) (shapes B same f earlier later alike)
+
+  -- no result of the later one is named any more
+  unnamed : (user : N.Op) (v : Value N) → In (a_value v) (names_of between_both user) → v.definer ≡ of_op later → ⊥
+  unnamed user v h d = elim (In-append (a_value v) (map (λ (p : Operand N). a_value p.value) (operands_of between_both user)) _ h) [
+    | inl k ↦ (
+        let at = In-map_back (λ (p : Operand N). a_value p.value) (a_value v) (operands_of between_both user) k in
+        let moved_so = In-map_back (moved both) at.0 (operands_of f user) (subst (In at.0) (operands_both user) at.1) in
+        let is : v ≡ (moved both moved_so.0).value = value_of_named v at.0.value at.2 ∙ ap (λ (p : Operand N). p.value) moved_so.2 in
+        let live : In v.number (map (λ (x : Definition N W). x.number) (definitions_of between_both v.definer)) = both_formed.named user (a_value v) h in
+        let of_later : In v.number (map (λ (x : Definition N W). x.number) alike.other.results) = subst (λ xs. In v.number (map (λ (x : Definition N W). x.number) xs)) results_both (subst (λ z. In v.number (map (λ (x : Definition N W). x.number) (definitions_of between_both z))) d live) in
+        let def = In-map_back (λ (x : Definition N W). x.number) v.number alike.other.results of_later in
+        let pair = first_of def.0 (subst (In def.0) (sym (later_results B same f earlier later alike)) def.1) in
+        let v_is : given_by later def.0 ≡ v = λ i. record { definer = sym d i; number = sym def.2 i } in
+        moves_off L both v (λ q k2 e. apart (of_op_one (sym (both_given q k2).1 ∙ ap (λ (x : Value N). x.definer) e ∙ d))) pair.0 pair.1 (pair.2 ∙ v_is) moved_so.0 (sym is))
+    | inr k ↦ (let at = In-map_back (λ (p : Successor N). the_block p.block) (a_value v) _ k in let z : a_value v ≡ the_block at.0.block = at.2 in absurd cc)
+  ]
+
+  closed_both : IsClosed between_both (an_op later)
+  closed_both user (a_value v) h i = absurd (unnamed user v h (definer_is v.definer (alone_both (definer_entity N v.definer) i)))
+    where
+      definer_is : (d : Definer N) → definer_entity N d ≡ an_op later → d ≡ of_op later
+      definer_is (of_op o) e = let z : o ≡ later = cc in ap of_op z
+      definer_is (of_block c) e = absurd cc
+  closed_both user (the_block c) h i = (let e : a_block c ≡ an_op later = alone_both (a_block c) i in absurd cc)
+
+  pub replaced_closed : IsClosed (redirect_results f later earlier) (an_op later)
+  unfolding between_both
+  replaced_closed = closed_both
+
 -- ## Some values are replaced by others that have the same value
 
 module _ {N : Ids} {W : Dialect} (L : Lawful N) (B : Behaviour W) (f : Forest N W) (ps : List (Value N × Value N)) (n : Nested f) where
@@ -285,16 +373,16 @@ module _ {N : Ids} {W : Dialect} (L : Lawful N) (B : Behaviour W) (same : SameAt
   pub pairs : List (Value N × Value N)
   pairs = zip (values_given f m.later) (values_given f m.earlier)
 
-  -- the first of a pair is given by the later, the second by the earlier
-  pub given_so : (q : Value N × Value N) → In q pairs → (q.0.definer ≡ of_op m.later) × (q.1.definer ≡ of_op m.earlier)
-  unfolding pairs
-  given_so = pairs_all (given_by m.later) (given_by m.earlier) (λ v u. (v.definer ≡ of_op m.later) × (u.definer ≡ of_op m.earlier)) (definitions_of f (of_op m.later)) (definitions_of f (of_op m.earlier)) (λ i x y h k. (refl, refl))
-
   listed : In m.earlier (ops_of f b) × In m.later (ops_of f b)
   listed = before_in m.earlier m.later (ops_of f b) m.in_order
 
   differ : m.earlier ≡ m.later → ⊥
   differ = before_differs m.earlier m.later (ops_of f b) (Distinct-unmap an_op (ops_of f b) (w.nested.once (a_block b))) m.in_order
+
+  -- the first of a pair is given by the later, the second by the earlier
+  pub given_so : (q : Value N × Value N) → In q pairs → (q.0.definer ≡ of_op m.later) × (q.1.definer ≡ of_op m.earlier)
+  unfolding pairs
+  given_so = replaced_given L B same f keys w m.earlier m.later differ m.alike
 
   between : Forest N W
   between = redirect_results f m.later m.earlier
@@ -312,8 +400,8 @@ module _ {N : Ids} {W : Dialect} (L : Lawful N) (B : Behaviour W) (same : SameAt
   between_regions = each_regions pairs f
 
   between_formed : WellFormed between keys
-  unfolding pairs between
-  between_formed = each_formed pairs f keys w (second_live B same f m.earlier m.later m.alike)
+  unfolding between
+  between_formed = replaced_formed L B same f keys w m.earlier m.later differ m.alike
 
   removed : Removes between (an_op m.later) g
   unfolding between
@@ -321,11 +409,8 @@ module _ {N : Ids} {W : Dialect} (L : Lawful N) (B : Behaviour W) (same : SameAt
 
   -- nothing is inside the later one but itself
   alone : (x : Entity N) → Inside between (an_op m.later) x → x ≡ an_op m.later
-  alone x itself = refl
-  alone x (below {c = c} h v) =
-      let k : In x (children between (an_op m.later)) = subst (λ y. In x (children between y)) (alone c v) h in
-      let rs : regions_of between m.later ≡ [] = ap (list_of (λ (r : OpRecord N W). r.regions)) (between_ops m.later ∙ ap (option_map (on_operands (map (moved pairs)))) m.alike.other_is) ∙ m.alike.other_plain.no_regions in
-      absurd (let n : In x (map a_region []) = subst (λ (l : List N.Region). In x (map {A = N.Region} {B = Entity N} a_region l)) rs k in n)
+  unfolding between
+  alone = replaced_alone L B same f keys w m.earlier m.later differ m.alike
 
   op_gone : g.ops m.later ≡ None
   op_gone = removed.ops_inside m.later itself
@@ -464,47 +549,9 @@ module _ {N : Ids} {W : Dialect} (L : Lawful N) (B : Behaviour W) (same : SameAt
 
   -- ## What is left is well formed
 
-  results_between : definitions_of between (of_op m.later) ≡ m.alike.other.results
-  results_between =
-      ap (list_of (λ (r : OpRecord N W). r.results)) (between_ops m.later)
-      ∙ list_of-map (λ (r : OpRecord N W). r.results) (on_operands (map (moved pairs))) (λ r. refl) (f.ops m.later)
-      ∙ later_results B same f m.earlier m.later m.alike
-
-  operands_between : (o : N.Op) → operands_of between o ≡ map (moved pairs) (operands_of f o)
-  operands_between o = ap (list_of (λ (r : OpRecord N W). r.operands)) (between_ops o) ∙ by (f.ops o)
-    where
-      by : (k : Option (OpRecord N W)) → list_of (λ (r : OpRecord N W). r.operands) (option_map (on_operands (map (moved pairs))) k) ≡ map (moved pairs) (list_of (λ (r : OpRecord N W). r.operands) k)
-      by None = refl
-      by (Some r) = refl
-
-  -- each result of the later one stands first in a pair
-  first_of : (d : Definition N W) → In d (definitions_of f (of_op m.later)) → (q : Value N × Value N) × In q pairs × (q.0 ≡ given_by m.later d)
-  unfolding pairs
-  first_of = first_paired (given_by m.later) (given_by m.earlier) (λ (d : Definition N W). d.ty) (λ (d : Definition N W). d.ty) (definitions_of f (of_op m.later)) (definitions_of f (of_op m.earlier)) (shapes B same f m.earlier m.later m.alike)
-
-  -- no result of the later one is named any more
-  unnamed : (user : N.Op) (v : Value N) → In (a_value v) (names_of between user) → v.definer ≡ of_op m.later → ⊥
-  unnamed user v h d = elim (In-append (a_value v) (map (λ (p : Operand N). a_value p.value) (operands_of between user)) _ h) [
-    | inl k ↦ (
-        let at = In-map_back (λ (p : Operand N). a_value p.value) (a_value v) (operands_of between user) k in
-        let moved_so = In-map_back (moved pairs) at.0 (operands_of f user) (subst (In at.0) (operands_between user) at.1) in
-        let is : v ≡ (moved pairs moved_so.0).value = value_of_named v at.0.value at.2 ∙ ap (λ (p : Operand N). p.value) moved_so.2 in
-        let live : In v.number (map (λ (x : Definition N W). x.number) (definitions_of between v.definer)) = between_formed.named user (a_value v) h in
-        let of_later : In v.number (map (λ (x : Definition N W). x.number) m.alike.other.results) = subst (λ xs. In v.number (map (λ (x : Definition N W). x.number) xs)) results_between (subst (λ z. In v.number (map (λ (x : Definition N W). x.number) (definitions_of between z))) d live) in
-        let def = In-map_back (λ (x : Definition N W). x.number) v.number m.alike.other.results of_later in
-        let pair = first_of def.0 (subst (In def.0) (sym (later_results B same f m.earlier m.later m.alike)) def.1) in
-        let v_is : given_by m.later def.0 ≡ v = λ i. record { definer = sym d i; number = sym def.2 i } in
-        moves_off L pairs v (λ q k2 e. differ (of_op_one (sym (given_so q k2).1 ∙ ap (λ (x : Value N). x.definer) e ∙ d))) pair.0 pair.1 (pair.2 ∙ v_is) moved_so.0 (sym is))
-    | inr k ↦ (let at = In-map_back (λ (p : Successor N). the_block p.block) (a_value v) _ k in let z : a_value v ≡ the_block at.0.block = at.2 in absurd cc)
-  ]
-
   closed : IsClosed between (an_op m.later)
-  closed user (a_value v) h i = absurd (unnamed user v h (definer_is v.definer (alone (definer_entity N v.definer) i)))
-    where
-      definer_is : (d : Definer N) → definer_entity N d ≡ an_op m.later → d ≡ of_op m.later
-      definer_is (of_op o) e = let z : o ≡ m.later = cc in ap of_op z
-      definer_is (of_block c) e = absurd cc
-  closed user (the_block c) h i = (let e : a_block c ≡ an_op m.later = alone (a_block c) i in absurd cc)
+  unfolding between
+  closed = replaced_closed L B same f keys w m.earlier m.later differ m.alike
 
   pub one_formed : WellFormed g keys
   one_formed = (Removes-kept L between g (an_op m.later) keys between_formed removed [] closed).forest

@@ -72,6 +72,13 @@ module _ {N : Ids} {W : Dialect} where
       pub steps : MergesSome f g count
       pub none_alike : NoneAlike g
 
+    -- so many operations were merged, and after them one merging may have been broken off
+    pub record MergesBrokenOff (f h : Forest N W) : Type 0 where
+      pub between : Forest N W
+      pub count : ℕ
+      pub merges : MergesSome f between count
+      pub broken_off : (h ≡ between) ⊎ MergesPartly B same between b h
+
   -- both values are given by operations of one block, and the operation of the first stands before that of the second
   abbrev pub IsGivenBefore : Forest N W → Value N → Value N → Type 0
   IsGivenBefore f v w = (c : N.Block) × (o : N.Op) × (p : N.Op) × (v.definer ≡ of_op o) × (w.definer ≡ of_op p) × StandsBefore o p (ops_of f c)

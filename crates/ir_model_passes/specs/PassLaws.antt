@@ -1,18 +1,21 @@
 -- What the passes leave, and why they are right.
-use Rattle.std.specs.Prelude.{◌≡◌, ℕ, ◌+◌, Bool, List, [], length, Option}
+use Rattle.std.specs.Prelude.{◌≡◌, ℕ, ◌+◌, zero, suc, Bool, List, [], ◌∷◌, ◌++◌, length, take, Option}
+use Rattle.std.specs.List.{zip}
 use Rattle.std.specs.Cmp.{IsPartialEquivalence}
 use Rattle.ir_model.specs.declared.ids.ArenaIndex.{ArenaIndex}
 use Rattle.ir_model.specs.ContextIds.{context_ids}
-use Rattle.ir_model.specs.Forest.{Dialect, Behaviour, Forest, Entity, Value}
-use Rattle.ir_model.specs.Nesting.{In, WellFormed, ops_of, blocks_of}
+use Rattle.ir_model.specs.Forest.{Dialect, Behaviour, Forest, Entity, Value, an_op}
+use Rattle.ir_model.specs.Nesting.{In, IsClosed, WellFormed, ops_of, blocks_of}
+use Rattle.ir_model.specs.Changes.{Removes}
 use Rattle.ir_model.specs.Dead.{Sweeps}
 use Rattle.ir_model_passes.specs.Meaning.{Interpretation, SameAttributes, Respects, OnlyPureGo, KeepsMeaning, PureHaveNoRegions, EffectsStay}
 use Rattle.ir_model_passes.specs.SweepInside.{ListsLive, ListsOps, SweepsInside, NoneIsClosedInside, SweepsBlocks, ErasesSome}
-use Rattle.ir_model_passes.specs.Merging.{MergesOne, MergesPartly, MergesSome, Merges, OperandsMoveBack}
+use Rattle.ir_model_passes.specs.Merging.{values_given, redirect_each, redirect_results, Alike, MergesOne, MergesPartly, MergesSome, Merges, MergesBrokenOff, OperandsMoveBack}
 use Rattle.ir_model_passes.specs.MergingInside.{MergesCommon, MergesInside}
 use Rattle.ir_model_passes.specs.InOrder.{InOrder, EachIsSeen, SeesEarlier, LeavesInOrder}
 use Rattle.ir_model_passes.specs.RightPasses.{IsRight}
 use Rattle.ir_model_passes.specs.FrontToBack.{FrontToBack}
+use Rattle.ir_model_passes.specs.FrontWalk.{WalkLeads}
 use Rattle.ir_model_passes.specs.Unreached.{IsUnreached, RemovesUnreached, RemovesSome, UnreachedTells}
 use Rattle.ir_model_passes.specs.Assignments.{IsRanked, CanBeCompleted}
 
@@ -62,6 +65,11 @@ module _ (W : Dialect) (V : Type 0) where
   abbrev pub PartKeepsMeaning : Type 0
   PartKeepsMeaning = (B : Behaviour W) (same : SameAttributes W) (gives : Interpretation W V) → Respects W V same gives
       → (f g : Forest context_ids W) (keys : ℕ) (b : ArenaIndex) → WellFormed f keys → MergesPartly B same f b g → WellFormed g keys × KeepsMeaning B gives f g
+
+  -- so do mergings of which the last one may have been broken off
+  abbrev pub BrokenOffKeepsMeaning : Type 0
+  BrokenOffKeepsMeaning = (B : Behaviour W) (same : SameAttributes W) (gives : Interpretation W V) → Respects W V same gives
+      → (f g : Forest context_ids W) (keys : ℕ) (b : ArenaIndex) → WellFormed f keys → MergesBrokenOff B same b f g → WellFormed g keys × KeepsMeaning B gives f g
 
   -- ## Unreached blocks
 
@@ -118,6 +126,47 @@ module _ (W : Dialect) where
   abbrev pub FrontToBackMerges : Type 0
   FrontToBackMerges = (B : Behaviour W) (same : SameAttributes W) (f g : Forest context_ids W) (keys count : ℕ) (b : ArenaIndex) → WellFormed f keys → InOrder f b
       → FrontToBack B same b f [] (ops_of f b) g count → Merges B same b f g count
+
+  module _ (B : Behaviour W) (same : SameAttributes W) (f g : Forest context_ids W) (keys count : ℕ) (b : ArenaIndex) where
+    -- what the walk led to is well formed
+    abbrev pub WalkIsFormed : Type 0
+    WalkIsFormed = (kept rest : List ArenaIndex) → WellFormed f keys → WalkLeads B same b f kept rest g count → WellFormed g keys
+
+    -- where something of the rest goes after its results were replaced by those of an alike one that was kept, the walk leads on without it, and what was kept is as it was
+    abbrev pub WalkMerges : Type 0
+    WalkMerges = (h : Forest context_ids W) (earlier o : ArenaIndex) (kept rest : List ArenaIndex) → WellFormed f keys → WalkLeads B same b f kept (o ∷ rest) g count
+        → In earlier kept → Alike B same g earlier o → Removes (redirect_results g o earlier) (an_op o) h
+        → WalkLeads B same b f kept rest h (suc count) × ((k : ArenaIndex) → In k kept → h.ops k ≡ g.ops k)
+
+    -- where only some of its results were replaced, the mergings were broken off
+    abbrev pub WalkBreaksOff : Type 0
+    WalkBreaksOff = (earlier o : ArenaIndex) (kept rest : List ArenaIndex) (some : ℕ) → WalkLeads B same b f kept (o ∷ rest) g count → In earlier kept → Alike B same g earlier o
+        → MergesBrokenOff B same b f (redirect_each g (take some (zip (values_given g o) (values_given g earlier))))
+
+    -- where no kept one is alike, it is kept too
+    abbrev pub WalkKeeps : Type 0
+    WalkKeeps = (o : ArenaIndex) (kept rest : List ArenaIndex) → WalkLeads B same b f kept (o ∷ rest) g count → ((k : ArenaIndex) → In k kept → Alike B same g k o → ⊥) → WalkLeads B same b f (kept ++ o ∷ []) rest g count
+
+    -- where nothing is left to visit, all alike operations were merged
+    abbrev pub WalkEnds : Type 0
+    WalkEnds = (kept : List ArenaIndex) → WalkLeads B same b f kept [] g count → Merges B same b f g count
+
+  -- a walk through a block in order begins with nothing kept
+  abbrev pub WalkBegins : Type 0
+  WalkBegins = (B : Behaviour W) (same : SameAttributes W) (f : Forest context_ids W) (b : ArenaIndex) → InOrder f b → WalkLeads B same b f [] (ops_of f b) f zero
+
+  -- the steps of a walk, and its end
+  pub record WalkSteps : Type 0 where
+    pub begins : WalkBegins
+    pub formed : (B : Behaviour W) (same : SameAttributes W) (f g : Forest context_ids W) (keys count : ℕ) (b : ArenaIndex) → WalkIsFormed B same f g keys count b
+    pub merges : (B : Behaviour W) (same : SameAttributes W) (f g : Forest context_ids W) (keys count : ℕ) (b : ArenaIndex) → WalkMerges B same f g keys count b
+    pub breaks_off : (B : Behaviour W) (same : SameAttributes W) (f g : Forest context_ids W) (keys count : ℕ) (b : ArenaIndex) → WalkBreaksOff B same f g keys count b
+    pub keeps : (B : Behaviour W) (same : SameAttributes W) (f g : Forest context_ids W) (keys count : ℕ) (b : ArenaIndex) → WalkKeeps B same f g keys count b
+    pub ends : (B : Behaviour W) (same : SameAttributes W) (f g : Forest context_ids W) (keys count : ℕ) (b : ArenaIndex) → WalkEnds B same f g keys count b
+
+  -- once the results of one of two alike operations were replaced by those of the other one, nothing outside it names what it defines
+  abbrev pub ReplacedIsClosed : Type 0
+  ReplacedIsClosed = (B : Behaviour W) (same : SameAttributes W) (f : Forest context_ids W) (keys : ℕ) (earlier later : ArenaIndex) → WellFormed f keys → (earlier ≡ later → ⊥) → Alike B same f earlier later → IsClosed (redirect_results f later earlier) (an_op later)
 
   -- where the test of attributes is symmetric and transitive, that way has one outcome
   abbrev pub FrontToBackIsOne : Type 0

@@ -1,6 +1,6 @@
 //! What a merging of alike operations leaves.
 
-ghost use Rattle.ir_model_passes.specs.PassLaws.{PartKeepsMeaning, MergesAreCounted, MergesLeaveOrder, FrontToBackIsOne, FrontToBackMerges, SeenStaysSeen};
+ghost use Rattle.ir_model_passes.specs.PassLaws.{PartKeepsMeaning, BrokenOffKeepsMeaning, MergesAreCounted, MergesLeaveOrder, FrontToBackIsOne, FrontToBackMerges, WalkSteps, ReplacedIsClosed, SeenStaysSeen};
 
 /// One merging in a block in order leaves it in order, and leaves all that stands before the operation that went as it was. Where operands moved back, each operation still names only what it may see.
 pub fn merges_keep_order<Key, Body, Attr, Saved, Aux, Loc>()
@@ -19,7 +19,14 @@ pub fn front_to_back_merges<Key, Body, Attr, Saved, Aux, Loc>()
     ensures only { FrontToBackIsOne (record { Key = Key; Body = Body; Attr = Attr; Saved = Saved; Aux = Aux; Loc = Loc }) }
 {}
 
-/// A merging that is broken off before the operation goes leaves a well-formed forest in which each operation sees the values that it saw, where equal attributes give equal values.
+/// A walk through a block in order, step by step: an operation is merged into an alike one that was kept, or is kept where none is alike; at the end all alike ones were merged. What was kept stays as it was, so whoever looks alike ones up need not look again.
+pub fn walk_merges<Key, Body, Attr, Saved, Aux, Loc>()
+    ensures steps { WalkSteps (record { Key = Key; Body = Body; Attr = Attr; Saved = Saved; Aux = Aux; Loc = Loc }) }
+    ensures can_go { ReplacedIsClosed (record { Key = Key; Body = Body; Attr = Attr; Saved = Saved; Aux = Aux; Loc = Loc }) }
+{}
+
+/// A merging that is broken off before the operation goes leaves a well-formed forest in which each operation sees the values that it saw, where equal attributes give equal values. So do mergings of which the last one may have been broken off.
 pub fn part_keeps_meaning<Key, Body, Attr, Saved, Aux, Loc, V>()
-    ensures { PartKeepsMeaning (record { Key = Key; Body = Body; Attr = Attr; Saved = Saved; Aux = Aux; Loc = Loc }) V }
+    ensures one { PartKeepsMeaning (record { Key = Key; Body = Body; Attr = Attr; Saved = Saved; Aux = Aux; Loc = Loc }) V }
+    ensures last { BrokenOffKeepsMeaning (record { Key = Key; Body = Body; Attr = Attr; Saved = Saved; Aux = Aux; Loc = Loc }) V }
 {}

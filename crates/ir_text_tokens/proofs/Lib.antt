@@ -1,5 +1,6 @@
 pub mod ReadingSteps
 pub mod Respelling
+pub mod NextTokens
 pub mod Covering
 pub mod Following
 pub mod TokenClauses

@@ -19,7 +19,7 @@ use Rattle.ir_text_tokens.specs.Faults.{fault}
 use Rattle.ir_text_tokens.specs.ReaderSteps.{reader_step, start_behind, glued_behind, missing_at_end}
 use Rattle.ir_text_tokens.specs.Readings.{innermost, renested, with_front, token, reading, IsReading}
 
-regroup : (front : List Token) (t : Token) (read : Result (List Token) Fault) → with_front front (with_front (t ∷ []) read) ≡ with_front (front ++ t ∷ []) read
+pub regroup : (front : List Token) (t : Token) (read : Result (List Token) Fault) → with_front front (with_front (t ∷ []) read) ≡ with_front (front ++ t ∷ []) read
 regroup front t (Ok ts) = ap (λ (x : List Token). Ok x) (sym (append_assoc front (t ∷ []) ts))
 regroup front t (Err e) = refl
 

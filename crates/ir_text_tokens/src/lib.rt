@@ -12,13 +12,14 @@ mod token_laws;
 
 pub use fault::Fault;
 pub use place::line_and_column;
-pub use scanning::tokens;
+pub use scanning::{next_token, tokens};
 pub use spelling::spell;
 pub use token::{Bracket, Kind, Mark, Sign, Token};
 
 /// Laws of tokens and their spelling.
 pub mod laws {
     pub use crate::token_laws::{
-        covering_is_read, read_has_spelling, reading_covers, spelling_is_kept, spelling_is_read,
+        covering_is_read, read_has_spelling, reading_covers, scanning_reads, spelling_is_kept,
+        spelling_is_read,
     };
 }

@@ -1,9 +1,9 @@
 //! From a text to its tokens, a byte at a time.
-ghost use Rattle.std.specs.Prelude.{◌≡◌, ◌≢◌, ◌↔◌, ◌<◌, ◌≤◌, false, List, length, Ok, Err, IfOk, IfErr, OnOk};
+ghost use Rattle.std.specs.Prelude.{◌≡◌, ◌≢◌, ◌↔◌, ◌<◌, ◌≤◌, false, List, length, Ok, Err, IfOk, IfErr, IfSome, OnOk};
 ghost use Rattle.std.specs.List.{All};
 ghost use Rattle.ir_text_tokens.specs.declared.fault.Fault.TheVariants.{TooLong};
 ghost use Rattle.ir_text_tokens.specs.Faults.{StopsWithin};
-ghost use Rattle.ir_text_tokens.specs.Readings.{IsReading, innermost, renested, read_of};
+ghost use Rattle.ir_text_tokens.specs.Readings.{IsReading, IsNext, innermost, renested, read_of};
 ghost use Rattle.ir_text_tokens.specs.Coverings.{Covers, IsWithin, Lexeme, HaveSpelling, spelling, lexemes, GivesAgain};
 
 use crate::byte_class::{class_at, class_of};
@@ -38,7 +38,61 @@ fn renest(brackets: &mut Vec<Bracket>, nesting: Nesting) -> Result<(), AllocErro
     Ok(())
 }
 
-// Reads all of the text. A token ends in no brackets.
+/// The next token of a text that goes on at this place, outside all tokens; `behind` says whether another token ends there. None where blanks and comments alone follow. What is in `brackets` counts for nothing.
+///
+/// # Errors
+/// `OutOfMemory`, and else the first fault from this place on.
+pub fn next_token(
+    text: &[u8],
+    at: u32,
+    behind: bool,
+    brackets: &mut Vec<Bracket>,
+) -> Result<Option<Token>, Fault>
+    requires short { length text.now ≤ 4294967295 }
+    requires within { at ≤ length text.now }
+    // With the token goes what is scanned behind it.
+    ensures reads { IsNext at behind text.now result }
+    // The span of a token goes forward, and lies in the text behind this place.
+    ensures within { IfOk result (λ o. IfSome o (IsWithin text.now)) }
+    ensures behind { IfOk result (λ o. IfSome o (λ t. at ≤ t.start)) }
+    // The place of a fault is in the text, or its end.
+    ensures placed { IfErr result (StopsWithin text.now) }
+    ensures not_too_long { IfErr result (λ e. e ≢ TooLong) }
+{
+    brackets.clear();
+    let mut mode = Mode::Between;
+    let mut start = at;
+    let mut glued = behind;
+    for index in at as usize..text.len() {
+        let place = index as u32;
+        let next = class_at(text, index + 1);
+        let last = innermost(brackets);
+        match reader_step(mode, last, class_of(text[index]), next) {
+            Step::Go(to, nesting) => {
+                renest(brackets, nesting)?;
+                start = start_behind(to, start, place);
+                glued = glued_behind(to, glued);
+                mode = to;
+            }
+            Step::Emit(kind) => {
+                let end = place + 1;
+                return Ok(Some(Token {
+                    kind,
+                    glued,
+                    start,
+                    end,
+                }));
+            }
+            Step::Bad(problem) => return Err(fault_of(problem, place)),
+        }
+    }
+    match missing_at_end(mode) {
+        None => Ok(None),
+        Some(problem) => Err(fault_of(problem, text.len() as u32)),
+    }
+}
+
+// Reads all of the text.
 fn scan(alloc: Global, text: &[u8]) -> Result<Vec<Token>, Fault>
     requires { length text.now ≤ 4294967295 }
     ensures reads { IsReading (λ v. v.items) result (read_of text.now) }
@@ -47,39 +101,14 @@ fn scan(alloc: Global, text: &[u8]) -> Result<Vec<Token>, Fault>
 {
     let mut tokens = Vec::new(alloc);
     let mut brackets = Vec::new(alloc);
-    let mut mode = Mode::Between;
-    let mut start = 0;
-    let mut glued = false;
-    for (index, byte) in text.iter().enumerate() {
-        let at = index as u32;
-        let next = class_at(text, index + 1);
-        let last = innermost(&brackets);
-        match reader_step(mode, last, class_of(*byte), next) {
-            Step::Go(to, nesting) => {
-                renest(&mut brackets, nesting)?;
-                start = start_behind(to, start, at);
-                glued = glued_behind(to, glued);
-                mode = to;
-            }
-            Step::Emit(kind) => {
-                tokens.push(Token {
-                    kind,
-                    glued,
-                    start,
-                    end: at + 1,
-                })?;
-                brackets.clear();
-                start = at + 1;
-                glued = true;
-                mode = Mode::Between;
-            }
-            Step::Bad(problem) => return Err(fault_of(problem, at)),
-        }
+    let mut at = 0;
+    let mut behind = false;
+    while let Some(token) = next_token(text, at, behind, &mut brackets)? {
+        tokens.push(token)?;
+        at = token.end;
+        behind = true;
     }
-    match missing_at_end(mode) {
-        None => Ok(tokens),
-        Some(problem) => Err(fault_of(problem, text.len() as u32)),
-    }
+    Ok(tokens)
 }
 
 /// The tokens of a text of at most 4,294,967,295 bytes.

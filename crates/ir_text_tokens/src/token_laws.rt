@@ -1,7 +1,7 @@
 //! Laws of tokens and their spelling.
 ghost use Rattle.std.specs.Prelude.{◌≡◌, ℕ, Bool, List, Ok, false};
 ghost use Rattle.ir_text_tokens.specs.declared.token.Token.{Token};
-ghost use Rattle.ir_text_tokens.specs.Readings.{read_of};
+ghost use Rattle.ir_text_tokens.specs.Readings.{read_of, scan_of, all_or_fault};
 ghost use Rattle.ir_text_tokens.specs.Coverings.{Covers, Lexeme, HaveSpelling, spelling, placed, lexemes};
 
 /// Tokens that are all of a text are what is read of it.
@@ -27,4 +27,9 @@ pub fn spelling_is_kept()
 /// The tokens that are all of a text have a spelling.
 pub fn read_has_spelling()
     ensures { (text : List ℕ) (ts : List Token) → Covers 0 false text ts → HaveSpelling false (lexemes text ts) }
+{}
+
+/// What is scanned of a text without a fault is what is read of it, and else the fault is the same.
+pub fn scanning_reads()
+    ensures { (text : List ℕ) → read_of text ≡ all_or_fault (scan_of text).tokens (scan_of text).fault }
 {}

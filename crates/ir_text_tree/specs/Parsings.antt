@@ -8,6 +8,7 @@ use Rattle.ir_text_tree.specs.declared.row.Span.{Span}
 use Rattle.ir_text_tree.specs.declared.sort.Piece.{Piece}
 use Rattle.ir_text_tree.specs.declared.fault.Fault.{Fault}
 use Rattle.ir_text_tree.specs.declared.fault.Fault.TheVariants as faults
+use Rattle.ir_text_tree.specs.declared.parsing.State.{State}
 use Rattle.ir_text_tree.specs.declared.tree_step.Mode.{Mode}
 use Rattle.ir_text_tree.specs.declared.tree_step.Mode.TheVariants as mode
 use Rattle.ir_text_tree.specs.declared.tree_step.Action.{Action}
@@ -90,6 +91,42 @@ parsing end m d bs text (x ∷ xs) = elim (tree_step m (is_inside d) (innermost 
   | Go ended a to ↦ behind_row (ended_row ended text) (behind_row (token_row a x.span text) (parsing end to (depth_behind a d) (brackets_behind a bs) (text_behind a x.span text) xs))
   | Bad ↦ Err (faults.Expected (wanted m (is_inside d)) x.span.start)
 ]
+
+-- the same from a state on
+abbrev pub parsing_from : ℕ → State → List Bracket → List Piece → Result (List Row) Fault
+parsing_from end st bs xs = parsing end st.mode st.depth bs st.text xs
+
+-- The first token that can't stand where it stands, as a fault, if there is one in these.
+unfoldable pub misplaced : Mode → ℕ → List Bracket → List Piece → Option Fault
+misplaced m d bs [] = None
+misplaced m d bs (x ∷ xs) = elim (tree_step m (is_inside d) (innermost bs) x.sort) [
+  | Go ended a to ↦ misplaced to (depth_behind a d) (brackets_behind a bs) xs
+  | Bad ↦ Some (faults.Expected (wanted m (is_inside d)) x.span.start)
+]
+
+-- the same from a state on
+abbrev pub misplaced_from : State → List Bracket → List Piece → Option Fault
+misplaced_from st bs xs = misplaced st.mode st.depth bs xs
+
+-- before all tokens
+abbrev pub start_state : State
+start_state = record { mode = mode.Start; depth = 0; text = span 0 0 }
+
+-- the first of all of these tokens that can't stand where it stands, as a fault, if there is one
+abbrev pub first_misplaced : List Piece → Option Fault
+first_misplaced xs = misplaced mode.Start 0 [] xs
+
+-- The rows in front, the open brackets and the state before a token, and the rows, the brackets and what was returned behind it: nothing is lost of what is read of all tokens, unless memory ran out.
+abbrev pub IsReadOn : List Row → List Bracket → State → Piece → List Row → List Bracket → Result State Fault → Type 0
+IsReadOn front bs st x rows cs (Ok to) = (end : ℕ) (xs : List Piece) → (behind_rows front (parsing_from end st bs (x ∷ xs)) ≡ behind_rows rows (parsing_from end to cs xs)) × (misplaced_from st bs (x ∷ xs) ≡ misplaced_from to cs xs)
+IsReadOn front bs st x rows cs (Err faults.OutOfMemory) = ⊤
+IsReadOn front bs st x rows cs (Err e) = (end : ℕ) (xs : List Piece) → (parsing_from end st bs (x ∷ xs) ≡ Err e) × (misplaced_from st bs (x ∷ xs) ≡ Some e)
+
+-- The rows in front and the state before the end of the tokens, and the rows and what was returned behind it.
+abbrev pub IsReadOut : {X : Type 0} → ℕ → List Row → State → List Row → Result X Fault → Type 0
+IsReadOut end front st rows (Ok u) = (bs : List Bracket) → behind_rows front (parsing_from end st bs []) ≡ Ok rows
+IsReadOut end front st rows (Err faults.OutOfMemory) = ⊤
+IsReadOut end front st rows (Err e) = (bs : List Bracket) → parsing_from end st bs [] ≡ Err e
 
 -- the rows of all of these tokens of a text that ends at that index, or the first fault in them
 abbrev pub rows_read : ℕ → List Piece → Result (List Row) Fault

@@ -10,9 +10,13 @@ mod tree_laws;
 mod tree_step;
 
 pub use fault::{Fault, Wanted};
-pub use parsing::parse;
+pub use parsing::{State, finish, parse, read_piece, start};
 pub use row::{Part, Row, Span};
 pub use sort::{Piece, Sort};
+pub use text_step::{Bracket, TextKind};
+pub use tree_step::{
+    EntriesMode, LabelMode, Mode, OperandsMode, PartsMode, ResultsMode, TypesMode,
+};
 
 /// Laws of parsing.
 pub mod laws {

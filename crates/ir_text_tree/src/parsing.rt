@@ -1,8 +1,9 @@
 //! From tokens to the flat tree, by one loop.
-ghost use Rattle.std.specs.Prelude.{◌≡◌, ◌+◌, ◌<◌, ◌^◌, ◌++◌, reverse, Ok, IfOk, OnOk};
+ghost use Rattle.std.specs.Prelude.{◌≡◌, ◌+◌, ◌<◌, ◌≤◌, ◌^◌, ◌++◌, reverse, Ok, IfOk, IfErr, IfSome, OnOk};
+ghost use Rattle.ir_text_tree.specs.TreeFaults.{fault_place};
 ghost use Rattle.ir_text_tree.specs.TextSteps.{innermost, renested};
 ghost use Rattle.ir_text_tree.specs.Trees.{Body, IsWholeText, Spells, tree_rows};
-ghost use Rattle.ir_text_tree.specs.Parsings.{IsParsing, is_inside, ended_row, token_row, last_row, listed, text_behind, brackets_behind, depth_behind, rows_read};
+ghost use Rattle.ir_text_tree.specs.Parsings.{IsParsing, IsReadOn, IsReadOut, start_state, is_inside, ended_row, token_row, last_row, listed, text_behind, brackets_behind, depth_behind, rows_read};
 ghost use Rattle.ir_text_tree.specs.Rows.{joined};
 
 use crate::fault::Fault;
@@ -142,39 +143,96 @@ fn put(rows: &mut Vec<Row>, row: Option<Row>) -> Result<(), AllocError>
     Ok(())
 }
 
+/// Where the reader of a tree is, between two tokens.
+#[derive(Clone, Copy, Debug, PartialEq, Eq)]
+pub struct State {
+    /// Which token may follow.
+    pub mode: Mode,
+    /// How many regions are open.
+    pub depth: usize,
+    /// The type, value or location that goes on; else a span that counts for nothing.
+    pub text: Span,
+}
+
+/// Before all tokens.
+pub fn start() -> State
+    ensures { result ≡ start_state }
+{
+    State {
+        mode: Mode::Start,
+        depth: 0,
+        text: Span { start: 0, end: 0 },
+    }
+}
+
+/// Reads one token more, and puts the rows that it completes behind the others. `brackets` are those that are open in the type, value or location that goes on. The answer is where the reader is then.
+///
+/// # Errors
+/// `OutOfMemory`, or what has to stand in place of the token.
+pub fn read_piece(
+    rows: &mut Vec<Row>,
+    brackets: &mut Vec<Bracket>,
+    state: State,
+    piece: Piece,
+) -> Result<State, Fault>
+    requires shallow { state.depth + 1 < 2 ^ 64 }
+    // Of all tokens the same is read as before.
+    ensures reads { IsReadOn rows.old.items (reverse brackets.old.items) state piece rows.new.items (reverse brackets.new.items) result }
+    // At most one more region is open.
+    ensures deepens { IfOk result (λ to. to.depth ≤ state.depth + 1) }
+    // The place of a fault is where the token begins.
+    ensures placed { IfErr result (λ e. IfSome (fault_place e) (λ at. at ≡ piece.span.start)) }
+{
+    let inside = is_inside(state.depth);
+    let step = tree_step(state.mode, inside, last_of(brackets), piece.sort);
+    let Step::Go { ended, action, to } = step else {
+        return Err(Fault::Expected {
+            wanted: wanted(state.mode, inside),
+            at: piece.span.start,
+        });
+    };
+    put(rows, ended_row(ended, state.text))?;
+    put(rows, token_row(action, piece.span, state.text))?;
+    nest(brackets, action)?;
+    Ok(State {
+        mode: to,
+        depth: depth_behind(action, state.depth),
+        text: text_behind(action, piece.span, state.text),
+    })
+}
+
+/// Ends the tokens of a text of so many bytes, and puts the row of the type that ends there, if one does.
+///
+/// # Errors
+/// `OutOfMemory`, or what has to stand at the end.
+pub fn finish(rows: &mut Vec<Row>, state: State, end: u32) -> Result<(), Fault>
+    // What is read of the tokens up to their end are the rows, or the fault.
+    ensures reads { IsReadOut end rows.old.items state rows.new.items result }
+    // The place of a fault is the end.
+    ensures placed { IfErr result (λ e. IfSome (fault_place e) (λ at. at ≡ end)) }
+{
+    let inside = is_inside(state.depth);
+    if !is_whole(state.mode, inside) {
+        return Err(Fault::Expected {
+            wanted: wanted(state.mode, inside),
+            at: end,
+        });
+    }
+    put(rows, last_row(state.mode, state.text))?;
+    Ok(())
+}
+
 // Reads all of the tokens of a text that ends at that index.
 fn read_all(alloc: Global, end: u32, pieces: &[Piece]) -> Result<Vec<Row>, Fault>
     ensures { IsParsing (λ v. v.items) result (rows_read end pieces.now) }
 {
     let mut rows = Vec::new(alloc);
     let mut brackets = Vec::new(alloc);
-    let mut mode = Mode::Start;
-    let mut depth = 0;
-    let mut span = Span { start: 0, end: 0 };
+    let mut state = start();
     for piece in pieces {
-        let inside = is_inside(depth);
-        let step = tree_step(mode, inside, last_of(&brackets), piece.sort);
-        let Step::Go { ended, action, to } = step else {
-            return Err(Fault::Expected {
-                wanted: wanted(mode, inside),
-                at: piece.span.start,
-            });
-        };
-        put(&mut rows, ended_row(ended, span))?;
-        put(&mut rows, token_row(action, piece.span, span))?;
-        nest(&mut brackets, action)?;
-        depth = depth_behind(action, depth);
-        span = text_behind(action, piece.span, span);
-        mode = to;
+        state = read_piece(&mut rows, &mut brackets, state, *piece)?;
     }
-    let inside = is_inside(depth);
-    if !is_whole(mode, inside) {
-        return Err(Fault::Expected {
-            wanted: wanted(mode, inside),
-            at: end,
-        });
-    }
-    put(&mut rows, last_row(mode, span))?;
+    finish(&mut rows, state, end)?;
     Ok(rows)
 }
 

@@ -7,10 +7,11 @@ ghost use Rattle.ir_model.specs.declared.ids.ArenaIndex.{ArenaIndex as Index};
 use crate::expecting::{expect_same, shows};
 use crate::storing::{in_slot, store};
 use ir_base_arenas::arena_laws::{other_ids_stay, passed_ids_stay};
-use ir_base_arenas::{Arena, ArenaIndex, CoreError, Ptr, Room, Seq};
+use ir_base_arenas::{Arena, ArenaIndex, CoreError, Ptr, Room, Seq, ShortSeq, TakeOut};
 use std::alloc::Global;
 use std::hash::{BuildHasher, BuildHasherDefault, FoldHasher};
 use std::process::Abort;
+use std::rc::Rc;
 
 /// A record that owns memory and knows its own place.
 #[derive(Drop)]
@@ -24,6 +25,24 @@ struct Knot {
 struct Root {
     first: Option<ArenaIndex>,
     count: u32,
+}
+
+impl TakeOut for Knot {
+    fn take_out(&mut self) -> Knot {
+        Knot {
+            links: self.links.take(),
+            me: self.me,
+        }
+    }
+}
+
+impl TakeOut for Root {
+    fn take_out(&mut self) -> Root {
+        Root {
+            first: self.first,
+            count: self.count,
+        }
+    }
 }
 
 /// Two arenas that are changed together.
@@ -474,4 +493,57 @@ fn room_is_plain_data(rt: HostRuntime) {
     let same = room;
     let shown = "Room { values: 1, uses: 2, ops: 3, blocks: 4, regions: 5, aux: 6 }";
     assert!(rt; room == same && shows(&rt, rt.alloc(), &room, shown));
+}
+
+/// A record that holds a number with others, in a list of its own.
+#[derive(Drop)]
+struct Holder {
+    held: Seq<Rc<u8>>,
+}
+
+impl TakeOut for Holder {
+    fn take_out(&mut self) -> Holder {
+        Holder {
+            held: self.held.take(),
+        }
+    }
+}
+
+// Stores one more holder of the number.
+fn hold(
+    rt: &impl Abort,
+    alloc: Global,
+    holders: &mut Arena<Holder>,
+    shared: &Rc<u8>,
+) -> Ptr<Holder> {
+    let mut held = Seq::new(alloc);
+    held.push(shared.clone().expect(rt, "memory"))
+        .expect(rt, "memory");
+    store(holders, Holder { held }).expect(rt, "memory")
+}
+
+// Drops a record that is taken out, and answers how many hold the number then.
+fn drop_one(holders: &mut Arena<Holder>, holder: Ptr<Holder>, shared: &Rc<u8>) -> usize {
+    drop(holders.remove(holder));
+    Rc::strong_count(shared)
+}
+
+// What a record owns goes with it, and isn't kept until its slot is used again.
+#[test]
+fn a_record_that_went_holds_nothing(rt: HostRuntime) {
+    let shared = Rc::new(rt.alloc(), 0u8).expect(&rt, "memory");
+    let mut holders = Arena::new(rt.alloc(), 9, 9);
+    let first = hold(&rt, rt.alloc(), &mut holders, &shared);
+    let second = hold(&rt, rt.alloc(), &mut holders, &shared);
+    expect_same(&rt, drop_one(&mut holders, first, &shared), 2);
+    expect_same(&rt, drop_one(&mut holders, second, &shared), 1);
+    hold(&rt, rt.alloc(), &mut holders, &shared);
+    expect_same(&rt, Rc::strong_count(&shared), 2);
+}
+
+// A full list lies in the record, and has the items that it was made of.
+#[test]
+fn a_full_list_has_its_items(rt: HostRuntime) {
+    let list = ShortSeq::full(rt.alloc(), [7u64, 8]);
+    assert!(rt; list.as_slice() == [7, 8].as_slice());
 }

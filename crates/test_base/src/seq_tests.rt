@@ -2,7 +2,7 @@
 
 use crate::expecting::expect_same;
 use crate::items::{Edit, Items};
-use ir_base_arenas::{Seq, ShortSeq};
+use ir_base_arenas::{PlainSeq, Seq, ShortSeq};
 use std::alloc::Global;
 use std::process::Abort;
 use std::rc::Rc;
@@ -72,16 +72,19 @@ fn items_outside_the_record(rt: HostRuntime) {
 #[test]
 fn items_that_all_lie_outside(rt: HostRuntime) {
     expect_each_edit(&rt, &mut ShortSeq::<u64, 0>::new(rt.alloc()));
+    expect_each_edit(&rt, &mut PlainSeq::<u64, 0>::new(rt.alloc()));
 }
 
 #[test]
 fn items_that_move_outside(rt: HostRuntime) {
     expect_each_edit(&rt, &mut ShortSeq::<u64, 2>::new(rt.alloc()));
+    expect_each_edit(&rt, &mut PlainSeq::<u64, 2>::new(rt.alloc()));
 }
 
 #[test]
 fn items_that_all_lie_inside(rt: HostRuntime) {
     expect_each_edit(&rt, &mut ShortSeq::<u64, 8>::new(rt.alloc()));
+    expect_each_edit(&rt, &mut PlainSeq::<u64, 8>::new(rt.alloc()));
 }
 
 /// An edit that puts an item at the end.
@@ -119,7 +122,33 @@ fn refused_growth_keeps_the_items(rt: HostRuntime) {
     for growth in [Growth::Push, Growth::Insert, Growth::Extend] {
         expect_growth(&rt, &mut Seq::new(rt.alloc()), growth);
         expect_growth(&rt, &mut ShortSeq::<u64, 2>::new(rt.alloc()), growth);
+        expect_growth(&rt, &mut PlainSeq::<u64, 2>::new(rt.alloc()), growth);
     }
+}
+
+// Whether a list of three is empty after its items were taken, and the other list has them.
+fn takes_all<L: Items>(rt: &impl Abort, left: &L, taken: &L) {
+    expect_same(rt, (left.has(&[]), taken.has(&[1, 2, 3])), (true, true));
+}
+
+#[test]
+fn taken_items_leave_an_empty_list(rt: HostRuntime) {
+    let mut list = Seq::new(rt.alloc());
+    list.extend(&[1, 2, 3]).expect(&rt, "memory");
+    let taken = list.take();
+    takes_all(&rt, &list, &taken);
+    let mut short = ShortSeq::<u64, 2>::new(rt.alloc());
+    short.extend(&[1, 2, 3]).expect(&rt, "memory");
+    let taken = short.take();
+    takes_all(&rt, &short, &taken);
+    let mut plain = PlainSeq::<u64, 2>::new(rt.alloc());
+    plain.extend(&[1, 2, 3]).expect(&rt, "memory");
+    let taken = plain.take();
+    takes_all(&rt, &plain, &taken);
+    let mut inside = PlainSeq::<u64, 4>::new(rt.alloc());
+    inside.extend(&[1, 2, 3]).expect(&rt, "memory");
+    let taken = inside.take();
+    takes_all(&rt, &inside, &taken);
 }
 
 /// Holders of one number, two of them in the record.

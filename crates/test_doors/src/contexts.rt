@@ -1,7 +1,7 @@
 //! `ir_base::context` and `ir_core::context`.
 
 use ir_base::context::{
-    Arena, ArenaIndex, CoreError, Dialects, DictKeyId, DuplicateKey, Limits, Ptr, Room,
+    Arena, ArenaIndex, CoreError, Dialects, DictKeyId, DuplicateKey, Limits, Ptr, Room, TakeOut,
     collect_deduped_interface_verifiers, verify_dict_keys,
 };
 use ir_core::basic_block::BasicBlock;
@@ -15,12 +15,13 @@ use std::fmt::Display;
 use std::hash::Hash;
 
 /// Arenas, their handles, and what a call may lack.
-pub fn arenas<T: Drop>() {
+pub fn arenas<T: TakeOut + Drop>() {
     let _ = Arena::<T>::new;
     let _ = Arena::<T>::insert_with::<fn(Ptr<T>) -> T>;
     let _ = Arena::<T>::get;
     let _ = Arena::<T>::get_mut;
     let _ = Arena::<T>::remove;
+    let _ = T::take_out;
     let _ = Arena::<T>::is_live;
     let _ = Arena::<T>::is_empty;
     let _ = Arena::<T>::len;

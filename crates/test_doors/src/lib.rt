@@ -20,3 +20,4 @@ mod stored;
 mod types;
 mod value;
 mod verify;
+mod walk;

@@ -9,6 +9,7 @@ pub fn of_base<
     D: Dialects,
     A: Attribute<D>,
     S: SavedValue<D>,
+    R: TakeOut,
     N: LinkedList,
     C: ContainsLinkedList<N>,
     I: AttrInterfaceMarker,

@@ -13,13 +13,13 @@ loop-used-preserved g c =
     let root = entity_of c.args.root in
     let uses = c.args.uses.now in
     below_more (λ k. (d : UseIndex) → Inside f root (an_op (slice_index_or uses k d).user)) c.loop-used.used-index c.loop-used.invariant
-    (λ d. subst (λ (u : UseIndex). Inside f root (an_op u.user)) (or-same uses c.loop-used.used-index c.used-item.result d c.loop-used-test.true) (rw (c.user.ensures, c.used-item.is) at (c.climbs_into.ensures.0 c.if-not-climbs_into.false)))
+    (λ d. subst (λ (u : UseIndex). Inside f root (an_op u.user)) (or-same uses c.loop-used.used-index c.used-item.result d c.loop-used-test.true) (rw (c.user.ensures, c.used-item.is) at (c.is_user_inside.ensures.0 c.if-not-is_user_inside.false)))
 
-pub returns-then-not-climbs_into : goal.returns-then-not-climbs_into
-returns-then-not-climbs_into g c =
+pub returns-then-not-is_user_inside : goal.returns-then-not-is_user_inside
+returns-then-not-is_user_inside g c =
     let f = forest_in c.args.records.now in
     let root = entity_of c.args.root in
     let uses = c.args.uses.now in (
       λ t. absurd (false≢true t),
-      λ (inside : (k : ℕ) (d : UseIndex) → k < length uses → Inside f root (an_op (slice_index_or uses k d).user)). absurd (false≢true (sym c.if-not-climbs_into.true ∙ c.climbs_into.ensures.1 (rw c.user.ensures (subst (λ (u : UseIndex). Inside f root (an_op u.user)) (sym c.used-item.is) (inside c.loop-used.used-index c.used-item.result c.loop-used-test.true))))),
+      λ (inside : (k : ℕ) (d : UseIndex) → k < length uses → Inside f root (an_op (slice_index_or uses k d).user)). absurd (false≢true (sym c.if-not-is_user_inside.true ∙ c.is_user_inside.ensures.1 (rw c.user.ensures (subst (λ (u : UseIndex). Inside f root (an_op u.user)) (sym c.used-item.is) (inside c.loop-used.used-index c.used-item.result c.loop-used-test.true))))),
     )

@@ -4,6 +4,7 @@ use Rattle.ir_base_arenas.specs.Arena.{get}
 use Rattle.ir_core_records.specs.declared.record.Definer.{Definer}
 use Rattle.ir_core_records.specs.declared.record.EntityIndex.{EntityIndex}
 use Rattle.ir_core_records.specs.declared.record.EntityIndex.TheVariants.{Block as BlockEntity}
+use Rattle.ir_model.specs.Nesting.{Inside}
 use Rattle.ir_core_records.specs.Meaning.{definer_of, entity_of, forest_in}
 use Rattle.ir_core_erasing.specs.Closed.{EntityClosed}
 use Rattle.ir_core_erasing.proofs.Users.{arguments-asked, block-uses-asked, op-asked}
@@ -42,3 +43,15 @@ returns-else-not-are_users_inside g c =
     let asked = arguments-asked t c.requires.linked root once c.in-Block.block c.at-block.result.now found c.as_slice-in-Block.result.now c.as_slice-in-Block.ensures in
     subst (λ (e : EntityIndex). IsTrue c.are_all_users_inside-in-Block.result ↔ EntityClosed (forest_in t) root (entity_of e)) (sym c.in-Block.is)
     (λ k. (named.0 (c.are_users_inside.ensures.0 c.if-not-are_users_inside.false), asked.0 (c.are_all_users_inside-in-Block.ensures.0 k)), λ k. c.are_all_users_inside-in-Block.ensures.1 (asked.1 k.1))
+
+pub are_all_users_inside-requires-clause-here : goal.are_all_users_inside-requires-clause-here
+are_all_users_inside-requires-clause-here g c =
+    subst (λ (e : EntityIndex). Inside (forest_in c.args.records.now) (entity_of c.args.root) (entity_of e)) c.in-Op.is c.requires.inside
+
+pub are_users_inside-requires-clause-here : goal.are_users_inside-requires-clause-here
+are_users_inside-requires-clause-here g c =
+    subst (λ (e : EntityIndex). Inside (forest_in c.args.records.now) (entity_of c.args.root) (entity_of e)) c.in-Block.is c.requires.inside
+
+pub are_all_users_inside-requires-in-Block-clause-here : goal.are_all_users_inside-requires-in-Block-clause-here
+are_all_users_inside-requires-in-Block-clause-here g c =
+    subst (λ (e : EntityIndex). Inside (forest_in c.args.records.now) (entity_of c.args.root) (entity_of e)) c.in-Block.is c.requires.inside

@@ -8,4 +8,4 @@ loop-ty-preserved c =
     let step = definitions_from-more c.args.first c.loop-ty.ty-index c.args.types.now (record { place = 0 }) c.loop-ty-test.true in
     let k = c.loop-ty.invariant.number in
     let ds = c.loop-ty.invariant.definitions in
-    record { number = omega arith; definitions = cc (step, k, ds, c.new_definition.ensures, more) }
+    record { number = omega arith; definitions = cc (step, k, ds, c.new_definition-in-loop-ty.ensures, more) }

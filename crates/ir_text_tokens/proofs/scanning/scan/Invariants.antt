@@ -1,6 +1,13 @@
-use Rattle.std.proofs.Common.{◌≡◌, drop}
+use Rattle.std.proofs.Common.{◌≡◌, ◌≤◌, ◌-◌, [], drop, length}
+use Rattle.ir_text_tokens.specs.declared.reader_step.Mode.TheVariants as mode
 use Rattle.ir_text_tokens.specs.Readings.{with_front, reading, read_of}
 use Rattle.ir_text_tokens.proofs.scanning.scan.Given as goal
 
-abbrev pub invariant-loop-index : goal.invariant-loop-index
-invariant-loop-index l = with_front l.tokens.items (reading l.index l.start l.glued l.mode l.brackets.items (drop l.index l.text)) ≡ read_of l.text
+abbrev pub decreases-loop-brackets : goal.decreases-loop-brackets
+decreases-loop-brackets l = length l.text - l.at
+
+abbrev pub invariant-loop-brackets : goal.invariant-loop-brackets
+invariant-loop-brackets l = record {
+  reads : with_front l.tokens.items (reading l.at l.at l.behind mode.Between [] (drop l.at l.text)) ≡ read_of l.text;
+  within : l.at ≤ length l.text;
+}

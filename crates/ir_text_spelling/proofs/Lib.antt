@@ -1,0 +1,2 @@
+pub mod TreesSpelled
+pub mod SpellingSteps

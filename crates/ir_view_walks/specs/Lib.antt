@@ -1,0 +1,4 @@
+pub mod Orders
+pub mod Operations
+pub mod Left
+pub mod Listings

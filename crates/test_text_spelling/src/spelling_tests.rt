@@ -1,0 +1,90 @@
+// Texts with what their trees are spelled as.
+use ir_text_reader::{Part, Row, Span, Tree, parse};
+use ir_text_spelling::spell;
+use std::alloc::{AllocError, Global};
+use std::test::Fail;
+
+// Texts, and the text of their trees.
+const SPELLED: &[(&[u8], &[u8])] = &[
+    (b"\"a\"():()->()", b"\"a\"() : () -> ()\n"),
+    (
+        b"%0 = \"a\"() {} : () -> i32 // one\n\n\"b\"(%0) : (i32) -> () loc(\"f\":1:2)",
+        b"%0 = \"a\"() : () -> (i32)\n\"b\"(%0) : (i32) -> () loc(\"f\":1:2)\n",
+    ),
+    (
+        b"%0:2,%x=\"a.b\"(%y#1,%z)[^bb1,^b]<{k = 1 : i32}>{u,v=@f::@g,\"w x\" = [1,  -2]}:(i32,tensor<4xf32>)->(i1, i2, !t<i32>)loc(unknown)",
+        b"%0:2, %x = \"a.b\"(%y#1, %z)[^bb1, ^b] <{k = 1 : i32}> {u, v = @f::@g, \"w x\" = [1,  -2]} : (i32, tensor<4xf32>) -> (i1, i2, !t<i32>) loc(unknown)\n",
+    ),
+    (
+        b"\"m\"() ({}, {^bb0: ^bb1(%a: i32 loc(unknown), %b: memref<?xi8>, %c : f32 loc(\"x\")):\n \"r\"(%a)[^bb0] : (i32) -> ()\n ^e():}) {n = (i32) -> i32} : () -> !t<2>",
+        b"\"m\"() ({\n}, {\n^bb0:\n^bb1(%a: i32 loc(unknown), %b: memref<?xi8>, %c: f32 loc(\"x\")):\n\"r\"(%a)[^bb0] : (i32) -> ()\n^e:\n}) {n = (i32) -> i32} : () -> (!t<2>)\n",
+    ),
+    (
+        b"\"p\"() <{}> ({ \"q\"() {k} : () -> () loc(a) \"r\"() : () -> (i1) }) : () -> () \"s\"()[^b] : () -> ()",
+        b"\"p\"() <{}> ({\n\"q\"() {k} : () -> () loc(a)\n\"r\"() : () -> (i1)\n}) : () -> ()\n\"s\"()[^b] : () -> ()\n",
+    ),
+];
+
+// The pieces of the text that the rows name, each behind a bar.
+fn pieces_of(alloc: Global, text: &[u8], tree: &Tree) -> Result<Vec<u8>, AllocError> {
+    let mut out = Vec::new(alloc);
+    for row in &tree.rows {
+        out.push(b'|')?;
+        if let Some(piece) = text.get(row.span.start as usize..row.span.end as usize) {
+            out.extend_from_slice(piece)?;
+        }
+    }
+    Ok(out)
+}
+
+// Whether the rows are the same parts.
+fn are_alike(tree: &Tree, other: &Tree) -> bool {
+    tree.rows.len() == other.rows.len()
+        && tree
+            .rows
+            .iter()
+            .zip(other.rows.iter())
+            .all(|(row, with)| row.part == with.part)
+}
+
+#[test]
+fn spelled_trees(rt: HostRuntime) -> Result<(), Fail> {
+    for (text, wanted) in SPELLED {
+        let tree = parse(rt.alloc(), *text)?;
+        let out = spell(rt.alloc(), *text, tree.rows.as_slice())?;
+        assert!(rt; out.as_slice() == *wanted);
+        let again = parse(rt.alloc(), out.as_slice())?;
+        assert!(rt; are_alike(&tree, &again));
+        let pieces = pieces_of(rt.alloc(), *text, &tree)?;
+        let same_pieces = pieces_of(rt.alloc(), out.as_slice(), &again)?;
+        assert!(rt; pieces.as_slice() == same_pieces.as_slice());
+        let same = spell(rt.alloc(), out.as_slice(), again.rows.as_slice())?;
+        assert!(rt; same.as_slice() == out.as_slice());
+    }
+    Ok(())
+}
+
+#[test]
+fn spans_beyond_the_text(rt: HostRuntime) -> Result<(), Fail> {
+    let rows = [
+        Row {
+            part: Part::Name,
+            span: Span { start: 1, end: 9 },
+        },
+        Row {
+            part: Part::Operand,
+            span: Span { start: 2, end: 1 },
+        },
+    ];
+    let out = spell(rt.alloc(), b"abc".as_slice(), rows.as_slice())?;
+    assert!(rt; out.as_slice() == b"bc() : () -> ()\n".as_slice());
+    Ok(())
+}
+
+#[test]
+fn no_rows(rt: HostRuntime) -> Result<(), Fail> {
+    let rows = Vec::new(rt.alloc());
+    let out = spell(rt.alloc(), b"abc".as_slice(), rows.as_slice())?;
+    assert!(rt; out.is_empty());
+    Ok(())
+}
