@@ -1,5 +1,7 @@
 //! Operations that are moved between blocks, and blocks between regions.
 
+ghost use Rattle.std.specs.Prelude.{◌<◌};
+
 use crate::building::{ToyBlock, ToyContext, ToyOp, ToyValue, add_block, add_marked};
 use crate::outcome::{block_sum, outcome};
 use crate::random::Random;
@@ -30,8 +32,8 @@ fn timed_front_to_back(
     Ok(())
 }
 
-// Makes two unlinked blocks, the first with an argument of a type, and answers them and it.
-fn two_blocks(
+/// Makes two unlinked blocks, the first with an argument of a type, and answers them and it.
+pub(crate) fn two_blocks(
     ctx: &mut ToyContext,
     ty: TypeHandle,
 ) -> Result<(ToyBlock, ToyBlock, ToyValue), CheckedErr> {
@@ -57,8 +59,10 @@ pub(crate) fn front_to_back<C: CpuClock>(
     outcome(count, block_sum(ctx, to))
 }
 
-// A random place of so many, and another one where there are two.
-fn two_places(random: &mut Random, count: usize) -> (usize, usize) {
+/// A random place of so many, and another one where there are two.
+pub(crate) fn two_places(random: &mut Random, count: usize) -> (usize, usize)
+    ensures { 0 < count → (result.0 < count) × (result.1 < count) }
+{
     let one = random.below(count);
     let mut other = random.below(count);
     if one == other {
@@ -106,8 +110,12 @@ fn timed_random_moves(
     Ok(())
 }
 
-// The sums of two blocks, in one number.
-fn both_sums(ctx: &ToyContext, first: ToyBlock, second: ToyBlock) -> Result<u64, CheckedErr> {
+/// The sums of two blocks, in one number.
+pub(crate) fn both_sums(
+    ctx: &ToyContext,
+    first: ToyBlock,
+    second: ToyBlock,
+) -> Result<u64, CheckedErr> {
     let sum = block_sum(ctx, first)?;
     Ok(mix(sum, block_sum(ctx, second)?))
 }
@@ -155,8 +163,8 @@ fn argument_count(ctx: &ToyContext, block: ToyBlock) -> usize {
     }
 }
 
-// How many arguments each block of a region has.
-fn arguments_sum(ctx: &ToyContext, region: Ptr<Region>) -> Result<u64, CheckedErr> {
+/// How many arguments each block of a region has.
+pub(crate) fn arguments_sum(ctx: &ToyContext, region: Ptr<Region>) -> Result<u64, CheckedErr> {
     if !region.is_live(ctx) {
         return Err(CheckedErr::Condition);
     }
@@ -167,8 +175,8 @@ fn arguments_sum(ctx: &ToyContext, region: Ptr<Region>) -> Result<u64, CheckedEr
     Ok(sum)
 }
 
-// Puts so many blocks into a region, in turn with no, one and two arguments.
-fn add_blocks(
+/// Puts so many blocks into a region, in turn with no, one and two arguments.
+pub(crate) fn add_blocks(
     ctx: &mut ToyContext,
     region: Ptr<Region>,
     ty: TypeHandle,
@@ -181,8 +189,8 @@ fn add_blocks(
     Ok(())
 }
 
-// Makes an operation with two regions, and answers these.
-fn two_regions(ctx: &mut ToyContext) -> Result<(Ptr<Region>, Ptr<Region>), CheckedErr> {
+/// Makes an operation with two regions, and answers these.
+pub(crate) fn two_regions(ctx: &mut ToyContext) -> Result<(Ptr<Region>, Ptr<Region>), CheckedErr> {
     let module = new_op(ctx, 5, &[], &[], &[], 2)?;
     let first = region(ctx, module, 0)?;
     let second = region(ctx, module, 1)?;

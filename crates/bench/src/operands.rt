@@ -23,8 +23,12 @@ fn timed_push_and_remove(
     Ok(())
 }
 
-// How many uses a value and how many operands an operation has, in one number.
-fn uses_and_operands(ctx: &ToyContext, value: ToyValue, op: ToyOp) -> Result<u64, CheckedErr> {
+/// How many uses a value and how many operands an operation has, in one number.
+pub(crate) fn uses_and_operands(
+    ctx: &ToyContext,
+    value: ToyValue,
+    op: ToyOp,
+) -> Result<u64, CheckedErr> {
     let operands = operand_count(ctx, op) as u64;
     Ok(uses_of(ctx, value)?.wrapping_add(operands))
 }
@@ -81,8 +85,11 @@ fn push_and_remove_all(
     Ok(middle)
 }
 
-// Makes an operation without operands in a block, and answers it and an argument of the block.
-fn op_and_argument(ctx: &mut ToyContext, ty: TypeHandle) -> Result<(ToyOp, ToyValue), CheckedErr> {
+/// Makes an operation without operands in a block, and answers it and an argument of the block.
+pub(crate) fn op_and_argument(
+    ctx: &mut ToyContext,
+    ty: TypeHandle,
+) -> Result<(ToyOp, ToyValue), CheckedErr> {
     let block = pair_block(ctx, ty)?;
     let value = argument(ctx, block, 0)?;
     Ok((add_op(ctx, block, 4, &[], &[], 0)?, value))

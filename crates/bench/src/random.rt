@@ -1,5 +1,7 @@
 //! Numbers that look random, the same in each run and for each library.
 
+ghost use Rattle.std.specs.Prelude.{◌<◌};
+
 use crate::building::{keep, reserve};
 use ir_base::context::CoreError;
 
@@ -18,7 +20,9 @@ impl Random {
     }
 
     /// The next number, below a bound; 0 where that is 0.
-    pub(crate) fn below(&mut self, bound: usize) -> usize {
+    pub(crate) fn below(&mut self, bound: usize) -> usize
+        ensures { 0 < bound → result < bound }
+    {
         let mut state = self.state;
         state ^= state.wrapping_shl(13);
         state ^= state >> 7;

@@ -17,8 +17,12 @@ fn timed_replacing(
     replace_all_uses(ctx, value, other)
 }
 
-// How many uses two values have, in one number.
-fn both_uses(ctx: &ToyContext, value: ToyValue, other: ToyValue) -> Result<u64, CheckedErr> {
+/// How many uses two values have, in one number.
+pub(crate) fn both_uses(
+    ctx: &ToyContext,
+    value: ToyValue,
+    other: ToyValue,
+) -> Result<u64, CheckedErr> {
     let others = uses_of(ctx, other)?;
     Ok(others.wrapping_mul(3).wrapping_add(uses_of(ctx, value)?))
 }
@@ -40,8 +44,8 @@ fn there_and_back<C: CpuClock>(
     Ok(between)
 }
 
-// What a value's uses come to that were elsewhere: what the operations name, and the uses of both values, then and now.
-fn returned_sum(
+/// What a value's uses come to that were elsewhere: what the operations name, and the uses of both values, then and now.
+pub(crate) fn returned_sum(
     ctx: &ToyContext,
     ops: &[ToyOp],
     value: ToyValue,
@@ -93,8 +97,12 @@ fn timed_argument_users(
     Ok(())
 }
 
-// Makes an unlinked block with so many arguments of a type.
-fn wide_block(ctx: &mut ToyContext, ty: TypeHandle, count: usize) -> Result<ToyBlock, CheckedErr> {
+/// Makes an unlinked block with so many arguments of a type.
+pub(crate) fn wide_block(
+    ctx: &mut ToyContext,
+    ty: TypeHandle,
+    count: usize,
+) -> Result<ToyBlock, CheckedErr> {
     let types = copies(ctx.alloc(), ty, count)?;
     new_block(ctx, None, types.as_slice())
 }

@@ -14,6 +14,7 @@ use crate::sweeps::{sweep_back, sweep_comb, sweep_fan_in, sweep_fan_out, sweep_f
 use crate::types::interning;
 use crate::uses::{argument_users, replacing, replacing_in_one};
 use crate::verifying::{verifying, verifying_deep};
+use crate::{settled_building, settled_chains, settled_lists, settled_nests, settled_operands};
 use anyhow::Context as _;
 use bench_clock::{Outcome, Stopwatch};
 use ir_base::types::TypeHandle;
@@ -91,11 +92,39 @@ pub enum Workload {
     ResultsFront,
     /// N arguments are put into one block, each in front of the others.
     ArgumentsFront,
+    /// `a` with nothing tested.
+    BuildingProved,
+    /// `b` with nothing tested.
+    ReplacingProved,
+    /// `c` with nothing tested.
+    RebuildingProved,
+    /// `d` with nothing tested.
+    ModuleErasedProved,
+    /// `d_build` with nothing tested.
+    ModuleBuiltProved,
+    /// `f1` with nothing tested.
+    FrontToBackProved,
+    /// `f2` with nothing tested.
+    RandomMovesProved,
+    /// `f3` with nothing tested.
+    BlocksProved,
+    /// `g1` with nothing tested.
+    PushAndRemoveProved,
+    /// `g2` with nothing tested.
+    PushesAndRemovalsProved,
+    /// `g3` with nothing tested.
+    ReplacementsProved,
+    /// `b2` with nothing tested.
+    ReplacingInOneProved,
+    /// `h` with nothing tested.
+    ArgumentUsersProved,
+    /// `deep` with nothing tested.
+    DeepProved,
 }
 
 impl Workload {
     /// All of them, in the order in which they are printed, with their names on the command line.
-    pub(crate) fn all() -> [(Workload, &'static str); 33] {
+    pub(crate) fn all() -> [(Workload, &'static str); 47] {
         [
             (Workload::Unlinked, "unlinked"),
             (Workload::UnlinkedChecked, "unlinked_checked"),
@@ -130,6 +159,20 @@ impl Workload {
             (Workload::ReplacedRandom, "replaced_random"),
             (Workload::ResultsFront, "results_front"),
             (Workload::ArgumentsFront, "arguments_front"),
+            (Workload::BuildingProved, "a_proved"),
+            (Workload::ReplacingProved, "b_proved"),
+            (Workload::RebuildingProved, "c_proved"),
+            (Workload::ModuleErasedProved, "d_proved"),
+            (Workload::ModuleBuiltProved, "d_build_proved"),
+            (Workload::FrontToBackProved, "f1_proved"),
+            (Workload::RandomMovesProved, "f2_proved"),
+            (Workload::BlocksProved, "f3_proved"),
+            (Workload::PushAndRemoveProved, "g1_proved"),
+            (Workload::PushesAndRemovalsProved, "g2_proved"),
+            (Workload::ReplacementsProved, "g3_proved"),
+            (Workload::ReplacingInOneProved, "b2_proved"),
+            (Workload::ArgumentUsersProved, "h_proved"),
+            (Workload::DeepProved, "deep_proved"),
         ]
     }
 
@@ -194,6 +237,30 @@ impl Workload {
             Workload::ReplacedRandom => replaced_random(watch, ctx, ty, count, order),
             Workload::ResultsFront => results_front(watch, ctx, ty, count),
             Workload::ArgumentsFront => arguments_front(watch, ctx, ty, count),
+            Workload::BuildingProved => settled_building::building(watch, ctx, ty, count),
+            Workload::ReplacingProved => settled_operands::replacing(watch, ctx, ty, count, ops),
+            Workload::RebuildingProved => settled_chains::rebuilding(watch, ctx, ty, count),
+            Workload::ModuleErasedProved => settled_nests::module_erased(watch, ctx, ty, count),
+            Workload::ModuleBuiltProved => settled_building::module_built(watch, ctx, ty, count),
+            Workload::FrontToBackProved => settled_lists::front_to_back(watch, ctx, ty, count, ops),
+            Workload::RandomMovesProved => settled_lists::random_moves(watch, ctx, ty, count, ops),
+            Workload::BlocksProved => settled_lists::blocks(watch, ctx, ty, count),
+            Workload::PushAndRemoveProved => settled_operands::push_and_remove(
+                watch, ctx, ty, count, ops,
+            ),
+            Workload::PushesAndRemovalsProved => settled_operands::pushes_and_removals(
+                watch, ctx, ty, count,
+            ),
+            Workload::ReplacementsProved => settled_operands::replacements(
+                watch, ctx, ty, count, ops, order,
+            ),
+            Workload::ReplacingInOneProved => settled_operands::replacing_in_one(
+                watch, ctx, ty, count,
+            ),
+            Workload::ArgumentUsersProved => settled_building::argument_users(
+                watch, ctx, ty, count,
+            ),
+            Workload::DeepProved => settled_nests::deep(watch, ctx, count),
         }
     }
 

@@ -120,7 +120,7 @@ filter_all t [] h = refl
 filter_all {A = A} t (x ∷ xs) h = ap (λ s. cond s (x ∷ filter t xs) (filter t xs)) (h x (inl refl)) ∙ ap (λ (ys : List A). x ∷ ys) (filter_all t xs (λ y k. h y (inr k)))
 
 -- without one that stands in it once, the list is one shorter
-one_shorter : {A : Type 0} (same : A → A → Bool) → Tells same → (x : A) (xs : List A) → Distinct xs → In x xs → length xs ≡ length (filter (λ y. not (same y x)) xs) + 1
+pub one_shorter : {A : Type 0} (same : A → A → Bool) → Tells same → (x : A) (xs : List A) → Distinct xs → In x xs → length xs ≡ length (filter (λ y. not (same y x)) xs) + 1
 one_shorter same tells x [] d h = elim h [ ]
 one_shorter {A = A} same tells x (y ∷ ys) d (inl e) =
     let at : same y x ≡ true = (tells y x).1 (sym e) in

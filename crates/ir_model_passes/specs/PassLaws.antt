@@ -12,6 +12,7 @@ use Rattle.ir_model_passes.specs.Meaning.{Interpretation, SameAttributes, Respec
 use Rattle.ir_model_passes.specs.SweepInside.{ListsLive, ListsOps, SweepsInside, NoneIsClosedInside, SweepsBlocks, ErasesSome}
 use Rattle.ir_model_passes.specs.Merging.{values_given, redirect_each, redirect_results, Alike, MergesOne, MergesPartly, MergesSome, Merges, MergesBrokenOff, OperandsMoveBack}
 use Rattle.ir_model_passes.specs.MergingInside.{MergesCommon, MergesInside}
+use Rattle.ir_model_passes.specs.MergeTells.{CommonTells, InsideTells}
 use Rattle.ir_model_passes.specs.InOrder.{InOrder, EachIsSeen, SeesEarlier, LeavesInOrder}
 use Rattle.ir_model_passes.specs.RightPasses.{IsRight}
 use Rattle.ir_model_passes.specs.FrontToBack.{FrontToBack}
@@ -121,6 +122,14 @@ module _ (W : Dialect) where
   abbrev pub MergesAreCounted : Type 0
   MergesAreCounted = (B : Behaviour W) (same : SameAttributes W) (f g : Forest context_ids W) (keys count : ℕ) (b : ArenaIndex) → WellFormed f keys → MergesSome B same b f g count
       → length (ops_of f b) ≡ length (ops_of g b) + count
+
+  -- what was done in a block that may be out of order is told by its answer
+  abbrev pub MergeCommonTells : Type 0
+  MergeCommonTells = (B : Behaviour W) (same : SameAttributes W) (f g : Forest context_ids W) (keys : ℕ) (b : ArenaIndex) (answer : Option ℕ) → WellFormed f keys → MergesCommon B same f b g answer → CommonTells B same f b g answer
+
+  -- and what was done in each block inside a root by its count
+  abbrev pub MergeInsideTells : Type 0
+  MergeInsideTells = (B : Behaviour W) (same : SameAttributes W) (f g : Forest context_ids W) (keys count : ℕ) (root : Entity context_ids) → WellFormed f keys → MergesInside B same f root g count → InsideTells B same f root g count
 
   -- one way through a block in order merges all alike operations
   abbrev pub FrontToBackMerges : Type 0

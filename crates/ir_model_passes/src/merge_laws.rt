@@ -1,6 +1,6 @@
 //! What a merging of alike operations leaves.
 
-ghost use Rattle.ir_model_passes.specs.PassLaws.{PartKeepsMeaning, BrokenOffKeepsMeaning, MergesAreCounted, MergesLeaveOrder, FrontToBackIsOne, FrontToBackMerges, WalkSteps, ReplacedIsClosed, SeenStaysSeen};
+ghost use Rattle.ir_model_passes.specs.PassLaws.{PartKeepsMeaning, BrokenOffKeepsMeaning, MergesAreCounted, MergeCommonTells, MergeInsideTells, MergesLeaveOrder, FrontToBackIsOne, FrontToBackMerges, WalkSteps, ReplacedIsClosed, SeenStaysSeen};
 
 /// One merging in a block in order leaves it in order, and leaves all that stands before the operation that went as it was. Where operands moved back, each operation still names only what it may see.
 pub fn merges_keep_order<Key, Body, Attr, Saved, Aux, Loc>()
@@ -8,9 +8,11 @@ pub fn merges_keep_order<Key, Body, Attr, Saved, Aux, Loc>()
     ensures seen { SeenStaysSeen (record { Key = Key; Body = Body; Attr = Attr; Saved = Saved; Aux = Aux; Loc = Loc }) }
 {}
 
-/// The list of a block is shorter by the operations that were merged.
+/// The list of a block is shorter by the operations that were merged. The answer about a block that may be out of order says which it was, and what is left; the count of all blocks inside a root is that of the operations that went, all of them from blocks inside it.
 pub fn merges_are_counted<Key, Body, Attr, Saved, Aux, Loc>()
-    ensures { MergesAreCounted (record { Key = Key; Body = Body; Attr = Attr; Saved = Saved; Aux = Aux; Loc = Loc }) }
+    ensures some { MergesAreCounted (record { Key = Key; Body = Body; Attr = Attr; Saved = Saved; Aux = Aux; Loc = Loc }) }
+    ensures common { MergeCommonTells (record { Key = Key; Body = Body; Attr = Attr; Saved = Saved; Aux = Aux; Loc = Loc }) }
+    ensures inside { MergeInsideTells (record { Key = Key; Body = Body; Attr = Attr; Saved = Saved; Aux = Aux; Loc = Loc }) }
 {}
 
 /// In a block in order one way from its front to its back merges all alike operations. Where the test of attributes is symmetric and transitive, that way has one outcome.

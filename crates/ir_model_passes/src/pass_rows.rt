@@ -3,6 +3,7 @@
 ghost use Rattle.ir_model_passes.specs.Meaning.{Interpretation};
 ghost use Rattle.ir_model_passes.specs.MarkedForests.{marked};
 ghost use Rattle.ir_model_passes.specs.WrongPasses.{WrongPasses};
+ghost use Rattle.ir_model_passes.specs.MeaningRows.{ConsistentRows};
 ghost use Rattle.ir_model_passes.specs.MergeRows.{AlikeRows, MergeRows, MoveRows, OrderRows};
 ghost use Rattle.ir_model_passes.specs.KeptRows.{KeptRows};
 ghost use Rattle.ir_model_passes.specs.SweepRows.{SweepRows};
@@ -13,6 +14,13 @@ ghost use Rattle.ir_model_passes.specs.UnreachedRows.{UnreachedRows};
 /// A pure operation goes that is still named; an operation with an effect goes; operations with different attributes are merged; an operation is merged into a later one, with its user in between.
 pub fn wrong_passes_are_refused<V>()
     ensures { (gives : Interpretation marked V) → WrongPasses gives }
+{}
+
+/// What a consistent assignment is, told by small blocks.
+///
+/// A result of a plain operation has what the kind, the attributes, the values of the operands, the types of all results and its place give, each told by itself. Nothing is asked of results of operations with effects, regions or successors, and nothing else of those of plain ones.
+pub fn small_meanings_are_told<V>()
+    ensures { (gives : Interpretation marked V) → ConsistentRows gives }
 {}
 
 /// The worked examples of passes hold.

@@ -1,13 +1,14 @@
 -- What reading a text returned, by cases.
-use Rattle.std.proofs.Common.{◌≡◌, ◌≢◌, ◌↔◌, ◌<◌, ◌≤◌, ℕ, false, List, length, Option, Some, None, Result, Ok, Err, IfOk, IfErr, sym, ap, subst, ◌∙◌, arith}
+use Rattle.std.proofs.Common.{◌≡◌, ◌≢◌, ◌↔◌, ◌<◌, ◌≤◌, ℕ, false, List, [], ◌∷◌, length, Option, Some, None, Result, Ok, Err, IfOk, IfErr, sym, ap, subst, ◌∙◌, arith}
 use Rattle.ir_text_tokens.specs.declared.token.Token.{Token}
 use Rattle.ir_text_tokens.specs.declared.fault.Fault.{Fault as TokenFault}
 use Rattle.ir_text_tokens.specs.Readings.{scan_of, all_or_fault, read_of}
-use Rattle.ir_text_tokens.specs.Coverings.{Covers}
+use Rattle.ir_text_tokens.specs.Coverings.{Covers, GoForward as TokensGoForward}
 use Rattle.ir_text_tree.specs.declared.row.Row.{Row}
 use Rattle.ir_text_tree.specs.declared.sort.Piece.{Piece}
 use Rattle.ir_text_tree.specs.declared.fault.Fault.{Fault as TreeFault}
 use Rattle.ir_text_tree.specs.Parsings.{rows_read}
+use Rattle.ir_text_tree.specs.Rows.{GoForward, piece_spans, row_spans}
 use Rattle.ir_text_tree.specs.Trees.{Body, IsWholeText, Spells, tree_rows}
 use Rattle.ir_text_reader.specs.declared.fault.Fault.{Fault}
 use Rattle.ir_text_reader.specs.declared.fault.Fault.TheVariants as faults
@@ -31,6 +32,12 @@ ParsedIsTree = (end : ℕ) (xs : List Piece) (rows : List Row) → rows_read end
 
 abbrev pub TreeIsParsed : Type 0
 TreeIsParsed = (end : ℕ) (xs : List Piece) (b : Body) → IsWholeText b → Spells xs b → rows_read end xs ≡ Ok (tree_rows b)
+
+abbrev pub TokensAreOrdered : Type 0
+TokensAreOrdered = (ts : List Token) (text : List ℕ) → Covers 0 false text ts → TokensGoForward (length text) 0 ts
+
+abbrev pub RowsAreOrdered : Type 0
+RowsAreOrdered = (end : ℕ) (xs : List Piece) (rows : List Row) → rows_read end xs ≡ Ok rows → GoForward end 0 (piece_spans xs) → GoForward end 0 (row_spans rows)
 
 -- ----
 
@@ -56,6 +63,21 @@ pub is_found : ScanIsRead → ReadCovers → ParsedIsTree → TreeIsParsed → (
     → IfOk r (λ t. (b : Body) × IsWholeText b × SpellsTree text b × (t.rows.items ≡ tree_rows b))
 is_found scan covers found parsed text (Ok t) given = found_of covers found parsed text (scan_of text).tokens (scan_of text).fault t.rows.items (scan text) given
 is_found scan covers found parsed text (Err e) given = tt
+
+pieces_ordered : (text : List ℕ) (ts : List Token) (end at : ℕ) → TokensGoForward end at ts → GoForward end at (piece_spans (pieces text ts))
+unfolding TokensGoForward GoForward
+pieces_ordered text [] end at h = h
+pieces_ordered text (t ∷ ts) end at h = (h.0, h.1, pieces_ordered text ts end t.end h.2)
+
+ordered_of : ReadCovers → TokensAreOrdered → RowsAreOrdered → (text : List ℕ) (ts : List Token) (o : Option TokenFault) (rows : List Row) → read_of text ≡ all_or_fault ts o → tokens_read (length text) (pieces text ts) o ≡ Ok rows
+    → GoForward (length text) 0 (row_spans rows)
+ordered_of covers tokens ordered text ts (Some f) rows e h = absurd cc
+ordered_of covers tokens ordered text ts None rows e h =
+    ordered (length text) (pieces text ts) rows (unwrapped (rows_read (length text) (pieces text ts)) rows h) (pieces_ordered text ts (length text) 0 (tokens ts text (covers text ts e)))
+
+pub is_in_order : ScanIsRead → ReadCovers → TokensAreOrdered → RowsAreOrdered → (text : List ℕ) (r : Result Tree Fault) → IsTree (λ t. t.rows.items) r (text_read text) → IfOk r (λ t. GoForward (length text) 0 (row_spans t.rows.items))
+is_in_order scan covers tokens ordered text (Ok t) given = ordered_of covers tokens ordered text (scan_of text).tokens (scan_of text).fault t.rows.items (scan text) given
+is_in_order scan covers tokens ordered text (Err e) given = tt
 
 tokens_are : (text : List ℕ) (ts us : List Token) (o : Option TokenFault) (end : ℕ) → all_or_fault us o ≡ Ok ts → tokens_read end (pieces text us) o ≡ rows_or_fault (rows_read end (pieces text ts))
 tokens_are text ts us None end e = ap (λ (r : Result (List Token) TokenFault). elim r [ Ok vs ↦ rows_or_fault (rows_read end (pieces text vs)) | Err f ↦ rows_or_fault (rows_read end (pieces text us)) ]) e

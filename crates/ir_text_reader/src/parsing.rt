@@ -1,5 +1,6 @@
 //! From a text to its tree, by one loop.
 ghost use Rattle.std.specs.Prelude.{◌≡◌, ◌≢◌, ◌↔◌, ◌<◌, ◌≤◌, length, Ok, Err, IfOk, IfErr};
+ghost use Rattle.ir_text_tree.specs.Rows.{GoForward, row_spans};
 ghost use Rattle.ir_text_tree.specs.Trees.{Body, IsWholeText, tree_rows};
 ghost use Rattle.ir_text_reader.specs.declared.fault.Fault.TheVariants.{TooLong};
 ghost use Rattle.ir_text_reader.specs.Faults.{StopsWithin};
@@ -7,9 +8,11 @@ ghost use Rattle.ir_text_reader.specs.Texts.{IsTree, SpellsTree, text_read};
 
 use crate::fault::Fault;
 use crate::piece::piece_of;
-use ir_text_tokens::laws::{covering_is_read, reading_covers, scanning_reads};
+use ir_text_tokens::laws::{
+    covering_goes_forward, covering_is_read, reading_covers, scanning_reads,
+};
 use ir_text_tokens::next_token;
-use ir_text_tree::laws::{parsed_is_tree, tree_is_parsed};
+use ir_text_tree::laws::{parsed_is_tree, rows_go_forward, tree_is_parsed};
 use ir_text_tree::{Row, finish, read_piece, start};
 use std::alloc::Global;
 
@@ -55,6 +58,8 @@ pub fn parse(alloc: Global, text: &[u8]) -> Result<Tree, Fault>
     ensures found { IfOk result (λ t. (b : Body) × IsWholeText b × SpellsTree text.now b × (t.rows.items ≡ tree_rows b)) }
     // A text that spells a tree is read as its rows, unless memory runs out.
     ensures only { (b : Body) → length text.now ≤ 4294967295 → IsWholeText b → SpellsTree text.now b → IsTree (λ t. t.rows.items) result (Ok (tree_rows b)) }
+    // The spans of the rows go forward in the text.
+    ensures in_order { IfOk result (λ t. GoForward (length text.now) 0 (row_spans t.rows.items)) }
     ensures too_long { (result ≡ Err TooLong) ↔ (4294967295 < length text.now) }
     // The place of a fault is in the text, or its end.
     ensures placed { IfErr result (StopsWithin text.now) }
@@ -64,8 +69,10 @@ pub fn parse(alloc: Global, text: &[u8]) -> Result<Tree, Fault>
     scanning_reads();
     reading_covers();
     covering_is_read();
+    covering_goes_forward();
     parsed_is_tree();
     tree_is_parsed();
+    rows_go_forward();
     if text.len() > LONGEST {
         return Err(Fault::TooLong);
     }

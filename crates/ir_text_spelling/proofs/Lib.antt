@@ -1,2 +1,9 @@
 pub mod TreesSpelled
 pub mod SpellingSteps
+pub mod TokensPlaced
+pub mod HashNames
+pub mod Sources
+pub mod TokensTold
+pub mod TreesAgain
+pub mod TextsAgain
+pub mod WritingSteps

@@ -1,5 +1,5 @@
 -- The text of a tree's rows is that of the tree, part by part: if what follows has its text, so has all.
-use Rattle.std.proofs.Common.{◌≡◌, ℕ, ◌++◌, Bool, true, false, List, [], ◌∷◌, Option, Some, None, refl, sym, ap, ◌∙◌, append_assoc}
+use Rattle.std.proofs.Common.{◌≡◌, ℕ, ◌++◌, Bool, false, List, [], ◌∷◌, Option, Some, None, refl, sym, ap, ◌∙◌, append_assoc}
 use Rattle.std.proofs.lemmas.List.{append-nil}
 use Rattle.std.specs.Prelude.{⊤, codes, drop, if◌then◌else◌}
 use Rattle.ir_text_tree.specs.declared.row.Part.{Part}
@@ -8,10 +8,10 @@ use Rattle.ir_text_tree.specs.declared.row.Row.{Row}
 use Rattle.ir_text_tree.specs.declared.row.Span.{Span}
 use Rattle.ir_text_tree.specs.declared.text_step.TextKind.TheVariants as kinds
 use Rattle.ir_text_tree.specs.Rows.{row}
-use Rattle.ir_text_tree.specs.Trees.{Text, text_span, ResultName, Use, Entry, ResultTypes, bare, listed, Head, Tail, Argument, Label, Body, Regions, done, op, block, none, one, maybe_row, maybe_text_row, result_rows, use_rows, successor_rows, entry_rows, attribute_rows, type_rows, bare_span, result_type_rows, signature_rows, tail_rows, argument_rows, signed_rows, label_rows, body_rows, region_rows, tree_rows, text_row}
+use Rattle.ir_text_tree.specs.Trees.{Text, text_span, ResultName, Use, Entry, ResultTypes, bare, listed, Head, Tail, Argument, Body, Regions, done, op, block, none, one, maybe_row, maybe_text_row, result_rows, use_rows, successor_rows, entry_rows, attribute_rows, type_rows, bare_span, result_type_rows, tail_rows, argument_rows, signed_rows, body_rows, region_rows, tree_rows, text_row}
 use Rattle.ir_text_spelling.specs.Marks.{is_result, is_successor, is_close, is_entry, is_operand_type, is_result_type, is_joined, joint, closing, to_results, to_location, to_line_end, opening}
 use Rattle.ir_text_spelling.specs.Spellings.{piece, spelled, rows_spelled}
-use Rattle.ir_text_spelling.specs.TreeTexts.{piece_then, text_then, count_then, result_then, more_results_then, results_then, index_then, use_then, more_uses_then, uses_then, more_successors_then, successors_then, properties_then, value_then, entry_then, more_entries_then, entries_then, attributes_then, more_types_then, types_then, result_types_then, location_then, signature_then, tail_then, argument_then, more_arguments_then, arguments_then, signed_then, label_then, body_then, regions_then, more_regions_then, tree_text}
+use Rattle.ir_text_spelling.specs.TreeTexts.{piece_then, text_then, count_then, more_results_then, results_then, index_then, more_uses_then, uses_then, more_successors_then, successors_then, properties_then, value_then, more_entries_then, entries_then, attributes_then, more_types_then, types_then, result_types_then, location_then, signature_then, tail_then, more_arguments_then, arguments_then, signed_then, body_then, regions_then, more_regions_then, tree_text}
 
 -- ---- which part may be the last before what follows
 

@@ -1,5 +1,5 @@
 -- The text of a tree's rows.
-use Rattle.std.specs.Prelude.{ℕ, ◌-◌, ◌++◌, List, [], ◌∷◌, take, drop, Option, Some, None}
+use Rattle.std.specs.Prelude.{ℕ, ◌-◌, ◌++◌, List, [], ◌∷◌, map, take, drop, Option, Some, None}
 use Rattle.ir_text_tree.specs.declared.row.Part.{Part}
 use Rattle.ir_text_tree.specs.declared.row.Row.{Row}
 use Rattle.ir_text_tree.specs.declared.row.Span.{Span}
@@ -17,3 +17,7 @@ spelled text last (r ∷ rows) = before last r.part ++ (piece text r.span ++ spe
 -- the text of all of these rows
 abbrev pub rows_spelled : List ℕ → List Row → List ℕ
 rows_spelled text rows = spelled text None rows
+
+-- the parts of rows, each with its piece of a text
+abbrev pub row_texts : List ℕ → List Row → List (Part × List ℕ)
+row_texts text rows = map (λ (r : Row). (r.part, piece text r.span)) rows

@@ -3,7 +3,7 @@ use Rattle.std.specs.Prelude.{ℕ, ◌++◌, List, [], ◌∷◌, Option, Some, 
 use Rattle.ir_text_tree.specs.declared.row.Span.{Span}
 use Rattle.ir_text_tree.specs.declared.text_step.TextKind.{TextKind}
 use Rattle.ir_text_tree.specs.declared.text_step.TextKind.TheVariants as kinds
-use Rattle.ir_text_tree.specs.Trees.{Text, text_span, ResultName, Use, Entry, ResultTypes, bare, listed, Head, Tail, Argument, Label, Body, Regions, done, op, block, none, one, bare_span}
+use Rattle.ir_text_tree.specs.Trees.{Text, text_span, ResultName, Use, Entry, ResultTypes, bare, listed, Tail, Argument, Label, Body, Regions, done, op, block, none, one, bare_span}
 use Rattle.ir_text_spelling.specs.Spellings.{piece}
 
 -- Each is written in front of what follows it, `es`; names, keys, types, values, properties and locations are pieces of the text that the tree was read of.

@@ -3,5 +3,12 @@
 
 mod mark;
 mod spelling;
+mod spelling_laws;
+mod writing;
 
-pub use spelling::spell;
+pub use spelling::{spell, spell_to};
+
+/// Laws of trees spelled again.
+pub mod laws {
+    pub use crate::spelling_laws::tree_text_spells_again;
+}

@@ -1,13 +1,20 @@
 //! From rows to a text, by one loop.
-ghost use Rattle.std.specs.Prelude.{◌≡◌, ◌++◌, IfOk, OnOk};
-ghost use Rattle.ir_text_tree.specs.Trees.{Body, tree_rows};
+ghost use Rattle.std.specs.Prelude.{◌≡◌, ◌++◌, IfOk};
+ghost use Rattle.ir_text_tree.specs.Trees.{Body, IsWholeText, tree_rows};
+ghost use Rattle.ir_text_reader.specs.Texts.{SpellsTree};
 ghost use Rattle.ir_text_spelling.specs.Marks.{before, between, ending};
 ghost use Rattle.ir_text_spelling.specs.Spellings.{piece, rows_spelled};
 ghost use Rattle.ir_text_spelling.specs.TreeTexts.{tree_text};
+ghost use Rattle.ir_text_spelling.specs.RoundTrips.{SpellsAgain};
+ghost use Rattle.ir_text_spelling.specs.Writings.{Writes};
 
 use crate::mark::{closing, is_joined, joint, opening, to_line_end};
+use crate::spelling_laws::tree_text_spells_again;
+use crate::writing::write_bytes;
 use ir_text_tree::{Part, Row, Span};
 use std::alloc::{AllocError, Global};
+use std::io;
+use std::io::Write;
 
 // The piece of a text that a span names.
 fn piece_of(text: &[u8], span: Span) -> &[u8]
@@ -19,39 +26,67 @@ fn piece_of(text: &[u8], span: Span) -> &[u8]
 }
 
 // Writes what stands between two parts.
-fn write_between(out: &mut Vec<u8>, last: Part, next: Part) -> Result<(), AllocError>
-    ensures { OnOk result (out.new.items ≡ out.old.items ++ between last next) }
+fn write_between<W: Write>(output: &mut W, last: Part, next: Part) -> io::Result<()>
+    ensures { Writes (W.contents output.old) (W.contents output.new) (between last next) result }
 {
     if is_joined(last, next) {
-        out.extend_from_slice(joint(last, next).as_bytes())
+        write_bytes(output, joint(last, next).as_bytes())
     } else {
-        out.extend_from_slice(closing(last).as_bytes())?;
-        out.extend_from_slice(opening(last, next).as_bytes())
+        write_bytes(output, closing(last).as_bytes())?;
+        write_bytes(output, opening(last, next).as_bytes())
+    }
+}
+
+// Writes what stands before a part.
+fn write_before<W: Write>(output: &mut W, last: Option<Part>, next: Part) -> io::Result<()>
+    ensures { Writes (W.contents output.old) (W.contents output.new) (before last next) result }
+{
+    match last {
+        None => write_bytes(output, &[]),
+        Some(last) => write_between(output, last, next),
     }
 }
 
 // Writes a part behind what leads to it.
-fn write_row(out: &mut Vec<u8>, text: &[u8], last: Option<Part>, row: Row) -> Result<(), AllocError>
-    ensures { OnOk result (out.new.items ≡ (out.old.items ++ before last row.part) ++ piece text.now row.span) }
+fn write_row<W: Write>(output: &mut W, text: &[u8], last: Option<Part>, row: Row) -> io::Result<()>
+    ensures { Writes (W.contents output.old) (W.contents output.new) (before last row.part ++ piece text.now row.span) result }
 {
-    if let Some(last) = last {
-        write_between(out, last, row.part)?;
-    }
-    out.extend_from_slice(piece_of(text, row.span))
+    write_before(output, last, row.part)?;
+    write_bytes(output, piece_of(text, row.span))
 }
 
 // Writes what stands behind the last part.
-fn write_end(out: &mut Vec<u8>, last: Option<Part>) -> Result<(), AllocError>
-    ensures { OnOk result (out.new.items ≡ out.old.items ++ ending last) }
+fn write_end<W: Write>(output: &mut W, last: Option<Part>) -> io::Result<()>
+    ensures { Writes (W.contents output.old) (W.contents output.new) (ending last) result }
 {
-    if let Some(last) = last {
-        out.extend_from_slice(closing(last).as_bytes())?;
-        out.extend_from_slice(to_line_end(last).as_bytes())?;
+    match last {
+        None => write_bytes(output, &[]),
+        Some(last) => {
+            write_bytes(output, closing(last).as_bytes())?;
+            write_bytes(output, to_line_end(last).as_bytes())
+        }
     }
-    Ok(())
 }
 
-/// The text of rows whose spans are pieces of this text: each piece as it stands there, a line for each operation, each head of a block and the end of each region. Types of results stand in parentheses; braces, and parentheses of a block's head, only where something stands in them.
+/// Writes the text of rows whose spans are pieces of this text: each piece as it stands there, a line for each operation, each head of a block and the end of each region. Types of results stand in parentheses; braces, and parentheses of a block's head, only where something stands in them. The writer isn't flushed.
+///
+/// # Errors
+/// What the writer answers that can't take the text.
+pub fn spell_to<W: Write>(text: &[u8], rows: &[Row], output: &mut W) -> io::Result<()>
+    // What is written is the text of the rows; a front part of it where the writer fails.
+    ensures exact { Writes (W.contents output.old) (W.contents output.new) (rows_spelled text.now rows.now) result }
+    // If they are the rows of a tree, that is the text of the tree.
+    ensures tree { (b : Body) → rows.now ≡ tree_rows b → Writes (W.contents output.old) (W.contents output.new) (tree_text text.now b) result }
+{
+    let mut last = None;
+    for row in rows {
+        write_row(output, text, last, *row)?;
+        last = Some(row.part);
+    }
+    write_end(output, last)
+}
+
+/// The text that `spell_to` writes.
 ///
 /// # Errors
 /// Memory was wanting.
@@ -60,13 +95,13 @@ pub fn spell(alloc: Global, text: &[u8], rows: &[Row]) -> Result<Vec<u8>, AllocE
     ensures exact { IfOk result (λ v. v.items ≡ rows_spelled text.now rows.now) }
     // If they are the rows of a tree, that is the text of the tree.
     ensures tree { (b : Body) → rows.now ≡ tree_rows b → IfOk result (λ v. v.items ≡ tree_text text.now b) }
+    // If that tree was read of this text, what is written spells it again: the same parts, each the same piece.
+    ensures again { (b : Body) → rows.now ≡ tree_rows b → IsWholeText b → SpellsTree text.now b → IfOk result (λ v. SpellsAgain v.items text.now b) }
 {
+    tree_text_spells_again();
     let mut out = Vec::new(alloc);
-    let mut last = None;
-    for row in rows {
-        write_row(&mut out, text, last, *row)?;
-        last = Some(row.part);
+    match spell_to(text, rows, &mut out) {
+        Ok(()) => Ok(out),
+        Err(_) => Err(AllocError),
     }
-    write_end(&mut out, last)?;
-    Ok(out)
 }

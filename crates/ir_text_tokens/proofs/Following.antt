@@ -5,34 +5,41 @@ use Rattle.std.proofs.lemmas.List.{take_at, drop_at, length-append}
 use Rattle.ir_text_tokens.specs.declared.byte_class.Class.{Class}
 use Rattle.ir_text_tokens.specs.declared.byte_class.Class.TheVariants as is
 use Rattle.ir_text_tokens.specs.declared.token.Sign.{Sign}
-use Rattle.ir_text_tokens.specs.declared.token.Sign.TheVariants as signs
 use Rattle.ir_text_tokens.specs.declared.token.Bracket.{Bracket}
+use Rattle.ir_text_tokens.specs.declared.token.Bracket.TheVariants as brackets
+use Rattle.ir_text_tokens.specs.declared.token.Mark.TheVariants as marks
 use Rattle.ir_text_tokens.specs.declared.token.Kind.{Kind}
 use Rattle.ir_text_tokens.specs.declared.token.Kind.TheVariants as kinds
 use Rattle.ir_text_tokens.specs.declared.token.Token.{Token}
 use Rattle.ir_text_tokens.specs.declared.reader_step.Mode.{Mode}
 use Rattle.ir_text_tokens.specs.declared.reader_step.Mode.TheVariants as mode
 use Rattle.ir_text_tokens.specs.declared.reader_step.Step.{Step}
-use Rattle.ir_text_tokens.specs.declared.reader_step.Step.TheVariants.{Go, Emit}
+use Rattle.ir_text_tokens.specs.declared.reader_step.Step.TheVariants.{Emit}
 use Rattle.ir_text_tokens.specs.ByteClasses.{class_of_byte, class_ahead, blank}
-use Rattle.ir_text_tokens.specs.ReaderSteps.{go, goes_on_word, goes_on_name, word_step, number_step, name_step, name_begins, lone_sign, sign_step, begin_step, group_step, reader_step}
+use Rattle.ir_text_tokens.specs.ReaderSteps.{go, goes_on_word, goes_on_name, word_step, number_step, name_step, name_begins, lone_sign, sign_step, begin_step, closing_step, group_step, reader_step}
 use Rattle.ir_text_tokens.specs.Readings.{innermost, renested}
-use Rattle.ir_text_tokens.specs.Coverings.{IsOutside, ahead, Completes, IsToken, Skips, is_empty, both, Parts, StandsAt, Covers, lexeme, lexemes, space, spelling, HaveSpelling}
+use Rattle.ir_text_tokens.specs.Coverings.{Completes, IsToken, Skips, is_empty, both, Parts, StandsAt, Covers, lexeme, lexemes, space, spelling, HaveSpelling}
 
--- ---- what follows a gap, or a blank, or nothing, is the same to a token
+-- ---- what ends any token that can end there at all
 
-Calm : Class → Type 0
-Calm is.Newline = ⊤
-Calm is.Blank = ⊤
-Calm is.Slash = ⊤
-Calm is.Other = ⊤
-Calm _ = ⊥
+unfoldable pub Calm : Class → Type 0
+Calm is.Digit = ⊥
+Calm is.HexLetter = ⊥
+Calm is.EscapeLetter = ⊥
+Calm is.Letter = ⊥
+Calm is.Dash = ⊥
+Calm is.Greater = ⊥
+Calm is.Equals = ⊥
+Calm _ = ⊤
 
-NotSlash : Class → Type 0
-NotSlash is.Slash = ⊥
-NotSlash _ = ⊤
+chosen_emits : (b : Bool) (x y : Step) (k : Kind) → (x ≡ Emit k → ⊥) → cond b x y ≡ Emit k → y ≡ Emit k
+chosen_emits true x y k f e = absurd (f e)
+chosen_emits false x y k f e = e
 
-word_calm : (n : Class) → Calm n → word_step n ≡ word_step is.Blank
+goes_not : (m : Mode) (k : Kind) → go m ≡ Emit k → ⊥
+goes_not m k e = cc
+
+pub word_calm : (n : Class) → Calm n → word_step n ≡ Emit kinds.Word
 unfolding Calm
 word_calm is.Digit h = absurd h
 word_calm is.HexLetter h = absurd h
@@ -40,12 +47,19 @@ word_calm is.EscapeLetter h = absurd h
 word_calm is.Letter h = absurd h
 word_calm _ h = refl
 
-number_calm : (s : Sign) (n : Class) → Calm n → number_step s n ≡ number_step s is.Blank
+word_ends : (n n' : Class) (k : Kind) → Calm n' → word_step n ≡ Emit k → word_step n' ≡ Emit k
+word_ends n n' k h e = word_calm n' h ∙ chosen_emits (goes_on_word n) (go mode.Word) (Emit kinds.Word) k (goes_not mode.Word k) e
+
+number_calm : (s : Sign) (n : Class) → Calm n → number_step s n ≡ Emit (kinds.Name s)
 unfolding Calm
 number_calm s is.Digit h = absurd h
 number_calm s _ h = refl
 
-name_calm : (s : Sign) (n : Class) → Calm n → name_step s n ≡ name_step s is.Blank
+number_ends : (s : Sign) (n n' : Class) (k : Kind) → Calm n' → number_step s n ≡ Emit k → number_step s n' ≡ Emit k
+number_ends s is.Digit n' k h e = absurd (goes_not (mode.Number s) k e)
+number_ends s _ n' k h e = number_calm s n' h ∙ e
+
+name_calm : (s : Sign) (n : Class) → Calm n → name_step s n ≡ Emit (kinds.Name s)
 unfolding Calm
 name_calm s is.Digit h = absurd h
 name_calm s is.HexLetter h = absurd h
@@ -54,7 +68,14 @@ name_calm s is.Letter h = absurd h
 name_calm s is.Dash h = absurd h
 name_calm s _ h = refl
 
-sign_calm : (s : Sign) (n : Class) → Calm n → sign_step s n ≡ sign_step s is.Blank
+name_ends : (s : Sign) (n n' : Class) (k : Kind) → Calm n' → name_step s n ≡ Emit k → name_step s n' ≡ Emit k
+name_ends s n n' k h e = name_calm s n' h ∙ chosen_emits (goes_on_name n) (go (mode.Name s)) (Emit (kinds.Name s)) k (goes_not (mode.Name s) k) e
+
+begins_not : (s : Sign) (n : Class) (k : Kind) → name_begins s n ≡ Emit k → ⊥
+begins_not s is.Digit k e = goes_not (mode.Number s) k e
+begins_not s _ k e = goes_not (mode.Name s) k e
+
+sign_calm : (s : Sign) (n : Class) → Calm n → sign_step s n ≡ lone_sign s
 unfolding Calm
 sign_calm s is.Digit h = absurd h
 sign_calm s is.HexLetter h = absurd h
@@ -63,109 +84,64 @@ sign_calm s is.Letter h = absurd h
 sign_calm s is.Dash h = absurd h
 sign_calm s _ h = refl
 
-dash_calm : (n : Class) → Calm n → begin_step is.Dash n ≡ begin_step is.Dash is.Blank
+sign_ends : (s : Sign) (n n' : Class) (k : Kind) → Calm n' → sign_step s n ≡ Emit k → sign_step s n' ≡ Emit k
+sign_ends s n n' k h e = sign_calm s n' h ∙ chosen_emits (goes_on_name n) (name_begins s n) (lone_sign s) k (begins_not s n k) e
+
+dash_calm : (n : Class) → Calm n → begin_step is.Dash n ≡ Emit (kinds.Mark marks.Minus)
 unfolding Calm
 dash_calm is.Greater h = absurd h
 dash_calm _ h = refl
 
-begins_calm : (c n : Class) → Calm n → NotSlash c → begin_step c n ≡ begin_step c is.Blank
-unfolding NotSlash
-begins_calm is.Slash n h k = absurd k
-begins_calm is.Digit n h k = word_calm n h
-begins_calm is.HexLetter n h k = word_calm n h
-begins_calm is.EscapeLetter n h k = word_calm n h
-begins_calm is.Letter n h k = word_calm n h
-begins_calm (is.Sign s) n h k = sign_calm s n h
-begins_calm is.Dash n h k = dash_calm n h
-begins_calm _ n h k = refl
-
-group_dash : (last : Option Bracket) (n : Class) → Calm n → group_step last is.Dash n ≡ group_step last is.Dash is.Blank
-unfolding Calm
-group_dash last is.Greater h = absurd h
-group_dash last _ h = refl
-
-group_greater : (last : Option Bracket) (n : Class) → Calm n → group_step last is.Greater n ≡ group_step last is.Greater is.Blank
-unfolding Calm
-group_greater last is.Equals h = absurd h
-group_greater last _ h = refl
-
-group_calm : (last : Option Bracket) (c n : Class) → Calm n → group_step last c n ≡ group_step last c is.Blank
-group_calm last is.Dash n h = group_dash last n h
-group_calm last is.Greater n h = group_greater last n h
-group_calm last _ n h = refl
+dash_ends : (n n' : Class) (k : Kind) → Calm n' → begin_step is.Dash n ≡ Emit k → begin_step is.Dash n' ≡ Emit k
+dash_ends is.Greater n' k h e = absurd (goes_not mode.Arrow k e)
+dash_ends _ n' k h e = dash_calm n' h ∙ e
 
 slash_not : (n : Class) (k : Kind) → begin_step is.Slash n ≡ Emit k → ⊥
 slash_not is.Slash k e = cc
 slash_not _ k e = cc
 
-same : (x y z : Step) (k : Kind) → x ≡ z → y ≡ z → x ≡ Emit k → y ≡ Emit k
-same x y z k p q e = q ∙ sym p ∙ e
+begin_ends : (c n n' : Class) (k : Kind) → Calm n' → begin_step c n ≡ Emit k → begin_step c n' ≡ Emit k
+begin_ends is.Slash n n' k h e = absurd (slash_not n k e)
+begin_ends is.Digit n n' k h e = word_ends n n' k h e
+begin_ends is.HexLetter n n' k h e = word_ends n n' k h e
+begin_ends is.EscapeLetter n n' k h e = word_ends n n' k h e
+begin_ends is.Letter n n' k h e = word_ends n n' k h e
+begin_ends (is.Sign s) n n' k h e = sign_ends s n n' k h e
+begin_ends is.Dash n n' k h e = dash_ends n n' k h e
+begin_ends _ n n' k h e = e
 
-between_calm : (c n n' : Class) (k : Kind) → Calm n → Calm n' → begin_step c n ≡ Emit k → begin_step c n' ≡ Emit k
-unfolding NotSlash
-between_calm is.Slash n n' k h h' e = absurd (slash_not n k e)
-between_calm c n n' k h h' e = same (begin_step c n) (begin_step c n') (begin_step c is.Blank) k (begins_calm c n h tt) (begins_calm c n' h' tt) e
+group_dash_not : (last : Option Bracket) (n : Class) (k : Kind) → group_step last is.Dash n ≡ Emit k → ⊥
+group_dash_not last is.Greater k e = cc
+group_dash_not last _ k e = cc
 
-emit_calm : (m : Mode) (last : Option Bracket) (c n n' : Class) (k : Kind) → Calm n → Calm n' → reader_step m last c n ≡ Emit k → reader_step m last c n' ≡ Emit k
-emit_calm mode.Between last c n n' k h h' e = between_calm c n n' k h h' e
-emit_calm mode.Word last c n n' k h h' e = same (word_step n) (word_step n') (word_step is.Blank) k (word_calm n h) (word_calm n' h') e
-emit_calm (mode.Number s) last c n n' k h h' e = same (number_step s n) (number_step s n') (number_step s is.Blank) k (number_calm s n h) (number_calm s n' h') e
-emit_calm (mode.Name s) last c n n' k h h' e = same (name_step s n) (name_step s n') (name_step s is.Blank) k (name_calm s n h) (name_calm s n' h') e
-emit_calm mode.Group last c n n' k h h' e = same (group_step last c n) (group_step last c n') (group_step last c is.Blank) k (group_calm last c n h) (group_calm last c n' h') e
-emit_calm _ last c n n' k h h' e = e
+greater_calm : (last : Option Bracket) (n : Class) → Calm n → group_step last is.Greater n ≡ closing_step brackets.Angle last
+unfolding Calm
+greater_calm last is.Equals h = absurd h
+greater_calm last _ h = refl
 
-completes_calm : (piece : List ℕ) (m : Mode) (s : List Bracket) (k : Kind) (n n' : Class) → Calm n → Calm n' → Completes m s k piece n → Completes m s k piece n'
+greater_ends : (last : Option Bracket) (n n' : Class) (k : Kind) → Calm n' → group_step last is.Greater n ≡ Emit k → group_step last is.Greater n' ≡ Emit k
+greater_ends last is.Equals n' k h e = absurd (goes_not mode.Group k e)
+greater_ends last _ n' k h e = greater_calm last n' h ∙ e
+
+group_ends : (last : Option Bracket) (c n n' : Class) (k : Kind) → Calm n' → group_step last c n ≡ Emit k → group_step last c n' ≡ Emit k
+group_ends last is.Dash n n' k h e = absurd (group_dash_not last n k e)
+group_ends last is.Greater n n' k h e = greater_ends last n n' k h e
+group_ends last _ n n' k h e = e
+
+step_ends : (m : Mode) (last : Option Bracket) (c n n' : Class) (k : Kind) → Calm n' → reader_step m last c n ≡ Emit k → reader_step m last c n' ≡ Emit k
+step_ends mode.Between last c n n' k h e = begin_ends c n n' k h e
+step_ends mode.Word last c n n' k h e = word_ends n n' k h e
+step_ends (mode.Number s) last c n n' k h e = number_ends s n n' k h e
+step_ends (mode.Name s) last c n n' k h e = name_ends s n n' k h e
+step_ends mode.Group last c n n' k h e = group_ends last c n n' k h e
+step_ends _ last c n n' k h e = e
+
+-- a token, whatever follows it, is one where such a byte follows
+pub completes_calm : (piece : List ℕ) (m : Mode) (s : List Bracket) (k : Kind) (n n' : Class) → Calm n' → Completes m s k piece n → Completes m s k piece n'
 unfolding Completes
-completes_calm [] m s k n n' h h' l = absurd l
-completes_calm (b ∷ []) m s k n n' h h' l = emit_calm m (innermost s) (class_of_byte b) n n' k h h' l
-completes_calm (b ∷ c ∷ piece) m s k n n' h h' l = (l.0, l.1, l.2, l.3, completes_calm (c ∷ piece) l.0 (renested l.1 s) k n n' h h' l.4)
-
--- ---- a gap begins with such a byte
-
-GoesOut : Step → Type 0
-GoesOut (Go to how) = IsOutside to
-GoesOut _ = ⊥
-
-chosen_out : (b : Bool) (x y : Step) → (GoesOut x → ⊥) → (GoesOut y → ⊥) → GoesOut (cond b x y) → ⊥
-chosen_out true x y f g h = f h
-chosen_out false x y f g h = g h
-
-word_out : (n : Class) → GoesOut (word_step n) → ⊥
-unfolding GoesOut
-word_out n = chosen_out (goes_on_word n) (go mode.Word) (Emit kinds.Word) (λ h. h) (λ h. h)
-
-name_out : (s : Sign) (n : Class) → GoesOut (name_begins s n) → ⊥
-unfolding GoesOut
-name_out s is.Digit h = h
-name_out s _ h = h
-
-lone_out : (s : Sign) → GoesOut (lone_sign s) → ⊥
-unfolding GoesOut
-lone_out signs.Value h = h
-lone_out signs.Block h = h
-lone_out _ h = h
-
-dash_out : (n : Class) → GoesOut (begin_step is.Dash n) → ⊥
-unfolding GoesOut
-dash_out is.Greater h = h
-dash_out _ h = h
-
-out_calm : (c n : Class) → GoesOut (begin_step c n) → Calm c
-unfolding GoesOut Calm
-out_calm is.Newline n h = tt
-out_calm is.Blank n h = tt
-out_calm is.Slash n h = tt
-out_calm is.Digit n h = absurd (word_out n h)
-out_calm is.HexLetter n h = absurd (word_out n h)
-out_calm is.EscapeLetter n h = absurd (word_out n h)
-out_calm is.Letter n h = absurd (word_out n h)
-out_calm (is.Sign s) n h = absurd (chosen_out (goes_on_name n) (name_begins s n) (lone_sign s) (name_out s n) (lone_out s) h)
-out_calm is.Dash n h = absurd (dash_out n h)
-out_calm _ n h = absurd h
-
-gap_calm : (b : ℕ) (gap : List ℕ) (n : Class) (to : Mode) → Skips mode.Between (b ∷ gap) n to → Calm (class_of_byte b)
-unfolding Skips GoesOut
-gap_calm b gap n to h = out_calm (class_of_byte b) (ahead gap n) (subst GoesOut (sym h.1) h.2)
+completes_calm [] m s k n n' h l = absurd l
+completes_calm (b ∷ []) m s k n n' h l = step_ends m (innermost s) (class_of_byte b) n n' k h l
+completes_calm (b ∷ c ∷ piece) m s k n n' h l = (l.0, l.1, l.2, l.3, completes_calm (c ∷ piece) l.0 (renested l.1 s) k n n' h l.4)
 
 other_calm : Calm is.Other
 unfolding Calm
@@ -175,13 +151,9 @@ blank_calm : (rest : List ℕ) → Calm (class_ahead (32 ∷ rest))
 unfolding Calm class_of_byte blank
 blank_calm rest = tt
 
-last_calm : (text : List ℕ) (to : Mode) → Skips mode.Between text (class_ahead []) to → Calm (class_ahead text)
-last_calm [] to h = other_calm
-last_calm (b ∷ text) to h = gap_calm b text (class_ahead []) to h
-
 -- ---- the token before
 
-first_same : (piece x y : List ℕ) (m : Mode) (s : List Bracket) (k : Kind) (n : Class) → Completes m s k piece n → class_ahead (piece ++ x) ≡ class_ahead (piece ++ y)
+pub first_same : (piece x y : List ℕ) (m : Mode) (s : List Bracket) (k : Kind) (n : Class) → Completes m s k piece n → class_ahead (piece ++ x) ≡ class_ahead (piece ++ y)
 unfolding Completes
 first_same [] x y m s k n h = absurd h
 first_same (b ∷ piece) x y m s k n h = refl
@@ -193,8 +165,7 @@ follows [] piece rest after more before kind k g whole blank glued behind token 
     let same_class : class_ahead after ≡ class_ahead (piece ++ more) = ap class_ahead whole ∙ first_same piece rest more mode.Between [] k (class_ahead rest) behind in
     subst (λ (b : Bool). IsToken kind before (class_ahead (space b ++ (piece ++ more)))) (sym glued) (subst (λ (n : Class). IsToken kind before n) same_class token)
 follows (b ∷ gap) piece rest after more before kind k g whole blank glued behind token =
-    let calm : Calm (class_ahead after) = subst (λ (x : List ℕ). Calm (class_ahead x)) (sym whole) (gap_calm b gap (class_ahead (piece ++ rest)) mode.Between blank) in
-    subst (λ (c : Bool). IsToken kind before (class_ahead (space c ++ (piece ++ more)))) (sym glued) (completes_calm before mode.Between [] kind (class_ahead after) (class_ahead (32 ∷ (piece ++ more))) calm (blank_calm (piece ++ more)) token)
+    subst (λ (c : Bool). IsToken kind before (class_ahead (space c ++ (piece ++ more)))) (sym glued) (completes_calm before mode.Between [] kind (class_ahead after) (class_ahead (32 ∷ (piece ++ more))) (blank_calm (piece ++ more)) token)
 
 both_again : (g e : Bool) → both g (both g e) ≡ both g e
 both_again true e = refl
@@ -213,7 +184,7 @@ piece_is front at behind rest text t p e l h =
 next_token : (ts : List Token) (kind : Kind) (before front : List ℕ) (at : ℕ) (after text : List ℕ) → text ≡ front ++ after → at ≡ length front → Covers at true after ts → IsToken kind before (class_ahead after)
     → IsToken kind before (class_ahead (spelling (lexemes text ts)))
 unfolding Covers
-next_token [] kind before front at after text e l h token = completes_calm before mode.Between [] kind (class_ahead after) (class_ahead []) (last_calm after h.0 h.2) other_calm token
+next_token [] kind before front at after text e l h token = completes_calm before mode.Between [] kind (class_ahead after) (class_ahead []) other_calm token
 next_token (t ∷ ts) kind before front at after text e l h token =
     subst (λ (x : List ℕ). IsToken kind before (class_ahead (space t.glued ++ (x ++ spelling (lexemes text ts))))) (sym (piece_is front at true after text t h.0 e l h.1))
     (follows h.0.gap h.0.piece h.0.after after (spelling (lexemes text ts)) before kind t.kind t.glued h.0.whole h.1.blank h.1.glued h.1.is_token token)

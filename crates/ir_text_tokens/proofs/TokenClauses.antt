@@ -13,7 +13,7 @@ use Rattle.ir_text_tokens.specs.declared.reader_step.Mode.{Mode}
 use Rattle.ir_text_tokens.specs.declared.reader_step.Mode.TheVariants as mode
 use Rattle.ir_text_tokens.specs.declared.token.Bracket.{Bracket}
 use Rattle.ir_text_tokens.specs.Readings.{IsReading, read_of}
-use Rattle.ir_text_tokens.specs.Coverings.{Completes, Covers, IsWithin, Lexeme, lexemes, lexeme, one_spelling, space, HaveSpelling, spelling, placed, GivesAgain}
+use Rattle.ir_text_tokens.specs.Coverings.{Completes, Covers, GoForward, IsWithin, Lexeme, lexemes, lexeme, one_spelling, space, HaveSpelling, spelling, placed, GivesAgain}
 use Rattle.ir_text_tokens.proofs.Respelling.{covers_read, spelling_covers, lexemes_placed}
 use Rattle.ir_text_tokens.proofs.Covering.{reading_covers}
 use Rattle.ir_text_tokens.proofs.Following.{covers_fits}
@@ -44,6 +44,19 @@ covers_within (t ∷ ts) front at behind rest text e l h =
 pub is_within : (text : List ℕ) (r : Result (Vec Token) Fault) → IsReading (λ v. v.items) r (read_of text) → IfOk r (λ v. All (IsWithin text) v.items)
 is_within text (Ok v) given = All-from_recursion (IsWithin text) v.items (covers_within v.items [] 0 false text text refl refl (reading_covers text v.items given))
 is_within text (Err e) given = tt
+
+pub covers_forward : (ts : List Token) (at end : ℕ) (behind : Bool) (rest : List ℕ) → end ≡ at + length rest → Covers at behind rest ts → GoForward end at ts
+unfolding Covers GoForward
+covers_forward [] at end behind rest e h = omega (arith, e)
+covers_forward (t ∷ ts) at end behind rest e h =
+    let p = h.0 in
+    let some = completes_some mode.Between [] t.kind p.piece _ h.1.is_token in
+    let all : length rest ≡ length p.gap + (length p.piece + length p.after) = ap length p.whole ∙ length-append p.gap (p.piece ++ p.after) ∙ ap (λ (n : ℕ). length p.gap + n) (length-append p.piece p.after) in
+    (omega (arith, h.1.start), omega (arith, some, h.1.end), covers_forward ts t.end end true p.after (omega (arith, e, all, h.1.start, h.1.end)) h.2)
+
+pub is_in_order : (text : List ℕ) (r : Result (Vec Token) Fault) → IsReading (λ v. v.items) r (read_of text) → IfOk r (λ v. GoForward (length text) 0 v.items)
+is_in_order text (Ok v) given = covers_forward v.items 0 (length text) false text (omega arith) (reading_covers text v.items given)
+is_in_order text (Err e) given = tt
 
 pub is_spelled : (text : List ℕ) (r : Result (Vec Token) Fault) → IsReading (λ v. v.items) r (read_of text) → IfOk r (λ v. HaveSpelling false (lexemes text v.items))
 is_spelled text (Ok v) given = covers_fits v.items [] 0 false text text refl refl (reading_covers text v.items given)

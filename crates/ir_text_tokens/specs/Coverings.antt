@@ -121,6 +121,11 @@ pub record IsWithin (text : List ℕ) (t : Token) : Type 0 where
   pub forward : t.start < t.end
   pub within : t.end ≤ length text
 
+-- The spans of the tokens go forward from that place on up to this end: each has a byte at least, and begins where the one before it ends, or behind that.
+unfoldable pub GoForward : ℕ → ℕ → List Token → Type 0
+GoForward end at [] = at ≤ end
+GoForward end at (t ∷ ts) = (at ≤ t.start) × (t.start < t.end) × GoForward end t.end ts
+
 -- What reading returned is these tokens again, unless memory ran out.
 abbrev pub GivesAgain : List ℕ → Result (Vec Token) Fault → List Lexeme → Type 0
 GivesAgain text (Ok v) xs = lexemes text v.items ≡ xs

@@ -19,7 +19,7 @@ pub use token::{Bracket, Kind, Mark, Sign, Token};
 /// Laws of tokens and their spelling.
 pub mod laws {
     pub use crate::token_laws::{
-        covering_is_read, read_has_spelling, reading_covers, scanning_reads, spelling_is_kept,
-        spelling_is_read,
+        covering_goes_forward, covering_is_read, read_has_spelling, reading_covers, scanning_reads,
+        spelling_is_kept, spelling_is_read,
     };
 }

@@ -4,7 +4,7 @@ ghost use Rattle.std.specs.List.{All};
 ghost use Rattle.ir_text_tokens.specs.declared.fault.Fault.TheVariants.{TooLong};
 ghost use Rattle.ir_text_tokens.specs.Faults.{StopsWithin};
 ghost use Rattle.ir_text_tokens.specs.Readings.{IsReading, IsNext, innermost, renested, read_of};
-ghost use Rattle.ir_text_tokens.specs.Coverings.{Covers, IsWithin, Lexeme, HaveSpelling, spelling, lexemes, GivesAgain};
+ghost use Rattle.ir_text_tokens.specs.Coverings.{Covers, GoForward, IsWithin, Lexeme, HaveSpelling, spelling, lexemes, GivesAgain};
 
 use crate::byte_class::{class_at, class_of};
 use crate::fault::{Fault, fault_of};
@@ -120,6 +120,8 @@ pub fn tokens(alloc: Global, text: &[u8]) -> Result<Vec<Token>, Fault>
     ensures found { IfOk result (λ v. Covers 0 false text.now v.items) }
     // Each span goes forward and lies in the text.
     ensures within { IfOk result (λ v. All (IsWithin text.now) v.items) }
+    // The spans go forward.
+    ensures in_order { IfOk result (λ v. GoForward (length text.now) 0 v.items) }
     // The tokens have a spelling, in which they are read again.
     ensures have_spelling { IfOk result (λ v. HaveSpelling false (lexemes text.now v.items)) }
     // Tokens that are so all of the text are the ones that are read, unless memory runs out.

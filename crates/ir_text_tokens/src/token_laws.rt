@@ -1,8 +1,8 @@
 //! Laws of tokens and their spelling.
-ghost use Rattle.std.specs.Prelude.{◌≡◌, ℕ, Bool, List, Ok, false};
+ghost use Rattle.std.specs.Prelude.{◌≡◌, ℕ, Bool, List, length, Ok, false};
 ghost use Rattle.ir_text_tokens.specs.declared.token.Token.{Token};
 ghost use Rattle.ir_text_tokens.specs.Readings.{read_of, scan_of, all_or_fault};
-ghost use Rattle.ir_text_tokens.specs.Coverings.{Covers, Lexeme, HaveSpelling, spelling, placed, lexemes};
+ghost use Rattle.ir_text_tokens.specs.Coverings.{Covers, GoForward, Lexeme, HaveSpelling, spelling, placed, lexemes};
 
 /// Tokens that are all of a text are what is read of it.
 pub fn covering_is_read()
@@ -32,4 +32,9 @@ pub fn read_has_spelling()
 /// What is scanned of a text without a fault is what is read of it, and else the fault is the same.
 pub fn scanning_reads()
     ensures { (text : List ℕ) → read_of text ≡ all_or_fault (scan_of text).tokens (scan_of text).fault }
+{}
+
+/// The spans of tokens that are all of a text go forward in it.
+pub fn covering_goes_forward()
+    ensures { (ts : List Token) (text : List ℕ) → Covers 0 false text ts → GoForward (length text) 0 ts }
 {}

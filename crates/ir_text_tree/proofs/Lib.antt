@@ -1,4 +1,5 @@
-mod ParsingSteps
+pub mod ParsingSteps
+mod RowOrder
 mod TreeClauses
 mod TreesFound
-mod TreesRead
+pub mod TreesRead

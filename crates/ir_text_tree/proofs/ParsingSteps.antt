@@ -19,7 +19,7 @@ use Rattle.ir_text_tree.specs.declared.tree_step.Step.{Step}
 use Rattle.ir_text_tree.specs.declared.tree_step.Step.TheVariants.{Go, Bad}
 use Rattle.ir_text_tree.specs.TextSteps.{innermost}
 use Rattle.ir_text_tree.specs.TreeSteps.{tree_step, is_whole, wanted}
-use Rattle.ir_text_tree.specs.Parsings.{is_inside, ended_row, token_row, text_behind, brackets_behind, depth_behind, behind_row, behind_rows, before_rows, listed, last_row, parsing, parsing_from, misplaced, misplaced_from, IsReadOn, IsReadOut, IsParsing}
+use Rattle.ir_text_tree.specs.Parsings.{is_inside, ended_row, token_row, text_behind, brackets_behind, depth_behind, behind_row, behind_rows, before_rows, listed, last_row, parsing, parsing_from, misplaced, IsReadOn, IsReadOut, IsParsing}
 
 pub parsing_goes : (end : ℕ) (m : Mode) (d : ℕ) (bs : List Bracket) (t : Span) (x : Piece) (xs : List Piece) (ended : Option Part) (a : Action) (to : Mode)
     → tree_step m (is_inside d) (innermost bs) x.sort ≡ Go ended a to

@@ -38,7 +38,7 @@ record Follows (m : Mode) (d : ℕ) (es : List Expected) (rows : List Row) : Typ
   read : (end : ℕ) (bs : List Bracket) (t : Span) (xs : List Piece) → Matches es xs → parsing end m d bs t xs ≡ Ok rows
 
 -- what a token of this sort does there, whatever bracket is open
-abbrev Steps : Mode → ℕ → Sort → Step → Type 0
+abbrev pub Steps : Mode → ℕ → Sort → Step → Type 0
 Steps m d x st = (last : Option Bracket) → tree_step m (is_inside d) last x ≡ st
 
 -- ---- one token
@@ -93,7 +93,7 @@ record Ends (k : TextKind) (d : ℕ) (es : List Expected) (rows : List Row) : Ty
   read : (end : ℕ) (t : Span) (xs : List Piece) → Matches es xs → parsing end (mode.Text k) d [] t xs ≡ Ok (row (part_of_text k) t ∷ rows)
 
 -- what a token does that ends a text
-stop_step : (k : TextKind) (x : Sort) (to : Mode) → takes k None x ≡ None → stops_outside k x ≡ Some to → text_step k None x ≡ Go (Some (part_of_text k)) action.Skip to
+pub stop_step : (k : TextKind) (x : Sort) (to : Mode) → takes k None x ≡ None → stops_outside k x ≡ Some to → text_step k None x ≡ Go (Some (part_of_text k)) action.Skip to
 stop_step k x to e f = ap (λ (o : Option Nesting). taken k o (text_end k (stops_outside k x))) e ∙ ap (text_end k) f
 
 ends_read : (end d : ℕ) (es : List Expected) (rows : List Row) (k : TextKind) (x : Sort) (to : Mode) (t : Span) (xs : List Piece)
@@ -140,7 +140,7 @@ next_text k v f = text_follows k (mode.Next k) v (λ last. refl) f
 
 -- ---- results
 
-abbrev after_count : Option Span → Mode
+abbrev pub after_count : Option Span → Mode
 after_count None = mode.Results results.Behind
 after_count (Some n) = mode.Results results.Counted
 
@@ -148,11 +148,11 @@ count_follows : {d : ℕ} {es : List Expected} {rows : List Row} (c : Option Spa
 count_follows None f = f
 count_follows (Some n) f = skips (mode.Results results.Behind) s.Colon (mode.Results results.Count) (λ last. refl) (puts (mode.Results results.Count) s.Word parts.Count (mode.Results results.Counted) n (λ last. refl) f)
 
-comma_behind : (c : Option Span) (d : ℕ) → Steps (after_count c) d s.Comma (skip (mode.Results results.Next))
+pub comma_behind : (c : Option Span) (d : ℕ) → Steps (after_count c) d s.Comma (skip (mode.Results results.Next))
 comma_behind None d = λ last. refl
 comma_behind (Some n) d = λ last. refl
 
-equals_behind : (c : Option Span) (d : ℕ) → Steps (after_count c) d s.Equals (skip (mode.Results results.Name))
+pub equals_behind : (c : Option Span) (d : ℕ) → Steps (after_count c) d s.Equals (skip (mode.Results results.Name))
 equals_behind None d = λ last. refl
 equals_behind (Some n) d = λ last. refl
 
@@ -165,31 +165,31 @@ more_results_follow d es rows c (r ∷ rs) f =
 
 -- ---- where operations begin
 
-record TakesBody (m : Mode) : Type 0 where
-  value : (d : ℕ) → Steps m d s.Value (put parts.Result (mode.Results results.Behind))
-  quoted : (d : ℕ) → Steps m d s.Quoted (put parts.Name (mode.Operands operands.Open))
-  label : (d : ℕ) → Steps m (suc d) s.Block (put parts.Label (mode.Label label.Behind))
-  close : (d : ℕ) → Steps m (suc d) s.CloseCurly (Go None action.Close (mode.Parts pieces.Region))
+pub record TakesBody (m : Mode) : Type 0 where
+  pub value : (d : ℕ) → Steps m d s.Value (put parts.Result (mode.Results results.Behind))
+  pub quoted : (d : ℕ) → Steps m d s.Quoted (put parts.Name (mode.Operands operands.Open))
+  pub label : (d : ℕ) → Steps m (suc d) s.Block (put parts.Label (mode.Label label.Behind))
+  pub close : (d : ℕ) → Steps m (suc d) s.CloseCurly (Go None action.Close (mode.Parts pieces.Region))
 
-start_takes : TakesBody mode.Start
+pub start_takes : TakesBody mode.Start
 start_takes = record { value = λ d last. refl; quoted = λ d last. refl; label = λ d last. refl; close = λ d last. refl }
 
-body_takes : TakesBody mode.Body
+pub body_takes : TakesBody mode.Body
 body_takes = record { value = λ d last. refl; quoted = λ d last. refl; label = λ d last. refl; close = λ d last. refl }
 
-after_takes : TakesBody mode.After
+pub after_takes : TakesBody mode.After
 after_takes = record { value = λ d last. refl; quoted = λ d last. refl; label = λ d last. refl; close = λ d last. refl }
 
 -- behind an operation the tokens may end, too
-record Rests (m : Mode) : Type 0 where
-  takes : TakesBody m
-  whole : is_whole m false ≡ true
-  no_row : (t : Span) → last_row m t ≡ None
+pub record Rests (m : Mode) : Type 0 where
+  pub takes : TakesBody m
+  pub whole : is_whole m false ≡ true
+  pub no_row : (t : Span) → last_row m t ≡ None
 
-body_rests : Rests mode.Body
+pub body_rests : Rests mode.Body
 body_rests = record { takes = body_takes; whole = refl; no_row = λ t. refl }
 
-after_rests : Rests mode.After
+pub after_rests : Rests mode.After
 after_rests = record { takes = after_takes; whole = refl; no_row = λ t. refl }
 
 results_follow : (d : ℕ) (es : List Expected) (rows : List Row) (m : Mode) (name : Span) (rs : List ResultName) → TakesBody m → Follows (mode.Operands operands.Open) d es rows
@@ -202,7 +202,7 @@ results_follow d es rows m name (r ∷ rs) b f =
 
 -- ---- operands
 
-abbrev after_index : Option Span → Mode
+abbrev pub after_index : Option Span → Mode
 after_index None = mode.Operands operands.Behind
 after_index (Some n) = mode.Operands operands.Indexed
 
@@ -210,11 +210,11 @@ index_follows : {d : ℕ} {es : List Expected} {rows : List Row} (i : Option Spa
 index_follows None f = f
 index_follows (Some n) f = puts (mode.Operands operands.Behind) s.Attribute parts.Index (mode.Operands operands.Indexed) n (λ last. refl) f
 
-comma_used : (i : Option Span) (d : ℕ) → Steps (after_index i) d s.Comma (skip (mode.Operands operands.Next))
+pub comma_used : (i : Option Span) (d : ℕ) → Steps (after_index i) d s.Comma (skip (mode.Operands operands.Next))
 comma_used None d = λ last. refl
 comma_used (Some n) d = λ last. refl
 
-round_used : (i : Option Span) (d : ℕ) → Steps (after_index i) d s.CloseRound (skip (mode.Parts pieces.Operands))
+pub round_used : (i : Option Span) (d : ℕ) → Steps (after_index i) d s.CloseRound (skip (mode.Parts pieces.Operands))
 round_used None d = λ last. refl
 round_used (Some n) d = λ last. refl
 
@@ -233,28 +233,28 @@ uses_follow d es rows (u ∷ us) f =
 
 -- ---- between operands and attributes
 
-record TakesTail (p : PartsMode) : Type 0 where
-  curly : parts_step p s.OpenCurly ≡ skip (mode.Entries entries.First)
-  colon : parts_step p s.Colon ≡ skip (mode.Types types.Open)
+pub record TakesTail (p : PartsMode) : Type 0 where
+  pub curly : parts_step p s.OpenCurly ≡ skip (mode.Entries entries.First)
+  pub colon : parts_step p s.Colon ≡ skip (mode.Types types.Open)
 
-record TakesRegions (p : PartsMode) : Type 0 where
-  round : parts_step p s.OpenRound ≡ skip (mode.Parts pieces.NextRegion)
-  tail : TakesTail p
+pub record TakesRegions (p : PartsMode) : Type 0 where
+  pub round : parts_step p s.OpenRound ≡ skip (mode.Parts pieces.NextRegion)
+  pub tail : TakesTail p
 
-record TakesProperties (p : PartsMode) : Type 0 where
-  group : parts_step p s.Group ≡ put parts.Properties (mode.Parts pieces.Properties)
-  regions : TakesRegions p
+pub record TakesProperties (p : PartsMode) : Type 0 where
+  pub group : parts_step p s.Group ≡ put parts.Properties (mode.Parts pieces.Properties)
+  pub regions : TakesRegions p
 
-operands_take : TakesProperties pieces.Operands
+pub operands_take : TakesProperties pieces.Operands
 operands_take = record { group = refl; regions = record { round = refl; tail = record { curly = refl; colon = refl } } }
 
-successors_take : TakesProperties pieces.Successors
+pub successors_take : TakesProperties pieces.Successors
 successors_take = record { group = refl; regions = record { round = refl; tail = record { curly = refl; colon = refl } } }
 
-properties_take : TakesRegions pieces.Properties
+pub properties_take : TakesRegions pieces.Properties
 properties_take = record { round = refl; tail = record { curly = refl; colon = refl } }
 
-regions_take : TakesTail pieces.Regions
+pub regions_take : TakesTail pieces.Regions
 regions_take = record { curly = refl; colon = refl }
 
 more_successors_follow : (d : ℕ) (es : List Expected) (rows : List Row) (bs : List Span) → Follows (mode.Parts pieces.Successors) d es rows → Follows (mode.Parts pieces.Successor) d (more_successors_then bs es) (successor_rows bs rows)
@@ -291,13 +291,13 @@ value_curly : (d : ℕ) (es : List Expected) (rows : List Row) (o : Option (Text
 value_curly d es rows None f = skips (mode.Entries entries.Key) s.CloseCurly (mode.Entries entries.Colon) (λ last. refl) f
 value_curly d es rows (Some v) f = ends kinds.Value s.CloseCurly (mode.Entries entries.Colon) refl refl f
 
-key_next : (x : Sort) (d : ℕ) → IsKey x → Steps (mode.Entries entries.Next) d x (put parts.Key (mode.Entries entries.Key))
+pub key_next : (x : Sort) (d : ℕ) → IsKey x → Steps (mode.Entries entries.Next) d x (put parts.Key (mode.Entries entries.Key))
 key_next s.Word d h = λ last. refl
 key_next s.Loc d h = λ last. refl
 key_next s.Quoted d h = λ last. refl
 key_next _ d h = absurd h
 
-key_first : (x : Sort) (d : ℕ) → IsKey x → Steps (mode.Entries entries.First) d x (put parts.Key (mode.Entries entries.Key))
+pub key_first : (x : Sort) (d : ℕ) → IsKey x → Steps (mode.Entries entries.First) d x (put parts.Key (mode.Entries entries.Key))
 key_first s.Word d h = λ last. refl
 key_first s.Loc d h = λ last. refl
 key_first s.Quoted d h = λ last. refl
@@ -329,11 +329,11 @@ more_types_follow : (d : ℕ) (es : List Expected) (rows : List Row) (k : TextKi
 more_types_follow d es rows k to [] a b e g f = ends k s.CloseRound to e g f
 more_types_follow d es rows k to (t ∷ ts) a b e g f = ends k s.Comma (mode.Next k) a b (next_text k t (more_types_follow d es rows k to ts a b e g f))
 
-first_operand : (x : Sort) (n : Nesting) (d : ℕ) → takes kinds.OperandType None x ≡ Some n → Steps (mode.Types types.FirstOperand) d x (begin_text kinds.OperandType x)
+pub first_operand : (x : Sort) (n : Nesting) (d : ℕ) → takes kinds.OperandType None x ≡ Some n → Steps (mode.Types types.FirstOperand) d x (begin_text kinds.OperandType x)
 first_operand s.CloseRound n d h = absurd cc
 first_operand _ n d h = λ last. refl
 
-first_result : (x : Sort) (n : Nesting) (d : ℕ) → takes kinds.ResultType None x ≡ Some n → Steps (mode.Types types.FirstResult) d x (begin_text kinds.ResultType x)
+pub first_result : (x : Sort) (n : Nesting) (d : ℕ) → takes kinds.ResultType None x ≡ Some n → Steps (mode.Types types.FirstResult) d x (begin_text kinds.ResultType x)
 first_result s.CloseRound n d h = absurd cc
 first_result _ n d h = λ last. refl
 

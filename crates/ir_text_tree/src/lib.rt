@@ -20,5 +20,7 @@ pub use tree_step::{
 
 /// Laws of parsing.
 pub mod laws {
-    pub use crate::tree_laws::{one_tree_is_spelled, parsed_is_tree, tree_is_parsed};
+    pub use crate::tree_laws::{
+        one_tree_is_spelled, parsed_is_tree, rows_go_forward, tree_is_parsed,
+    };
 }

@@ -4,7 +4,7 @@ ghost use Rattle.ir_text_tree.specs.TreeFaults.{fault_place};
 ghost use Rattle.ir_text_tree.specs.TextSteps.{innermost, renested};
 ghost use Rattle.ir_text_tree.specs.Trees.{Body, IsWholeText, Spells, tree_rows};
 ghost use Rattle.ir_text_tree.specs.Parsings.{IsParsing, IsReadOn, IsReadOut, start_state, is_inside, ended_row, token_row, last_row, listed, text_behind, brackets_behind, depth_behind, rows_read};
-ghost use Rattle.ir_text_tree.specs.Rows.{joined};
+ghost use Rattle.ir_text_tree.specs.Rows.{joined, GoForward, piece_spans, row_spans};
 
 use crate::fault::Fault;
 use crate::row::{Part, Row, Span};
@@ -245,6 +245,8 @@ pub fn parse(alloc: Global, end: u32, pieces: &[Piece]) -> Result<Vec<Row>, Faul
     ensures found { IfOk result (λ v. (b : Body) × IsWholeText b × Spells pieces.now b × (v.items ≡ tree_rows b)) }
     // Tokens that spell a tree are read as its rows, unless memory runs out.
     ensures only { (b : Body) → IsWholeText b → Spells pieces.now b → IsParsing (λ v. v.items) result (Ok (tree_rows b)) }
+    // Where the spans of the tokens go forward up to that end, so do the spans of the rows.
+    ensures in_order { GoForward end 0 (piece_spans pieces.now) → IfOk result (λ v. GoForward end 0 (row_spans v.items)) }
     // Which fault it is, and where.
     ensures exact { IsParsing (λ v. v.items) result (rows_read end pieces.now) }
 {

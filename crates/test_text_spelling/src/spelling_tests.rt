@@ -1,7 +1,9 @@
 // Texts with what their trees are spelled as.
 use ir_text_reader::{Part, Row, Span, Tree, parse};
-use ir_text_spelling::spell;
+use ir_text_spelling::{spell, spell_to};
 use std::alloc::{AllocError, Global};
+use std::io;
+use std::io::{ErrorKind, Write};
 use std::test::Fail;
 
 // Texts, and the text of their trees.
@@ -86,5 +88,42 @@ fn no_rows(rt: HostRuntime) -> Result<(), Fail> {
     let rows = Vec::new(rt.alloc());
     let out = spell(rt.alloc(), b"abc".as_slice(), rows.as_slice())?;
     assert!(rt; out.is_empty());
+    Ok(())
+}
+
+// Takes so many bytes, three at a time, and then breaks.
+#[derive(Drop)]
+struct Sink {
+    taken: Vec<u8>,
+    room: usize,
+}
+
+impl Write for Sink {
+    fn write(&mut self, buf: &[u8]) -> io::Result<usize> {
+        let count = buf.len().min(self.room).min(3);
+        if count == 0 {
+            return Err(io::Error::from(ErrorKind::BrokenPipe));
+        }
+        self.room -= count;
+        self.taken.write(&buf[..count])
+    }
+
+    fn flush(&mut self) -> io::Result<()> {
+        Ok(())
+    }
+}
+
+#[test]
+fn writers_that_break(rt: HostRuntime) -> Result<(), Fail> {
+    for (text, wanted) in SPELLED {
+        let tree = parse(rt.alloc(), *text)?;
+        for room in 0..wanted.len() + 1 {
+            let taken = Vec::new(rt.alloc());
+            let mut sink = Sink { taken, room };
+            let told = spell_to(*text, tree.rows.as_slice(), &mut sink);
+            assert!(rt; told.is_ok() == (room == wanted.len()));
+            assert!(rt; sink.taken.as_slice() == &wanted[..room]);
+        }
+    }
     Ok(())
 }

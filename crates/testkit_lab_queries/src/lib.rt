@@ -16,6 +16,7 @@ mod strange;
 mod taking;
 mod uses;
 mod values;
+mod walks;
 mod words;
 
 pub use words::answer;

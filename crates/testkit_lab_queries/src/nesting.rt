@@ -44,8 +44,8 @@ fn write_order(text: &mut String, lab: &Lab, region: Ptr<Region>) -> Result<(), 
     )?)
 }
 
-// The entity with this name.
-fn entity(lab: &Lab, name: &str) -> Result<Entity<Toy>, TextError> {
+/// The entity with this name.
+pub(crate) fn entity(lab: &Lab, name: &str) -> Result<Entity<Toy>, TextError> {
     match name.chars().next() {
         Some('o') => Ok(Entity::Op(lab.op(name)?)),
         Some('b') => Ok(Entity::Block(lab.block(name)?)),

@@ -1,6 +1,6 @@
 //! The words that ask.
 
-use crate::{at, blocks, edges, lists, nesting, ops, parts, strange, taking, uses, values};
+use crate::{at, blocks, edges, lists, nesting, ops, parts, strange, taking, uses, values, walks};
 use std::mem::replace;
 use testkit_lab::{Lab, TextError};
 
@@ -56,6 +56,9 @@ fn ask(text: &mut String, lab: &Lab, word: &str, rest: &str) -> Result<(), TextE
         "nest.strange" => strange::handle(text, lab, rest),
         "nest.is_inside" => nesting::inside(text, lab, rest),
         "nest.can_erase" => nesting::erasable(text, lab, rest),
+        "nest.walk" => walks::read(text, lab, rest),
+        "nest.counted" => walks::counted(text, lab, rest),
+        "nest.listed" => walks::listed(text, lab, rest),
         "nest.type_at" => nesting::type_at(text, lab, rest),
         "nest.context" => nesting::context(text, lab, rest),
         _ => Err(TextError::Malformed),

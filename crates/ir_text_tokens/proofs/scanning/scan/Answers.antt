@@ -1,4 +1,4 @@
-use Rattle.std.proofs.Common.{rules, ◌≡◌, Ok, Err}
+use Rattle.std.proofs.Common.{rules, ◌≡◌, Err}
 use Rattle.ir_text_tokens.specs.Readings.{read_of}
 use Rattle.ir_text_tokens.proofs.NextTokens.{is_none, next_some, next_none, within_some, reads_on, reads_all, reads_fault}
 use Rattle.ir_text_tokens.proofs.scanning.scan.Goals as goal

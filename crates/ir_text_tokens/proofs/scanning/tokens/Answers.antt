@@ -1,4 +1,4 @@
-use Rattle.ir_text_tokens.proofs.TokenClauses.{is_found, is_within, is_only, is_spelled, is_again, is_too_long}
+use Rattle.ir_text_tokens.proofs.TokenClauses.{is_found, is_within, is_in_order, is_only, is_spelled, is_again, is_too_long}
 use Rattle.ir_text_tokens.proofs.scanning.tokens.Goals as goal
 
 pub returns-clause-found : goal.returns-clause-found
@@ -6,6 +6,9 @@ returns-clause-found c = is_found c.args.text.now c.scan.result c.scan.ensures.r
 
 pub returns-clause-within : goal.returns-clause-within
 returns-clause-within c = is_within c.args.text.now c.scan.result c.scan.ensures.reads
+
+pub returns-clause-in_order : goal.returns-clause-in_order
+returns-clause-in_order c = is_in_order c.args.text.now c.scan.result c.scan.ensures.reads
 
 pub returns-clause-have_spelling : goal.returns-clause-have_spelling
 returns-clause-have_spelling c = is_spelled c.args.text.now c.scan.result c.scan.ensures.reads

@@ -1,0 +1,4 @@
+mod Placing
+mod OneUse
+mod Refusals
+mod Unnamed

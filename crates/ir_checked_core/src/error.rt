@@ -1,0 +1,491 @@
+//! Why a call isn't made: which call, and which of its conditions doesn't hold.
+
+use ir_base_dialects::CoreError;
+use std::alloc::{AllocError, AllocFailed};
+use std::fmt;
+use std::fmt::{Display, Write};
+use thiserror::Error;
+
+/// A checked call, by its module and its name.
+#[derive(Clone, Copy, Debug, Drop, PartialEq, Eq)]
+pub enum Call {
+    /// `operation::deref`.
+    OperationDeref,
+    /// `operation::deref_mut`.
+    OperationDerefMut,
+    /// `operation::get_result`.
+    OperationGetResult,
+    /// `operation::get_operand`.
+    OperationGetOperand,
+    /// `operation::get_operand_as_use`.
+    OperationGetOperandAsUse,
+    /// `operation::get_successor`.
+    OperationGetSuccessor,
+    /// `operation::get_successor_as_use`.
+    OperationGetSuccessorAsUse,
+    /// `operation::get_type`.
+    OperationGetType,
+    /// `operation::get_region`.
+    OperationGetRegion,
+    /// `operation::new`.
+    OperationNew,
+    /// `basic_block::new`.
+    BlockNew,
+    /// `operation::add_region`.
+    OperationAddRegion,
+    /// `operation::push_operand`.
+    OperationPushOperand,
+    /// `operation::insert_operand`.
+    OperationInsertOperand,
+    /// `operation::replace_operand`.
+    OperationReplaceOperand,
+    /// `operation::remove_operand`.
+    OperationRemoveOperand,
+    /// `operation::pop_operand`.
+    OperationPopOperand,
+    /// `operation::push_successor`.
+    OperationPushSuccessor,
+    /// `operation::insert_successor`.
+    OperationInsertSuccessor,
+    /// `operation::replace_successor`.
+    OperationReplaceSuccessor,
+    /// `operation::remove_successor`.
+    OperationRemoveSuccessor,
+    /// `operation::pop_successor`.
+    OperationPopSuccessor,
+    /// `operation::push_result`.
+    OperationPushResult,
+    /// `operation::insert_result`.
+    OperationInsertResult,
+    /// `operation::remove_result`.
+    OperationRemoveResult,
+    /// `operation::pop_result`.
+    OperationPopResult,
+    /// `basic_block::push_argument`.
+    BlockPushArgument,
+    /// `basic_block::insert_argument`.
+    BlockInsertArgument,
+    /// `basic_block::remove_argument`.
+    BlockRemoveArgument,
+    /// `basic_block::pop_argument`.
+    BlockPopArgument,
+    /// `operation::insert_at_front`.
+    OperationInsertAtFront,
+    /// `operation::insert_at_back`.
+    OperationInsertAtBack,
+    /// `operation::insert_before`.
+    OperationInsertBefore,
+    /// `operation::insert_after`.
+    OperationInsertAfter,
+    /// `operation::unlink`.
+    OperationUnlink,
+    /// `basic_block::insert_at_front`.
+    BlockInsertAtFront,
+    /// `basic_block::insert_at_back`.
+    BlockInsertAtBack,
+    /// `basic_block::insert_before`.
+    BlockInsertBefore,
+    /// `basic_block::insert_after`.
+    BlockInsertAfter,
+    /// `basic_block::unlink`.
+    BlockUnlink,
+    /// `basic_block::append_linked_list`.
+    BlockAppendLinkedList,
+    /// `region::deref`.
+    RegionDeref,
+    /// `region::get_parent_op`.
+    RegionGetParentOp,
+    /// `region::get_parent_block`.
+    RegionGetParentBlock,
+    /// `region::get_parent_region`.
+    RegionGetParentRegion,
+    /// `region::get_entry_block`.
+    RegionGetEntryBlock,
+    /// `region::get_head`.
+    RegionGetHead,
+    /// `region::get_tail`.
+    RegionGetTail,
+    /// `region::iter`.
+    RegionIter,
+    /// `region::find_index_in_parent`.
+    RegionFindIndexInParent,
+    /// `region::has_ssa_dominance`.
+    RegionHasSsaDominance,
+    /// `region::append_linked_list`.
+    RegionAppendLinkedList,
+    /// `region::move_to_op`.
+    RegionMoveToOp,
+    /// `region::drop_all_uses`.
+    RegionDropAllUses,
+    /// `operation::drop_all_uses`.
+    OperationDropAllUses,
+    /// `operation::erase`.
+    OperationErase,
+    /// `operation::erase_region`.
+    OperationEraseRegion,
+    /// `basic_block::drop_all_uses`.
+    BlockDropAllUses,
+    /// `basic_block::erase`.
+    BlockErase,
+    /// `operation::get_parent_block`.
+    OperationGetParentBlock,
+    /// `operation::get_parent_region`.
+    OperationGetParentRegion,
+    /// `operation::get_parent_op`.
+    OperationGetParentOp,
+    /// `operation::get_next`.
+    OperationGetNext,
+    /// `operation::get_prev`.
+    OperationGetPrev,
+    /// `operation::has_use`.
+    OperationHasUse,
+    /// `operation::num_uses`.
+    OperationNumUses,
+    /// `operation::uses`.
+    OperationUses,
+    /// `basic_block::deref`.
+    BlockDeref,
+    /// `basic_block::deref_mut`.
+    BlockDerefMut,
+    /// `basic_block::get_argument`.
+    BlockGetArgument,
+    /// `basic_block::given_name`.
+    BlockGivenName,
+    /// `basic_block::id`.
+    BlockId,
+    /// `basic_block::unique_name`.
+    BlockUniqueName,
+    /// `basic_block::get_parent_region`.
+    BlockGetParentRegion,
+    /// `basic_block::get_parent_op`.
+    BlockGetParentOp,
+    /// `basic_block::get_parent_block`.
+    BlockGetParentBlock,
+    /// `basic_block::preds_are_linked`.
+    BlockPredsAreLinked,
+    /// `basic_block::get_next`.
+    BlockGetNext,
+    /// `basic_block::get_prev`.
+    BlockGetPrev,
+    /// `basic_block::get_head`.
+    BlockGetHead,
+    /// `basic_block::get_tail`.
+    BlockGetTail,
+    /// `basic_block::iter`.
+    BlockIter,
+    /// `basic_block::has_pred`.
+    BlockHasPred,
+    /// `basic_block::num_preds`.
+    BlockNumPreds,
+    /// `basic_block::uses`.
+    BlockUses,
+    /// `basic_block::retarget_all_preds_to`.
+    BlockRetargetAllPredsTo,
+    /// `basic_block::retarget_some_preds_to`.
+    BlockRetargetSomePredsTo,
+    /// `basic_block::retarget_pred_to`.
+    BlockRetargetPredTo,
+    /// `value::find_index`.
+    ValueFindIndex,
+    /// `value::num_uses`.
+    ValueNumUses,
+    /// `value::is_used`.
+    ValueIsUsed,
+    /// `value::uses`.
+    ValueUses,
+    /// `value::get_type`.
+    ValueGetType,
+    /// `value::loc`.
+    ValueLoc,
+    /// `value::get_parent_block`.
+    ValueGetParentBlock,
+    /// `value::get_parent_region`.
+    ValueGetParentRegion,
+    /// `value::given_name`.
+    ValueGivenName,
+    /// `value::id`.
+    ValueId,
+    /// `value::unique_name`.
+    ValueUniqueName,
+    /// `value::set_type`.
+    ValueSetType,
+    /// `value::set_name`.
+    ValueSetName,
+    /// `value::replace_all_uses_with`.
+    ValueReplaceAllUsesWith,
+    /// `value::replace_some_uses_with`.
+    ValueReplaceSomeUsesWith,
+    /// `value::replace_use_with`.
+    ValueReplaceUseWith,
+    /// `operand_use::find_index`.
+    OperandUseFindIndex,
+    /// `operand_use::get_def`.
+    OperandUseGetDef,
+    /// `operand_use::get_type`.
+    OperandUseGetType,
+    /// `successor_use::find_index`.
+    SuccessorUseFindIndex,
+    /// `successor_use::get_def`.
+    SuccessorUseGetDef,
+    /// `types::deref`.
+    TypesDeref,
+    /// `types::body`.
+    TypesBody,
+    /// `types::set_body`.
+    TypesSetBody,
+    /// `entity::can_erase`.
+    EntityCanErase,
+    /// `context::with_limits`.
+    ContextWithLimits,
+    /// `uniqued_any::get`.
+    UniquedAnyGet,
+}
+
+impl Call {
+    /// Its module and its name.
+    pub fn name(self) -> &'static str {
+        match self {
+            Call::OperationDeref => "operation::deref",
+            Call::OperationDerefMut => "operation::deref_mut",
+            Call::OperationGetResult => "operation::get_result",
+            Call::OperationGetOperand => "operation::get_operand",
+            Call::OperationGetOperandAsUse => "operation::get_operand_as_use",
+            Call::OperationGetSuccessor => "operation::get_successor",
+            Call::OperationGetSuccessorAsUse => "operation::get_successor_as_use",
+            Call::OperationGetType => "operation::get_type",
+            Call::OperationGetRegion => "operation::get_region",
+            Call::OperationNew => "operation::new",
+            Call::BlockNew => "basic_block::new",
+            Call::OperationAddRegion => "operation::add_region",
+            Call::OperationPushOperand => "operation::push_operand",
+            Call::OperationInsertOperand => "operation::insert_operand",
+            Call::OperationReplaceOperand => "operation::replace_operand",
+            Call::OperationRemoveOperand => "operation::remove_operand",
+            Call::OperationPopOperand => "operation::pop_operand",
+            Call::OperationPushSuccessor => "operation::push_successor",
+            Call::OperationInsertSuccessor => "operation::insert_successor",
+            Call::OperationReplaceSuccessor => "operation::replace_successor",
+            Call::OperationRemoveSuccessor => "operation::remove_successor",
+            Call::OperationPopSuccessor => "operation::pop_successor",
+            Call::OperationPushResult => "operation::push_result",
+            Call::OperationInsertResult => "operation::insert_result",
+            Call::OperationRemoveResult => "operation::remove_result",
+            Call::OperationPopResult => "operation::pop_result",
+            Call::BlockPushArgument => "basic_block::push_argument",
+            Call::BlockInsertArgument => "basic_block::insert_argument",
+            Call::BlockRemoveArgument => "basic_block::remove_argument",
+            Call::BlockPopArgument => "basic_block::pop_argument",
+            Call::OperationInsertAtFront => "operation::insert_at_front",
+            Call::OperationInsertAtBack => "operation::insert_at_back",
+            Call::OperationInsertBefore => "operation::insert_before",
+            Call::OperationInsertAfter => "operation::insert_after",
+            Call::OperationUnlink => "operation::unlink",
+            Call::BlockInsertAtFront => "basic_block::insert_at_front",
+            Call::BlockInsertAtBack => "basic_block::insert_at_back",
+            Call::BlockInsertBefore => "basic_block::insert_before",
+            Call::BlockInsertAfter => "basic_block::insert_after",
+            Call::BlockUnlink => "basic_block::unlink",
+            Call::BlockAppendLinkedList => "basic_block::append_linked_list",
+            Call::RegionDeref => "region::deref",
+            Call::RegionGetParentOp => "region::get_parent_op",
+            Call::RegionGetParentBlock => "region::get_parent_block",
+            Call::RegionGetParentRegion => "region::get_parent_region",
+            Call::RegionGetEntryBlock => "region::get_entry_block",
+            Call::RegionGetHead => "region::get_head",
+            Call::RegionGetTail => "region::get_tail",
+            Call::RegionIter => "region::iter",
+            Call::RegionFindIndexInParent => "region::find_index_in_parent",
+            Call::RegionHasSsaDominance => "region::has_ssa_dominance",
+            Call::RegionAppendLinkedList => "region::append_linked_list",
+            Call::RegionMoveToOp => "region::move_to_op",
+            Call::RegionDropAllUses => "region::drop_all_uses",
+            Call::OperationDropAllUses => "operation::drop_all_uses",
+            Call::OperationErase => "operation::erase",
+            Call::OperationEraseRegion => "operation::erase_region",
+            Call::BlockDropAllUses => "basic_block::drop_all_uses",
+            Call::BlockErase => "basic_block::erase",
+            Call::OperationGetParentBlock => "operation::get_parent_block",
+            Call::OperationGetParentRegion => "operation::get_parent_region",
+            Call::OperationGetParentOp => "operation::get_parent_op",
+            Call::OperationGetNext => "operation::get_next",
+            Call::OperationGetPrev => "operation::get_prev",
+            Call::OperationHasUse => "operation::has_use",
+            Call::OperationNumUses => "operation::num_uses",
+            Call::OperationUses => "operation::uses",
+            Call::BlockDeref => "basic_block::deref",
+            Call::BlockDerefMut => "basic_block::deref_mut",
+            Call::BlockGetArgument => "basic_block::get_argument",
+            Call::BlockGivenName => "basic_block::given_name",
+            Call::BlockId => "basic_block::id",
+            Call::BlockUniqueName => "basic_block::unique_name",
+            Call::BlockGetParentRegion => "basic_block::get_parent_region",
+            Call::BlockGetParentOp => "basic_block::get_parent_op",
+            Call::BlockGetParentBlock => "basic_block::get_parent_block",
+            Call::BlockPredsAreLinked => "basic_block::preds_are_linked",
+            Call::BlockGetNext => "basic_block::get_next",
+            Call::BlockGetPrev => "basic_block::get_prev",
+            Call::BlockGetHead => "basic_block::get_head",
+            Call::BlockGetTail => "basic_block::get_tail",
+            Call::BlockIter => "basic_block::iter",
+            Call::BlockHasPred => "basic_block::has_pred",
+            Call::BlockNumPreds => "basic_block::num_preds",
+            Call::BlockUses => "basic_block::uses",
+            Call::BlockRetargetAllPredsTo => "basic_block::retarget_all_preds_to",
+            Call::BlockRetargetSomePredsTo => "basic_block::retarget_some_preds_to",
+            Call::BlockRetargetPredTo => "basic_block::retarget_pred_to",
+            Call::ValueFindIndex => "value::find_index",
+            Call::ValueNumUses => "value::num_uses",
+            Call::ValueIsUsed => "value::is_used",
+            Call::ValueUses => "value::uses",
+            Call::ValueGetType => "value::get_type",
+            Call::ValueLoc => "value::loc",
+            Call::ValueGetParentBlock => "value::get_parent_block",
+            Call::ValueGetParentRegion => "value::get_parent_region",
+            Call::ValueGivenName => "value::given_name",
+            Call::ValueId => "value::id",
+            Call::ValueUniqueName => "value::unique_name",
+            Call::ValueSetType => "value::set_type",
+            Call::ValueSetName => "value::set_name",
+            Call::ValueReplaceAllUsesWith => "value::replace_all_uses_with",
+            Call::ValueReplaceSomeUsesWith => "value::replace_some_uses_with",
+            Call::ValueReplaceUseWith => "value::replace_use_with",
+            Call::OperandUseFindIndex => "operand_use::find_index",
+            Call::OperandUseGetDef => "operand_use::get_def",
+            Call::OperandUseGetType => "operand_use::get_type",
+            Call::SuccessorUseFindIndex => "successor_use::find_index",
+            Call::SuccessorUseGetDef => "successor_use::get_def",
+            Call::TypesDeref => "types::deref",
+            Call::TypesBody => "types::body",
+            Call::TypesSetBody => "types::set_body",
+            Call::EntityCanErase => "entity::can_erase",
+            Call::ContextWithLimits => "context::with_limits",
+            Call::UniquedAnyGet => "uniqued_any::get",
+        }
+    }
+}
+
+impl Display for Call {
+    ghost use Rattle.std.specs.Prelude.{None};
+
+    ghost output = { λ _. None };
+
+    fn fmt<W: Write>(&self, f: &mut fmt::Formatter<W>) -> fmt::Result {
+        f.write_str(self.name())
+    }
+}
+
+/// What a call asks for, and doesn't find.
+#[derive(Clone, Copy, Debug, Drop, PartialEq, Eq, Error)]
+pub enum Condition {
+    /// An operation isn't live.
+    #[error("the operation isn't live")]
+    DeadOperation,
+    /// A block isn't live.
+    #[error("the block isn't live")]
+    DeadBlock,
+    /// A region isn't live.
+    #[error("the region isn't live")]
+    DeadRegion,
+    /// A value isn't live.
+    #[error("the value isn't live")]
+    DeadValue,
+    /// A use isn't live.
+    #[error("the use isn't live")]
+    DeadUse,
+    /// An index is out of range, or what is asked for isn't there.
+    #[error("the index is out of range")]
+    OutOfRange,
+    /// What would be put into a list stands in one already.
+    #[error("it stands in a list already")]
+    Linked,
+    /// It stands in no list.
+    #[error("it stands in no list")]
+    Unlinked,
+    /// Something would stand inside itself.
+    #[error("it would stand inside itself")]
+    InsideItself,
+    /// A definition that would go is named by an operation.
+    #[error("it is used")]
+    Used,
+    /// The use is one of another definition.
+    #[error("the use is not its own")]
+    NotItsUse,
+    /// The context has no such type.
+    #[error("the type isn't known")]
+    UnknownType,
+    /// The context has no saved value of this kind under the key.
+    #[error("the key isn't known")]
+    UnknownKey,
+    /// An operation that names the block stands in no block.
+    #[error("an operation that names the block stands in no block")]
+    UsersUnlinked,
+    /// Something outside names what is defined inside.
+    #[error("something outside names what is defined inside")]
+    NotClosed,
+}
+
+/// A condition that doesn't hold, and the call that has it.
+#[derive(Clone, Copy, Debug, Drop, PartialEq, Eq, Error)]
+#[error("{call}: {condition}")]
+pub struct Unmet {
+    /// The call.
+    pub call: Call,
+    /// The first of its conditions that doesn't hold.
+    pub condition: Condition,
+}
+
+/// Why a checked call gives nothing.
+#[derive(Clone, Copy, Debug, Drop, PartialEq, Eq, Error)]
+pub enum CheckedErr {
+    /// A condition doesn't hold, so the call wasn't made, and nothing has changed.
+    #[error(transparent)]
+    Unmet(Unmet),
+    /// The call was made, and refused for memory, numbers or slots.
+    #[error(transparent)]
+    Core(CoreError),
+}
+
+impl From<CoreError> for CheckedErr {
+    ghost use Rattle.std.specs.Prelude.{◌≡◌};
+    ghost use Rattle.ir_checked_core.specs.declared.error.CheckedErr.TheVariants.{Core};
+
+    ghost from_gives = { λ error answer. answer ≡ Core error };
+
+    fn from(error: CoreError) -> CheckedErr {
+        CheckedErr::Core(error)
+    }
+}
+
+impl From<AllocError> for CheckedErr {
+    ghost use Rattle.std.specs.Prelude.{◌≡◌};
+    ghost use Rattle.ir_checked_core.specs.Answers.{out_of_memory};
+
+    ghost from_gives = { λ _ answer. answer ≡ out_of_memory };
+
+    fn from(_error: AllocError) -> CheckedErr {
+        CheckedErr::Core(CoreError::OutOfMemory)
+    }
+}
+
+impl<T: Drop> From<AllocFailed<T>> for CheckedErr {
+    ghost use Rattle.std.specs.Prelude.{◌≡◌};
+    ghost use Rattle.ir_checked_core.specs.Answers.{out_of_memory};
+
+    ghost from_gives = { λ _ answer. answer ≡ out_of_memory };
+
+    fn from(_error: AllocFailed<T>) -> CheckedErr {
+        CheckedErr::Core(CoreError::OutOfMemory)
+    }
+}
+
+// That this condition of this call doesn't hold.
+macro_rules! fault {
+    ($call:ident, $condition:ident) => {
+        CheckedErr::Unmet(Unmet {
+            call: Call::$call,
+            condition: Condition::$condition,
+        })
+    };
+}
+
+pub(crate) use fault;

@@ -1,0 +1,17 @@
+mod Scopes
+mod FirstRows
+mod GivenNames
+mod NamedBlocks
+mod KeyFaults
+mod Tallies
+mod ValuesBefore
+mod ValuesBehind
+mod ValueFaults
+mod Tables
+mod OneMeaning
+mod FirstOfAll
+mod Amounts
+mod ResultNumbers
+mod Indices
+mod PlacedRows
+mod TypeFaults

@@ -1,0 +1,17 @@
+use Rattle.std.proofs.Common.{◌≡◌, ℕ, ◌+◌, length, Option, sym, subst, arith}
+use Rattle.ir_text_names.specs.Firsts.{IsFirst}
+use Rattle.ir_text_names.specs.Types.{IsEntryOther}
+use Rattle.ir_text_names.proofs.FirstRows.{first_more}
+use Rattle.ir_text_names.proofs.value_types.first_other_type.Goals as goal
+
+pub loop-at-preserved : goal.loop-at-preserved
+loop-at-preserved c =
+    let l = c.loop-at in
+    let P : ℕ → Type 0 = IsEntryOther c.args.tables.now.text.now c.args.tables.now.rows.now c.args.table.now in
+    subst (λ (o : Option ℕ). IsFirst P (l.at + 1) o) (sym c.noted-first.ensures) (first_more P l.at l.first c.is_entry_other.result c.is_entry_other.ensures.0 c.is_entry_other.ensures.1 l.invariant)
+
+pub returns : goal.returns
+returns c =
+    let l = c.loop-at in
+    let end : l.at ≡ length c.args.tables.now.rows.now = omega (arith, c.requires.room) in
+    subst (λ (n : ℕ). IsFirst (IsEntryOther c.args.tables.now.text.now c.args.tables.now.rows.now c.args.table.now) n l.first) end l.invariant

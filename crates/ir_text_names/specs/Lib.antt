@@ -1,0 +1,14 @@
+pub mod Rows
+pub mod Places
+pub mod Firsts
+pub mod Given
+pub mod Blocks
+pub mod Keys
+pub mod Counts
+pub mod Values
+pub mod Types
+pub mod TypeTables
+pub mod Uses
+pub mod Resolved
+pub mod Numbers
+pub mod Indices

@@ -1,0 +1,55 @@
+//! All names of a tree.
+ghost use Rattle.std.specs.Prelude.{length, IfOk};
+ghost use Rattle.ir_text_names.specs.Blocks.{AreBlocksNamed};
+ghost use Rattle.ir_text_names.specs.Firsts.{IsChecked};
+ghost use Rattle.ir_text_names.specs.Resolved.{IsWrong};
+ghost use Rattle.ir_text_names.specs.Values.{AreValuesNamed};
+
+use crate::block_names::block_table;
+use crate::counting::type_fault;
+use crate::dictionary_keys::key_fault;
+use crate::fault::Fault;
+use crate::firsts::{fault_of, sooner};
+use crate::result_numbers::result_fault;
+use crate::value_names::value_table;
+use ir_text_tree::Row;
+use std::alloc::Global;
+
+/// What the names of a tree mean.
+#[derive(Debug, Drop)]
+pub struct Names {
+    /// For each row the row of the block that it names, if it is a successor.
+    pub blocks: Vec<Option<usize>>,
+    /// For each row the row of the definition that it names, if it is an operand.
+    pub values: Vec<Option<usize>>,
+}
+
+/// What the names of a tree of that text mean.
+///
+/// # Errors
+/// `OutOfMemory`, and else the first fault in the text.
+pub fn resolve(alloc: Global, text: &[u8], rows: &[Row]) -> Result<Names, Fault>
+    // A successor means the block of its name in its own region.
+    ensures blocks { IfOk result (λ n. AreBlocksNamed text.now rows.now (length rows.now) n.blocks.items) }
+    // An operand means the definition of its name in its own region or in one around that.
+    ensures values { IfOk result (λ n. AreValuesNamed text.now rows.now (length rows.now) n.values.items) }
+    // All is well, or the first fault is told.
+    ensures checked { IsChecked (IsWrong text.now rows.now) rows.now result }
+{
+    let blocks = block_table(alloc, text, rows)?;
+    let keys = key_fault(alloc, text, rows)?;
+    let types = type_fault(alloc, rows)?;
+    let results = result_fault(alloc, text, rows)?;
+    let values = value_table(alloc, text, rows)?;
+    let places = sooner(blocks.found, keys);
+    let counts = sooner(types, results);
+    let uses = sooner(counts, values.found);
+    let found = sooner(places, uses);
+    match fault_of(rows, found) {
+        Some(fault) => Err(fault),
+        None => Ok(Names {
+            blocks: blocks.table,
+            values: values.table,
+        }),
+    }
+}

@@ -1,0 +1,129 @@
+//! Numbers of results: how many stand under a name, and how many an operation has.
+ghost use Rattle.std.specs.Prelude.{◌≡◌, ◌≢◌, ℕ, ◌+◌, ◌<◌, length, Some, IfOk, IsTrue, ◌↔◌, slice_index_or};
+ghost use Rattle.std.specs.Option.{unwrap_or};
+ghost use Rattle.ir_text_tree.specs.declared.row.Part.TheVariants as parts;
+ghost use Rattle.ir_text_names.specs.Firsts.{IsChecked, IsFirst, IsFirstWrong};
+ghost use Rattle.ir_text_names.specs.Numbers.{amount_of, number_in, is_count, width, results_on, results_before, IsNoCount, IsResultWrong};
+ghost use Rattle.ir_text_names.specs.Rows.{part_of};
+
+use crate::counting::{Counted, counts};
+use crate::fault::{Fault, Wrong};
+use crate::firsts::{Found, fault_of, noted, sooner, told};
+use crate::numbers::{Amount, is_number, is_zero, number_in, or_zero, sum_of};
+use crate::rows::{operations, piece};
+use ir_text_tree::{Part, Row};
+use std::alloc::{AllocError, Global};
+
+// Whether the part says how many results stand under a name.
+fn is_count(part: Part) -> bool
+    ensures { result ≡ is_count part }
+{
+    match part {
+        Part::Count => true,
+        _ => false,
+    }
+}
+
+/// How many values stand under the name that the row gives.
+pub(crate) fn width(text: &[u8], rows: &[Row], row: usize) -> Amount
+    requires { row < length rows.now }
+    ensures { result ≡ amount_of (Some (width text.now rows.now row)) }
+{
+    if row + 1 < rows.len() {
+        let next = rows[row + 1];
+        if is_count(next.part) {
+            or_zero(number_in(piece(text, next.span)))
+        } else {
+            Amount::Small(1)
+        }
+    } else {
+        Amount::Small(1)
+    }
+}
+
+/// The results so far, behind a row.
+pub(crate) fn results_on(part: Part, more: Amount, before: Amount) -> Amount
+    ensures { (n m : ℕ) → before ≡ amount_of (Some n) → more ≡ amount_of (Some m) → result ≡ amount_of (Some (results_on part m n)) }
+{
+    match part {
+        Part::Result => sum_of(before, more),
+        Part::Count => before,
+        _ => Amount::Small(0),
+    }
+}
+
+// Whether the part says how many results stand under a name, and is no number, or 0.
+fn is_bad_count(part: Part, text: &[u8]) -> bool
+    ensures { IsTrue result ↔ ((part ≡ parts.Count) × (unwrap_or (number_in text.now) 0 ≡ 0)) }
+{
+    match part {
+        Part::Count => is_zero(number_in(text)),
+        _ => false,
+    }
+}
+
+// Whether the part is the name of an operation, and the results before it are not so many.
+fn is_other(part: Part, results: Amount, number: usize) -> bool
+    ensures { (n : ℕ) → results ≡ amount_of (Some n) → (IsTrue result ↔ ((part ≡ parts.Name) × (n ≢ number))) }
+{
+    match part {
+        Part::Name => !is_number(results, number),
+        _ => false,
+    }
+}
+
+// The first number of results that is none.
+fn first_bad_count(text: &[u8], rows: &[Row]) -> Option<usize>
+    ensures { IsFirst (IsNoCount text.now rows.now) (length rows.now) result }
+{
+    let mut first = None;
+    for (at, row) in rows.iter().enumerate() {
+        first = noted(first, at, is_bad_count(row.part, piece(text, row.span)));
+    }
+    first
+}
+
+// The first operation that has not as many results as these numbers say, each behind the operation's name.
+fn first_other_results(text: &[u8], rows: &[Row], types: &[usize]) -> Option<usize>
+    requires { length types.now ≡ length rows.now + 1 }
+    ensures { IsFirst (λ i. (part_of rows.now i ≡ parts.Name) × (results_before text.now rows.now i ≢ slice_index_or types.now (i + 1) 0)) (length rows.now) result }
+{
+    let mut first = None;
+    let mut results = Amount::Small(0);
+    for (at, row) in rows.iter().enumerate() {
+        first = noted(first, at, is_other(row.part, results, types[at + 1]));
+        let more = width(text, rows, at);
+        results = results_on(row.part, more, results);
+    }
+    first
+}
+
+/// The first number of results that is none, or operation that has more or fewer result types than results.
+pub(crate) fn result_fault(
+    alloc: Global,
+    text: &[u8],
+    rows: &[Row],
+) -> Result<Option<Found>, AllocError>
+    ensures { IfOk result (λ f. IsFirstWrong (IsResultWrong text.now rows.now) (length rows.now) f) }
+{
+    let operations = operations(alloc, rows)?;
+    let types = counts(alloc, Counted::ResultTypes, rows, &operations)?;
+    let uneven = told(first_other_results(text, rows, &types), Wrong::ResultTypes);
+    let unread = told(first_bad_count(text, rows), Wrong::ResultCount);
+    let found = sooner(unread, uneven);
+    Ok(found)
+}
+
+/// Whether each operation of a tree of that text has as many result types as results, where `%x:2` stands for two.
+///
+/// # Errors
+/// `OutOfMemory`, and else the first number of results that is no decimal number, or 0, or the name of the first operation that has more or fewer result types.
+pub fn result_types(alloc: Global, text: &[u8], rows: &[Row]) -> Result<(), Fault>
+    ensures { IsChecked (IsResultWrong text.now rows.now) rows.now result }
+{
+    let found = result_fault(alloc, text, rows)?;
+    match fault_of(rows, found) {
+        Some(fault) => Err(fault),
+        None => Ok(()),
+    }
+}

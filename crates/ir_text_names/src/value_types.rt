@@ -1,0 +1,214 @@
+//! Operands' types against those of the values that they name.
+ghost use Rattle.std.specs.Prelude.{◌≡◌, ◌≢◌, ℕ, ◌<◌, Some, None, length, slice_index_or, IfOk, IsTrue, ◌↔◌};
+ghost use Rattle.ir_text_names.specs.Firsts.{IsFirst};
+ghost use Rattle.ir_text_names.specs.Rows.{text_of};
+ghost use Rattle.ir_text_names.specs.Types.{HasOtherType, HasOtherTypeAt, IsEntryOther, IsTypeOther, IsOperandType, IsResultType, IsArgumentType, IsValueType};
+ghost use Rattle.ir_text_tree.specs.declared.row.Part.TheVariants as parts;
+ghost use Rattle.ir_text_names.specs.TypeTables.{AreTypeTables};
+ghost use Rattle.ir_text_names.specs.Values.{IsNamedUnlessAgain, IsValueAgain};
+
+use crate::counting::Counted;
+use crate::firsts::noted;
+use crate::numbers::{Amount, sum_of};
+use crate::rows::{operations, piece};
+use crate::type_places::{amount_at, find_spot, next_operations, number_at, placed, results_table};
+use crate::value_numbers::which;
+use ir_text_tree::{Part, Row};
+use std::alloc::{AllocError, Global};
+use std::collections::HashMap;
+
+/// What is known of the types of a tree.
+#[derive(Drop)]
+pub(crate) struct TypeTables<'a> {
+    // The text.
+    text: &'a [u8],
+    // The rows.
+    rows: &'a [Row],
+    // For each row its operation.
+    operations: Vec<usize>,
+    // For each operand its place among those of its operation.
+    places: Vec<usize>,
+    // Operands' types by their operation and place.
+    types: HashMap<(usize, usize), usize>,
+    // Results' types by their operation and place.
+    results: HashMap<(usize, usize), usize>,
+    // For each row the operation that comes next.
+    next: Vec<usize>,
+    // For each row how many results stand in front of it.
+    before: Vec<Amount>,
+}
+
+/// What is known of the types of that tree.
+pub(crate) fn type_tables<'a>(
+    alloc: Global,
+    text: &'a [u8],
+    rows: &'a [Row],
+) -> Result<TypeTables<'a>, AllocError>
+    ensures tables { IfOk result AreTypeTables }
+    ensures text { IfOk result (λ t. t.text.now ≡ text.now) }
+    ensures rows { IfOk result (λ t. t.rows.now ≡ rows.now) }
+{
+    let operations = operations(alloc, rows)?;
+    let operands = placed(alloc, Counted::Operands, rows, &operations)?;
+    let types = placed(alloc, Counted::OperandTypes, rows, &operations)?;
+    let results = placed(alloc, Counted::ResultTypes, rows, &operations)?;
+    let next = next_operations(alloc, rows)?;
+    let before = results_table(alloc, text, rows)?;
+    Ok(TypeTables {
+        text,
+        rows,
+        operations,
+        places: operands.places,
+        types: types.spots,
+        results: results.spots,
+        next,
+        before,
+    })
+}
+
+// The type of an operand.
+fn operand_type(tables: &TypeTables, operand: usize) -> Option<usize>
+    requires tables { AreTypeTables tables.now }
+    requires within { operand < length tables.now.rows.now }
+    ensures { (t : ℕ) → (result ≡ Some t) ↔ IsOperandType tables.now.rows.now operand t }
+{
+    let operation = number_at(&tables.operations, operand);
+    let place = number_at(&tables.places, operand);
+    find_spot(&tables.types, operation, place)
+}
+
+// The type of the result with that number under the name that a row gives.
+fn result_type(tables: &TypeTables, definition: usize, number: usize) -> Option<usize>
+    requires tables { AreTypeTables tables.now }
+    requires within { definition < length tables.now.rows.now }
+    ensures { (s : ℕ) → (result ≡ Some s) ↔ IsResultType tables.now.text.now tables.now.rows.now definition number s }
+{
+    let before = amount_at(&tables.before, definition);
+    let operation = number_at(&tables.next, definition);
+    match sum_of(before, Amount::Small(number)) {
+        Amount::Small(place) => find_spot(&tables.results, operation, place),
+        _ => None,
+    }
+}
+
+// The row behind, if it is such a type.
+fn if_argument_type(part: Part, row: usize) -> Option<usize>
+    ensures { (s : ℕ) → (result ≡ Some s) ↔ ((s ≡ row) × (part ≡ parts.ArgumentType)) }
+{
+    match part {
+        Part::ArgumentType => Some(row),
+        _ => None,
+    }
+}
+
+// The type of the argument whose name that row is.
+fn argument_type(rows: &[Row], definition: usize) -> Option<usize>
+    requires { definition < length rows.now }
+    ensures { (s : ℕ) → (result ≡ Some s) ↔ IsArgumentType rows.now definition s }
+{
+    if definition + 1 < rows.len() {
+        if_argument_type(rows[definition + 1].part, definition + 1)
+    } else {
+        None
+    }
+}
+
+// The type of the value with that number under the name that a row gives.
+fn value_type(tables: &TypeTables, definition: usize, number: usize) -> Option<usize>
+    requires tables { AreTypeTables tables.now }
+    requires within { definition < length tables.now.rows.now }
+    ensures { (s : ℕ) → (result ≡ Some s) ↔ IsValueType tables.now.text.now tables.now.rows.now definition number s }
+{
+    match tables.rows[definition].part {
+        Part::Argument => argument_type(tables.rows, definition),
+        Part::Result => result_type(tables, definition, number),
+        _ => None,
+    }
+}
+
+// Whether the texts of two rows differ.
+fn differ(text: &[u8], rows: &[Row], one: usize, other: usize) -> bool
+    requires one { one < length rows.now }
+    requires other { other < length rows.now }
+    ensures { IsTrue result ↔ (text_of text.now rows.now one ≢ text_of text.now rows.now other) }
+{
+    piece(text, rows[one].span) != piece(text, rows[other].span)
+}
+
+// Whether an operand has another type than the value with that number under the name that a row gives.
+fn has_other_type_at(tables: &TypeTables, operand: usize, definition: usize, number: usize) -> bool
+    requires tables { AreTypeTables tables.now }
+    requires operand { operand < length tables.now.rows.now }
+    requires definition { definition < length tables.now.rows.now }
+    ensures { IsTrue result ↔ HasOtherTypeAt tables.now.text.now tables.now.rows.now operand definition number }
+{
+    match value_type(tables, definition, number) {
+        Some(value) => match operand_type(tables, operand) {
+            Some(own) => differ(tables.text, tables.rows, own, value),
+            None => false,
+        },
+        None => false,
+    }
+}
+
+// Whether an operand has another type than the value that it names.
+fn has_other_type(tables: &TypeTables, operand: usize, definition: usize) -> bool
+    requires tables { AreTypeTables tables.now }
+    requires operand { operand < length tables.now.rows.now }
+    requires definition { definition < length tables.now.rows.now }
+    ensures { IsTrue result ↔ HasOtherType tables.now.text.now tables.now.rows.now operand definition }
+{
+    match which(tables.text, tables.rows, operand) {
+        Amount::Small(number) => has_other_type_at(tables, operand, definition, number),
+        _ => false,
+    }
+}
+
+// Whether an operand has another type than the value of an entry.
+fn is_entry_other(tables: &TypeTables, operand: usize, entry: Option<usize>) -> bool
+    requires tables { AreTypeTables tables.now }
+    requires operand { operand < length tables.now.rows.now }
+    ensures { IsTrue result ↔ ((d : ℕ) × (entry ≡ Some d) × (d < length tables.now.rows.now) × HasOtherType tables.now.text.now tables.now.rows.now operand d) }
+{
+    match entry {
+        None => false,
+        Some(definition) => {
+            if definition < tables.rows.len() {
+                has_other_type(tables, operand, definition)
+            } else {
+                false
+            }
+        }
+    }
+}
+
+// The first operand that has another type than the value that it names.
+fn first_other_type(tables: &TypeTables, table: &[Option<usize>]) -> Option<usize>
+    requires tables { AreTypeTables tables.now }
+    requires room { length table.now ≡ length tables.now.rows.now }
+    ensures { IsFirst (IsEntryOther tables.now.text.now tables.now.rows.now table.now) (length tables.now.rows.now) result }
+{
+    let mut first = None;
+    for (at, entry) in table.iter().enumerate() {
+        first = noted(first, at, is_entry_other(tables, at, *entry));
+    }
+    first
+}
+
+/// The first operand that has another type than the value that it names, where nothing is defined twice.
+pub(crate) fn other_type(
+    tables: &TypeTables,
+    again: Option<usize>,
+    table: &[Option<usize>],
+) -> Option<usize>
+    requires tables { AreTypeTables tables.now }
+    requires again { IsFirst (IsValueAgain tables.now.text.now tables.now.rows.now) (length tables.now.rows.now) again }
+    requires room { length table.now ≡ length tables.now.rows.now }
+    requires named { (u : ℕ) → u < length tables.now.rows.now → IsNamedUnlessAgain tables.now.text.now tables.now.rows.now u (slice_index_or table.now u None) }
+    ensures { IsFirst (IsTypeOther tables.now.text.now tables.now.rows.now) (length tables.now.rows.now) result }
+{
+    match again {
+        Some(_) => None,
+        None => first_other_type(tables, table),
+    }
+}

@@ -1,0 +1,82 @@
+-- Writes one behind the other: what was written before, and what is still written, are one total.
+use Rattle.std.proofs.Common.{◌≡◌, ℕ, ◌-◌, Bool, false, List, [], ◌∷◌, ◌++◌, length, take, drop, Option, Some, Result, Ok, Err, sym, ap, subst, ◌∙◌, append_assoc, take-append-drop}
+use Rattle.std.proofs.lemmas.List.{take_rest}
+use Rattle.std.specs.Prelude.{if◌then◌else◌}
+use Rattle.std.specs.Io.KnownBytes.{Appends, WriteAppends}
+use Rattle.std.proofs.KnownBytes.{Appends-trans, Appends-kept}
+use Rattle.ir_text_tree.specs.declared.row.Part.{Part}
+use Rattle.ir_text_tree.specs.declared.row.Row.{Row}
+use Rattle.ir_text_spelling.specs.Marks.{is_joined, joint, closing, opening, to_line_end, before, between, ending}
+use Rattle.ir_text_spelling.specs.Spellings.{piece, spelled}
+use Rattle.ir_text_spelling.specs.Writings.{AppendsFront, Writes}
+use Rattle.ir_text_spelling.proofs.SpellingSteps.{goes_on, ends}
+
+pub front_here : (a b : Option (List ℕ)) (all done rest : List ℕ) → all ≡ done ++ rest → Appends a b done → AppendsFront a b all
+front_here a b all done rest e p = (done, rest, e, p)
+
+front_after : (a b c : Option (List ℕ)) (x y : List ℕ) → Appends a b x → AppendsFront b c y → AppendsFront a c (x ++ y)
+front_after a b c x y p q = (x ++ q.0, q.1, ap (λ (l : List ℕ). x ++ l) q.2 ∙ sym (append_assoc x q.0 q.1), Appends-trans a b c x q.0 p q.3)
+
+pub front_of : (a b : Option (List ℕ)) (x y : List ℕ) → AppendsFront a b x → AppendsFront a b (x ++ y)
+front_of a b x y p = (p.0, p.1 ++ y, ap (λ (l : List ℕ). l ++ y) p.2 ∙ append_assoc p.0 p.1 y, p.3)
+
+-- a whole write, and then another
+pub then_writes : {X E : Type 0} (a b c : Option (List ℕ)) (x y : List ℕ) (r : Result X E) → Appends a b x → Writes b c y r → Writes a c (x ++ y) r
+then_writes a b c x y (Ok v) p q = Appends-trans a b c x y p q
+then_writes a b c x y (Err e) p q = front_after a b c x y p q
+
+-- ---- the bytes of one write
+
+pub moves_front : (all done rest : List ℕ) (n : ℕ) → all ≡ done ++ rest → all ≡ (done ++ take n rest) ++ take (length rest - n) (drop n rest)
+moves_front all done rest n e =
+    e ∙ ap (λ (l : List ℕ). done ++ l) (sym (take-append-drop n rest)) ∙ sym (append_assoc done (take n rest) (drop n rest)) ∙ ap (λ (l : List ℕ). (done ++ take n rest) ++ l) (sym (take_rest rest n))
+
+pub bytes_moved : {E : Type 0} (a b c : Option (List ℕ)) (all done rest : List ℕ) (r : Result ℕ E) (n : ℕ) → r ≡ Ok n → all ≡ done ++ rest → Appends a b done → WriteAppends b c r rest
+    → (more : List ℕ) × (all ≡ more ++ take (length rest - n) (drop n rest)) × Appends a c more
+bytes_moved {E = E} a b c all done rest r n is e p q =
+    (done ++ take n rest, moves_front all done rest n e, Appends-trans a b c done (take n rest) p (subst (λ (x : Result ℕ E). WriteAppends b c x rest) is q))
+
+pub bytes_kept : {E : Type 0} (a b c : Option (List ℕ)) (all done rest : List ℕ) (r : Result ℕ E) (f : E) → r ≡ Err f → all ≡ done ++ rest → Appends a b done → WriteAppends b c r rest
+    → (more : List ℕ) × (all ≡ more ++ rest) × Appends a c more
+bytes_kept {E = E} a b c all done rest r f is e p q = (done, e, Appends-kept a b c done p (subst (λ (x : Result ℕ E). WriteAppends b c x rest) is q))
+
+-- ---- what stands between two parts, and at the end
+
+parts_open : (p q : Part) (j : Bool) → j ≡ is_joined p q → j ≡ false → between p q ≡ closing p ++ opening p q
+parts_open p q j e f = ap (λ (b : Bool). if b then joint p q else (closing p ++ opening p q)) (sym e ∙ f)
+
+pub between_broke : (a b : Option (List ℕ)) (p q : Part) (j : Bool) (x : List ℕ) → j ≡ is_joined p q → j ≡ false → x ≡ closing p → AppendsFront a b x → AppendsFront a b (between p q)
+between_broke a b p q j x e f g h = subst (λ (l : List ℕ). AppendsFront a b l) (sym (parts_open p q j e f)) (front_of a b (closing p) (opening p q) (subst (λ (l : List ℕ). AppendsFront a b l) g h))
+
+pub between_wrote : {X E : Type 0} (a b c : Option (List ℕ)) (p q : Part) (j : Bool) (x y : List ℕ) (r : Result X E) → j ≡ is_joined p q → j ≡ false → x ≡ closing p → y ≡ opening p q → Appends a b x → Writes b c y r → Writes a c (between p q) r
+between_wrote a b c p q j x y r e f g i h k =
+    subst (λ (l : List ℕ). Writes a c l r) (sym (parts_open p q j e f)) (then_writes a b c (closing p) (opening p q) r (subst (λ (l : List ℕ). Appends a b l) g h) (subst (λ (l : List ℕ). Writes b c l r) i k))
+
+pub ending_broke : (a b : Option (List ℕ)) (o : Option Part) (p : Part) (x : List ℕ) → o ≡ Some p → x ≡ closing p → AppendsFront a b x → AppendsFront a b (ending o)
+ending_broke a b o p x e g h = subst (λ (z : Option Part). AppendsFront a b (ending z)) (sym e) (front_of a b (closing p) (to_line_end p) (subst (λ (l : List ℕ). AppendsFront a b l) g h))
+
+pub ending_wrote : {X E : Type 0} (a b c : Option (List ℕ)) (o : Option Part) (p : Part) (x y : List ℕ) (r : Result X E) → o ≡ Some p → x ≡ closing p → y ≡ to_line_end p → Appends a b x → Writes b c y r → Writes a c (ending o) r
+ending_wrote a b c o p x y r e g i h k =
+    subst (λ (z : Option Part). Writes a c (ending z) r) (sym e) (then_writes a b c (closing p) (to_line_end p) r (subst (λ (l : List ℕ). Appends a b l) g h) (subst (λ (l : List ℕ). Writes b c l r) i k))
+
+-- ---- the loop over the rows
+
+pub row_wrote : (a b c : Option (List ℕ)) (text done total : List ℕ) (last : Option Part) (x : Row) (rows rest : List Row) → rows ≡ x ∷ rest → Appends a b done → done ++ spelled text last rows ≡ total
+    → Appends b c (before last x.part ++ piece text x.span) → (more : List ℕ) × Appends a c more × (more ++ spelled text (Some x.part) rest ≡ total)
+row_wrote a b c text done total last x rows rest e p h q =
+    let more = before last x.part ++ piece text x.span in
+    (done ++ more, Appends-trans a b c done more p q, goes_on text done (done ++ more) total last x rows rest e (sym (append_assoc done (before last x.part) (piece text x.span))) h)
+
+pub row_broke : (a b c : Option (List ℕ)) (text done total : List ℕ) (last : Option Part) (x : Row) (rows rest : List Row) → rows ≡ x ∷ rest → Appends a b done → done ++ spelled text last rows ≡ total
+    → AppendsFront b c (before last x.part ++ piece text x.span) → AppendsFront a c total
+row_broke a b c text done total last x rows rest e p h q =
+    let more = before last x.part ++ piece text x.span in
+    subst (λ (l : List ℕ). AppendsFront a c l) (goes_on text done (done ++ more) total last x rows rest e (sym (append_assoc done (before last x.part) (piece text x.span))) h)
+    (front_of a c (done ++ more) (spelled text (Some x.part) rest) (front_after a b c done more p q))
+
+pub end_wrote : {X E : Type 0} (a b c : Option (List ℕ)) (text done total : List ℕ) (last : Option Part) (rows : List Row) (r : Result X E) → rows ≡ [] → Appends a b done → done ++ spelled text last rows ≡ total → Writes b c (ending last) r → Writes a c total r
+end_wrote a b c text done total last rows r e p h q = subst (λ (l : List ℕ). Writes a c l r) (ends text done total last rows e h) (then_writes a b c done (ending last) r p q)
+
+-- all was written into a vector that had nothing
+pub all_written : {X E : Type 0} (old items bytes : List ℕ) (r : Result X E) (x : X) → old ≡ [] → r ≡ Ok x → Writes (Some old) (Some items) bytes r → items ≡ bytes
+all_written {X = X} {E = E} old items bytes r x none e h = subst (λ (y : Result X E). Writes (Some old) (Some items) bytes y) e h ∙ ap (λ (o : List ℕ). o ++ bytes) none

@@ -1,0 +1,30 @@
+//! Bytes written to the end, or up to where the writer fails.
+ghost use Rattle.ir_text_spelling.specs.Writings.{Writes};
+
+use std::io;
+use std::io::{ErrorKind, Write};
+
+/// Writes all of these bytes.
+///
+/// # Errors
+/// What the writer answers that can't take them, unless it was interrupted.
+pub(crate) fn write_bytes<W: Write>(output: &mut W, bytes: &[u8]) -> io::Result<()>
+    ensures { Writes (W.contents output.old) (W.contents output.new) bytes.now result }
+{
+    let mut rest = bytes;
+    for _ in 0..u64::MAX {
+        if rest.is_empty() {
+            return Ok(());
+        }
+        match output.write(rest) {
+            Ok(0) => return Err(io::Error::from(ErrorKind::WriteZero)),
+            Ok(count) => rest = &rest[count..],
+            Err(error) => {
+                if error.kind() != ErrorKind::Interrupted {
+                    return Err(error);
+                }
+            }
+        }
+    }
+    Err(io::Error::from(ErrorKind::Interrupted))
+}
