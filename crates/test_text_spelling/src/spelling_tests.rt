@@ -158,10 +158,14 @@ fn push_line(out: &mut Vec<u8>, blanks: usize, line: &[u8]) -> Result<(), AllocE
 fn nest(alloc: Global, blanks: usize) -> Result<Vec<u8>, AllocError> {
     let mut out = Vec::new(alloc);
     for depth in 0..DEPTH {
-        push_line(&mut out, blanks * depth, b"\"a\"() ({\n")?;
+        push_line(&mut out, blanks.saturating_mul(depth), b"\"a\"() ({\n")?;
     }
     for depth in 0..DEPTH {
-        push_line(&mut out, blanks * (DEPTH - 1 - depth), b"}) : () -> ()\n")?;
+        push_line(
+            &mut out,
+            blanks.saturating_mul((DEPTH - 1).saturating_sub(depth)),
+            b"}) : () -> ()\n",
+        )?;
     }
     Ok(out)
 }
