@@ -9,8 +9,7 @@ use Rattle.ir_text_tokens.specs.declared.token.Token.{Token}
 use Rattle.ir_text_tokens.specs.declared.reader_step.Mode.TheVariants as mode
 use Rattle.ir_text_tokens.specs.ByteClasses.{class_ahead}
 use Rattle.ir_text_tokens.specs.Coverings.{ahead, IsToken, Skips, Parts, Covers}
-use Rattle.ir_text_tokens.proofs.Following.{Calm, first_same}
-use Rattle.ir_text_tokens.proofs.Respelling.{ahead_append}
+use Rattle.ir_text_tokens.specs.Endings.{Calm, ahead_append, first_same}
 use Rattle.ir_text_tree.specs.declared.row.Span.{Span}
 use Rattle.ir_text_tree.specs.declared.sort.Sort.{Sort}
 use Rattle.ir_text_tree.specs.declared.sort.Sort.TheVariants as s

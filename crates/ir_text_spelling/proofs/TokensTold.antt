@@ -10,8 +10,7 @@ use Rattle.ir_text_tokens.specs.declared.reader_step.Mode.TheVariants as reader
 use Rattle.ir_text_tokens.specs.ByteClasses.{class_ahead}
 use Rattle.ir_text_tokens.specs.Readings.{token}
 use Rattle.ir_text_tokens.specs.Coverings.{ahead, IsToken, Skips, is_empty, both, Covers}
-use Rattle.ir_text_tokens.proofs.Following.{Calm, first_same}
-use Rattle.ir_text_tokens.proofs.Respelling.{ahead_append}
+use Rattle.ir_text_tokens.specs.Endings.{Calm, ahead_append, first_same}
 use Rattle.ir_text_tree.specs.declared.text_step.Bracket.{Bracket}
 use Rattle.ir_text_tree.specs.declared.row.Part.{Part}
 use Rattle.ir_text_tree.specs.declared.row.Part.TheVariants as parts
@@ -35,8 +34,7 @@ use Rattle.ir_text_tree.specs.TreeSteps.{skip, put, begun, begin_text, stops_out
 use Rattle.ir_text_tree.specs.Parsings.{is_inside, ended_row, token_row, text_behind, brackets_behind, depth_behind, before_rows, parsing}
 use Rattle.ir_text_tree.specs.Rows.{row, span}
 use Rattle.ir_text_tree.specs.Trees.{StaysText, Text, text_span, IsTypeName, bare_span}
-use Rattle.ir_text_tree.proofs.ParsingSteps.{parsing_reads}
-use Rattle.ir_text_tree.proofs.TreesRead.{Steps, stop_step, bare_ends, name_step}
+use Rattle.ir_text_tree.specs.Reading.{parsing_reads, Steps, stop_step, bare_ends, name_step}
 use Rattle.ir_text_reader.specs.Pieces.{sort_of, piece as piece_of, pieces}
 use Rattle.ir_text_spelling.specs.Spellings.{piece, row_texts}
 use Rattle.ir_text_spelling.proofs.TokensPlaced.{piece_there, cut_more, length_more, IsGap, gap_covers, token_covers, link_covers, ahead_calm}

@@ -6,7 +6,7 @@ use Rattle.ir_text_tokens.specs.declared.token.Kind.TheVariants as token_kinds
 use Rattle.ir_text_tokens.specs.declared.reader_step.Mode.TheVariants as reader
 use Rattle.ir_text_tokens.specs.ByteClasses.{class_ahead}
 use Rattle.ir_text_tokens.specs.Coverings.{Skips, Covers}
-use Rattle.ir_text_tokens.proofs.Following.{Calm}
+use Rattle.ir_text_tokens.specs.Endings.{Calm}
 use Rattle.ir_text_tree.specs.declared.row.Part.{Part}
 use Rattle.ir_text_tree.specs.declared.row.Part.TheVariants as parts
 use Rattle.ir_text_tree.specs.declared.row.Row.{Row}
@@ -32,8 +32,7 @@ use Rattle.ir_text_tree.specs.TreeSteps.{skip, put, begin_text, stops_outside}
 use Rattle.ir_text_tree.specs.Parsings.{listed as one_row}
 use Rattle.ir_text_tree.specs.Rows.{row}
 use Rattle.ir_text_tree.specs.Trees.{Expected, mark, token, StaysText, Text, text_span, text_then, text_row, ResultName, Use, Entry, IsTypeName, ResultTypes, bare, listed, Head, Tail, Argument, Label, Body, Regions, done, op, block, none, one, HasNoBlocks, IsWholeText, count_then, more_results_then, results_then, index_then, more_uses_then, uses_then, more_successors_then, successors_then, properties_then, value_then, entry_then, more_entries_then, attributes_then, more_types_then, types_then, result_types_then, location_then, signature_then, tail_then, argument_then, more_arguments_then, signed_then, label_then, body_then, regions_then, more_regions_then, maybe_row, maybe_text_row, result_rows, use_rows, successor_rows, entry_rows, attribute_rows, type_rows, result_type_rows, signature_rows, tail_rows, bare_span, argument_rows, signed_rows, label_rows, body_rows, region_rows}
-use Rattle.ir_text_tree.proofs.ParsingSteps.{parsing_done}
-use Rattle.ir_text_tree.proofs.TreesRead.{Steps, after_count, comma_behind, equals_behind, TakesBody, start_takes, Rests, body_rests, after_rests, after_index, comma_used, round_used, TakesTail, TakesRegions, TakesProperties, operands_take, successors_take, properties_take, regions_take, key_next, key_first, first_operand, first_result}
+use Rattle.ir_text_tree.specs.Reading.{parsing_done, Steps, after_count, comma_behind, equals_behind, TakesBody, start_takes, Rests, body_rests, after_rests, after_index, comma_used, round_used, TakesTail, TakesRegions, TakesProperties, operands_take, successors_take, properties_take, regions_take, key_next, key_first, first_operand, first_result}
 use Rattle.ir_text_spelling.specs.Marks.{around, blanks}
 use Rattle.ir_text_spelling.specs.Spellings.{piece, row_texts}
 use Rattle.ir_text_spelling.specs.TreeTexts as written
