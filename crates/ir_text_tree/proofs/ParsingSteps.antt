@@ -20,6 +20,7 @@ use Rattle.ir_text_tree.specs.declared.tree_step.Step.TheVariants.{Go, Bad}
 use Rattle.ir_text_tree.specs.TextSteps.{innermost}
 use Rattle.ir_text_tree.specs.TreeSteps.{tree_step, is_whole, wanted}
 use Rattle.ir_text_tree.specs.Parsings.{is_inside, ended_row, token_row, text_behind, brackets_behind, depth_behind, behind_row, behind_rows, before_rows, listed, last_row, parsing, parsing_from, misplaced, IsReadOn, IsReadOut, IsParsing}
+use Rattle.ir_text_tree.specs.Reading.{parsing_goes, parsing_stops}
 
 -- two rows more behind those that were read
 pub behind_two : (front : List Row) (r q : Option Row) (y : Result (List Row) Fault) → behind_rows ((front ++ listed r) ++ listed q) y ≡ behind_rows front (behind_row r (behind_row q y))

@@ -49,7 +49,7 @@ pub parsing_stops : (end : ℕ) (m : Mode) (d : ℕ) (bs : List Bracket) (t : Sp
 unfolding parsing
 parsing_stops end m d bs t x xs e = rw (parsing, e) refl
 
-pub parsing_done : (end : ℕ) (m : Mode) (d : ℕ) (bs : List Bracket) (t : Span) → is_whole m (is_inside d) ≡ true → parsing end m d bs t [] ≡ Ok (listed (last_row m t))
+pub parsing_done : (end : ℕ) (m : Mode) (d : ℕ) (bs : List Bracket) (t : Span) → is_whole m (is_inside d) ≡ true → parsing end m d bs t [] ≡ Ok (one_row (last_row m t))
 unfolding parsing
 parsing_done end m d bs t e = rw (parsing, e) refl
 
