@@ -1,24 +1,13 @@
 -- The tokens that are read of a text have a spelling, in which they are read again.
-use Rattle.std.proofs.Common.{◌≡◌, ℕ, ◌-◌, Bool, true, false, cond, List, [], ◌∷◌, ◌++◌, length, drop, Option, refl, sym, ap, subst, ◌∙◌, append_assoc, arith}
-use Rattle.std.specs.Bool.{⊤}
+use Rattle.std.proofs.Common.{◌≡◌, ℕ, ◌-◌, Bool, true, false, List, [], ◌∷◌, ◌++◌, length, drop, refl, sym, ap, subst, ◌∙◌, append_assoc, arith}
 use Rattle.std.proofs.lemmas.List.{take_at, drop_at, length-append}
 use Rattle.ir_text_tokens.specs.declared.byte_class.Class.{Class}
-use Rattle.ir_text_tokens.specs.declared.byte_class.Class.TheVariants as is
-use Rattle.ir_text_tokens.specs.declared.token.Sign.{Sign}
-use Rattle.ir_text_tokens.specs.declared.token.Bracket.{Bracket}
-use Rattle.ir_text_tokens.specs.declared.token.Bracket.TheVariants as brackets
-use Rattle.ir_text_tokens.specs.declared.token.Mark.TheVariants as marks
 use Rattle.ir_text_tokens.specs.declared.token.Kind.{Kind}
-use Rattle.ir_text_tokens.specs.declared.token.Kind.TheVariants as kinds
 use Rattle.ir_text_tokens.specs.declared.token.Token.{Token}
-use Rattle.ir_text_tokens.specs.declared.reader_step.Mode.{Mode}
 use Rattle.ir_text_tokens.specs.declared.reader_step.Mode.TheVariants as mode
-use Rattle.ir_text_tokens.specs.declared.reader_step.Step.{Step}
-use Rattle.ir_text_tokens.specs.declared.reader_step.Step.TheVariants.{Emit}
-use Rattle.ir_text_tokens.specs.ByteClasses.{class_of_byte, class_ahead, blank}
-use Rattle.ir_text_tokens.specs.ReaderSteps.{go, goes_on_word, goes_on_name, word_step, number_step, name_step, name_begins, lone_sign, sign_step, begin_step, closing_step, group_step, reader_step}
-use Rattle.ir_text_tokens.specs.Endings.{Calm, completes_calm, other_calm, blank_calm, first_same}
-use Rattle.ir_text_tokens.specs.Coverings.{Completes, IsToken, Skips, is_empty, both, Parts, StandsAt, Covers, lexeme, lexemes, space, spelling, HaveSpelling}
+use Rattle.ir_text_tokens.specs.ByteClasses.{class_ahead, blank}
+use Rattle.ir_text_tokens.specs.Endings.{completes_calm, other_calm, blank_calm, first_same}
+use Rattle.ir_text_tokens.specs.Coverings.{IsToken, Skips, is_empty, both, Parts, StandsAt, Covers, lexeme, lexemes, space, spelling, HaveSpelling}
 
 -- ---- the token before
 

@@ -1,5 +1,5 @@
 -- One step of the loop.
-use Rattle.std.proofs.Common.{◌≡◌, ◌≤◌, ◌+◌, ℕ, zero, suc, Bool, true, false, List, [], ◌∷◌, ◌++◌, Option, Some, None, Result, Ok, Err, refl, sym, ap, ◌∙◌, append_assoc, arith}
+use Rattle.std.proofs.Common.{◌≡◌, ◌≤◌, ◌+◌, ℕ, zero, suc, Bool, List, [], ◌∷◌, ◌++◌, Option, Some, None, Result, Ok, Err, refl, sym, ap, ◌∙◌, append_assoc, arith}
 use Rattle.std.proofs.lemmas.List.{append-nil}
 use Rattle.std.specs.Global.{Vec}
 use Rattle.ir_text_tree.specs.declared.row.Part.{Part}
@@ -19,7 +19,7 @@ use Rattle.ir_text_tree.specs.declared.tree_step.Step.{Step}
 use Rattle.ir_text_tree.specs.declared.tree_step.Step.TheVariants.{Go, Bad}
 use Rattle.ir_text_tree.specs.TextSteps.{innermost}
 use Rattle.ir_text_tree.specs.TreeSteps.{tree_step, is_whole, wanted}
-use Rattle.ir_text_tree.specs.Parsings.{is_inside, ended_row, token_row, text_behind, brackets_behind, depth_behind, behind_row, behind_rows, before_rows, listed, last_row, parsing, parsing_from, misplaced, IsReadOn, IsReadOut, IsParsing}
+use Rattle.ir_text_tree.specs.Parsings.{is_inside, ended_row, token_row, text_behind, brackets_behind, depth_behind, behind_row, behind_rows, listed, parsing, parsing_from, misplaced, IsReadOn, IsReadOut, IsParsing}
 use Rattle.ir_text_tree.specs.Reading.{parsing_goes, parsing_stops}
 
 -- two rows more behind those that were read

@@ -1,5 +1,5 @@
 -- The tokens of a tree are read as its rows.
-use Rattle.std.proofs.Common.{◌≡◌, ℕ, zero, suc, Bool, true, false, List, [], ◌∷◌, ◌⊎◌, inl, inr, Option, Some, None, Result, Ok, Err, refl, sym, ap, subst, ◌∙◌}
+use Rattle.std.proofs.Common.{◌≡◌, ℕ, zero, suc, true, List, [], ◌∷◌, Option, Some, None, Result, Ok, refl, sym, ap, subst, ◌∙◌}
 use Rattle.ir_text_tree.specs.declared.row.Part.{Part}
 use Rattle.ir_text_tree.specs.declared.row.Part.TheVariants as parts
 use Rattle.ir_text_tree.specs.declared.row.Row.{Row}
@@ -7,7 +7,6 @@ use Rattle.ir_text_tree.specs.declared.row.Span.{Span}
 use Rattle.ir_text_tree.specs.declared.sort.Sort.{Sort}
 use Rattle.ir_text_tree.specs.declared.sort.Sort.TheVariants as s
 use Rattle.ir_text_tree.specs.declared.sort.Piece.{Piece}
-use Rattle.ir_text_tree.specs.declared.fault.Fault.{Fault}
 use Rattle.ir_text_tree.specs.declared.text_step.Bracket.{Bracket}
 use Rattle.ir_text_tree.specs.declared.text_step.TextKind.{TextKind}
 use Rattle.ir_text_tree.specs.declared.text_step.TextKind.TheVariants as kinds
@@ -22,16 +21,14 @@ use Rattle.ir_text_tree.specs.declared.tree_step.TypesMode.TheVariants as types
 use Rattle.ir_text_tree.specs.declared.tree_step.LabelMode.TheVariants as label
 use Rattle.ir_text_tree.specs.declared.tree_step.Mode.{Mode}
 use Rattle.ir_text_tree.specs.declared.tree_step.Mode.TheVariants as mode
-use Rattle.ir_text_tree.specs.declared.tree_step.Action.{Action}
 use Rattle.ir_text_tree.specs.declared.tree_step.Action.TheVariants as action
-use Rattle.ir_text_tree.specs.declared.tree_step.Step.{Step}
-use Rattle.ir_text_tree.specs.declared.tree_step.Step.TheVariants.{Go, Bad}
+use Rattle.ir_text_tree.specs.declared.tree_step.Step.TheVariants.{Go}
 use Rattle.ir_text_tree.specs.TextSteps.{takes, part_of_text, innermost, renested}
-use Rattle.ir_text_tree.specs.TreeSteps.{skip, put, begun, begin_text, stops_outside, text_end, taken, stops, text_step, after_step, bare_step, tree_step, is_whole, parts_step}
-use Rattle.ir_text_tree.specs.Parsings.{is_inside, ended_row, token_row, text_behind, brackets_behind, depth_behind, last_row, listed as one_row, parsing}
+use Rattle.ir_text_tree.specs.TreeSteps.{skip, put, begun, begin_text, stops_outside, text_end, taken, stops, text_step, bare_step, tree_step}
+use Rattle.ir_text_tree.specs.Parsings.{is_inside, listed as one_row, parsing}
 use Rattle.ir_text_tree.specs.Rows.{row, span, joined}
-use Rattle.ir_text_tree.specs.Trees.{Expected, mark, token, Matches, StaysText, span_through, Text, pieces_then, text_then, text_row, ResultName, Use, IsKey, Entry, IsTypeName, ResultTypes, bare, listed, Head, Tail, Argument, Label, Body, Regions, done, op, block, none, one, HasNoBlocks, IsWholeText, count_then, more_results_then, results_then, index_then, more_uses_then, uses_then, more_successors_then, successors_then, properties_then, value_then, entry_then, more_entries_then, entries_then, attributes_then, more_types_then, types_then, group_then, result_types_then, location_then, signature_then, tail_then, argument_then, more_arguments_then, arguments_then, signed_then, label_then, body_then, regions_then, more_regions_then, maybe_row, maybe_text_row, result_rows, use_rows, successor_rows, entry_rows, attribute_rows, type_rows, bare_span, result_type_rows, signature_rows, tail_rows, argument_rows, signed_rows, label_rows, body_rows, region_rows}
-use Rattle.ir_text_tree.specs.Reading.{parsing_reads, parsing_done, Steps, stop_step, after_count, comma_behind, equals_behind, TakesBody, start_takes, body_takes, after_takes, Rests, body_rests, after_rests, after_index, comma_used, round_used, TakesTail, TakesRegions, TakesProperties, operands_take, successors_take, properties_take, regions_take, key_next, key_first, first_operand, first_result, bare_ends, name_step}
+use Rattle.ir_text_tree.specs.Trees.{Expected, mark, token, Matches, StaysText, span_through, Text, pieces_then, text_then, text_row, ResultName, Use, Entry, IsTypeName, ResultTypes, bare, listed, Head, Tail, Argument, Label, Body, Regions, done, op, block, none, one, HasNoBlocks, IsWholeText, count_then, more_results_then, results_then, index_then, more_uses_then, uses_then, more_successors_then, successors_then, properties_then, value_then, entry_then, more_entries_then, entries_then, attributes_then, more_types_then, types_then, group_then, result_types_then, location_then, signature_then, tail_then, argument_then, more_arguments_then, arguments_then, signed_then, label_then, body_then, regions_then, more_regions_then, maybe_row, maybe_text_row, result_rows, use_rows, successor_rows, entry_rows, attribute_rows, type_rows, bare_span, result_type_rows, signature_rows, tail_rows, argument_rows, signed_rows, label_rows, body_rows, region_rows}
+use Rattle.ir_text_tree.specs.Reading.{parsing_reads, parsing_done, Steps, stop_step, after_count, comma_behind, equals_behind, TakesBody, start_takes, Rests, body_rests, after_rests, after_index, comma_used, round_used, TakesTail, TakesRegions, TakesProperties, operands_take, successors_take, properties_take, regions_take, key_next, key_first, first_operand, first_result, bare_ends, name_step}
 
 -- From this mode on, in so many regions, tokens that fit are read as these rows.
 record Follows (m : Mode) (d : ℕ) (es : List Expected) (rows : List Row) : Type 0 where

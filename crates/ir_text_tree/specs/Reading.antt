@@ -1,5 +1,5 @@
 -- How tokens are read one by one: what is read from a mode on, by the step of the next token, and what the modes take.
-use Rattle.std.proofs.Common.{◌≡◌, ℕ, zero, suc, Bool, true, false, List, [], ◌∷◌, ◌⊎◌, inl, inr, Option, Some, None, Result, Ok, Err, refl, sym, ap, subst, ◌∙◌}
+use Rattle.std.proofs.Common.{◌≡◌, ℕ, zero, suc, Bool, true, false, List, [], ◌∷◌, ◌⊎◌, inl, inr, Option, Some, None, Result, Ok, Err, refl, sym, ap, ◌∙◌}
 use Rattle.ir_text_tree.specs.declared.row.Part.{Part}
 use Rattle.ir_text_tree.specs.declared.row.Part.TheVariants as parts
 use Rattle.ir_text_tree.specs.declared.row.Row.{Row}
@@ -26,11 +26,11 @@ use Rattle.ir_text_tree.specs.declared.tree_step.Action.{Action}
 use Rattle.ir_text_tree.specs.declared.tree_step.Action.TheVariants as action
 use Rattle.ir_text_tree.specs.declared.tree_step.Step.{Step}
 use Rattle.ir_text_tree.specs.declared.tree_step.Step.TheVariants.{Go, Bad}
-use Rattle.ir_text_tree.specs.TextSteps.{takes, part_of_text, innermost, renested}
-use Rattle.ir_text_tree.specs.TreeSteps.{skip, put, begun, begin_text, stops_outside, text_end, taken, stops, text_step, after_step, bare_step, tree_step, is_whole, parts_step}
+use Rattle.ir_text_tree.specs.TextSteps.{takes, part_of_text, innermost}
+use Rattle.ir_text_tree.specs.TreeSteps.{skip, put, begin_text, stops_outside, text_end, taken, text_step, after_step, bare_step, tree_step, is_whole, parts_step}
 use Rattle.ir_text_tree.specs.Parsings.{is_inside, ended_row, token_row, text_behind, brackets_behind, depth_behind, last_row, listed as one_row, parsing}
-use Rattle.ir_text_tree.specs.Rows.{row, span, joined}
-use Rattle.ir_text_tree.specs.Trees.{Expected, mark, token, Matches, StaysText, span_through, Text, pieces_then, text_then, text_row, ResultName, Use, IsKey, Entry, IsTypeName, ResultTypes, bare, listed, Head, Tail, Argument, Label, Body, Regions, done, op, block, none, one, HasNoBlocks, IsWholeText, count_then, more_results_then, results_then, index_then, more_uses_then, uses_then, more_successors_then, successors_then, properties_then, value_then, entry_then, more_entries_then, entries_then, attributes_then, more_types_then, types_then, group_then, result_types_then, location_then, signature_then, tail_then, argument_then, more_arguments_then, arguments_then, signed_then, label_then, body_then, regions_then, more_regions_then, maybe_row, maybe_text_row, result_rows, use_rows, successor_rows, entry_rows, attribute_rows, type_rows, bare_span, result_type_rows, signature_rows, tail_rows, argument_rows, signed_rows, label_rows, body_rows, region_rows}
+use Rattle.ir_text_tree.specs.Rows.{row, span}
+use Rattle.ir_text_tree.specs.Trees.{Expected, IsKey, IsTypeName, Label, Body, Regions}
 use Rattle.ir_text_tree.specs.declared.fault.Fault.TheVariants as faults
 use Rattle.ir_text_tree.specs.TreeSteps.{wanted}
 use Rattle.ir_text_tree.specs.Parsings.{before_rows, behind_row}
