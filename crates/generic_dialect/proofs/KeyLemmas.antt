@@ -10,8 +10,7 @@ use Rattle.hex.specs.Hex.{IsBytes, encode_lower, decode_of, is_hex_digit}
 use Rattle.hex.specs.declared.error.FromHexError.{FromHexError}
 use Rattle.hex.proofs.HexLemmas.{decode_of-encode_lower, decode_of-ok}
 use Rattle.hex.proofs.OnLiterals.{hex_on_literals}
-use Rattle.ir_model.specs.Identifier.{IsIdentifier, is_identifier, can_continue}
-use Rattle.ir_base_identifiers.proofs.IdentifierLemmas.{is_identifier-can_continue}
+use Rattle.ir_model.specs.Identifier.{IsIdentifier, is_identifier, can_start, can_continue}
 use Rattle.generic_dialect.specs.Keys.{HasNoKey, is_marked, is_plain, key_name}
 
 -- what begins with `__` doesn't stand for itself
@@ -68,11 +67,20 @@ plain_identifier key plain = (and_parts (is_identifier key) (not (is_marked key)
 continues_ascii : (b : ℕ) → can_continue b ≡ true → b < 128
 continues_ascii b continues = grind (arith, common_steps)
 
+start_continues : (b : ℕ) → can_start b ≡ true → can_continue b ≡ true
+start_continues b starts = grind (arith, common_steps)
+
+identifier_continues : (key : List ℕ) → IsIdentifier key → list_all can_continue key ≡ true
+identifier_continues [] valid = absurd (true≢false (sym valid))
+identifier_continues (b ∷ bs) valid =
+    let both = and_parts (can_start b) (list_all can_continue bs) valid in
+    and_from (can_continue b) (list_all can_continue bs) (start_continues b both.0) both.1
+
 identifier_ascii : (key : List ℕ) → IsIdentifier key → IsAscii key
 identifier_ascii key valid i = by (cases_lt i (length key))
   where
     by : (i < length key) ⊎ (length key ≤ i) → get_or key i 0 < 128
-    by (inl lt) = continues_ascii (get_or key i 0) (AllPass-from_list_all can_continue key (is_identifier-can_continue key valid) i 0 lt)
+    by (inl lt) = continues_ascii (get_or key i 0) (AllPass-from_list_all can_continue key (identifier_continues key valid) i 0 lt)
     by (inr le) = let none = get_or_past key i 0 le in omega (arith, none)
 
 -- and so it is a text
