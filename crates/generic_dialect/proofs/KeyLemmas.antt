@@ -1,13 +1,15 @@
 -- Keys and their identifiers: the way there and back.
-use Rattle.std.proofs.Common.{◌≡◌, ◌≢◌, ◌⊎◌, ◌&&◌, ℕ, ◌<◌, ◌≤◌, Bool, true, false, not, cond, List, [], ◌∷◌, length, get_or, drop, Result, Ok, is_ok, IsAscii, IsUtf8, codes, refl, sym, ap, subst, ◌∙◌, inl, inr, ⊎_elim, true≢false, arith}
+use Rattle.std.proofs.Common.{◌≡◌, ◌≢◌, ◌⊎◌, ◌&&◌, ℕ, ◌<◌, ◌≤◌, Bool, true, false, not, cond, List, [], ◌∷◌, length, get_or, drop, Result, Ok, Err, is_ok, bytes_eq, IsAscii, IsUtf8, codes, refl, sym, ap, subst, ◌∙◌, inl, inr, ⊎_elim, true≢false, arith}
 use Rattle.std.specs.List.{list_all}
 use Rattle.std.proofs.lemmas.Bool.{and_parts, and_from, cases_lt}
 use Rattle.std.proofs.lemmas.Grind.{common_steps}
 use Rattle.std.proofs.lemmas.List.{get_or_past}
 use Rattle.std.proofs.lemmas.List.Sums.{AllPass-from_list_all, list_all-from_AllPass}
+use Rattle.std.proofs.lemmas.Slice.Eq.{bytes_eq-Decides}
 use Rattle.std.proofs.lemmas.Str.{IsUtf8-from_ascii}
 use Rattle.hex.specs.Hex.{IsBytes, encode_lower, decode_of, is_hex_digit}
 use Rattle.hex.specs.declared.error.FromHexError.{FromHexError}
+use Rattle.hex.specs.declared.error.FromHexError.TheVariants as variants
 use Rattle.hex.proofs.HexLemmas.{decode_of-encode_lower, decode_of-ok}
 use Rattle.hex.proofs.OnLiterals.{hex_on_literals}
 use Rattle.ir_model.specs.Identifier.{IsIdentifier, is_identifier, can_start, can_continue}
@@ -110,3 +112,13 @@ pub other_decoded : (digits found : List ℕ) → decode_of digits ≡ ok_bytes 
 other_decoded digits found decoded other key bytes e =
     let same : found ≡ key = same_ok found key (sym decoded ∙ forth_back key digits bytes e) in
     other (ap key_name same ∙ e)
+
+-- how a refusal to decode is told
+pub not_decoded : (digits : List ℕ) (error : FromHexError) → (error ≡ variants.OutOfMemory → ⊥) → (error ≡ variants.OutOfMemory) ⊎ (decode_of digits ≡ Err error) → is_ok (decode_of digits) ≡ false
+not_decoded digits error other told = ⊎_elim (λ (e : error ≡ variants.OutOfMemory). absurd (other e)) (λ (e : decode_of digits ≡ Err error). ap is_ok e) told
+
+pub same_text : (a b : List ℕ) → bytes_eq a b ≡ true → a ≡ b
+same_text a b e = (bytes_eq-Decides a b).0 e
+
+pub other_text : (a b : List ℕ) → bytes_eq a b ≡ false → a ≡ b → ⊥
+other_text a b e f = true≢false (sym ((bytes_eq-Decides a b).1 f) ∙ e)
