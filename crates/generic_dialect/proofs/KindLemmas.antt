@@ -1,7 +1,6 @@
 -- Kinds and their numbers, and which kinds are pure.
-use Rattle.std.proofs.Common.{◌≡◌, ◌≢◌, ℕ, ◌+◌, ◌-◌, ◌*◌, ◌/◌, ◌%◌, ◌<◌, ◌≤◌, ◌^◌, Bool, true, false, cond, nat_eq, nat_lt, Option, Some, None, is_some, slice_get, get_or, All, refl, sym, ap, ap₂, subst, ◌∙◌, true≢false, arith, ltb-false, ltb-true, lt-ltb, le-ltb, eqb-true, eq-eqb}
+use Rattle.std.proofs.Common.{◌≡◌, ℕ, ◌+◌, ◌-◌, ◌*◌, ◌/◌, ◌%◌, ◌<◌, ◌≤◌, ◌^◌, Bool, true, false, cond, nat_eq, nat_lt, Option, Some, None, slice_get, All, refl, sym, ap, ap₂, subst, ◌∙◌, true≢false, arith, ltb-false, lt-ltb, le-ltb, eqb-true, eq-eqb}
 use Rattle.std.proofs.lemmas.Option.{slice_get_within, get_or_from_slice_get}
-use Rattle.generic_table.specs.declared.traits.Traits.{Traits}
 use Rattle.generic_table.specs.Cut.{Operation}
 use Rattle.generic_table.specs.Safe.{IsSafe}
 use Rattle.generic_table.specs.Table.{operations}

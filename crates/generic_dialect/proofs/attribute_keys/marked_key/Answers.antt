@@ -1,5 +1,4 @@
-use Rattle.std.proofs.Common.{◌≡◌, ◌∷◌, List, ℕ, Ok, false, bytes_eq, ap, sym, subst, ◌∙◌}
-use Rattle.hex.specs.Hex.{decode_of}
+use Rattle.std.proofs.Common.{◌≡◌, ◌∷◌, List, ℕ, false, bytes_eq, ap, sym, subst, ◌∙◌}
 use Rattle.generic_dialect.specs.Keys.{HasNoKey, key_name}
 use Rattle.generic_dialect.proofs.KeyLemmas.{none_decoded, other_decoded, other_text}
 use Rattle.generic_dialect.proofs.attribute_keys.marked_key.Goals as goal
