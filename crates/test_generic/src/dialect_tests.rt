@@ -73,7 +73,7 @@ fn types_and_saved(rt: HostRuntime) {
     let saved = GenericSaved(bytes).to_saved();
     assert!(rt; Generic::saved_kind(&saved) == 0);
     let found = GenericSaved::of_saved(&saved).expect(&rt, "a text");
-    assert!(rt; found.0.as_slice() == b"i32");
+    assert!(rt; found.0.as_slice() == b"i32".as_slice());
 }
 
 #[test]
