@@ -267,6 +267,9 @@ pub(crate) fn value_table(
     let before = named_before(alloc, text, rows, &regions)?;
     let behind = named_behind(alloc, text, rows, &regions)?;
     let either = found_in(alloc, rows, &before.table, &behind)?;
+    drop(regions);
+    drop(before.table);
+    drop(behind);
     let twice = told(before.again, Wrong::ValueTwice);
     let unknown = told(either.missing, Wrong::UnknownValue);
     let named = sooner(twice, unknown);

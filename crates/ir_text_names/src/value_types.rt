@@ -50,8 +50,11 @@ pub(crate) fn type_tables<'a>(
 {
     let operations = operations(alloc, rows)?;
     let operands = placed(alloc, Counted::Operands, rows, &operations)?;
+    drop(operands.spots);
     let types = placed(alloc, Counted::OperandTypes, rows, &operations)?;
+    drop(types.places);
     let results = placed(alloc, Counted::ResultTypes, rows, &operations)?;
+    drop(results.places);
     let next = next_operations(alloc, rows)?;
     let before = results_table(alloc, text, rows)?;
     Ok(TypeTables {

@@ -1,7 +1,8 @@
 -- What is scanned, by what the first byte does, and that it is what is read.
-use Rattle.std.proofs.Common.{◌≡◌, ℕ, ◌+◌, ◌≤◌, Bool, true, false, List, [], ◌∷◌, ◌++◌, drop, Option, Some, None, Result, Ok, Err, IfSome, refl, sym, ap, subst, ◌∙◌, arith}
+use Rattle.std.proofs.Common.{◌≡◌, ℕ, ◌+◌, ◌<◌, ◌≤◌, Bool, true, false, cond, List, [], ◌∷◌, ◌++◌, length, get_or, drop, Option, Some, None, Result, Ok, Err, IfSome, ◌&&◌, eqb, eq-eqb, ne_eqb, ⊎_elim, refl, sym, ap, subst, ◌∙◌, arith}
 use Rattle.std.specs.Global.{Vec}
-use Rattle.std.proofs.lemmas.List.{append-nil}
+use Rattle.std.proofs.lemmas.Bool.{cases_lt, false≢true}
+use Rattle.std.proofs.lemmas.List.{append-nil, drop_more}
 use Rattle.ir_text_tokens.specs.declared.token.Bracket.{Bracket}
 use Rattle.ir_text_tokens.specs.declared.token.Kind.{Kind}
 use Rattle.ir_text_tokens.specs.declared.token.Token.{Token}
@@ -12,11 +13,15 @@ use Rattle.ir_text_tokens.specs.declared.fault.Problem.TheVariants as problems
 use Rattle.ir_text_tokens.specs.declared.reader_step.Mode.{Mode}
 use Rattle.ir_text_tokens.specs.declared.reader_step.Mode.TheVariants as mode
 use Rattle.ir_text_tokens.specs.declared.reader_step.Nesting.{Nesting}
+use Rattle.ir_text_tokens.specs.declared.reader_step.Nesting.TheVariants as nesting
+use Rattle.ir_text_tokens.specs.declared.byte_class.Class.{Class}
+use Rattle.ir_text_tokens.specs.declared.byte_class.Class.TheVariants as is
+use Rattle.ir_text_tokens.specs.declared.token.Kind.TheVariants as kinds
 use Rattle.ir_text_tokens.specs.declared.reader_step.Step.{Step}
 use Rattle.ir_text_tokens.specs.declared.reader_step.Step.TheVariants.{Go, Emit, Bad}
 use Rattle.ir_text_tokens.specs.ByteClasses.{class_of_byte, class_ahead}
 use Rattle.ir_text_tokens.specs.Faults.{fault}
-use Rattle.ir_text_tokens.specs.ReaderSteps.{reader_step, start_behind, glued_behind, missing_at_end}
+use Rattle.ir_text_tokens.specs.ReaderSteps.{reader_step, start_at, start_behind, stays, glued_behind, missing_at_end}
 use Rattle.ir_text_tokens.specs.Readings.{innermost, renested, with_front, token, reading, read_at_end, Scan, nothing_before, before, fault_at_end, scanning, scan_from, scan_of, all_or_fault, read_of, IsNext, IsReading}
 use Rattle.ir_text_tokens.specs.Coverings.{IsWithin}
 use Rattle.ir_text_tokens.proofs.ReadingSteps.{regroup, reading_goes, reading_emits, reading_stops}
@@ -111,11 +116,97 @@ pub next_breaks_off : (from : ℕ) (behind : Bool) (text : List ℕ) (at start :
     → scanning at start glued m s bytes ≡ scan_from from behind text → IsNext from behind text (Err (fault p at))
 next_breaks_off from behind text at start glued m s p bytes nothing e h = problem_next p from at behind text (sym h ∙ ap (scanning at start glued m s) nothing ∙ scanning_ends at start glued m s (Some p) e)
 
--- a token that goes on begins where it began, or behind this place
-pub begins : (m : Mode) (start at : ℕ) → start ≤ at → (start ≤ start_behind m start at) × (start_behind m start at ≤ at + 1)
-begins mode.Between start at le = (omega (arith, le), omega arith)
-begins mode.Comment start at le = (omega (arith, le), omega arith)
-begins _ start at le = (omega arith, omega (arith, le))
+-- ---- bytes behind which the reader goes on as before
+
+stays_goes : (m : Mode) (last : Option Bracket) (c n : Class) → stays m c n ≡ true → reader_step m last c n ≡ Go m nesting.Kept
+stays_goes mode.Between last is.Newline n e = refl
+stays_goes mode.Between last is.Blank n e = refl
+stays_goes mode.Between last _ n e = absurd (false≢true e)
+stays_goes mode.Word last c n e = ap (λ (b : Bool). cond b (Go mode.Word nesting.Kept) (Emit kinds.Word)) e
+stays_goes (mode.Number s) last c is.Digit e = refl
+stays_goes (mode.Number s) last c _ e = absurd (false≢true e)
+stays_goes (mode.Name s) last c n e = ap (λ (b : Bool). cond b (Go (mode.Name s) nesting.Kept) (Emit (kinds.Name s))) e
+stays_goes (mode.Quoted a) last is.Quote n e = absurd (false≢true e)
+stays_goes (mode.Quoted a) last is.Backslash n e = absurd (false≢true e)
+stays_goes (mode.Quoted a) last is.Newline n e = absurd (false≢true e)
+stays_goes (mode.Quoted a) last _ n e = refl
+stays_goes mode.Group last is.Quote n e = absurd (false≢true e)
+stays_goes mode.Group last is.Dash n e = absurd (false≢true e)
+stays_goes mode.Group last is.Less n e = absurd (false≢true e)
+stays_goes mode.Group last is.Greater n e = absurd (false≢true e)
+stays_goes mode.Group last (is.Open b) n e = absurd (false≢true e)
+stays_goes mode.Group last (is.Close b) n e = absurd (false≢true e)
+stays_goes mode.Group last _ n e = refl
+stays_goes _ last c n e = absurd (false≢true e)
+
+start_twice : (m : Mode) (start at : ℕ) → start_behind m (start_at m start at) at ≡ start_at m start (at + 1)
+start_twice mode.Between start at = refl
+start_twice mode.Comment start at = refl
+start_twice _ start at = refl
+
+glued_twice : (m : Mode) (glued : Bool) → glued_behind m (glued_behind m glued) ≡ glued_behind m glued
+glued_twice mode.Between glued = refl
+glued_twice _ glued = refl
+
+pub start_is : (m : Mode) (start at : ℕ) → start_behind m start at ≡ start_at m start (at + 1)
+start_is mode.Between start at = refl
+start_is mode.Comment start at = refl
+start_is _ start at = refl
+
+and_no : (b : Bool) → (b && false) ≡ false
+and_no true = refl
+and_no false = refl
+
+and_yes : (b : Bool) → (b && true) ≡ b
+and_yes true = refl
+and_yes false = refl
+
+-- one byte more
+passes_on : (text : List ℕ) (m : Mode) (at start : ℕ) (glued : Bool) (s : List Bracket) → at < length text → stays m (class_of_byte (get_or text at 0)) (class_ahead (drop (at + 1) text)) ≡ true
+    → scanning at (start_at m start at) glued m s (drop at text) ≡ scanning (at + 1) (start_at m start (at + 1)) (glued_behind m glued) m s (drop (at + 1) text)
+passes_on text m at start glued s lt e =
+    let b = get_or text at 0 in
+    let rest = drop (at + 1) text in
+    ap (scanning at (start_at m start at) glued m s) (drop_more text at 0 lt)
+    ∙ scanning_goes at (start_at m start at) glued m s b rest m nesting.Kept (stays_goes m (innermost s) (class_of_byte b) (class_ahead rest) e)
+    ∙ ap (λ (x : ℕ). scanning (at + 1) x (glued_behind m glued) m s rest) (start_twice m start at)
+
+-- several bytes
+abbrev pub Passes : List ℕ → Mode → ℕ → ℕ → Type 0
+Passes text m from to = (start : ℕ) (glued : Bool) (s : List Bracket) → from < to → scanning from (start_at m start from) glued m s (drop from text) ≡ scanning to (start_at m start to) (glued_behind m glued) m s (drop to text)
+
+pub passes_more : (text : List ℕ) (m : Mode) (from at : ℕ) → from ≤ at → at < length text → stays m (class_of_byte (get_or text at 0)) (class_ahead (drop (at + 1) text)) ≡ true → Passes text m from at → Passes text m from (at + 1)
+passes_more text m from at le lt e h = λ start glued s less.
+    ⊎_elim (λ (l : from < at).
+    h start glued s l ∙ passes_on text m at start (glued_behind m glued) s lt e ∙ ap (λ (g : Bool). scanning (at + 1) (start_at m start (at + 1)) g m s (drop (at + 1) text)) (glued_twice m glued))
+    (λ (l : at ≤ from).
+    let same : from ≡ at = omega (arith, l, le) in
+    ap (λ (k : ℕ). scanning k (start_at m start k) glued m s (drop k text)) same ∙ passes_on text m at start glued s lt e) (cases_lt from at)
+
+-- where none or several bytes are passed, and the token was glued to the one before it as the mode says
+pub passed : (text : List ℕ) (m : Mode) (from to start : ℕ) (glued : Bool) (s : List Bracket) → from ≤ to → Passes text m from to
+    → scanning from (start_at m start from) (glued_behind m glued) m s (drop from text) ≡ scanning to (start_at m start to) (glued_behind m glued) m s (drop to text)
+passed text m from to start glued s le h =
+    ⊎_elim (λ (l : from < to). h start (glued_behind m glued) s l ∙ ap (λ (g : Bool). scanning to (start_at m start to) g m s (drop to text)) (glued_twice m glued))
+    (λ (l : to ≤ from). let same : from ≡ to = omega (arith, l, le) in ap (λ (k : ℕ). scanning k (start_at m start k) (glued_behind m glued) m s (drop k text)) same) (cases_lt from to)
+
+-- blanks before a token
+pub gap_passed : (text : List ℕ) (at to : ℕ) (behind glued : Bool) → at ≤ to → glued ≡ (behind && eqb to at) → Passes text mode.Between at to → scanning to to glued mode.Between [] (drop to text) ≡ scan_from at behind text
+gap_passed text at to behind glued le e h =
+    ⊎_elim (λ (l : at < to).
+    let apart : to ≡ at → ⊥ = λ s. absurd (omega (arith, s, l)) in
+    let off : glued ≡ false = e ∙ ap (λ (b : Bool). behind && b) (ne_eqb to at apart) ∙ and_no behind in
+    ap (λ (g : Bool). scanning to to g mode.Between [] (drop to text)) off ∙ sym (h at behind [] l))
+    (λ (l : to ≤ at).
+    let same : to ≡ at = omega (arith, l, le) in
+    let on : glued ≡ behind = e ∙ ap (λ (b : Bool). behind && b) (eq-eqb to at same) ∙ and_yes behind in
+    ap (λ (g : Bool). scanning to to g mode.Between [] (drop to text)) on ∙ ap (λ (k : ℕ). scanning k k behind mode.Between [] (drop k text)) same) (cases_lt at to)
+
+-- a token that goes on begins where it began, or at this place
+pub begins : (m : Mode) (start from at : ℕ) → start ≤ from → from ≤ at → (start ≤ start_at m start at) × (start_at m start at ≤ at)
+begins mode.Between start from at le more = (omega (arith, le, more), omega arith)
+begins mode.Comment start from at le more = (omega (arith, le, more), omega arith)
+begins _ start from at le more = (omega arith, omega (arith, le, more))
 
 -- what the next token is, by cases
 pub is_none : (o : Option Token) → ((t : Token) → o ≡ Some t → ⊥) → o ≡ None

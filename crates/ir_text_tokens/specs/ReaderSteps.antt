@@ -176,6 +176,50 @@ start_behind mode.Between start at = at + 1
 start_behind mode.Comment start at = at + 1
 start_behind _ start at = start
 
+-- where the token begins in which the reader goes on from this place
+abbrev pub start_at : Mode → ℕ → ℕ → ℕ
+start_at mode.Between start at = at
+start_at mode.Comment start at = at
+start_at _ start at = start
+
+-- a digit
+abbrev pub is_digit : Class → Bool
+is_digit is.Digit = true
+is_digit _ = false
+
+-- a blank, or the end of a line
+abbrev pub is_gap : Class → Bool
+is_gap is.Newline = true
+is_gap is.Blank = true
+is_gap _ = false
+
+-- a byte of a string that stands for itself
+abbrev pub is_plain : Class → Bool
+is_plain is.Quote = false
+is_plain is.Backslash = false
+is_plain is.Newline = false
+is_plain _ = true
+
+-- a byte of a group that is no part of a bracket or a string
+abbrev pub is_inner : Class → Bool
+is_inner is.Quote = false
+is_inner is.Dash = false
+is_inner is.Less = false
+is_inner is.Greater = false
+is_inner (is.Open b) = false
+is_inner (is.Close b) = false
+is_inner _ = true
+
+-- Behind a byte of this class, where one of the next class follows, the reader goes on as before.
+abbrev pub stays : Mode → Class → Class → Bool
+stays mode.Between c n = is_gap c
+stays mode.Word c n = goes_on_word n
+stays (mode.Number s) c n = is_digit n
+stays (mode.Name s) c n = goes_on_name n
+stays (mode.Quoted a) c n = is_plain c
+stays mode.Group c n = is_inner c
+stays _ c n = false
+
 -- whether that token stands right behind another
 abbrev pub glued_behind : Mode → Bool → Bool
 glued_behind mode.Between glued = false

@@ -90,6 +90,7 @@ fn is_blank(byte: u8) -> bool
 }
 
 // The class of what is neither letter, digit, blank, sign nor bracket.
+#[inline(always)]
 #[tactic(auto, unfolding(crate::specs::ByteClasses::class_of_mark))]
 fn mark_class(byte: u8) -> Class
     ensures { result ≡ class_of_mark byte }
@@ -126,6 +127,7 @@ fn mark_class(byte: u8) -> Class
 }
 
 // The class of what is neither letter, digit nor blank.
+#[inline(always)]
 #[tactic(auto, unfolding(crate::specs::ByteClasses::class_of_sign))]
 fn sign_class(byte: u8) -> Class
     ensures { result ≡ class_of_sign byte }
@@ -158,6 +160,7 @@ fn sign_class(byte: u8) -> Class
 }
 
 /// The class of a byte.
+#[inline(always)]
 #[tactic(auto, unfolding(crate::specs::ByteClasses::class_of_byte))]
 pub(crate) fn class_of(byte: u8) -> Class
     ensures { result ≡ class_of_byte byte }
@@ -180,6 +183,7 @@ pub(crate) fn class_of(byte: u8) -> Class
 }
 
 /// The class of the byte at a place; at the end that of a byte which no token goes on with.
+#[inline(always)]
 pub(crate) fn class_at(text: &[u8], at: usize) -> Class
     ensures { result ≡ class_ahead (drop at text.now) }
 {

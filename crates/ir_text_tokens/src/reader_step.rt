@@ -1,8 +1,8 @@
 //! What a byte does to the reader: the table of the tokens.
-ghost use Rattle.std.specs.Prelude.{◌≡◌, ◌+◌, ◌<◌, ◌^◌};
+ghost use Rattle.std.specs.Prelude.{◌≡◌};
 ghost use Rattle.ir_text_tokens.specs.declared.reader_step.Step.TheVariants.{Go};
 ghost use Rattle.ir_text_tokens.specs.declared.reader_step.Nesting.TheVariants.{Kept};
-ghost use Rattle.ir_text_tokens.specs.ReaderSteps.{is_hex, goes_on_word, goes_on_name, word_step, number_step, name_step, name_begins, lone_sign, sign_step, begin_step, same_bracket, closing_step, group_step, quote_step, string_step, escape_step, hex_step, comment_step, reader_step, start_behind, glued_behind, missing_at_end};
+ghost use Rattle.ir_text_tokens.specs.ReaderSteps.{is_hex, goes_on_word, goes_on_name, word_step, number_step, name_step, name_begins, lone_sign, sign_step, begin_step, same_bracket, closing_step, group_step, quote_step, string_step, escape_step, hex_step, comment_step, reader_step, is_digit, is_gap, is_inner, is_plain, start_at, glued_behind, missing_at_end};
 
 use crate::byte_class::Class;
 use crate::fault::Problem;
@@ -80,8 +80,9 @@ fn is_hex(class: Class) -> bool
     matches!(class, Class::Digit | Class::HexLetter)
 }
 
-// A byte of a word.
-fn goes_on_word(class: Class) -> bool
+/// A byte of a word.
+#[inline(always)]
+pub(crate) fn goes_on_word(class: Class) -> bool
     ensures { result ≡ goes_on_word class }
 {
     matches!(
@@ -90,8 +91,9 @@ fn goes_on_word(class: Class) -> bool
     )
 }
 
-// A byte of a name.
-fn goes_on_name(class: Class) -> bool
+/// A byte of a name.
+#[inline(always)]
+pub(crate) fn goes_on_name(class: Class) -> bool
     ensures { result ≡ goes_on_name class }
 {
     match class {
@@ -315,13 +317,57 @@ pub(crate) fn reader_step(mode: Mode, last: Option<Bracket>, class: Class, next:
     }
 }
 
-/// Where the token begins in which the reader goes on behind the byte at this place.
-pub(crate) fn start_behind(mode: Mode, start: u32, at: u32) -> u32
-    requires { at + 1 < 2 ^ 32 }
-    ensures { result ≡ start_behind mode start at }
+/// A digit.
+#[inline(always)]
+pub(crate) fn is_digit(class: Class) -> bool
+    ensures { result ≡ is_digit class }
+{
+    match class {
+        Class::Digit => true,
+        _ => false,
+    }
+}
+
+/// A blank, or the end of a line.
+#[inline(always)]
+pub(crate) fn is_gap(class: Class) -> bool
+    ensures { result ≡ is_gap class }
+{
+    match class {
+        Class::Newline | Class::Blank => true,
+        _ => false,
+    }
+}
+
+/// A byte of a string that stands for itself.
+#[inline(always)]
+pub(crate) fn is_plain(class: Class) -> bool
+    ensures { result ≡ is_plain class }
+{
+    match class {
+        Class::Quote | Class::Backslash | Class::Newline => false,
+        _ => true,
+    }
+}
+
+/// A byte of a group that is no part of a bracket or a string.
+#[inline(always)]
+pub(crate) fn is_inner(class: Class) -> bool
+    ensures { result ≡ is_inner class }
+{
+    match class {
+        Class::Quote | Class::Dash | Class::Less | Class::Greater => false,
+        Class::Open(_) | Class::Close(_) => false,
+        _ => true,
+    }
+}
+
+/// Where the token begins in which the reader goes on from this place.
+pub(crate) fn start_at(mode: Mode, start: u32, at: u32) -> u32
+    ensures { result ≡ start_at mode start at }
 {
     match mode {
-        Mode::Between | Mode::Comment => at + 1,
+        Mode::Between | Mode::Comment => at,
         _ => start,
     }
 }

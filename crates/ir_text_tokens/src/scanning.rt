@@ -1,15 +1,19 @@
 //! From a text to its tokens, a byte at a time.
-ghost use Rattle.std.specs.Prelude.{◌≡◌, ◌≢◌, ◌↔◌, ◌<◌, ◌≤◌, false, List, length, Ok, Err, IfOk, IfErr, IfSome, OnOk};
+ghost use Rattle.std.specs.Prelude.{◌≡◌, ◌≢◌, ◌↔◌, ◌+◌, ◌<◌, ◌≤◌, ◌&&◌, ℕ, Bool, nat_eq, false, List, drop, slice_index_or, length, Ok, Err, IfOk, IfErr, IfSome, OnOk};
 ghost use Rattle.std.specs.List.{All};
 ghost use Rattle.ir_text_tokens.specs.declared.fault.Fault.TheVariants.{TooLong};
 ghost use Rattle.ir_text_tokens.specs.Faults.{StopsWithin};
-ghost use Rattle.ir_text_tokens.specs.Readings.{IsReading, IsNext, innermost, renested, read_of};
+ghost use Rattle.ir_text_tokens.specs.ByteClasses.{class_of_byte, class_ahead};
+ghost use Rattle.ir_text_tokens.specs.declared.token.Bracket.{Bracket};
+ghost use Rattle.ir_text_tokens.specs.ReaderSteps.{glued_behind, start_at, stays};
+ghost use Rattle.ir_text_tokens.specs.Readings.{IsReading, IsNext, innermost, renested, read_of, scanning};
 ghost use Rattle.ir_text_tokens.specs.Coverings.{Covers, GoForward, IsWithin, Lexeme, HaveSpelling, spelling, lexemes, GivesAgain};
 
 use crate::byte_class::{class_at, class_of};
 use crate::fault::{Fault, fault_of};
 use crate::reader_step::{
-    Mode, Nesting, Step, glued_behind, missing_at_end, reader_step, start_behind,
+    Mode, Nesting, Step, glued_behind, goes_on_name, goes_on_word, is_digit, is_gap, is_inner,
+    is_plain, missing_at_end, reader_step, start_at,
 };
 use crate::token::{Bracket, Token};
 use std::alloc::{AllocError, Global};
@@ -38,6 +42,45 @@ fn renest(brackets: &mut Vec<Bracket>, nesting: Nesting) -> Result<(), AllocErro
     Ok(())
 }
 
+// Whether the reader stays in this mode behind the byte at a place.
+#[inline(always)]
+fn stays(text: &[u8], mode: Mode, at: usize) -> bool
+    requires { at < length text.now }
+    ensures { result ≡ stays mode (class_of_byte (slice_index_or text.now at 0)) (class_ahead (drop (at + 1) text.now)) }
+{
+    match mode {
+        Mode::Between => is_gap(class_of(text[at])),
+        Mode::Word => goes_on_word(class_at(text, at + 1)),
+        Mode::Number(_) => is_digit(class_at(text, at + 1)),
+        Mode::Name(_) => goes_on_name(class_at(text, at + 1)),
+        Mode::Quoted(_) => is_plain(class_of(text[at])),
+        Mode::Group => is_inner(class_of(text[at])),
+        _ => false,
+    }
+}
+
+// Whether a token that begins there stands right behind another, where one ends at that place or not.
+fn is_glued(behind: bool, start: u32, at: u32) -> bool
+    ensures { result ≡ (behind && nat_eq start at) }
+{
+    behind && start == at
+}
+
+// The first place from this one on behind which the reader doesn't stay in this mode, or the end of the text.
+fn run_end(text: &[u8], mode: Mode, from: usize) -> usize
+    requires { from ≤ length text.now }
+    ensures passes { (start : ℕ) (glued : Bool) (s : List Bracket) → from < result → scanning from (start_at mode start from) glued mode s (drop from text.now) ≡ scanning result (start_at mode start result) (glued_behind mode glued) mode s (drop result text.now) }
+    ensures forward { from ≤ result }
+    ensures within { result ≤ length text.now }
+{
+    for at in from..text.len() {
+        if !stays(text, mode, at) {
+            return at;
+        }
+    }
+    text.len()
+}
+
 /// The next token of a text that goes on at this place, outside all tokens; `behind` says whether another token ends there. None where blanks and comments alone follow. What is in `brackets` counts for nothing.
 ///
 /// # Errors
@@ -61,16 +104,18 @@ pub fn next_token(
 {
     brackets.clear();
     let mut mode = Mode::Between;
-    let mut start = at;
-    let mut glued = behind;
-    for index in at as usize..text.len() {
+    let mut index = run_end(text, mode, at as usize);
+    let mut start = index as u32;
+    let mut glued = is_glued(behind, start, at);
+    while index < text.len() {
         let place = index as u32;
         let next = class_at(text, index + 1);
         let last = innermost(brackets);
         match reader_step(mode, last, class_of(text[index]), next) {
             Step::Go(to, nesting) => {
                 renest(brackets, nesting)?;
-                start = start_behind(to, start, place);
+                index = run_end(text, to, index + 1);
+                start = start_at(to, start, index as u32);
                 glued = glued_behind(to, glued);
                 mode = to;
             }
