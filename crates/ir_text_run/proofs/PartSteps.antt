@@ -1,5 +1,6 @@
 -- Parts that were spelled again, one behind the other.
-use Rattle.std.proofs.Common.{◌≡◌, ℕ, ◌++◌, List, [], ◌∷◌, Option, None, Some, refl, sym, ap, subst, ◌∙◌, append-nil, codes}
+use Rattle.std.proofs.Common.{◌≡◌, ◌≤◌, ℕ, Result, Ok, Err, IfErr, take, drop, slice_range, take-append-drop, ◌++◌, List, [], ◌∷◌, Option, None, Some, refl, sym, ap, subst, ◌∙◌, append-nil, codes}
+use Rattle.std.proofs.lemmas.List.Folds.{drop_split}
 use Rattle.std.specs.Io.KnownBytes.{Keeps, Appends}
 use Rattle.std.proofs.KnownBytes.{Keeps-refl, Keeps-trans, Appends-kept}
 use Rattle.ir_text_spelling.specs.TreeTexts.{tree_text}
@@ -21,19 +22,27 @@ respells_kept text a b c r k = (r.0, r.1, Appends-kept a b c _ r.2 k)
 
 -- all was written, but not sent on
 pub front_kept : (text : List ℕ) (a b c : Option (List ℕ)) → Respells text a b → Keeps b c → RespellsFront text a c
-front_kept text a b c r k = (r.0, r.1, tree_text text r.0, [], sym (append-nil (tree_text text r.0)), Appends-kept a b c _ r.2 k)
+front_kept text a b c r k = (r.0, r.1, (tree_text text r.0, [], sym (append-nil (tree_text text r.0)), Appends-kept a b c (tree_text text r.0) r.2 k))
+
+pub if_told : {X E : Type 0} (r : Result X E) (u : E) (P : Type 0) → P → IfErr r (λ (e : E). e ≡ u → P)
+if_told (Ok x) u P p = tt
+if_told (Err e) u P p = λ _. p
+
+-- a text is what stands before a line, the line, and what stands behind it
+pub cut_at_line : (text : List ℕ) (at end : ℕ) → at ≤ end → text ≡ take at text ++ (slice_range text at end ++ drop end text)
+cut_at_line text at end le = sym (take-append-drop at text) ∙ ap (λ (l : List ℕ). take at text ++ l) (drop_split text at end le)
 
 -- before the first part
 pub nothing_yet : (text : List ℕ) (a : Option (List ℕ)) → (ps : List (List ℕ)) × RespellsBefore ps text text a a
 unfolding RespellsBefore
-nothing_yet text a = ([], refl, Keeps-refl a)
+nothing_yet text a = ([], (refl, Keeps-refl a))
 
 -- one part more
 one_more : (ps : List (List ℕ)) (text p rest more : List ℕ) (a b c d : Option (List ℕ)) → RespellsBefore ps text rest a b → IsDivided rest p more → Respells p b c → Appends c d (codes "// -----\n")
     → RespellsBefore (ps ++ (p ∷ [])) text more a d
 unfolding RespellsBefore
 one_more [] text p rest more a b c d before divided r w =
-    (more, c, d, subst (λ (t : List ℕ). IsDivided t p more) (sym before.0) divided, kept_respells p a b c before.1 r, w, refl, Keeps-refl d)
+    (more, c, d, subst (λ (t : List ℕ). IsDivided t p more) (sym before.0) divided, kept_respells p a b c before.1 r, w, (refl, Keeps-refl d))
 one_more (q ∷ ps) text p rest more a b c d before divided r w =
     (before.0, before.1, before.2, before.3, before.4, before.5, one_more ps before.0 p rest more before.2 b c d before.6 divided r w)
 
