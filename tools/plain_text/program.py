@@ -49,11 +49,6 @@ def faults_in(said):
     return found
 
 
-def joined(texts):
-    """The texts as parts of one input."""
-    return MARKER.join(it if it.endswith('\n') else it + '\n' for it in texts[:-1]) + (MARKER if texts[1:] else '') + texts[-1]
-
-
 def parts_given(texts, printed, said):
     """What was given for each of these parts of one input."""
     faults = faults_in(said)
@@ -81,7 +76,7 @@ class Program:
 
     def parts(self, texts):
         """What is given for each of these texts, as parts of one input, and the status."""
-        status, printed, said = self.run(joined(texts), '--split-input-file')
+        status, printed, said = self.run(MARKER.join(texts), '--split-input-file')
         return status, parts_given(texts, printed, said)
 
     def alone(self, text):

@@ -20,6 +20,11 @@ def texts_of(seed):
     return [it for it in found[:TEXTS] if MARKER.strip() not in it]
 
 
+def parts_of(texts):
+    """The texts as parts of one input, in which all but the last end with a line's end."""
+    return [it if it.endswith('\n') else it + '\n' for it in texts[:-1]] + texts[-1:]
+
+
 class Difference(Exception):
     """A text for which the program doesn't give what is wanted."""
 
@@ -36,9 +41,8 @@ class Trials:
         self.met = collections.Counter()
 
     def wanted(self, texts):
-        """What is wanted of each text as a part of one input, in which all but the last end with a line's end."""
-        whole = [it if it.endswith('\n') else it + '\n' for it in texts[:-1]] + texts[-1:]
-        return [(text, Wanted(text, *self.form)) for text in whole]
+        """What is wanted of each text as a part of one input."""
+        return [(text, Wanted(text, *self.form)) for text in parts_of(texts)]
 
     def try_seed(self, seed):
         """Tries the texts of a seed together, and some alone: each difference."""
