@@ -27,7 +27,9 @@ FAULTS = [
 
 # Wrong bodies that a text can show: must-fail edits, and what each of them does.
 PLANTED = {
+    'ir_text_tree/attribute-dropped': 'an attribute is dropped',
     'ir_text_tree/value-dropped': 'the value of an attribute is dropped',
+    'ir_text_tree/operand-place-changed': "an operand's place is changed",
     'ir_text_tree/index-dropped': 'which of several values an operand is, is dropped',
     'ir_text_names/operand-taken-of-another-row': 'an operand names what stands behind it alone',
     'ir_text_names/type-of-the-first-result': "an operand's type is compared with that of the first result",
@@ -47,6 +49,8 @@ PLANTED = {
     'ir_text_tree/group-of-type-dropped': 'the group of a lone result type is dropped',
     'ir_text_tree/text-goes-past-comma': 'a type goes on past a comma',
     'ir_text_spelling/arguments-joined': "the parenthesis behind an argument's location is lost",
+    'ir_text_spelling/depth-forgotten': 'lines are indented by too little',
+    'ir_text_spelling/only-type-in-parentheses': 'a lone result type gets parentheses',
     'ir_text_spelling/second-key-in-braces': 'a key behind one without a value begins new braces',
     'ir_text_spelling/region-comma-lost': 'the comma between two regions is lost',
 }

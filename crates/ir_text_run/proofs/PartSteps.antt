@@ -1,10 +1,14 @@
 -- Parts that were spelled again, one behind the other.
-use Rattle.std.proofs.Common.{◌≡◌, ◌≤◌, ℕ, Result, Ok, Err, IfErr, take, drop, slice_range, take-append-drop, ◌++◌, List, [], ◌∷◌, Option, None, Some, refl, sym, ap, subst, ◌∙◌, append-nil, codes}
+use Rattle.std.proofs.Common.{◌≡◌, ◌≤◌, ◌-◌, ℕ, length, MatchOption, OnOk, arith, Result, Ok, Err, IfErr, take, drop, slice_range, take-append-drop, ◌++◌, List, [], ◌∷◌, Option, None, Some, refl, sym, ap, subst, ◌∙◌, append-nil, codes}
+use Rattle.std.proofs.lemmas.List.{take_rest}
 use Rattle.std.proofs.lemmas.List.Folds.{drop_split}
 use Rattle.std.specs.Io.KnownBytes.{Keeps, Appends}
 use Rattle.std.proofs.KnownBytes.{Keeps-refl, Keeps-trans, Appends-kept}
 use Rattle.ir_text_spelling.specs.TreeTexts.{tree_text}
 use Rattle.ir_text_run.specs.Respellings.{Respells, RespellsFront}
+use Rattle.ir_text_run.specs.declared.fault.Fault.{Fault}
+use Rattle.ir_text_run.specs.declared.fault.Fault.TheVariants as faults
+use Rattle.ir_text_run.specs.Endings.{status_of}
 use Rattle.ir_text_run.specs.Parts.{IsDivided, RespellsBefore, RespellsParts}
 
 -- known bytes that stayed, and then grew
@@ -29,8 +33,23 @@ if_told (Ok x) u P p = tt
 if_told (Err e) u P p = λ _. p
 
 -- a text is what stands before a line, the line, and what stands behind it
-pub cut_at_line : (text : List ℕ) (at end : ℕ) → at ≤ end → text ≡ take at text ++ (slice_range text at end ++ drop end text)
-cut_at_line text at end le = sym (take-append-drop at text) ∙ ap (λ (l : List ℕ). take at text ++ l) (drop_split text at end le)
+pub cut_at_line : (text : List ℕ) (at end : ℕ) → at ≤ end → text ≡ take at text ++ (slice_range text at end ++ take (length text - end) (drop end text))
+cut_at_line text at end le =
+    let behind = ap (λ (l : List ℕ). slice_range text at end ++ l) (sym (take_rest text end)) in
+    sym (take-append-drop at text) ∙ ap (λ (l : List ℕ). take at text ++ l) (drop_split text at end le ∙ behind)
+
+-- what is said of the value that an option has
+pub of_its_value : {X : Type 0} (o : Option X) (x : X) (A : Type 0) (B : X → Type 0) → o ≡ Some x → MatchOption o A B → B x
+of_its_value {X = X} o x A B e h = subst (λ (p : Option X). MatchOption p A B) e h
+
+-- under status 0 nothing was wrong
+pub told_right : (P : Type 0) (r : Result (Unit {0}) Fault) → status_of r ≡ 0 → OnOk r P → P
+told_right P (Ok x) e p = p
+told_right P (Err faults.OutOfMemory) e p = absurd (omega (arith, e))
+told_right P (Err faults.Unreadable) e p = absurd (omega (arith, e))
+told_right P (Err faults.Unwritable) e p = absurd (omega (arith, e))
+told_right P (Err (faults.Reading f)) e p = absurd (omega (arith, e))
+told_right P (Err (faults.Naming f)) e p = absurd (omega (arith, e))
 
 -- before the first part
 pub nothing_yet : (text : List ℕ) (a : Option (List ℕ)) → (ps : List (List ℕ)) × RespellsBefore ps text text a a
