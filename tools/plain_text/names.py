@@ -127,7 +127,7 @@ class Names:
                     self.wrong.append(Fault(use.name.at, 'this operand has another type than the value that it names'))
 
 
-def check(operations, decoded=True):
+def check(operations, decoded):
     """Raises the first fault of the names; several may stand at its place."""
     names = Names(operations, decoded)
     for it in operations:

@@ -59,12 +59,12 @@ PLANTED = {
 SEEDS, SECONDS = 4, '20'
 
 
-def wanted_of(form):
+def wanted_of():
     """The texts of each seed, and what is wanted of them."""
     wanted = {}
     for seed in range(1, SEEDS + 1):
         texts = parts_of(texts_of(seed))
-        wanted[str(seed)] = [(text, Wanted(text, *form)) for text in texts]
+        wanted[str(seed)] = [(text, Wanted(text)) for text in texts]
     return wanted
 
 
@@ -96,9 +96,9 @@ def first_difference(some, how, printed, said):
     return next(found, '')
 
 
-def try_one(top, name, form):
+def try_one(top, name):
     """Plants one wrong body, and tells whether it is found."""
-    wanted = wanted_of(form)
+    wanted = wanted_of()
     with tempfile.TemporaryDirectory(prefix='planted-') as folder:
         copy = copy_of(top, folder)
         if name:
@@ -115,9 +115,9 @@ def try_one(top, name, form):
     return bool(differ) == bool(name)
 
 
-def try_all(top, names, form):
+def try_all(top, names):
     """Shows that nothing is found in the crates as they stand, and that each wrong body is found."""
     names = ['', *(names or PLANTED)]
-    failed = sum(not try_one(top, name, form) for name in names)
+    failed = sum(not try_one(top, name) for name in names)
     print(f'{len(names) - failed} passed, {failed} failed')
     return 1 if failed else 0

@@ -5,6 +5,9 @@ import subprocess
 from . import names, reading, spelling
 from .tree import Fault
 
+# Whether a key in quotes stands for the bytes that its escapes mean, or for those with which it is spelled.
+DECODED = False
+
 MARKER = '// -----\n'
 SECONDS = 120
 TOLD = re.compile(r'^-:(\d+):(\d+): error: (.*)$')
@@ -13,12 +16,12 @@ TOLD = re.compile(r'^-:(\d+):(\d+): error: (.*)$')
 class Wanted:
     """What a text has to give: its tree's text, or a fault, by its line and column in the text and the words for it."""
 
-    def __init__(self, text, decoded, indents):
+    def __init__(self, text, decoded=DECODED):
         self.lines = text.count('\n')
         try:
             operations = reading.read(text)
             names.check(operations, decoded)
-            self.text, self.place, self.words = spelling.spell(operations, indents), None, ()
+            self.text, self.place, self.words = spelling.spell(operations), None, ()
         except Fault as it:
             front = text[:it.at]
             self.text, self.place, self.words = '', (front.count('\n') + 1, it.at - front.rfind('\n')), it.words

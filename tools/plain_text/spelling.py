@@ -16,13 +16,13 @@ def location(piece):
 
 
 class Speller:
-    """The lines of a text. With indents, what stands in regions is indented, and a lone result type keeps the form in which it was read."""
+    """The lines of a text. What stands in regions is indented, and a lone result type keeps the form in which it was read."""
 
-    def __init__(self, indents):
-        self.parts, self.indents = [], indents
+    def __init__(self):
+        self.parts = []
 
     def write(self, depth, text):
-        self.parts.append('  ' * depth + text if self.indents else text)
+        self.parts.append('  ' * depth + text)
 
     def operations(self, depth, some):
         for it in some:
@@ -44,7 +44,7 @@ class Speller:
             entries = (key.text + (f' = {value.text}' if value else '') for key, value in it.entries)
             self.parts.append(f' {{{", ".join(entries)}}}')
         types = pieces(it.result_types)
-        if not (it.bare and self.indents):
+        if not it.bare:
             types = f'({types})'
         self.parts.append(f' : ({pieces(it.operand_types)}) -> {types}{location(it.location)}\n')
 
@@ -57,8 +57,8 @@ class Speller:
         self.write(depth, '}')
 
 
-def spell(operations, indents=True):
+def spell(operations):
     """The text of the operations."""
-    speller = Speller(indents)
+    speller = Speller()
     speller.operations(0, operations)
     return ''.join(speller.parts)

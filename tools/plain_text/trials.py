@@ -36,13 +36,13 @@ class Difference(Exception):
 class Trials:
     """What was tried, and how often each thing was met."""
 
-    def __init__(self, program, decoded, indents):
-        self.program, self.form = program, (decoded, indents)
+    def __init__(self, program):
+        self.program = program
         self.met = collections.Counter()
 
     def wanted(self, texts):
         """What is wanted of each text as a part of one input."""
-        return [(text, Wanted(text, *self.form)) for text in parts_of(texts)]
+        return [(text, Wanted(text)) for text in parts_of(texts)]
 
     def try_seed(self, seed):
         """Tries the texts of a seed together, and some alone: each difference."""

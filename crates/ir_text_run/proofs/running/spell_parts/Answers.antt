@@ -24,6 +24,7 @@ loop-worst-preserved g c =
           λ e.
             let there : c.first_part-front.result.rest ≡ Some behind = search rules in
             let divided : IsDivided rest part behind.now = of_its_value c.first_part-front.result.rest behind _ (λ r. IsDivided rest part r.now) there c.first_part-front.ensures.divided in
+            let is = w.in-0 in
             let zero : c.told.result ≡ 0 = search rules in
             let right : Respells part before spelled = told_right (Respells part before spelled) c.respell-outcome.result (sym c.told.ensures.status ∙ zero) c.respell-outcome.ensures.spelled in
             and_one_more c.args.text.now part rest behind.now old before spelled written (c.loop-worst.invariant.1 (sym w.worst-is ∙ e)) divided right c.in_ok-write_divider.ensures.whole
