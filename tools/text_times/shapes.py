@@ -64,4 +64,6 @@ def brackets(write, count):
     write('"a"() {x = ' + '[' * count + ']' * count + '} : () -> ()\n')
 
 
-SHAPES = [nest, outer, operands, results, names, forward, blocks, arguments, regions, attributes, lines, brackets]
+# What is printed of the deep ones grows with the square of the depth, by the blanks in front of each line.
+DEEP = [nest, outer]
+SHAPES = [*DEEP, operands, results, names, forward, blocks, arguments, regions, attributes, lines, brackets]
