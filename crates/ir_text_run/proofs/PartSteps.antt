@@ -3,7 +3,7 @@ use Rattle.std.proofs.Common.{◌≡◌, ◌≤◌, ◌-◌, ℕ, length, MatchO
 use Rattle.std.proofs.lemmas.List.{take_rest}
 use Rattle.std.proofs.lemmas.List.Folds.{drop_split}
 use Rattle.std.specs.Io.KnownBytes.{Keeps, Appends}
-use Rattle.std.proofs.KnownBytes.{Keeps-refl, Keeps-trans, Appends-kept}
+use Rattle.std.proofs.KnownBytes.{Keeps-refl, Appends-kept}
 use Rattle.ir_text_spelling.specs.TreeTexts.{tree_text}
 use Rattle.ir_text_run.specs.Respellings.{Respells, RespellsFront}
 use Rattle.ir_text_run.specs.declared.fault.Fault.{Fault}

@@ -1,5 +1,5 @@
 -- The rows of a tree stand in its text.
-use Rattle.std.proofs.Common.{◌≡◌, ℕ, zero, suc, ◌<◌, ◌≤◌, List, [], ◌∷◌, length, get_or, Err, Result, IfSome, sym, subst, arith}
+use Rattle.std.proofs.Common.{ℕ, zero, suc, ◌<◌, ◌≤◌, List, [], ◌∷◌, length, get_or, sym, subst, arith}
 use Rattle.ir_text_tree.specs.declared.row.Row.{Row}
 use Rattle.ir_text_tree.specs.declared.row.Span.{Span}
 use Rattle.ir_text_tree.specs.Rows.{GoForward, row_spans}
@@ -7,8 +7,7 @@ use Rattle.ir_text_names.specs.declared.fault.Fault.{Fault as NamesFault}
 use Rattle.ir_text_names.specs.declared.fault.Fault.TheVariants as names
 use Rattle.ir_text_names.specs.declared.fault.Wrong.{Wrong}
 use Rattle.ir_text_names.specs.Firsts.{IsFirstFault}
-use Rattle.ir_text_names.specs.Rows.{no_row, row_of}
-use Rattle.ir_text_run.specs.declared.fault.Fault.{Fault}
+use Rattle.ir_text_names.specs.Rows.{no_row}
 use Rattle.ir_text_run.specs.Faults.{of_naming, StandsWithin}
 
 ends_within : (end at : ℕ) (xs : List Span) → GoForward end at xs → at ≤ end

@@ -1,5 +1,5 @@
 -- Faults of a run, and their places.
-use Rattle.std.specs.Prelude.{◌≡◌, ◌≤◌, ◌<◌, ℕ, ⊤, List, length, Option, Some, None, IfSome, Err}
+use Rattle.std.specs.Prelude.{◌≡◌, ◌≤◌, ◌<◌, ℕ, ⊤, List, length, Option, None, IfSome, Err}
 use Rattle.ir_text_reader.specs.declared.fault.Fault.{Fault as ReaderFault}
 use Rattle.ir_text_reader.specs.declared.fault.Fault.TheVariants as reader
 use Rattle.ir_text_reader.specs.Faults.{fault_place as reader_place}

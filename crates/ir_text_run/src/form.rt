@@ -18,7 +18,10 @@ impl Form {
         if words.is_empty() {
             return Some(Form::Whole);
         }
-        if words.iter().all(|word| word.as_str() == "--split-input-file") {
+        if words
+            .iter()
+            .all(|word| word.as_str() == "--split-input-file")
+        {
             Some(Form::Parts)
         } else {
             None

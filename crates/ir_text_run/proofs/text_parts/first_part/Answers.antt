@@ -1,4 +1,4 @@
-use Rattle.std.proofs.Common.{rules, ◌≤◌, slice_range, arith}
+use Rattle.std.proofs.Common.{◌≤◌, slice_range, arith}
 use Rattle.ir_text_run.proofs.PartSteps.{cut_at_line}
 use Rattle.ir_text_run.proofs.text_parts.first_part.Goals as goal
 
