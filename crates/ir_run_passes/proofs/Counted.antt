@@ -1,5 +1,5 @@
 -- How many operations went: as many as were live, less those that are.
-use mathlib.Core.Path.{◌≡◌, sym, ap, ◌∙◌, subst}
+use mathlib.Core.Path.{◌≡◌, subst}
 use Rattle.std.proofs.Common.{ℕ, ◌+◌, arith}
 use Rattle.ir_model.specs.ContextIds.{context_ids}
 use Rattle.ir_model.specs.Forest.{Dialect, Behaviour, Forest, Entity}

@@ -1,6 +1,6 @@
 -- Records before and after blocks were swept: how many operations went.
-use mathlib.Core.Path.{◌≡◌, sym, ap, ◌∙◌}
-use Rattle.std.proofs.Common.{ℕ, ◌+◌, ◌-◌, ◌≤◌, ◌<◌, arith}
+use mathlib.Core.Path.{◌≡◌}
+use Rattle.std.proofs.Common.{ℕ, ◌-◌, ◌≤◌, ◌<◌, arith}
 use Rattle.ir_model.specs.declared.ids.ArenaIndex.{ArenaIndex}
 use Rattle.ir_model.specs.ContextIds.{context_ids}
 use Rattle.ir_model.specs.Forest.{Behaviour, Entity, an_op, a_block}

@@ -12,7 +12,7 @@ use Rattle.ir_model.specs.Slots.{Slot, is_taken, slot_in}
 use Rattle.ir_model.specs.Arenas.{Arena, IsLiveIn, arena_len, get}
 use Rattle.ir_model.proofs.Slots.{taken_at, slot_at-place, find_at}
 use Rattle.ir_model.proofs.Arenas.{same_id}
-use Rattle.ir_model.proofs.Nests.{Absent-not_in, not_in-Absent, In-left, In-right, In-map}
+use Rattle.ir_model.proofs.Nests.{Absent-not_in, In-left, In-right, In-map}
 use Rattle.ir_model.proofs.Removal.{length-within}
 use Rattle.ir_model_passes.specs.SweepInside.{ListsLive, ListsOps}
 

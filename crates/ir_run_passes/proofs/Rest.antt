@@ -1,5 +1,5 @@
 -- What is beside the forest.
-use mathlib.Core.Path.{◌≡◌, ◌∙◌}
+use mathlib.Core.Path.{◌∙◌}
 use Rattle.ir_model.specs.Forest.{Dialect}
 use Rattle.ir_model.specs.Sessions.{Session}
 use Rattle.ir_core_queries.specs.Calls.{SameButForest}

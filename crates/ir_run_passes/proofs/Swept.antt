@@ -1,6 +1,6 @@
 -- What a sweep of one block inside a root leaves of the root.
-use mathlib.Core.Path.{◌≡◌, refl, sym, ap, ◌∙◌}
-use Rattle.std.proofs.Common.{ℕ, false, true, inl, inr, None, is_some}
+use mathlib.Core.Path.{◌≡◌, sym, ap, ◌∙◌}
+use Rattle.std.proofs.Common.{ℕ, false, true, inl, inr, is_some}
 use Rattle.std.specs.Prelude.{IsTrue}
 use Rattle.ir_model.specs.Ids.{Ids}
 use Rattle.ir_model.specs.Forest.{Dialect, Behaviour, Entity, an_op, a_block, Forest}

@@ -1,6 +1,6 @@
 -- The walk over all inside a root from a place on, and the blocks that it passes.
 use mathlib.Core.Path.{◌≡◌, refl, sym, ap, ◌∙◌, subst}
-use Rattle.std.proofs.Common.{ℕ, ◌<◌, inl, inr, false, is_some, IsNone, Option, Some, None, List, [], ◌∷◌, ◌++◌}
+use Rattle.std.proofs.Common.{◌<◌, inl, inr, false, is_some, IsNone, Option, Some, None, List, [], ◌∷◌, ◌++◌}
 use Rattle.std.proofs.lemmas.List.{append_assoc}
 use Rattle.std.specs.Option.{option_map}
 use Rattle.std.specs.Prelude.{IfSome}

@@ -1,7 +1,7 @@
 use Rattle.std.proofs.Common.{◌≡◌, ◌<◌, Some, Option, sym, ap, ◌∙◌, subst, IfSome}
 use Rattle.std.specs.Option.{option_map}
-use Rattle.ir_model.specs.Forest.{an_op, a_block}
-use Rattle.ir_model.specs.Nesting.{Inside, IsLive}
+use Rattle.ir_model.specs.Forest.{an_op}
+use Rattle.ir_model.specs.Nesting.{Inside}
 use Rattle.ir_core_erasing.specs.Walks.{subtree}
 use Rattle.ir_core_erasing.proofs.Steps.{remaining}
 use Rattle.ir_core_queries.specs.State.{forest_of}
