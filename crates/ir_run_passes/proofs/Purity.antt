@@ -16,6 +16,3 @@ module _ {W : Dialect} (B : Behaviour W) (f : Forest context_ids W) (o : ArenaIn
 
   pub goes_where : answer ≡ true → (closed : Bool) → IsTrue closed ↔ IsClosed f (an_op o) → IsTrue closed ↔ CanGo B f o
   goes_where so closed told = (λ t. record { is_pure = implements_is ∙ so; closed = told.0 t }, λ can. told.1 can.closed)
-
-  pub stays_where : answer ≡ false → CanGo B f o → false ≡ true
-  stays_where not_so can = sym (implements_is ∙ not_so) ∙ can.is_pure
