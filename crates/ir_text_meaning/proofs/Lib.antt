@@ -1,0 +1,9 @@
+mod PartLists
+mod Cursors
+mod Walks
+mod Places
+mod Bodies
+mod Homes
+mod NameMeanings
+mod Owned
+mod NameFaults

@@ -1,0 +1,5 @@
+pub mod Parts
+pub mod Regions
+pub mod Meanings
+pub mod Owners
+pub mod Faults
