@@ -7,3 +7,5 @@ mod Homes
 mod NameMeanings
 mod Owned
 mod NameFaults
+mod Counting
+mod Results

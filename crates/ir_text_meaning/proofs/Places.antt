@@ -87,7 +87,7 @@ within_bounds {c = c} {m = m} (deeper {b = b} {d = d} {n = n} {k = k} r w) =
 
 -- ---- each part is found
 
-among_there : (ys : List Row) (n k : ℕ) → n ≤ k → k < n + length ys → IsAmong ys n k (row_of ys (k - n))
+pub among_there : (ys : List Row) (n k : ℕ) → n ≤ k → k < n + length ys → IsAmong ys n k (row_of ys (k - n))
 among_there ys n k from to = (k - n, omega (arith, from, to), omega (arith, from), refl)
 
 -- the body of one of these regions has the part, or the part closes it

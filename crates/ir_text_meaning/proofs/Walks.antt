@@ -17,7 +17,7 @@ use Rattle.ir_text_meaning.proofs.Cursors.{below, Cursor, Fact, cursor_as, fact_
 abbrev from_regions : Regions → Tail → List Row → List Row
 from_regions rs t xs = region_rows rs (tail_parts t ++ xs)
 
-abbrev from_operands : Head → Regions → Tail → List Row → List Row
+abbrev pub from_operands : Head → Regions → Tail → List Row → List Row
 from_operands h rs t xs = operand_parts h ++ from_regions rs t xs
 
 abbrev pub from_results : Head → Regions → Tail → List Row → List Row

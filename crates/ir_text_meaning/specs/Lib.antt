@@ -3,3 +3,4 @@ pub mod Regions
 pub mod Meanings
 pub mod Owners
 pub mod Faults
+pub mod Numbered
