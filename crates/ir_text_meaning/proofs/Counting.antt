@@ -11,10 +11,11 @@ use Rattle.ir_text_tree.specs.TextSteps.{part_of_text}
 use Rattle.ir_text_tree.specs.Trees.{Text, Use, Entry, ResultTypes, bare, listed, Head, Tail, Body, maybe_row, maybe_text_row, use_rows, successor_rows, entry_rows, attribute_rows, type_rows, result_type_rows, tree_rows}
 use Rattle.ir_text_names.specs.Rows.{row_of, part_of}
 use Rattle.ir_text_names.specs.Types.{operation_of}
-use Rattle.ir_text_names.specs.Counts.{tally, is_counted, HasOtherTypes}
+use Rattle.ir_text_names.specs.Counts.{tally}
 use Rattle.ir_text_meaning.specs.Parts.{Operation, result_parts, operand_parts, tail_parts, named_size, head_size, body_size, regions_size, operation_size, HasOperation, IsAmong}
 use Rattle.ir_text_meaning.specs.Regions.{IsWithin}
-use Rattle.ir_text_meaning.specs.Owners.{IsBehindName, is_operand, is_operand_type, is_result_type, result_type_count, IsName, HasOtherTypesAt}
+use Rattle.ir_text_names.specs.Sorts.{is_operand, is_operand_type, is_result_type}
+use Rattle.ir_text_meaning.specs.Owners.{IsBehindName, result_type_count, IsName}
 use Rattle.ir_text_meaning.proofs.Homes.{home, PartCases, of_operation}
 use Rattle.ir_text_meaning.proofs.Places.{operation_bounds, within_bounds}
 use Rattle.ir_text_meaning.proofs.Walks.{operation_at, name_fact}
@@ -27,7 +28,7 @@ abbrev pub count : (Part → Bool) → List Row → ℕ
 count f [] = 0
 count f (x ∷ xs) = cond (f x.part) 1 0 + count f xs
 
-tally_same : (test : ℕ → Bool) (n m : ℕ) → ((j : ℕ) → n ≤ j → j < n + m → test j ≡ false) → tally test (n + m) ≡ tally test n
+pub tally_same : (test : ℕ → Bool) (n m : ℕ) → ((j : ℕ) → n ≤ j → j < n + m → test j ≡ false) → tally test (n + m) ≡ tally test n
 unfolding tally
 tally_same test n zero h = let e : n + 0 ≡ n = omega arith in ap (tally test) e
 tally_same test n (suc m) h =
@@ -51,14 +52,9 @@ tally_list test f (y ∷ ys) n h =
     let all : tally test (n + suc (length ys)) ≡ tally test (suc n + length ys) = ap (tally test) e in
     omega (arith, rest, first, all)
 
-tally_zero : (test : ℕ → Bool) → tally test 0 ≡ 0
+pub tally_zero : (test : ℕ → Bool) → tally test 0 ≡ 0
 unfolding tally
 tally_zero test = refl
-
-tally_alike : (test other : ℕ → Bool) (n : ℕ) → ((j : ℕ) → test j ≡ other j) → tally test n ≡ tally other n
-unfolding tally
-tally_alike test other zero h = refl
-tally_alike test other (suc n) h = ap (λ (m : ℕ). m + cond (test n) 1 0) (tally_alike test other n h) ∙ ap (λ (t : Bool). tally other n + cond t 1 0) (h n)
 
 -- the test holds among those rows alone
 tally_whole : (test : ℕ → Bool) (f : Part → Bool) (ys : List Row) (n m : ℕ) → ((j : ℕ) → j < length ys → test (n + j) ≡ f (row_of ys j).part) → ((j : ℕ) → (j < n) ⊎ (n + length ys ≤ j) → test j ≡ false) → n + length ys ≤ m → tally test m ≡ count f ys
@@ -156,51 +152,61 @@ operand_at_home : (p : Part) → is_operand p ≡ true → home p ≡ 2
 operand_at_home parts.Operand e = refl
 operand_at_home _ e = absurd (false≢true e)
 
-operand_type_at_home : (p : Part) → is_operand_type p ≡ true → home p ≡ 6
+pub operand_type_at_home : (p : Part) → is_operand_type p ≡ true → home p ≡ 6
 operand_type_at_home parts.OperandType e = refl
 operand_type_at_home _ e = absurd (false≢true e)
 
-result_type_at_home : (p : Part) → is_result_type p ≡ true → home p ≡ 6
+pub result_type_at_home : (p : Part) → is_result_type p ≡ true → home p ≡ 6
 result_type_at_home parts.ResultType e = refl
 result_type_at_home _ e = absurd (false≢true e)
 
 -- parts for which the test holds stand in that list of an operation
-record Listed (f : Part → Bool) (o : Operation) (k n : ℕ) (ys : List Row) : Type 0 where
-  behind : (j : ℕ) → j < length ys → IsBehindName o k (n + j) (row_of ys j)
-  fits : n + length ys ≤ k + operation_size o
-  homes : (p : Part) → f p ≡ true → (home p ≡ 2) ⊎ (home p ≡ 6)
-  there : (j : ℕ) (x : Row) → f x.part ≡ true → PartCases o k j x → IsAmong ys n j x
+pub record Listed (f : Part → Bool) (o : Operation) (k n : ℕ) (ys : List Row) : Type 0 where
+  pub behind : (j : ℕ) → j < length ys → IsBehindName o k (n + j) (row_of ys j)
+  pub fits : n + length ys ≤ k + operation_size o
+  pub homes : (p : Part) → f p ≡ true → (home p ≡ 2) ⊎ (home p ≡ 6)
+  pub there : (j : ℕ) (x : Row) → f x.part ≡ true → PartCases o k j x → IsAmong ys n j x
 
 and_true : (a b : Bool) → b ≡ true → (a && b) ≡ a
 and_true true b e = e
 and_true false b e = refl
 
-counted_there : (f : Part → Bool) (b c : Body) (n : ℕ) (o : Operation) (k m : ℕ) (ys : List Row) → IsWithin c n b 0 → HasOperation c n o k → Listed f o k m ys
-    → tally (λ (j : ℕ). f (part_of (tree_rows b) j) && nat_eq (operation_of (tree_rows b) j) (k + named_size o.head)) (length (tree_rows b)) ≡ count f ys
-counted_there f b c n o k m ys w h l =
+-- a row with such a part that belongs to an operation
+abbrev pub is_row_of : (Part → Bool) → List Row → ℕ → ℕ → Bool
+is_row_of f rows operation j = f (part_of rows j) && nat_eq (operation_of rows j) operation
+
+pub listed_inside : (f : Part → Bool) (b c : Body) (n : ℕ) (o : Operation) (k m : ℕ) (ys : List Row) → IsWithin c n b 0 → HasOperation c n o k → Listed f o k m ys
+    → (j : ℕ) → j < length ys → is_row_of f (tree_rows b) (k + named_size o.head) (m + j) ≡ f (row_of ys j).part
+listed_inside f b c n o k m ys w h l j lt =
     let rows = tree_rows b in
     let operation = k + named_size o.head in
-    let test : ℕ → Bool = λ j. f (part_of rows j) && nat_eq (operation_of rows j) operation in
-    let size = tree_size b in
-    let in_tree : n + body_size c ≤ 0 + body_size b = (within_bounds w).1 in
-    let in_body : k + operation_size o ≤ n + body_size c = (operation_bounds c n o k h).1 in
-    let fits : m + length ys ≤ k + operation_size o = l.fits in
-    let inside : (j : ℕ) → j < length ys → test (m + j) ≡ f (row_of ys j).part =
-    λ j lt.
     let z = behind_fact b c n o k (m + j) (row_of ys j) w h (l.behind j lt) in
-    and_true (f (part_of rows (m + j))) (nat_eq (operation_of rows (m + j)) operation) (eq-eqb (operation_of rows (m + j)) operation z.operation) ∙ ap (λ (x : Row). f x.part) z.is in
-    let outside : (j : ℕ) → (j < m) ⊎ (m + length ys ≤ j) → test j ≡ false =
-    λ j out.
-    ⊎_elim (λ (e : test j ≡ true).
+    and_true (f (part_of rows (m + j))) (nat_eq (operation_of rows (m + j)) operation) (eq-eqb (operation_of rows (m + j)) operation z.operation) ∙ ap (λ (x : Row). f x.part) z.is
+
+pub listed_outside : (f : Part → Bool) (b c : Body) (n : ℕ) (o : Operation) (k m : ℕ) (ys : List Row) → IsWithin c n b 0 → HasOperation c n o k → Listed f o k m ys
+    → (j : ℕ) → (j < m) ⊎ (m + length ys ≤ j) → is_row_of f (tree_rows b) (k + named_size o.head) j ≡ false
+listed_outside f b c n o k m ys w h l j out =
+    let rows = tree_rows b in
+    let operation = k + named_size o.head in
+    ⊎_elim (λ (e : is_row_of f rows operation j ≡ true).
     let both = and_parts (f (part_of rows j)) (nat_eq (operation_of rows j) operation) e in
     let cases = owned b c n o k j w h (l.homes (part_of rows j) both.0) (eqb-true (operation_of rows j) operation both.1) in
     let among = l.there j (row_of rows j) both.0 cases in
     let lt : among.0 < length ys = among.1 in
     let is : j ≡ m + among.0 = among.2 in
-    ⊎_elim (λ (x : j < m). absurd (omega (arith, x, is))) (λ (x : m + length ys ≤ j). absurd (omega (arith, x, is, lt))) out) (λ (e : test j ≡ false). e) (cases_Bool (test j)) in
-    tally_whole test f ys m (length rows) inside outside (omega (arith, in_tree, in_body, fits, size))
+    ⊎_elim (λ (x : j < m). absurd (omega (arith, x, is))) (λ (x : m + length ys ≤ j). absurd (omega (arith, x, is, lt))) out) (λ (e : is_row_of f rows operation j ≡ false). e) (cases_Bool (is_row_of f rows operation j))
 
-listed_operands : (o : Operation) (k : ℕ) → Listed is_operand o k (k + named_size o.head) (operand_parts o.head)
+counted_there : (f : Part → Bool) (b c : Body) (n : ℕ) (o : Operation) (k m : ℕ) (ys : List Row) → IsWithin c n b 0 → HasOperation c n o k → Listed f o k m ys
+    → tally (is_row_of f (tree_rows b) (k + named_size o.head)) (length (tree_rows b)) ≡ count f ys
+counted_there f b c n o k m ys w h l =
+    let rows = tree_rows b in
+    let size = tree_size b in
+    let in_tree : n + body_size c ≤ 0 + body_size b = (within_bounds w).1 in
+    let in_body : k + operation_size o ≤ n + body_size c = (operation_bounds c n o k h).1 in
+    let fits : m + length ys ≤ k + operation_size o = l.fits in
+    tally_whole (is_row_of f rows (k + named_size o.head)) f ys m (length rows) (listed_inside f b c n o k m ys w h l) (listed_outside f b c n o k m ys w h l) (omega (arith, in_tree, in_body, fits, size))
+
+pub listed_operands : (o : Operation) (k : ℕ) → Listed is_operand o k (k + named_size o.head) (operand_parts o.head)
 listed_operands o k = record {
   behind = λ j lt. inl (j, lt, refl, refl);
   fits = omega arith;
@@ -208,7 +214,7 @@ listed_operands o k = record {
   there = λ j x e h. h.operands (operand_at_home x.part e);
 }
 
-listed_operand_types : (o : Operation) (k : ℕ) → Listed is_operand_type o k (k + head_size o.head + regions_size o.regions) (tail_parts o.tail)
+pub listed_operand_types : (o : Operation) (k : ℕ) → Listed is_operand_type o k (k + head_size o.head + regions_size o.regions) (tail_parts o.tail)
 listed_operand_types o k = record {
   behind = λ j lt. inr (j, lt, refl, refl);
   fits = omega arith;
@@ -216,7 +222,7 @@ listed_operand_types o k = record {
   there = λ j x e h. h.tail (operand_type_at_home x.part e);
 }
 
-listed_result_types : (o : Operation) (k : ℕ) → Listed is_result_type o k (k + head_size o.head + regions_size o.regions) (tail_parts o.tail)
+pub listed_result_types : (o : Operation) (k : ℕ) → Listed is_result_type o k (k + head_size o.head + regions_size o.regions) (tail_parts o.tail)
 listed_result_types o k = record {
   behind = λ j lt. inr (j, lt, refl, refl);
   fits = omega arith;
@@ -225,13 +231,13 @@ listed_result_types o k = record {
 }
 
 -- how many rows with such a part belong to that operation
-abbrev rows_of : (Part → Bool) → List Row → ℕ → ℕ
-rows_of f rows operation = tally (λ (j : ℕ). f (part_of rows j) && nat_eq (operation_of rows j) operation) (length rows)
+abbrev pub rows_of : (Part → Bool) → List Row → ℕ → ℕ
+rows_of f rows operation = tally (is_row_of f rows operation) (length rows)
 
-operands_there : (b c : Body) (n : ℕ) (o : Operation) (k : ℕ) → IsWithin c n b 0 → HasOperation c n o k → rows_of is_operand (tree_rows b) (k + named_size o.head) ≡ length o.head.operands
+pub operands_there : (b c : Body) (n : ℕ) (o : Operation) (k : ℕ) → IsWithin c n b 0 → HasOperation c n o k → rows_of is_operand (tree_rows b) (k + named_size o.head) ≡ length o.head.operands
 operands_there b c n o k w h = counted_there is_operand b c n o k (k + named_size o.head) (operand_parts o.head) w h (listed_operands o k) ∙ operands_count o.head
 
-operand_types_there : (b c : Body) (n : ℕ) (o : Operation) (k : ℕ) → IsWithin c n b 0 → HasOperation c n o k → rows_of is_operand_type (tree_rows b) (k + named_size o.head) ≡ length o.tail.operand_types
+pub operand_types_there : (b c : Body) (n : ℕ) (o : Operation) (k : ℕ) → IsWithin c n b 0 → HasOperation c n o k → rows_of is_operand_type (tree_rows b) (k + named_size o.head) ≡ length o.tail.operand_types
 operand_types_there b c n o k w h = counted_there is_operand_type b c n o k (k + head_size o.head + regions_size o.regions) (tail_parts o.tail) w h (listed_operand_types o k) ∙ operand_types_count o.tail
 
 pub result_types_there : (b c : Body) (n : ℕ) (o : Operation) (k : ℕ) → IsWithin c n b 0 → HasOperation c n o k → rows_of is_result_type (tree_rows b) (k + named_size o.head) ≡ result_type_count o.tail.result_types
@@ -256,19 +262,3 @@ name_there b i h =
 -- one more than its number is where the operation's rows say that it is
 pub behind_name : (b : Body) (i : ℕ) (h : IsName b i) → i + 1 ≡ h.owner_at + named_size h.owner.head
 behind_name b i h = let is : h.owner_at + length (result_parts h.owner.head) ≡ i = h.is_name in omega (arith, is)
-
--- ---- numbers of operand types
-
--- two tests of parts that agree count alike
-alike : (f g : Part → Bool) (rows : List Row) (operation : ℕ) → ((p : Part) → f p ≡ g p) → rows_of f rows operation ≡ rows_of g rows operation
-alike f g rows operation same = tally_alike (λ j. f (part_of rows j) && nat_eq (operation_of rows j) operation) (λ j. g (part_of rows j) && nat_eq (operation_of rows j) operation) (length rows) (λ j. ap (λ (t : Bool). t && nat_eq (operation_of rows j) operation) (same (part_of rows j)))
-
--- the numbers of two sorts, told by any tests for them
-by_sorts : {S : Type 0} (is : S → Part → Bool) (some others : S) (b : Body) (i : ℕ) (h : IsName b i) → ((p : Part) → is some p ≡ is_operand p) → ((p : Part) → is others p ≡ is_operand_type p)
-    → (rows_of (is some) (tree_rows b) (i + 1) ≡ rows_of (is others) (tree_rows b) (i + 1)) ↔ (length h.owner.head.operands ≡ length h.owner.tail.operand_types)
-by_sorts is some others b i h e f =
-    let rows = tree_rows b in
-    let at = behind_name b i h in
-    let one_number = alike (is some) is_operand rows (i + 1) e ∙ ap (rows_of is_operand rows) at ∙ operands_there b h.body h.body_at h.owner h.owner_at h.in_tree h.in_body in
-    let other_number = alike (is others) is_operand_type rows (i + 1) f ∙ ap (rows_of is_operand_type rows) at ∙ operand_types_there b h.body h.body_at h.owner h.owner_at h.in_tree h.in_body in
-    (λ q. sym one_number ∙ q ∙ other_number, λ q. one_number ∙ q ∙ sym other_number)

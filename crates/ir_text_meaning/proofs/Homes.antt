@@ -29,7 +29,7 @@ home parts.ArgumentType = 5
 home parts.ArgumentLocation = 5
 home _ = 6
 
-each_at : (P : Part → Type 0) (ys : List Row) (j : ℕ) → Each P ys → j < length ys → P (row_of ys j).part
+pub each_at : (P : Part → Type 0) (ys : List Row) (j : ℕ) → Each P ys → j < length ys → P (row_of ys j).part
 each_at P [] j h lt = absurd (omega (arith, lt))
 each_at P (y ∷ ys) zero h lt = h.0
 each_at P (y ∷ ys) (suc j) h lt = let less : j < length ys = omega (arith, lt) in each_at P ys j h.1 less

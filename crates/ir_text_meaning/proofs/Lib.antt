@@ -9,3 +9,7 @@ mod Owned
 mod NameFaults
 mod Counting
 mod Results
+mod Indexed
+mod Placed
+mod OtherTypes
+mod AllFaults

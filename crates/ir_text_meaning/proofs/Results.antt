@@ -74,7 +74,7 @@ no_count : (rs : List ResultName) (name : Span) (xs : List Row) → NoCount (res
 no_count [] name xs = refl
 no_count (r ∷ rs) name xs = refl
 
-count_length : (c : Option Span) (ys : List Row) → length (maybe_row parts.Count c ys) ≡ mark_size c + length ys
+pub count_length : (c : Option Span) (ys : List Row) → length (maybe_row parts.Count c ys) ≡ mark_size c + length ys
 count_length None ys = let e : length ys ≡ 0 + length ys = omega arith in e
 count_length (Some at) ys = let e : suc (length ys) ≡ 1 + length ys = omega arith in e
 
@@ -108,14 +108,14 @@ result_facts text (x ∷ rs) rows n a i name xs c d r p h =
     let sum : p ≡ values_of text x.count + f.0 = f.2 in
     (l.0, l.1, omega (arith, later, first, sum))) h
 
-count_within : (rows : List Row) (i : ℕ) → part_of rows i ≡ parts.Count → i < length rows
+pub count_within : (rows : List Row) (i : ℕ) → part_of rows i ≡ parts.Count → i < length rows
 count_within rows i e =
     ⊎_elim (λ (l : i < length rows). l) (λ (l : length rows ≤ i). let f : is_count parts.Result ≡ is_count parts.Count = ap is_count (sym (ap part_in (get_or_past rows i no_row l)) ∙ e) in absurd (false≢true f)) (cases_lt i (length rows))
 
 -- ---- no values stand in front of an operation
 
 -- the rows from an operation's first up to its name stand in the region of its body
-front_region : (b c : Body) (n : ℕ) (o : Operation) (k q : ℕ) → IsWithin c n b 0 → HasOperation c n o k → k ≤ q → q ≤ k + length (result_parts o.head) → region_of (tree_rows b) q ≡ n
+pub front_region : (b c : Body) (n : ℕ) (o : Operation) (k q : ℕ) → IsWithin c n b 0 → HasOperation c n o k → k ≤ q → q ≤ k + length (result_parts o.head) → region_of (tree_rows b) q ≡ n
 front_region b c n o k q w h from to =
     let f = frame w (tree_frame b) in
     let at = operation_at c (tree_rows b) n f.around f.inner f.rest o k f.cursor h in
@@ -159,7 +159,7 @@ none_in_front text b c n o (suc j) w h lt =
 -- ---- laws
 
 -- an operation's first part is one of the rows
-op_within : (b c : Body) (n : ℕ) (o : Operation) (k : ℕ) → IsWithin c n b 0 → HasOperation c n o k → k < length (tree_rows b)
+pub op_within : (b c : Body) (n : ℕ) (o : Operation) (k : ℕ) → IsWithin c n b 0 → HasOperation c n o k → k < length (tree_rows b)
 op_within b c n o k w h =
     let size = tree_size b in
     let in_tree : n + body_size c ≤ 0 + body_size b = (within_bounds w).1 in

@@ -4,3 +4,6 @@ pub mod Meanings
 pub mod Owners
 pub mod Faults
 pub mod Numbered
+pub mod Values
+pub mod WellNamed
+pub mod ValueTypes

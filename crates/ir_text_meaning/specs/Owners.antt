@@ -1,7 +1,5 @@
 -- What belongs to an operation: its name, the parts behind it, and how many there are of each sort.
-use Rattle.std.specs.Prelude.{◌≡◌, ◌≢◌, ◌⊎◌, ℕ, ◌+◌, Bool, true, false, List, length}
-use Rattle.ir_text_tree.specs.declared.row.Part.{Part}
-use Rattle.ir_text_tree.specs.declared.row.Part.TheVariants as parts
+use Rattle.std.specs.Prelude.{◌≡◌, ◌≢◌, ◌⊎◌, ℕ, ◌+◌, List, length}
 use Rattle.ir_text_tree.specs.declared.row.Row.{Row}
 use Rattle.ir_text_tree.specs.Trees.{Body, ResultTypes, bare, listed}
 use Rattle.ir_text_meaning.specs.Parts.{Operation, result_parts, operand_parts, tail_parts, named_size, head_size, regions_size, HasOperation, IsAmong}
@@ -29,17 +27,3 @@ result_type_count (listed ts) = length ts
 -- Part i is the name of an operation that has not as many operand types as operands.
 abbrev pub HasOtherTypesAt : Body → ℕ → Type 0
 HasOtherTypesAt b i = (name : IsName b i) × (length name.owner.head.operands ≢ length name.owner.tail.operand_types)
-
--- ---- parts by their sort
-
-abbrev pub is_operand : Part → Bool
-is_operand parts.Operand = true
-is_operand _ = false
-
-abbrev pub is_operand_type : Part → Bool
-is_operand_type parts.OperandType = true
-is_operand_type _ = false
-
-abbrev pub is_result_type : Part → Bool
-is_result_type parts.ResultType = true
-is_result_type _ = false

@@ -9,8 +9,11 @@ mod owner_laws;
 mod region_laws;
 mod result_laws;
 
-pub use fault_laws::name_faults_meet;
+pub use fault_laws::{faults_meet, name_faults_meet, well_named_trees_have_no_fault};
 pub use name_laws::{operands_mean_values, successors_mean_blocks};
-pub use owner_laws::{keys_are_given_again, operations_own_parts};
+pub use owner_laws::{keys_are_given_again, operand_types_are_counted, operations_own_parts};
 pub use region_laws::{one_body_begins, parts_are_rows, regions_are_bodies, regions_stand_within};
-pub use result_laws::{counts_are_numbers, names_follow_values, results_follow_values};
+pub use result_laws::{
+    counts_are_numbers, names_follow_values, operand_types_meet, result_types_are_counted,
+    results_follow_values,
+};
