@@ -1,11 +1,9 @@
 -- Rows have exactly the faults of their parts in the tree.
-use Rattle.std.proofs.Common.{◌≡◌, ◌⊎◌, ◌↔◌, ℕ, ◌+◌, ◌<◌, ◌≤◌, List, length, refl, sym, ap, ◌∙◌, inl, inr, ⊎_elim, arith}
+use Rattle.std.proofs.Common.{◌≡◌, ◌⊎◌, ◌↔◌, ℕ, ◌+◌, ◌<◌, List, length, sym, ap, ◌∙◌, inl, inr, ⊎_elim, arith}
 use Rattle.ir_text_tree.specs.declared.row.Part.TheVariants as parts
-use Rattle.ir_text_tree.specs.declared.row.Row.{Row}
 use Rattle.ir_text_tree.specs.Trees.{Body, tree_rows}
 use Rattle.ir_text_names.specs.declared.fault.Wrong.{Wrong}
 use Rattle.ir_text_names.specs.declared.fault.Wrong.TheVariants as wrongs
-use Rattle.ir_text_names.specs.Rows.{part_of}
 use Rattle.ir_text_names.specs.Counts.{HasOtherTypes}
 use Rattle.ir_text_names.specs.Numbers.{results_before, HasOtherResults}
 use Rattle.ir_text_names.specs.Indices.{IsBeyond}
@@ -13,7 +11,6 @@ use Rattle.ir_text_names.specs.Values.{IsValueAgain, NamesNoValue}
 use Rattle.ir_text_names.specs.Firsts.{HasNone}
 use Rattle.ir_text_names.specs.Resolved.{IsWrong}
 use Rattle.ir_text_names.specs.Sorts.{is_operand, is_operand_type, is_result_type}
-use Rattle.ir_text_meaning.specs.Parts.{named_size}
 use Rattle.ir_text_meaning.specs.Owners.{IsName, HasOtherTypesAt, result_type_count}
 use Rattle.ir_text_meaning.specs.Numbered.{value_count, HasOtherResultsAt}
 use Rattle.ir_text_meaning.specs.Faults.{MeansNoValue}

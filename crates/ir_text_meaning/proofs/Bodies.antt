@@ -1,14 +1,14 @@
 -- The bodies of a tree among its rows.
-use Rattle.std.proofs.Common.{◌≡◌, ◌⊎◌, ◌↔◌, ℕ, zero, suc, ◌+◌, ◌<◌, ◌≤◌, List, [], ◌∷◌, length, refl, sym, ap, subst, ◌∙◌, inl, inr, ⊎_elim, arith}
+use Rattle.std.proofs.Common.{◌≡◌, ◌⊎◌, ◌↔◌, ℕ, ◌+◌, ◌<◌, List, [], ◌∷◌, length, refl, sym, ap, subst, ◌∙◌, inl, inr, ⊎_elim, arith}
 use Rattle.ir_text_tree.specs.declared.row.Part.TheVariants as parts
 use Rattle.ir_text_tree.specs.declared.row.Row.{Row}
 use Rattle.ir_text_tree.specs.declared.row.Span.{Span}
 use Rattle.ir_text_tree.specs.Rows.{row}
 use Rattle.ir_text_tree.specs.Trees.{Body, body_rows, tree_rows}
 use Rattle.ir_text_names.specs.Rows.{row_of, part_of, region_of, top}
-use Rattle.ir_text_meaning.specs.Parts.{Operation, body_size, head_size, HasOperation}
+use Rattle.ir_text_meaning.specs.Parts.{body_size, head_size}
 use Rattle.ir_text_meaning.specs.Regions.{IsRegionOf, IsWithin, itself, deeper, StandsIn, IsInRegionAt}
-use Rattle.ir_text_meaning.proofs.Cursors.{Cursor, Fact, cursor_as, start, fact_here}
+use Rattle.ir_text_meaning.proofs.Cursors.{Cursor, cursor_as, start, fact_here}
 use Rattle.ir_text_meaning.proofs.Walks.{body_on, operation_at, region_at, regions_from, Stands, stands_fact}
 use Rattle.ir_text_meaning.proofs.Places.{IsThere, IsFound, found, one_body}
 

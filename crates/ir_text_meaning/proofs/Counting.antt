@@ -1,12 +1,11 @@
 -- How many rows of a sort an operation has.
-use Rattle.std.proofs.Common.{◌≡◌, ◌⊎◌, ◌↔◌, ℕ, zero, suc, ◌+◌, ◌-◌, ◌<◌, ◌≤◌, Bool, true, false, cond, ◌&&◌, nat_eq, List, [], ◌∷◌, length, Option, Some, None, refl, sym, ap, subst, ◌∙◌, inl, inr, ⊎_elim, eq-eqb, eqb-true, zero-add, arith}
-use Rattle.std.proofs.lemmas.Bool.{and_parts, and_from, cases_lt, cases_Bool, false≢true}
+use Rattle.std.proofs.Common.{◌≡◌, ◌⊎◌, ℕ, zero, suc, ◌+◌, ◌-◌, ◌<◌, ◌≤◌, Bool, true, false, cond, ◌&&◌, nat_eq, List, [], ◌∷◌, length, Option, Some, None, refl, sym, ap, ◌∙◌, inl, inr, ⊎_elim, eq-eqb, eqb-true, zero-add, arith}
+use Rattle.std.proofs.lemmas.Bool.{and_parts, cases_Bool, false≢true}
 use Rattle.ir_text_tree.specs.declared.row.Part.{Part}
 use Rattle.ir_text_tree.specs.declared.row.Part.TheVariants as parts
 use Rattle.ir_text_tree.specs.declared.row.Row.{Row}
 use Rattle.ir_text_tree.specs.declared.row.Span.{Span}
 use Rattle.ir_text_tree.specs.declared.text_step.TextKind.{TextKind}
-use Rattle.ir_text_tree.specs.declared.text_step.TextKind.TheVariants as kinds
 use Rattle.ir_text_tree.specs.TextSteps.{part_of_text}
 use Rattle.ir_text_tree.specs.Trees.{Text, Use, Entry, ResultTypes, bare, listed, Head, Tail, Body, maybe_row, maybe_text_row, use_rows, successor_rows, entry_rows, attribute_rows, type_rows, result_type_rows, tree_rows}
 use Rattle.ir_text_names.specs.Rows.{row_of, part_of}

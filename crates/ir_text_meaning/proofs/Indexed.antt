@@ -1,5 +1,5 @@
 -- Which of several values an operand is, by rows and in the tree.
-use Rattle.std.proofs.Common.{◌≡◌, ◌⊎◌, ◌↔◌, ℕ, zero, suc, ◌+◌, ◌-◌, ◌<◌, ◌≤◌, ◌^◌, Bool, true, false, List, [], ◌∷◌, length, drop, Option, Some, None, refl, sym, ap, subst, ◌∙◌, inl, inr, ⊎_elim, arith}
+use Rattle.std.proofs.Common.{◌≡◌, ◌↔◌, ℕ, zero, suc, ◌+◌, ◌<◌, ◌≤◌, Bool, true, false, List, [], ◌∷◌, length, drop, Option, Some, None, refl, sym, ap, subst, ◌∙◌, inl, inr, ⊎_elim, arith}
 use Rattle.std.specs.Bool.{⊤}
 use Rattle.std.proofs.lemmas.Bool.{cases_lt, cases_Bool, false≢true}
 use Rattle.std.proofs.lemmas.List.{get_or_past}
@@ -8,22 +8,20 @@ use Rattle.ir_text_tree.specs.declared.row.Part.TheVariants as parts
 use Rattle.ir_text_tree.specs.declared.row.Row.{Row}
 use Rattle.ir_text_tree.specs.declared.row.Span.{Span}
 use Rattle.ir_text_tree.specs.Rows.{row}
-use Rattle.ir_text_tree.specs.Trees.{ResultName, Use, Argument, Head, Label, Body, maybe_row, maybe_text_row, text_row, result_rows, use_rows, successor_rows, argument_rows, signed_rows, region_rows, tree_rows}
-use Rattle.ir_text_names.specs.Rows.{no_row, row_of, part_of, region_of, piece, text_of}
+use Rattle.ir_text_tree.specs.Trees.{ResultName, Use, Label, Body, maybe_row, result_rows, use_rows, successor_rows, tree_rows}
+use Rattle.ir_text_names.specs.Rows.{no_row, row_of, part_of, piece, text_of}
 use Rattle.ir_text_names.specs.Types.{operation_of}
 use Rattle.ir_text_names.specs.Numbers.{number_in, is_count, values_under, width}
 use Rattle.ir_text_names.specs.Indices.{is_index, number_of, which, IsOneOf, IsBeyond}
-use Rattle.ir_text_names.specs.Values.{IsDefinition, NamesValue, IsClear, defines}
-use Rattle.ir_text_meaning.specs.Parts.{Operation, result_parts, operand_parts, label_parts, tail_parts, named_size, head_size, HasOperation, HasLabel, IsAmong}
+use Rattle.ir_text_names.specs.Values.{IsDefinition, IsClear, defines}
+use Rattle.ir_text_meaning.specs.Parts.{Operation, result_parts, operand_parts, label_parts, named_size, head_size, HasOperation, HasLabel, IsAmong}
 use Rattle.ir_text_meaning.specs.Regions.{IsWithin}
-use Rattle.ir_text_meaning.specs.Meanings.{MeansValue}
-use Rattle.ir_text_meaning.specs.Faults.{MeansValueAgain}
 use Rattle.ir_text_meaning.specs.Numbered.{mark_size, values_of, IsResultAt}
 use Rattle.ir_text_meaning.specs.Values.{number_of_use, IsUseAt, IsUseIn, DefinesValues, IsOneOfThose, IsNoneAgain, IsBeyondThose}
-use Rattle.ir_text_meaning.proofs.Cursors.{Cursor, fact_here, cursor_as}
+use Rattle.ir_text_meaning.proofs.Cursors.{Cursor, fact_here}
 use Rattle.ir_text_meaning.proofs.Walks.{operation_at, regions_from, label_at, label_fact, result_fact}
-use Rattle.ir_text_meaning.proofs.Homes.{home, of_operation, of_label, each_at, result_home, PartCases}
-use Rattle.ir_text_meaning.proofs.PartLists.{Each, signed_each}
+use Rattle.ir_text_meaning.proofs.Homes.{home, of_operation, of_label, each_at, result_home}
+use Rattle.ir_text_meaning.proofs.PartLists.{Each}
 use Rattle.ir_text_meaning.proofs.Bodies.{tree_frame, frame}
 use Rattle.ir_text_meaning.proofs.NameMeanings.{Home, row_home, row_within, definition_home, operand_home, part_in, values_meet}
 use Rattle.ir_text_meaning.proofs.NameFaults.{values_again_meet}

@@ -13,3 +13,4 @@ mod Indexed
 mod Placed
 mod OtherTypes
 mod AllFaults
+mod Listed

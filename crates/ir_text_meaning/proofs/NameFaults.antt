@@ -1,24 +1,20 @@
 -- Names are at fault by rows exactly where they are in the tree.
-use Rattle.std.proofs.Common.{◌≡◌, ◌⊎◌, ◌↔◌, ℕ, ◌+◌, ◌<◌, ◌≤◌, List, length, refl, sym, ap, subst, ◌∙◌, inl, inr, ⊎_elim, arith}
-use Rattle.ir_text_tree.specs.declared.row.Part.{Part}
+use Rattle.std.proofs.Common.{◌≡◌, ◌⊎◌, ◌↔◌, ℕ, List, sym, ap, subst, ◌∙◌, inl, inr, ⊎_elim}
 use Rattle.ir_text_tree.specs.declared.row.Part.TheVariants as parts
-use Rattle.ir_text_tree.specs.declared.row.Row.{Row}
-use Rattle.ir_text_tree.specs.declared.row.Span.{Span}
 use Rattle.ir_text_tree.specs.Rows.{row}
 use Rattle.ir_text_tree.specs.Trees.{Body, tree_rows}
 use Rattle.ir_text_names.specs.declared.fault.Wrong.{Wrong}
 use Rattle.ir_text_names.specs.declared.fault.Wrong.TheVariants as wrongs
-use Rattle.ir_text_names.specs.Rows.{row_of, part_of, region_of, piece, text_of}
-use Rattle.ir_text_names.specs.Values.{IsDefinition, IsInRegion, NamesNoValue, IsValueAgain, IsValueWrong}
+use Rattle.ir_text_names.specs.Rows.{part_of, piece}
+use Rattle.ir_text_names.specs.Values.{IsInRegion, NamesNoValue, IsValueAgain, IsValueWrong}
 use Rattle.ir_text_names.specs.Blocks.{NamesNoBlock, IsBlockAgain, IsBlockWrong}
 use Rattle.ir_text_names.specs.Keys.{IsKeyWrong}
-use Rattle.ir_text_meaning.specs.Regions.{IsWithin, StandsIn}
-use Rattle.ir_text_meaning.specs.Meanings.{HasDefinition, HasOperand, HasSuccessor, HasBlock, MeansValue, MeansBlock, MeansKeyAgain}
-use Rattle.ir_text_meaning.specs.Faults.{MeansValueAgain, MeansBlockAgain, IsOperandIn, IsSuccessorIn, MeansNoValue, MeansNoBlock, IsNameFault, AreNamesGood}
-use Rattle.ir_text_meaning.proofs.Homes.{home}
+use Rattle.ir_text_meaning.specs.Regions.{IsWithin}
+use Rattle.ir_text_meaning.specs.Meanings.{HasBlock}
+use Rattle.ir_text_meaning.specs.Faults.{MeansValueAgain, MeansBlockAgain, IsOperandIn, IsSuccessorIn, MeansNoValue, MeansNoBlock, IsNameFault}
 use Rattle.ir_text_meaning.proofs.Places.{one_body}
 use Rattle.ir_text_meaning.proofs.Bodies.{tree_frame, frame, in_frame}
-use Rattle.ir_text_meaning.proofs.NameMeanings.{Home, row_home, row_within, definition_home, operand_home, successor_home, label_home, definition_of, operand_of, successor_of, block_of, definition_stands, definition_row, operand_stands, successor_stands, block_stands, inside_meet, values_meet, blocks_meet, text_in, part_in, defines_part}
+use Rattle.ir_text_meaning.proofs.NameMeanings.{definition_home, operand_home, successor_home, label_home, definition_of, operand_of, successor_of, block_of, definition_stands, definition_row, operand_stands, successor_stands, block_stands, inside_meet, values_meet, blocks_meet, text_in, part_in, defines_part}
 use Rattle.ir_text_meaning.proofs.Owned.{keys_meet}
 
 -- ---- values

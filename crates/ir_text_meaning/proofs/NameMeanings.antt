@@ -1,5 +1,5 @@
 -- Values' and blocks' names mean by rows what they mean in the tree.
-use Rattle.std.proofs.Common.{◌≡◌, ◌⊎◌, ◌↔◌, ℕ, zero, suc, ◌+◌, ◌<◌, ◌≤◌, Bool, true, false, List, [], ◌∷◌, length, refl, sym, ap, subst, ◌∙◌, inl, inr, ⊎_elim, arith}
+use Rattle.std.proofs.Common.{◌≡◌, ◌↔◌, ℕ, ◌+◌, ◌<◌, ◌≤◌, Bool, true, List, length, refl, sym, ap, subst, ◌∙◌, inl, inr, ⊎_elim, arith}
 use Rattle.std.proofs.lemmas.Bool.{cases_lt, false≢true}
 use Rattle.std.proofs.lemmas.List.{get_or_past}
 use Rattle.ir_text_tree.specs.declared.row.Part.{Part}
@@ -8,16 +8,15 @@ use Rattle.ir_text_tree.specs.declared.row.Row.{Row}
 use Rattle.ir_text_tree.specs.declared.row.Span.{Span}
 use Rattle.ir_text_tree.specs.Rows.{row}
 use Rattle.ir_text_tree.specs.Trees.{Label, Body, tree_rows}
-use Rattle.ir_text_names.specs.Rows.{no_row, row_of, part_of, region_of, piece, text_of}
-use Rattle.ir_text_names.specs.Values.{defines, IsDefinition, EndsBetween, IsInRegion, NamesValue}
+use Rattle.ir_text_names.specs.Rows.{no_row, row_of, part_of, region_of, piece}
+use Rattle.ir_text_names.specs.Values.{defines, IsDefinition, IsInRegion, NamesValue}
 use Rattle.ir_text_names.specs.Blocks.{NamesBlock}
 use Rattle.ir_text_meaning.specs.Parts.{Operation, result_parts, operand_parts, label_parts, body_size, HasOperation, HasLabel, IsAmong, named_size}
-use Rattle.ir_text_meaning.specs.Regions.{IsWithin, itself, deeper, IsPartOf, StandsIn}
+use Rattle.ir_text_meaning.specs.Regions.{IsWithin, StandsIn}
 use Rattle.ir_text_meaning.specs.Meanings.{HasDefinition, HasOperand, HasSuccessor, HasBlock, MeansValue, MeansBlock}
 use Rattle.ir_text_meaning.proofs.Homes.{home, stands_bounds, of_operation, of_label, no_close, label_first}
-use Rattle.ir_text_meaning.proofs.Places.{IsThere, IsFound, found, one_body, within_bounds, within_within}
-use Rattle.ir_text_meaning.proofs.Walks.{Stands}
-use Rattle.ir_text_meaning.proofs.Bodies.{Frame, tree_frame, frame, in_frame, tree_size, close_fact, row_found}
+use Rattle.ir_text_meaning.proofs.Places.{IsThere, found, one_body, within_bounds, within_within}
+use Rattle.ir_text_meaning.proofs.Bodies.{tree_frame, frame, in_frame, tree_size, close_fact, row_found}
 
 -- the part of a row that is one
 abbrev pub part_in : Row → Part

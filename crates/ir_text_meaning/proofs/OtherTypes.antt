@@ -1,25 +1,24 @@
 -- The types of operands and of values, by rows and in the tree.
-use Rattle.std.proofs.Common.{◌≡◌, ◌≢◌, ◌⊎◌, ◌↔◌, ℕ, zero, suc, ◌+◌, ◌-◌, ◌<◌, ◌≤◌, ◌^◌, Bool, true, false, cond, ◌&&◌, nat_eq, List, [], ◌∷◌, length, drop, Option, Some, None, refl, sym, ap, subst, ◌∙◌, inl, inr, ⊎_elim, zero-add, arith}
-use Rattle.std.proofs.lemmas.Bool.{cases_lt, false≢true}
+use Rattle.std.proofs.Common.{◌≡◌, ◌↔◌, ℕ, zero, suc, ◌+◌, ◌-◌, ◌<◌, ◌≤◌, ◌^◌, Bool, true, cond, List, [], ◌∷◌, length, drop, Option, Some, None, refl, sym, ap, subst, ◌∙◌, inl, inr, ⊎_elim, zero-add, arith}
+use Rattle.std.proofs.lemmas.Bool.{false≢true}
 use Rattle.std.proofs.lemmas.List.{drop_more}
 use Rattle.ir_text_tree.specs.declared.row.Part.{Part}
 use Rattle.ir_text_tree.specs.declared.row.Part.TheVariants as parts
 use Rattle.ir_text_tree.specs.declared.row.Row.{Row}
 use Rattle.ir_text_tree.specs.declared.row.Span.{Span}
-use Rattle.ir_text_tree.specs.declared.text_step.TextKind.{TextKind}
 use Rattle.ir_text_tree.specs.declared.text_step.TextKind.TheVariants as text_kinds
 use Rattle.ir_text_tree.specs.Rows.{row}
 use Rattle.ir_text_tree.specs.Trees.{Text, ResultName, Use, Argument, Label, Body, maybe_row, maybe_text_row, use_rows, result_rows, argument_rows, signed_rows, tree_rows}
-use Rattle.ir_text_names.specs.Rows.{no_row, row_of, part_of, piece, text_of}
+use Rattle.ir_text_names.specs.Rows.{no_row, row_of, part_of, piece}
 use Rattle.ir_text_names.specs.Counts.{tally}
 use Rattle.ir_text_names.specs.Sorts.{is_operand, is_operand_type, is_result_type}
 use Rattle.ir_text_names.specs.Numbers.{results_before}
 use Rattle.ir_text_names.specs.Types.{operation_of, IsOperandType, name_or, next_from, next_operation, IsResultType, IsArgumentType, IsTypeOf, IsValueType, HasOtherType, IsTypeOther}
-use Rattle.ir_text_names.specs.Values.{IsDefinition, NamesValue, defines}
+use Rattle.ir_text_names.specs.Values.{IsDefinition, defines}
 use Rattle.ir_text_meaning.specs.Parts.{Operation, result_parts, operand_parts, tail_parts, label_parts, named_size, head_size, regions_size, HasOperation, HasLabel, IsAmong}
 use Rattle.ir_text_meaning.specs.Regions.{IsWithin}
 use Rattle.ir_text_meaning.specs.Numbered.{mark_size, values_of, IsResultAt}
-use Rattle.ir_text_meaning.specs.Values.{number_of_use, IsUseAt, IsUseIn}
+use Rattle.ir_text_meaning.specs.Values.{IsUseAt}
 use Rattle.ir_text_meaning.specs.ValueTypes.{IsNth, IsNthResult, IsTypeOfUse, IsTypeOfValue, HasOtherTypeThere, IsTypeOtherAt}
 use Rattle.ir_text_meaning.proofs.Walks.{operation_at, label_at, label_fact, name_fact, result_fact}
 use Rattle.ir_text_meaning.proofs.Places.{among_there}
@@ -30,7 +29,7 @@ use Rattle.ir_text_meaning.proofs.Owned.{behind_fact, owned}
 use Rattle.ir_text_meaning.proofs.Counting.{Listed, is_row_of, listed_inside, listed_outside, listed_operands, listed_operand_types, listed_result_types, tally_same, tally_zero, operand_type_at_home, result_type_at_home}
 use Rattle.ir_text_meaning.proofs.Results.{result_there, count_length}
 use Rattle.ir_text_meaning.proofs.Indexed.{use_fact, use_of, result_found, FoundResult, is_result, behind_operands, clear_meets}
-use Rattle.ir_text_meaning.proofs.Placed.{count_before, Lists, lists_operand_types, lists_result_types}
+use Rattle.ir_text_meaning.proofs.Placed.{count_before, lists_operand_types, lists_result_types}
 
 -- ---- places
 

@@ -1,25 +1,24 @@
 -- The operation of a row is that of its part in the tree.
-use Rattle.std.proofs.Common.{◌≡◌, ◌⊎◌, ◌↔◌, ℕ, zero, suc, ◌+◌, ◌<◌, ◌≤◌, List, [], ◌∷◌, length, refl, sym, ap, subst, ◌∙◌, inl, inr, ⊎_elim, arith}
+use Rattle.std.proofs.Common.{◌≡◌, ◌⊎◌, ◌↔◌, ℕ, ◌+◌, ◌≤◌, List, length, refl, sym, ap, subst, ◌∙◌, inl, inr, ⊎_elim, arith}
 use Rattle.ir_text_tree.specs.declared.row.Part.{Part}
 use Rattle.ir_text_tree.specs.declared.row.Part.TheVariants as parts
 use Rattle.ir_text_tree.specs.declared.row.Row.{Row}
-use Rattle.ir_text_tree.specs.declared.row.Span.{Span}
 use Rattle.ir_text_tree.specs.Rows.{row}
 use Rattle.ir_text_tree.specs.Trees.{Body, tree_rows}
-use Rattle.ir_text_names.specs.Rows.{row_of, part_of, region_of, piece, text_of}
+use Rattle.ir_text_names.specs.Rows.{row_of, part_of, region_of, piece}
 use Rattle.ir_text_names.specs.Types.{operation_of}
 use Rattle.ir_text_names.specs.Given.{name_of}
 use Rattle.ir_text_names.specs.Keys.{IsKeyAgain}
-use Rattle.ir_text_meaning.specs.Parts.{Operation, result_parts, operand_parts, tail_parts, named_size, head_size, body_size, regions_size, operation_size, HasOperation, IsAmong}
+use Rattle.ir_text_meaning.specs.Parts.{Operation, result_parts, operand_parts, tail_parts, named_size, head_size, regions_size, operation_size, HasOperation, IsAmong}
 use Rattle.ir_text_meaning.specs.Regions.{IsWithin, StandsIn}
 use Rattle.ir_text_meaning.specs.Owners.{IsBehindName}
 use Rattle.ir_text_meaning.specs.Meanings.{MeansKeyAgain}
 use Rattle.ir_text_meaning.proofs.Cursors.{Fact}
 use Rattle.ir_text_meaning.proofs.Walks.{operation_at, name_fact, operand_fact, tail_fact}
 use Rattle.ir_text_meaning.proofs.Places.{operations_apart, one_body}
-use Rattle.ir_text_meaning.proofs.Homes.{home, operand_home, tail_home, of_operation, PartCases}
-use Rattle.ir_text_meaning.proofs.Bodies.{Frame, tree_frame, frame}
-use Rattle.ir_text_meaning.proofs.NameMeanings.{row_home, row_within, Home}
+use Rattle.ir_text_meaning.proofs.Homes.{home, of_operation, PartCases}
+use Rattle.ir_text_meaning.proofs.Bodies.{tree_frame, frame}
+use Rattle.ir_text_meaning.proofs.NameMeanings.{row_home, row_within}
 
 pub behind_fact : (b c : Body) (n : ℕ) (o : Operation) (k j : ℕ) (x : Row) → IsWithin c n b 0 → HasOperation c n o k → IsBehindName o k j x → Fact (tree_rows b) j n (k + named_size o.head) x
 behind_fact b c n o k j x w h behind =

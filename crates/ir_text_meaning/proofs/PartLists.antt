@@ -6,10 +6,9 @@ use Rattle.ir_text_tree.specs.declared.row.Part.TheVariants as parts
 use Rattle.ir_text_tree.specs.declared.row.Row.{Row}
 use Rattle.ir_text_tree.specs.declared.row.Span.{Span}
 use Rattle.ir_text_tree.specs.declared.text_step.TextKind.{TextKind}
-use Rattle.ir_text_tree.specs.declared.text_step.TextKind.TheVariants as kinds
 use Rattle.ir_text_tree.specs.Rows.{row}
 use Rattle.ir_text_tree.specs.TextSteps.{part_of_text}
-use Rattle.ir_text_tree.specs.Trees.{Text, text_span, text_row, ResultName, Use, Entry, ResultTypes, bare, listed, Head, Tail, Argument, Label, bare_span, maybe_row, maybe_text_row, result_rows, use_rows, successor_rows, entry_rows, attribute_rows, type_rows, result_type_rows, signature_rows, tail_rows, argument_rows, signed_rows, label_rows}
+use Rattle.ir_text_tree.specs.Trees.{Text, text_row, ResultName, Use, Entry, ResultTypes, bare, listed, Head, Tail, Argument, Label, maybe_row, maybe_text_row, result_rows, use_rows, successor_rows, entry_rows, attribute_rows, type_rows, result_type_rows, signature_rows, tail_rows, argument_rows, signed_rows, label_rows}
 
 -- ---- with others behind them
 

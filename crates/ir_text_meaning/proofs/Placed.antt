@@ -1,6 +1,5 @@
 -- Parts of a sort by their places in an operation.
-use Rattle.std.proofs.Common.{◌≡◌, ◌⊎◌, ◌↔◌, ℕ, zero, suc, ◌+◌, ◌<◌, ◌≤◌, Bool, true, false, cond, ◌&&◌, nat_eq, List, [], ◌∷◌, length, Option, Some, None, refl, sym, ap, subst, ◌∙◌, inl, inr, ⊎_elim, zero-add, arith}
-use Rattle.std.specs.Bool.{⊤}
+use Rattle.std.proofs.Common.{◌≡◌, ℕ, zero, suc, ◌+◌, ◌<◌, Bool, true, false, cond, List, [], ◌∷◌, length, Option, Some, None, refl, sym, ap, subst, ◌∙◌, zero-add, arith}
 use Rattle.std.proofs.lemmas.Bool.{false≢true}
 use Rattle.ir_text_tree.specs.declared.row.Part.{Part}
 use Rattle.ir_text_tree.specs.declared.row.Part.TheVariants as parts
@@ -9,7 +8,7 @@ use Rattle.ir_text_tree.specs.declared.row.Span.{Span}
 use Rattle.ir_text_tree.specs.declared.text_step.TextKind.{TextKind}
 use Rattle.ir_text_tree.specs.TextSteps.{part_of_text}
 use Rattle.ir_text_tree.specs.Rows.{row}
-use Rattle.ir_text_tree.specs.Trees.{Text, text_span, text_row, bare_span, Entry, ResultTypes, bare, listed, Tail, maybe_text_row, entry_rows, attribute_rows, type_rows, result_type_rows}
+use Rattle.ir_text_tree.specs.Trees.{Text, bare_span, Entry, ResultTypes, bare, listed, Tail, maybe_text_row, entry_rows, attribute_rows, type_rows, result_type_rows}
 use Rattle.ir_text_names.specs.Rows.{row_of}
 use Rattle.ir_text_names.specs.Sorts.{is_operand_type, is_result_type}
 use Rattle.ir_text_meaning.specs.Parts.{tail_parts}

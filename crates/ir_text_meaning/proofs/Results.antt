@@ -1,5 +1,5 @@
 -- How many values stand in front of a row.
-use Rattle.std.proofs.Common.{◌≡◌, ◌⊎◌, ◌↔◌, ℕ, zero, suc, ◌+◌, ◌-◌, ◌<◌, ◌≤◌, Bool, true, false, List, [], ◌∷◌, ◌++◌, length, Option, Some, None, refl, sym, ap, subst, ◌∙◌, inl, inr, ⊎_elim, add-zero, arith}
+use Rattle.std.proofs.Common.{◌≡◌, ◌⊎◌, ◌↔◌, ℕ, zero, suc, ◌+◌, ◌-◌, ◌<◌, ◌≤◌, Bool, false, List, [], ◌∷◌, length, Option, Some, None, refl, sym, ap, subst, ◌∙◌, inl, inr, ⊎_elim, add-zero, arith}
 use Rattle.std.specs.Bool.{⊤}
 use Rattle.std.specs.Option.{unwrap_or}
 use Rattle.std.proofs.lemmas.Bool.{cases_lt, false≢true}
@@ -9,20 +9,19 @@ use Rattle.ir_text_tree.specs.declared.row.Part.TheVariants as parts
 use Rattle.ir_text_tree.specs.declared.row.Row.{Row}
 use Rattle.ir_text_tree.specs.declared.row.Span.{Span}
 use Rattle.ir_text_tree.specs.Rows.{row}
-use Rattle.ir_text_tree.specs.Trees.{ResultName, Head, Body, maybe_row, result_rows, tree_rows}
+use Rattle.ir_text_tree.specs.Trees.{ResultName, Body, maybe_row, result_rows, tree_rows}
 use Rattle.ir_text_names.specs.Rows.{no_row, row_of, part_of, region_of, piece, text_of}
-use Rattle.ir_text_names.specs.Numbers.{number_in, is_count, values_under, width, results_on, results_before, IsNoCount, HasOtherResults}
+use Rattle.ir_text_names.specs.Numbers.{number_in, is_count, values_under, width, results_on, results_before, IsNoCount}
 use Rattle.ir_text_meaning.specs.Parts.{Operation, result_parts, body_size, operation_size, HasOperation, IsAmong}
 use Rattle.ir_text_meaning.specs.Regions.{IsWithin}
-use Rattle.ir_text_meaning.specs.Numbered.{mark_size, values_of, value_count, IsResultAt, HasOtherResultsAt, IsNoCountAt}
-use Rattle.ir_text_meaning.specs.Owners.{IsName, result_type_count}
+use Rattle.ir_text_meaning.specs.Numbered.{mark_size, values_of, value_count, IsResultAt, IsNoCountAt}
 use Rattle.ir_text_meaning.proofs.PartLists.{results_append}
-use Rattle.ir_text_meaning.proofs.Cursors.{Cursor, Fact, cursor_as, next, fact_here}
+use Rattle.ir_text_meaning.proofs.Cursors.{Cursor, cursor_as, next, fact_here}
 use Rattle.ir_text_meaning.proofs.Walks.{operation_at, name_fact, result_fact, from_operands}
 use Rattle.ir_text_meaning.proofs.Places.{operations_apart, one_body, among_there, operation_bounds, within_bounds}
 use Rattle.ir_text_meaning.proofs.Homes.{home, of_operation}
-use Rattle.ir_text_meaning.proofs.Bodies.{Frame, tree_frame, frame, tree_size}
-use Rattle.ir_text_meaning.proofs.NameMeanings.{row_home, row_within, part_in, part_within}
+use Rattle.ir_text_meaning.proofs.Bodies.{tree_frame, frame, tree_size}
+use Rattle.ir_text_meaning.proofs.NameMeanings.{row_home, part_in}
 
 -- the first of these is no number behind a name
 abbrev NoCount : List Row → Type 0

@@ -1,16 +1,15 @@
 -- From one part of a tree to the next among its rows.
-use Rattle.std.proofs.Common.{◌≡◌, ◌⊎◌, ℕ, zero, suc, ◌+◌, ◌<◌, ◌≤◌, List, [], ◌∷◌, ◌++◌, length, refl, sym, ap, subst, ◌∙◌, inl, inr, ⊎_elim, arith}
-use Rattle.std.specs.Bool.{⊤}
+use Rattle.std.proofs.Common.{◌≡◌, ◌⊎◌, ℕ, suc, ◌+◌, List, [], ◌∷◌, ◌++◌, length, refl, ap, subst, ◌∙◌, ⊎_elim, arith}
 use Rattle.ir_text_tree.specs.declared.row.Part.TheVariants as parts
 use Rattle.ir_text_tree.specs.declared.row.Row.{Row}
 use Rattle.ir_text_tree.specs.declared.row.Span.{Span}
 use Rattle.ir_text_tree.specs.Rows.{row}
-use Rattle.ir_text_tree.specs.Trees.{Head, Tail, Label, Body, Regions, done, op, block, none, one, result_rows, use_rows, successor_rows, maybe_row, label_rows, body_rows, region_rows, tree_rows}
+use Rattle.ir_text_tree.specs.Trees.{Head, Tail, Label, Body, Regions, done, op, block, none, one, result_rows, use_rows, successor_rows, maybe_row, body_rows, region_rows}
 use Rattle.ir_text_names.specs.Rows.{row_of, region_of, top}
 use Rattle.ir_text_meaning.specs.Parts.{Operation, operation, result_parts, operand_parts, tail_parts, label_parts, named_size, head_size, body_size, regions_size, operation_size, HasOperation, HasLabel, HasRegion, IsOpening, IsAmong}
-use Rattle.ir_text_meaning.specs.Regions.{IsRegionOf, IsWithin, itself, deeper, IsPartOf, StandsIn}
+use Rattle.ir_text_meaning.specs.Regions.{IsPartOf, StandsIn}
 use Rattle.ir_text_meaning.proofs.PartLists.{Each, results_append, operands_append, tail_append, label_append, results_each, operands_each, tail_each, label_each}
-use Rattle.ir_text_meaning.proofs.Cursors.{below, Cursor, Fact, cursor_as, fact_as, start, next, fact_here, IsPlain, plain_on, among_fact, named_operations, closed_operations}
+use Rattle.ir_text_meaning.proofs.Cursors.{below, Cursor, Fact, cursor_as, fact_as, next, fact_here, IsPlain, plain_on, among_fact, named_operations, closed_operations}
 
 -- ---- the rows of an operation, and then those
 

@@ -7,3 +7,4 @@ pub mod Numbered
 pub mod Values
 pub mod WellNamed
 pub mod ValueTypes
+pub mod Listings

@@ -1,5 +1,5 @@
 -- What belongs to an operation: its name, the parts behind it, and how many there are of each sort.
-use Rattle.std.specs.Prelude.{◌≡◌, ◌≢◌, ◌⊎◌, ℕ, ◌+◌, List, length}
+use Rattle.std.specs.Prelude.{◌≡◌, ◌≢◌, ◌⊎◌, ℕ, ◌+◌, length}
 use Rattle.ir_text_tree.specs.declared.row.Row.{Row}
 use Rattle.ir_text_tree.specs.Trees.{Body, ResultTypes, bare, listed}
 use Rattle.ir_text_meaning.specs.Parts.{Operation, result_parts, operand_parts, tail_parts, named_size, head_size, regions_size, HasOperation, IsAmong}

@@ -3,8 +3,8 @@
 use ir_text_meaning::{
     counts_are_numbers, faults_meet, keys_are_given_again, name_faults_meet, names_follow_values,
     one_body_begins, operand_types_are_counted, operand_types_meet, operands_mean_values,
-    operations_own_parts, parts_are_rows, regions_are_bodies, regions_stand_within,
-    result_types_are_counted, results_follow_values, successors_mean_blocks,
+    operations_own_parts, parts_are_listed, parts_are_rows, regions_are_bodies,
+    regions_stand_within, result_types_are_counted, results_follow_values, successors_mean_blocks,
     well_named_trees_have_no_fault,
 };
 use ir_text_names::laws::{names_one_block, names_one_value};
@@ -18,6 +18,7 @@ fn laws_of_one_meaning(_rt: HostRuntime) {
 #[test]
 fn laws_of_places(_rt: HostRuntime) {
     parts_are_rows();
+    parts_are_listed();
     regions_are_bodies();
     one_body_begins();
     regions_stand_within();
