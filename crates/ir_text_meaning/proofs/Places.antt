@@ -1,9 +1,8 @@
 -- Each part of a tree stands in one body, and bodies stand in one another or beside one another.
-use Rattle.std.proofs.Common.{◌≡◌, ◌⊎◌, ℕ, zero, suc, ◌+◌, ◌-◌, ◌<◌, ◌≤◌, List, [], ◌∷◌, length, refl, sym, ap, subst, ◌∙◌, inl, inr, ⊎_elim, arith}
+use Rattle.std.proofs.Common.{◌≡◌, ◌⊎◌, ℕ, zero, suc, ◌+◌, ◌-◌, ◌<◌, ◌≤◌, List, length, refl, sym, ap, subst, ◌∙◌, inl, inr, ⊎_elim, arith}
 use Rattle.std.proofs.lemmas.Bool.{cases_lt}
 use Rattle.ir_text_tree.specs.declared.row.Part.TheVariants as parts
 use Rattle.ir_text_tree.specs.declared.row.Row.{Row}
-use Rattle.ir_text_tree.specs.declared.row.Span.{Span}
 use Rattle.ir_text_tree.specs.Rows.{row}
 use Rattle.ir_text_tree.specs.Trees.{Head, Tail, Label, Body, Regions, done, op, block, none, one}
 use Rattle.ir_text_names.specs.Rows.{row_of}
@@ -169,10 +168,16 @@ body_place (block l b) n k from to =
 abbrev pub IsFound : Body → ℕ → ℕ → Type 0
 IsFound c n k = (d : Body) × (m : ℕ) × IsWithin d m c n × (IsThere d m k ⊎ ((k ≡ m + body_size d) × (n < m)))
 
+-- what is found within the body of a region is found within the body around it
+deeper_found : (c : Body) (n : ℕ) (d : Body) (m k : ℕ) → IsRegionOf d m c n → n < m → IsFound d m k → IsFound c n k
+deeper_found c n d m k r lt f =
+    let goes_on : (m < f.1) → n < f.1 = λ less. omega (arith, lt, less) in
+    (f.0, f.1, deeper r f.2, ⊎_elim (λ (g : IsThere f.0 f.1 k). inl g) (λ (g : (k ≡ f.1 + body_size f.0) × (m < f.1)). inr (g.0, goes_on g.1)) f.3)
+
 found_by : (fuel : ℕ) (c : Body) (n k : ℕ) → body_size c < fuel → n ≤ k → k < n + body_size c → IsFound c n k
 found_by zero c n k less from to = absurd (omega (arith, less))
 found_by (suc fuel) c n k less from to =
-    ⊎_elim (λ (f : IsThere c n k). (c, n, itself, inl f))
+    ⊎_elim {C = IsFound c n k} (λ (f : IsThere c n k). (c, n, itself, inl f))
     (λ (f : InRegionOf c n k).
     let d = f.0 in
     let m = f.1 in
@@ -180,13 +185,8 @@ found_by (suc fuel) c n k less from to =
     let a : n < m = bounds.0 in
     let e : m + body_size d < n + body_size c = bounds.1 in
     let begins : m ≤ k = f.3 in
-    ⊎_elim (λ (lt : k < m + body_size d).
-    let r = found_by fuel d m k (omega (arith, less, a, e)) begins lt in (
-      r.0,
-      r.1,
-      deeper f.2 r.2,
-      ⊎_elim (λ (g : IsThere r.0 r.1 k). inl g) (λ (g : (k ≡ r.1 + body_size r.0) × (m < r.1)). let l : m < r.1 = g.1 in inr (g.0, omega (arith, l, a))) r.3,
-    ))
+    ⊎_elim {C = IsFound c n k} (λ (lt : k < m + body_size d).
+    deeper_found c n d m k f.2 a (found_by fuel d m k (omega (arith, less, a, e)) begins lt))
     (λ (le : m + body_size d ≤ k). let to : k ≤ m + body_size d = f.4 in (d, m, deeper f.2 itself, inr (omega (arith, le, to), a))) (cases_lt k (m + body_size d)))
     (body_place c n k from to)
 
