@@ -18,7 +18,7 @@ use Rattle.ir_text_tokens.specs.ByteClasses.{class_of_byte, class_ahead}
 use Rattle.ir_text_tokens.specs.ReaderSteps.{go, goes_on_word, word_step, begin_step}
 use Rattle.ir_text_tokens.specs.Readings.{renested}
 use Rattle.ir_text_tokens.specs.Coverings.{Completes, IsToken}
-use Rattle.ir_text_tokens.proofs.Following.{Calm}
+use Rattle.ir_text_tokens.specs.Endings.{Calm}
 use Rattle.ir_text_tree.specs.declared.sort.Sort.TheVariants as s
 use Rattle.ir_text_reader.specs.Pieces.{sort_of_mark, sort_of_word, sort_of}
 

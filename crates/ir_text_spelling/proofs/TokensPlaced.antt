@@ -15,7 +15,7 @@ use Rattle.ir_text_tokens.specs.ByteClasses.{class_of_byte, class_ahead, class_o
 use Rattle.ir_text_tokens.specs.ReaderSteps.{go, begin_step}
 use Rattle.ir_text_tokens.specs.Readings.{token}
 use Rattle.ir_text_tokens.specs.Coverings.{ahead, Completes, IsToken, Skips, is_empty, both, Covers}
-use Rattle.ir_text_tokens.proofs.Following.{Calm, completes_calm, word_calm}
+use Rattle.ir_text_tokens.specs.Endings.{Calm, completes_calm, word_calm}
 use Rattle.ir_text_tree.specs.declared.sort.Sort.{Sort}
 use Rattle.ir_text_tree.specs.declared.sort.Sort.TheVariants as s
 use Rattle.ir_text_reader.specs.Pieces.{sort_of}

@@ -26,7 +26,8 @@ use Rattle.ir_text_tokens.specs.ReaderSteps.{go, is_hex, goes_on_word, goes_on_n
 use Rattle.ir_text_tokens.specs.Readings.{innermost, renested, with_front, token, read_at_end, reading, read_of}
 use Rattle.ir_text_tokens.specs.Coverings.{IsInside, IsOutside, ahead, Completes, Skips, both, Parts, StandsAt, Covers}
 use Rattle.ir_text_tokens.proofs.ReadingSteps.{reading_goes, reading_emits, reading_stops}
-use Rattle.ir_text_tokens.proofs.Respelling.{inside_start, inside_glued, ahead_append, ahead_nil, outside_start, glue_after, glue_is, outside_ended}
+use Rattle.ir_text_tokens.specs.Endings.{ahead_append}
+use Rattle.ir_text_tokens.proofs.Respelling.{inside_start, inside_glued, ahead_nil, outside_start, glue_after, glue_is, outside_ended}
 
 -- ---- a step from inside a token stays inside, or ends it
 

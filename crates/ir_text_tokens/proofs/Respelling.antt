@@ -14,6 +14,7 @@ use Rattle.ir_text_tokens.specs.ByteClasses.{class_of_byte, class_ahead, blank}
 use Rattle.ir_text_tokens.specs.ReaderSteps.{go, reader_step, start_behind, glued_behind, missing_at_end}
 use Rattle.ir_text_tokens.specs.Readings.{innermost, renested, with_front, token, reading}
 use Rattle.ir_text_tokens.specs.Coverings.{IsInside, IsOutside, ahead, Completes, Skips, is_empty, both, Parts, StandsAt, Covers, Lexeme, lexeme, lexemes, space, spelling, HaveSpelling, placed}
+use Rattle.ir_text_tokens.specs.Endings.{ahead_append}
 use Rattle.ir_text_tokens.proofs.ReadingSteps.{reading_goes, reading_emits, reading_ends}
 
 pub inside_start : (m : Mode) (start at : ℕ) → IsInside m → start_behind m start at ≡ start
@@ -25,10 +26,6 @@ pub inside_glued : (m : Mode) (g : Bool) → IsInside m → glued_behind m g ≡
 inside_glued mode.Between g h = absurd h
 inside_glued mode.Comment g h = absurd h
 inside_glued _ g h = refl
-
-pub ahead_append : (bytes after : List ℕ) → ahead bytes (class_ahead after) ≡ class_ahead (bytes ++ after)
-ahead_append [] after = refl
-ahead_append (b ∷ bytes) after = refl
 
 -- a token is read from its first byte to its last
 pub token_read : (bytes after : List ℕ) (m : Mode) (s : List Bracket) (k : Kind) (at start : ℕ) (g : Bool) → Completes m s k bytes (class_ahead after)

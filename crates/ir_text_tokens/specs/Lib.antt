@@ -4,3 +4,4 @@ pub mod ReaderSteps
 pub mod Readings
 pub mod Coverings
 pub mod Places
+pub mod Endings

@@ -1,5 +1,5 @@
 -- One step of the loop.
-use Rattle.std.proofs.Common.{◌≡◌, ◌≤◌, ◌+◌, ℕ, zero, suc, Bool, true, false, List, [], ◌∷◌, ◌++◌, Option, Some, None, Result, Ok, Err, refl, sym, ap, ◌∙◌, append_assoc, arith}
+use Rattle.std.proofs.Common.{◌≡◌, ◌≤◌, ◌+◌, ℕ, zero, suc, Bool, List, [], ◌∷◌, ◌++◌, Option, Some, None, Result, Ok, Err, refl, sym, ap, ◌∙◌, append_assoc, arith}
 use Rattle.std.proofs.lemmas.List.{append-nil}
 use Rattle.std.specs.Global.{Vec}
 use Rattle.ir_text_tree.specs.declared.row.Part.{Part}
@@ -19,40 +19,8 @@ use Rattle.ir_text_tree.specs.declared.tree_step.Step.{Step}
 use Rattle.ir_text_tree.specs.declared.tree_step.Step.TheVariants.{Go, Bad}
 use Rattle.ir_text_tree.specs.TextSteps.{innermost}
 use Rattle.ir_text_tree.specs.TreeSteps.{tree_step, is_whole, wanted}
-use Rattle.ir_text_tree.specs.Parsings.{is_inside, ended_row, token_row, text_behind, brackets_behind, depth_behind, behind_row, behind_rows, before_rows, listed, last_row, parsing, parsing_from, misplaced, IsReadOn, IsReadOut, IsParsing}
-
-pub parsing_goes : (end : ℕ) (m : Mode) (d : ℕ) (bs : List Bracket) (t : Span) (x : Piece) (xs : List Piece) (ended : Option Part) (a : Action) (to : Mode)
-    → tree_step m (is_inside d) (innermost bs) x.sort ≡ Go ended a to
-    → parsing end m d bs t (x ∷ xs) ≡ behind_row (ended_row ended t) (behind_row (token_row a x.span t) (parsing end to (depth_behind a d) (brackets_behind a bs) (text_behind a x.span t) xs))
-unfolding parsing
-parsing_goes end m d bs t x xs ended a to e = rw (parsing, e) refl
-
-pub parsing_stops : (end : ℕ) (m : Mode) (d : ℕ) (bs : List Bracket) (t : Span) (x : Piece) (xs : List Piece)
-    → tree_step m (is_inside d) (innermost bs) x.sort ≡ Bad
-    → parsing end m d bs t (x ∷ xs) ≡ Err (faults.Expected (wanted m (is_inside d)) x.span.start)
-unfolding parsing
-parsing_stops end m d bs t x xs e = rw (parsing, e) refl
-
-pub parsing_done : (end : ℕ) (m : Mode) (d : ℕ) (bs : List Bracket) (t : Span) → is_whole m (is_inside d) ≡ true → parsing end m d bs t [] ≡ Ok (listed (last_row m t))
-unfolding parsing
-parsing_done end m d bs t e = rw (parsing, e) refl
-
-pub parsing_breaks_off : (end : ℕ) (m : Mode) (d : ℕ) (bs : List Bracket) (t : Span) → is_whole m (is_inside d) ≡ false → parsing end m d bs t [] ≡ Err (faults.Expected (wanted m (is_inside d)) end)
-unfolding parsing
-parsing_breaks_off end m d bs t e = rw (parsing, e) refl
-
--- where the rest is read, all is
-pub parsing_reads : (end : ℕ) (m : Mode) (d : ℕ) (bs : List Bracket) (t : Span) (x : Piece) (xs : List Piece) (ended : Option Part) (a : Action) (to : Mode) (rows : List Row)
-    → tree_step m (is_inside d) (innermost bs) x.sort ≡ Go ended a to
-    → parsing end to (depth_behind a d) (brackets_behind a bs) (text_behind a x.span t) xs ≡ Ok rows
-    → parsing end m d bs t (x ∷ xs) ≡ Ok (before_rows (ended_row ended t) (before_rows (token_row a x.span t) rows))
-parsing_reads end m d bs t x xs ended a to rows e h =
-    parsing_goes end m d bs t x xs ended a to e ∙ ap (λ (y : Result (List Row) Fault). behind_row (ended_row ended t) (behind_row (token_row a x.span t) y)) h
-
--- where all is read, the rest is
-pub rest_read : (y : Result (List Row) Fault) (r q : Option Row) (out : List Row) → behind_row r (behind_row q y) ≡ Ok out → (rows : List Row) × (y ≡ Ok rows)
-rest_read (Ok rows) r q out h = (rows, refl)
-rest_read (Err e) r q out h = absurd cc
+use Rattle.ir_text_tree.specs.Parsings.{is_inside, ended_row, token_row, text_behind, brackets_behind, depth_behind, behind_row, behind_rows, listed, parsing, parsing_from, misplaced, IsReadOn, IsReadOut, IsParsing}
+use Rattle.ir_text_tree.specs.Reading.{parsing_goes, parsing_stops}
 
 -- two rows more behind those that were read
 pub behind_two : (front : List Row) (r q : Option Row) (y : Result (List Row) Fault) → behind_rows ((front ++ listed r) ++ listed q) y ≡ behind_rows front (behind_row r (behind_row q y))

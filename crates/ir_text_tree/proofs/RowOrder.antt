@@ -35,7 +35,7 @@ use Rattle.ir_text_tree.specs.TextSteps.{takes, innermost}
 use Rattle.ir_text_tree.specs.TreeSteps.{results_step, operands_step, parts_step, entries_step, label_step, begun, types_step, stops_outside, stops, text_end, taken, body_step, after_step, bare_step, tree_step, is_whole}
 use Rattle.ir_text_tree.specs.Parsings.{is_inside, ended_row, token_row, text_behind, brackets_behind, depth_behind, before_rows, listed, last_row, parsed_at_end, parsing, rows_read, IsParsing}
 use Rattle.ir_text_tree.specs.Rows.{span, joined, GoForward, row_spans, piece_spans}
-use Rattle.ir_text_tree.proofs.ParsingSteps.{parsing_goes, parsing_stops, parsing_reads, rest_read}
+use Rattle.ir_text_tree.specs.Reading.{parsing_goes, parsing_stops, parsing_reads, rest_read}
 
 -- ---- which modes hold the span of a text that goes on
 

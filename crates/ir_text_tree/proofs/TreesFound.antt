@@ -32,7 +32,7 @@ use Rattle.ir_text_tree.specs.TreeSteps.{results_step, operands_step, parts_step
 use Rattle.ir_text_tree.specs.Parsings.{is_inside, ended_row, token_row, text_behind, brackets_behind, depth_behind, parsing}
 use Rattle.ir_text_tree.specs.Rows.{span}
 use Rattle.ir_text_tree.specs.Trees.{Expected, mark, token, Matches, StaysText, Text, pieces_then, text_then, ResultName, Use, IsKey, Entry, ResultTypes, bare, listed, Head, Tail, Argument, Label, Body, Regions, done, op, block, none, one, HasNoBlocks, IsWholeText, count_then, result_then, more_results_then, index_then, use_then, more_uses_then, uses_then, more_successors_then, successors_then, properties_then, value_then, entry_then, more_entries_then, entries_then, attributes_then, more_types_then, types_then, group_then, result_types_then, location_then, argument_then, more_arguments_then, arguments_then, signed_then, tail_then, body_then, regions_then, more_regions_then}
-use Rattle.ir_text_tree.proofs.ParsingSteps.{parsing_goes, parsing_stops, parsing_breaks_off, rest_read}
+use Rattle.ir_text_tree.specs.Reading.{parsing_goes, parsing_stops, parsing_breaks_off, rest_read}
 
 -- ---- what is still to come
 

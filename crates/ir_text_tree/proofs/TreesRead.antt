@@ -1,5 +1,5 @@
 -- The tokens of a tree are read as its rows.
-use Rattle.std.proofs.Common.{◌≡◌, ℕ, zero, suc, Bool, true, false, List, [], ◌∷◌, ◌⊎◌, inl, inr, Option, Some, None, Result, Ok, Err, refl, sym, ap, subst, ◌∙◌}
+use Rattle.std.proofs.Common.{◌≡◌, ℕ, zero, suc, true, List, [], ◌∷◌, Option, Some, None, Result, Ok, refl, sym, ap, subst, ◌∙◌}
 use Rattle.ir_text_tree.specs.declared.row.Part.{Part}
 use Rattle.ir_text_tree.specs.declared.row.Part.TheVariants as parts
 use Rattle.ir_text_tree.specs.declared.row.Row.{Row}
@@ -7,7 +7,6 @@ use Rattle.ir_text_tree.specs.declared.row.Span.{Span}
 use Rattle.ir_text_tree.specs.declared.sort.Sort.{Sort}
 use Rattle.ir_text_tree.specs.declared.sort.Sort.TheVariants as s
 use Rattle.ir_text_tree.specs.declared.sort.Piece.{Piece}
-use Rattle.ir_text_tree.specs.declared.fault.Fault.{Fault}
 use Rattle.ir_text_tree.specs.declared.text_step.Bracket.{Bracket}
 use Rattle.ir_text_tree.specs.declared.text_step.TextKind.{TextKind}
 use Rattle.ir_text_tree.specs.declared.text_step.TextKind.TheVariants as kinds
@@ -22,24 +21,18 @@ use Rattle.ir_text_tree.specs.declared.tree_step.TypesMode.TheVariants as types
 use Rattle.ir_text_tree.specs.declared.tree_step.LabelMode.TheVariants as label
 use Rattle.ir_text_tree.specs.declared.tree_step.Mode.{Mode}
 use Rattle.ir_text_tree.specs.declared.tree_step.Mode.TheVariants as mode
-use Rattle.ir_text_tree.specs.declared.tree_step.Action.{Action}
 use Rattle.ir_text_tree.specs.declared.tree_step.Action.TheVariants as action
-use Rattle.ir_text_tree.specs.declared.tree_step.Step.{Step}
-use Rattle.ir_text_tree.specs.declared.tree_step.Step.TheVariants.{Go, Bad}
+use Rattle.ir_text_tree.specs.declared.tree_step.Step.TheVariants.{Go}
 use Rattle.ir_text_tree.specs.TextSteps.{takes, part_of_text, innermost, renested}
-use Rattle.ir_text_tree.specs.TreeSteps.{skip, put, begun, begin_text, stops_outside, text_end, taken, stops, text_step, after_step, bare_step, tree_step, is_whole, parts_step}
-use Rattle.ir_text_tree.specs.Parsings.{is_inside, ended_row, token_row, text_behind, brackets_behind, depth_behind, last_row, listed as one_row, parsing}
+use Rattle.ir_text_tree.specs.TreeSteps.{skip, put, begun, begin_text, stops_outside, text_end, taken, stops, text_step, bare_step, tree_step}
+use Rattle.ir_text_tree.specs.Parsings.{is_inside, listed as one_row, parsing}
 use Rattle.ir_text_tree.specs.Rows.{row, span, joined}
-use Rattle.ir_text_tree.specs.Trees.{Expected, mark, token, Matches, StaysText, span_through, Text, pieces_then, text_then, text_row, ResultName, Use, IsKey, Entry, IsTypeName, ResultTypes, bare, listed, Head, Tail, Argument, Label, Body, Regions, done, op, block, none, one, HasNoBlocks, IsWholeText, count_then, more_results_then, results_then, index_then, more_uses_then, uses_then, more_successors_then, successors_then, properties_then, value_then, entry_then, more_entries_then, entries_then, attributes_then, more_types_then, types_then, group_then, result_types_then, location_then, signature_then, tail_then, argument_then, more_arguments_then, arguments_then, signed_then, label_then, body_then, regions_then, more_regions_then, maybe_row, maybe_text_row, result_rows, use_rows, successor_rows, entry_rows, attribute_rows, type_rows, bare_span, result_type_rows, signature_rows, tail_rows, argument_rows, signed_rows, label_rows, body_rows, region_rows}
-use Rattle.ir_text_tree.proofs.ParsingSteps.{parsing_goes, parsing_reads, parsing_stops, parsing_done, parsing_breaks_off, rest_read}
+use Rattle.ir_text_tree.specs.Trees.{Expected, mark, token, Matches, StaysText, span_through, Text, pieces_then, text_then, text_row, ResultName, Use, Entry, IsTypeName, ResultTypes, bare, listed, Head, Tail, Argument, Label, Body, Regions, done, op, block, none, one, HasNoBlocks, IsWholeText, count_then, more_results_then, results_then, index_then, more_uses_then, uses_then, more_successors_then, successors_then, properties_then, value_then, entry_then, more_entries_then, entries_then, attributes_then, more_types_then, types_then, group_then, result_types_then, location_then, signature_then, tail_then, argument_then, more_arguments_then, arguments_then, signed_then, label_then, body_then, regions_then, more_regions_then, maybe_row, maybe_text_row, result_rows, use_rows, successor_rows, entry_rows, attribute_rows, type_rows, bare_span, result_type_rows, signature_rows, tail_rows, argument_rows, signed_rows, label_rows, body_rows, region_rows}
+use Rattle.ir_text_tree.specs.Reading.{parsing_reads, parsing_done, Steps, stop_step, after_count, comma_behind, equals_behind, TakesBody, start_takes, Rests, body_rests, after_rests, after_index, comma_used, round_used, TakesTail, TakesRegions, TakesProperties, operands_take, successors_take, properties_take, regions_take, key_next, key_first, first_operand, first_result, bare_ends, name_step}
 
 -- From this mode on, in so many regions, tokens that fit are read as these rows.
 record Follows (m : Mode) (d : ℕ) (es : List Expected) (rows : List Row) : Type 0 where
   read : (end : ℕ) (bs : List Bracket) (t : Span) (xs : List Piece) → Matches es xs → parsing end m d bs t xs ≡ Ok rows
-
--- what a token of this sort does there, whatever bracket is open
-abbrev pub Steps : Mode → ℕ → Sort → Step → Type 0
-Steps m d x st = (last : Option Bracket) → tree_step m (is_inside d) last x ≡ st
 
 -- ---- one token
 
@@ -92,10 +85,6 @@ shuts {d = d} {es = es} {rows = rows} m at e f = record { read = λ end bs t xs 
 record Ends (k : TextKind) (d : ℕ) (es : List Expected) (rows : List Row) : Type 0 where
   read : (end : ℕ) (t : Span) (xs : List Piece) → Matches es xs → parsing end (mode.Text k) d [] t xs ≡ Ok (row (part_of_text k) t ∷ rows)
 
--- what a token does that ends a text
-pub stop_step : (k : TextKind) (x : Sort) (to : Mode) → takes k None x ≡ None → stops_outside k x ≡ Some to → text_step k None x ≡ Go (Some (part_of_text k)) action.Skip to
-stop_step k x to e f = ap (λ (o : Option Nesting). taken k o (text_end k (stops_outside k x))) e ∙ ap (text_end k) f
-
 ends_read : (end d : ℕ) (es : List Expected) (rows : List Row) (k : TextKind) (x : Sort) (to : Mode) (t : Span) (xs : List Piece)
     → takes k None x ≡ None → stops_outside k x ≡ Some to → Follows to d es rows → Matches (mark x ∷ es) xs → parsing end (mode.Text k) d [] t xs ≡ Ok (row (part_of_text k) t ∷ rows)
 unfolding Matches
@@ -140,21 +129,9 @@ next_text k v f = text_follows k (mode.Next k) v (λ last. refl) f
 
 -- ---- results
 
-abbrev pub after_count : Option Span → Mode
-after_count None = mode.Results results.Behind
-after_count (Some n) = mode.Results results.Counted
-
 count_follows : {d : ℕ} {es : List Expected} {rows : List Row} (c : Option Span) → Follows (after_count c) d es rows → Follows (mode.Results results.Behind) d (count_then c es) (maybe_row parts.Count c rows)
 count_follows None f = f
 count_follows (Some n) f = skips (mode.Results results.Behind) s.Colon (mode.Results results.Count) (λ last. refl) (puts (mode.Results results.Count) s.Word parts.Count (mode.Results results.Counted) n (λ last. refl) f)
-
-pub comma_behind : (c : Option Span) (d : ℕ) → Steps (after_count c) d s.Comma (skip (mode.Results results.Next))
-comma_behind None d = λ last. refl
-comma_behind (Some n) d = λ last. refl
-
-pub equals_behind : (c : Option Span) (d : ℕ) → Steps (after_count c) d s.Equals (skip (mode.Results results.Name))
-equals_behind None d = λ last. refl
-equals_behind (Some n) d = λ last. refl
 
 more_results_follow : (d : ℕ) (es : List Expected) (rows : List Row) (c : Option Span) (rs : List ResultName) → Follows (mode.Results results.Name) d es rows → Follows (after_count c) d (more_results_then rs (mark s.Equals ∷ es)) (result_rows rs rows)
 more_results_follow d es rows c [] f = skips (after_count c) s.Equals (mode.Results results.Name) (equals_behind c d) f
@@ -162,35 +139,6 @@ more_results_follow d es rows c (r ∷ rs) f =
     skips (after_count c) s.Comma (mode.Results results.Next) (comma_behind c d)
     (puts (mode.Results results.Next) s.Value parts.Result (mode.Results results.Behind) r.name (λ last. refl)
     (count_follows r.count (more_results_follow d es rows r.count rs f)))
-
--- ---- where operations begin
-
-pub record TakesBody (m : Mode) : Type 0 where
-  pub value : (d : ℕ) → Steps m d s.Value (put parts.Result (mode.Results results.Behind))
-  pub quoted : (d : ℕ) → Steps m d s.Quoted (put parts.Name (mode.Operands operands.Open))
-  pub label : (d : ℕ) → Steps m (suc d) s.Block (put parts.Label (mode.Label label.Behind))
-  pub close : (d : ℕ) → Steps m (suc d) s.CloseCurly (Go None action.Close (mode.Parts pieces.Region))
-
-pub start_takes : TakesBody mode.Start
-start_takes = record { value = λ d last. refl; quoted = λ d last. refl; label = λ d last. refl; close = λ d last. refl }
-
-pub body_takes : TakesBody mode.Body
-body_takes = record { value = λ d last. refl; quoted = λ d last. refl; label = λ d last. refl; close = λ d last. refl }
-
-pub after_takes : TakesBody mode.After
-after_takes = record { value = λ d last. refl; quoted = λ d last. refl; label = λ d last. refl; close = λ d last. refl }
-
--- behind an operation the tokens may end, too
-pub record Rests (m : Mode) : Type 0 where
-  pub takes : TakesBody m
-  pub whole : is_whole m false ≡ true
-  pub no_row : (t : Span) → last_row m t ≡ None
-
-pub body_rests : Rests mode.Body
-body_rests = record { takes = body_takes; whole = refl; no_row = λ t. refl }
-
-pub after_rests : Rests mode.After
-after_rests = record { takes = after_takes; whole = refl; no_row = λ t. refl }
 
 results_follow : (d : ℕ) (es : List Expected) (rows : List Row) (m : Mode) (name : Span) (rs : List ResultName) → TakesBody m → Follows (mode.Operands operands.Open) d es rows
     → Follows m d (results_then rs (token s.Quoted name ∷ es)) (result_rows rs (row parts.Name name ∷ rows))
@@ -202,21 +150,9 @@ results_follow d es rows m name (r ∷ rs) b f =
 
 -- ---- operands
 
-abbrev pub after_index : Option Span → Mode
-after_index None = mode.Operands operands.Behind
-after_index (Some n) = mode.Operands operands.Indexed
-
 index_follows : {d : ℕ} {es : List Expected} {rows : List Row} (i : Option Span) → Follows (after_index i) d es rows → Follows (mode.Operands operands.Behind) d (index_then i es) (maybe_row parts.Index i rows)
 index_follows None f = f
 index_follows (Some n) f = puts (mode.Operands operands.Behind) s.Attribute parts.Index (mode.Operands operands.Indexed) n (λ last. refl) f
-
-pub comma_used : (i : Option Span) (d : ℕ) → Steps (after_index i) d s.Comma (skip (mode.Operands operands.Next))
-comma_used None d = λ last. refl
-comma_used (Some n) d = λ last. refl
-
-pub round_used : (i : Option Span) (d : ℕ) → Steps (after_index i) d s.CloseRound (skip (mode.Parts pieces.Operands))
-round_used None d = λ last. refl
-round_used (Some n) d = λ last. refl
 
 more_uses_follow : (d : ℕ) (es : List Expected) (rows : List Row) (i : Option Span) (us : List Use) → Follows (mode.Parts pieces.Operands) d es rows → Follows (after_index i) d (more_uses_then us (mark s.CloseRound ∷ es)) (use_rows us rows)
 more_uses_follow d es rows i [] f = skips (after_index i) s.CloseRound (mode.Parts pieces.Operands) (round_used i d) f
@@ -232,30 +168,6 @@ uses_follow d es rows (u ∷ us) f =
     (index_follows u.index (more_uses_follow d es rows u.index us f))
 
 -- ---- between operands and attributes
-
-pub record TakesTail (p : PartsMode) : Type 0 where
-  pub curly : parts_step p s.OpenCurly ≡ skip (mode.Entries entries.First)
-  pub colon : parts_step p s.Colon ≡ skip (mode.Types types.Open)
-
-pub record TakesRegions (p : PartsMode) : Type 0 where
-  pub round : parts_step p s.OpenRound ≡ skip (mode.Parts pieces.NextRegion)
-  pub tail : TakesTail p
-
-pub record TakesProperties (p : PartsMode) : Type 0 where
-  pub group : parts_step p s.Group ≡ put parts.Properties (mode.Parts pieces.Properties)
-  pub regions : TakesRegions p
-
-pub operands_take : TakesProperties pieces.Operands
-operands_take = record { group = refl; regions = record { round = refl; tail = record { curly = refl; colon = refl } } }
-
-pub successors_take : TakesProperties pieces.Successors
-successors_take = record { group = refl; regions = record { round = refl; tail = record { curly = refl; colon = refl } } }
-
-pub properties_take : TakesRegions pieces.Properties
-properties_take = record { round = refl; tail = record { curly = refl; colon = refl } }
-
-pub regions_take : TakesTail pieces.Regions
-regions_take = record { curly = refl; colon = refl }
 
 more_successors_follow : (d : ℕ) (es : List Expected) (rows : List Row) (bs : List Span) → Follows (mode.Parts pieces.Successors) d es rows → Follows (mode.Parts pieces.Successor) d (more_successors_then bs es) (successor_rows bs rows)
 more_successors_follow d es rows [] f = skips (mode.Parts pieces.Successor) s.CloseSquare (mode.Parts pieces.Successors) (λ last. refl) f
@@ -291,18 +203,6 @@ value_curly : (d : ℕ) (es : List Expected) (rows : List Row) (o : Option (Text
 value_curly d es rows None f = skips (mode.Entries entries.Key) s.CloseCurly (mode.Entries entries.Colon) (λ last. refl) f
 value_curly d es rows (Some v) f = ends kinds.Value s.CloseCurly (mode.Entries entries.Colon) refl refl f
 
-pub key_next : (x : Sort) (d : ℕ) → IsKey x → Steps (mode.Entries entries.Next) d x (put parts.Key (mode.Entries entries.Key))
-key_next s.Word d h = λ last. refl
-key_next s.Loc d h = λ last. refl
-key_next s.Quoted d h = λ last. refl
-key_next _ d h = absurd h
-
-pub key_first : (x : Sort) (d : ℕ) → IsKey x → Steps (mode.Entries entries.First) d x (put parts.Key (mode.Entries entries.Key))
-key_first s.Word d h = λ last. refl
-key_first s.Loc d h = λ last. refl
-key_first s.Quoted d h = λ last. refl
-key_first _ d h = absurd h
-
 more_entries_follow : (d : ℕ) (es : List Expected) (rows : List Row) (o : Option (Text kinds.Value)) (given : List Entry) → Follows (mode.Entries entries.Colon) d es rows → AfterValue o d (more_entries_then given es) (entry_rows given rows)
 more_entries_follow d es rows o [] f = value_curly d es rows o f
 more_entries_follow d es rows o (e ∷ given) f =
@@ -329,14 +229,6 @@ more_types_follow : (d : ℕ) (es : List Expected) (rows : List Row) (k : TextKi
 more_types_follow d es rows k to [] a b e g f = ends k s.CloseRound to e g f
 more_types_follow d es rows k to (t ∷ ts) a b e g f = ends k s.Comma (mode.Next k) a b (next_text k t (more_types_follow d es rows k to ts a b e g f))
 
-pub first_operand : (x : Sort) (n : Nesting) (d : ℕ) → takes kinds.OperandType None x ≡ Some n → Steps (mode.Types types.FirstOperand) d x (begin_text kinds.OperandType x)
-first_operand s.CloseRound n d h = absurd cc
-first_operand _ n d h = λ last. refl
-
-pub first_result : (x : Sort) (n : Nesting) (d : ℕ) → takes kinds.ResultType None x ≡ Some n → Steps (mode.Types types.FirstResult) d x (begin_text kinds.ResultType x)
-first_result s.CloseRound n d h = absurd cc
-first_result _ n d h = λ last. refl
-
 operand_types_follow : (d : ℕ) (es : List Expected) (rows : List Row) (ts : List (Text kinds.OperandType)) → Follows (mode.Types types.Arrow) d es rows → Follows (mode.Types types.FirstOperand) d (types_then ts es) (type_rows ts rows)
 unfolding StaysText
 operand_types_follow d es rows [] f = skips (mode.Types types.FirstOperand) s.CloseRound (mode.Types types.Arrow) (λ last. refl) f
@@ -353,63 +245,23 @@ result_types_follow d es rows (t ∷ ts) f =
 
 -- ---- a type in no parentheses
 
--- what a token does behind an operation, and behind such a type
-AfterCase : Bool → Sort → Type 0
-AfterCase inside x = (after_step inside x ≡ Bad) ⊎ ((a : Action) × (to : Mode) × (after_step inside x ≡ Go None a to) × (bare_step inside x ≡ Go (Some parts.ResultType) a to))
-
-after_case : (inside : Bool) (x : Sort) → AfterCase inside x
-unfolding AfterCase
-after_case inside s.Loc = inr (action.Skip, mode.Types types.Location, refl, refl)
-after_case inside s.Value = inr (action.Put parts.Result, mode.Results results.Behind, refl, refl)
-after_case inside s.Quoted = inr (action.Put parts.Name, mode.Operands operands.Open, refl, refl)
-after_case true s.Block = inr (action.Put parts.Label, mode.Label label.Behind, refl, refl)
-after_case true s.CloseCurly = inr (action.Close, mode.Parts pieces.Region, refl, refl)
-after_case true _ = inl refl
-after_case false _ = inl refl
-
-err_not_ok : (y : Result (List Row) Fault) (f : Fault) (rows : List Row) → y ≡ Err f → y ≡ Ok rows → ⊥
-err_not_ok y f rows e h = cc
-
-ok_same : (a b : List Row) → (let r : Result (List Row) Fault = Ok a in r) ≡ Ok b → a ≡ b
-ok_same a b e = cc
-
-bare_ends : (end d : ℕ) (rows : List Row) (bs : List Bracket) (t : Span) (xs : List Piece) → parsing end mode.After d bs t xs ≡ Ok rows → parsing end mode.Bare d bs t xs ≡ Ok (row parts.ResultType t ∷ rows)
-unfolding AfterCase
-bare_ends end zero rows bs t [] h =
-    let e = ok_same [] rows (sym (parsing_done end mode.After zero bs t refl) ∙ h) in
-    parsing_done end mode.Bare zero bs t refl ∙ ap (λ (x : List Row). Ok (row parts.ResultType t ∷ x)) e
-bare_ends end (suc d) rows bs t [] h = absurd (err_not_ok _ _ rows (parsing_breaks_off end mode.After (suc d) bs t refl) h)
-bare_ends end d rows bs t (x ∷ xs) h = elim (after_case (is_inside d) x.sort) [
-  | inl e ↦ absurd (err_not_ok _ _ rows (parsing_stops end mode.After d bs t x xs e) h)
-  | inr w ↦
-      let got = rest_read (parsing end w.1 (depth_behind w.0 d) (brackets_behind w.0 bs) (text_behind w.0 x.span t) xs) (ended_row None t) (token_row w.0 x.span t) rows (sym (parsing_goes end mode.After d bs t x xs None w.0 w.1 w.2) ∙ h) in
-      let whole = parsing_reads end mode.After d bs t x xs None w.0 w.1 got.0 w.2 got.1 in
-      parsing_reads end mode.Bare d bs t x xs (Some parts.ResultType) w.0 w.1 got.0 w.3 got.1
-      ∙ ap (λ (y : List Row). Ok (row parts.ResultType t ∷ y)) (ok_same _ rows (sym whole ∙ h))
-]
-
 -- the type's name was read, and is the text
-bare_rest : (end d : ℕ) (es : List Expected) (rows : List Row) (g : Option Span) (bs : List Bracket) (t : Span) (xs : List Piece) → Follows mode.After d es rows → Matches (group_then g es) xs → parsing end mode.Bare d bs t xs ≡ Ok (row parts.ResultType (bare_span t g) ∷ rows)
+bare_rest : (end d : ℕ) (es : List Expected) (rows : List Row) (g : Option Span) (bs : List Bracket) (t : Span) (xs : List Piece) → Follows mode.After d es rows → Matches (group_then g es) xs → parsing end mode.Bare d bs t xs ≡ Ok (row parts.OnlyResultType (bare_span t g) ∷ rows)
 unfolding Matches
 bare_rest end d es rows None bs t xs f h = bare_ends end d rows bs t xs (f.read end bs t xs h)
 bare_rest end d es rows (Some at) bs t [] f h = absurd h
 bare_rest end d es rows (Some at) bs t (x ∷ xs) f h =
-    parsing_reads end mode.Bare d bs t x xs None (action.Join parts.ResultType) mode.After rows (ap (bare_step (is_inside d)) h.0.0) (f.read end bs t xs h.1)
-    ∙ ap (λ (y : Span). Ok (row parts.ResultType (joined t y) ∷ rows)) h.0.1
+    parsing_reads end mode.Bare d bs t x xs None (action.Join parts.OnlyResultType) mode.After rows (ap (bare_step (is_inside d)) h.0.0) (f.read end bs t xs h.1)
+    ∙ ap (λ (y : Span). Ok (row parts.OnlyResultType (joined t y) ∷ rows)) h.0.1
 
-name_step : (x : Sort) (inside : Bool) (last : Option Bracket) → IsTypeName x → tree_step (mode.Types types.Results) inside last x ≡ Go None (action.Start nesting.Kept) mode.Bare
-name_step s.Word inside last h = refl
-name_step s.Type inside last h = refl
-name_step _ inside last h = absurd h
-
-bare_read : (end d : ℕ) (es : List Expected) (rows : List Row) (name : Piece) (g : Option Span) (bs : List Bracket) (t : Span) (xs : List Piece) → IsTypeName name.sort → Follows mode.After d es rows → Matches (token name.sort name.span ∷ group_then g es) xs → parsing end (mode.Types types.Results) d bs t xs ≡ Ok (row parts.ResultType (bare_span name.span g) ∷ rows)
+bare_read : (end d : ℕ) (es : List Expected) (rows : List Row) (name : Piece) (g : Option Span) (bs : List Bracket) (t : Span) (xs : List Piece) → IsTypeName name.sort → Follows mode.After d es rows → Matches (token name.sort name.span ∷ group_then g es) xs → parsing end (mode.Types types.Results) d bs t xs ≡ Ok (row parts.OnlyResultType (bare_span name.span g) ∷ rows)
 unfolding Matches
 bare_read end d es rows name g bs t [] i f h = absurd h
 bare_read end d es rows name g bs t (x ∷ xs) i f h =
-    parsing_reads end (mode.Types types.Results) d bs t x xs None (action.Start nesting.Kept) mode.Bare (row parts.ResultType (bare_span x.span g) ∷ rows)
+    parsing_reads end (mode.Types types.Results) d bs t x xs None (action.Start nesting.Kept) mode.Bare (row parts.OnlyResultType (bare_span x.span g) ∷ rows)
     (ap (tree_step (mode.Types types.Results) (is_inside d) (innermost bs)) h.0.0 ∙ name_step name.sort (is_inside d) (innermost bs) i)
     (bare_rest end d es rows g [] x.span xs f h.1)
-    ∙ ap (λ (y : Span). Ok (row parts.ResultType (bare_span y g) ∷ rows)) h.0.1
+    ∙ ap (λ (y : Span). Ok (row parts.OnlyResultType (bare_span y g) ∷ rows)) h.0.1
 
 types_follow : (d : ℕ) (es : List Expected) (rows : List Row) (rs : ResultTypes) → Follows mode.After d es rows → Follows (mode.Types types.Results) d (result_types_then rs es) (result_type_rows rs rows)
 types_follow d es rows (bare name i g) f = record { read = λ end bs t xs h. bare_read end d es rows name g bs t xs i f h }

@@ -4,3 +4,4 @@ pub mod TreeFaults
 pub mod TreeSteps
 pub mod Parsings
 pub mod Trees
+pub mod Reading

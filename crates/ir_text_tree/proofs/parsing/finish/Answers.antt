@@ -1,7 +1,8 @@
 use Rattle.std.proofs.Common.{◌≡◌, ◌++◌, List, [], Option, Ok, true, false, sym, ap, ◌∙◌}
 use Rattle.ir_text_tree.specs.declared.row.Row.{Row}
 use Rattle.ir_text_tree.specs.Parsings.{is_inside, last_row, listed, behind_rows, parsing_from}
-use Rattle.ir_text_tree.proofs.ParsingSteps.{parsing_done, parsing_breaks_off, told, whole_is}
+use Rattle.ir_text_tree.specs.Reading.{parsing_done, parsing_breaks_off}
+use Rattle.ir_text_tree.proofs.ParsingSteps.{told, whole_is}
 use Rattle.ir_text_tree.proofs.parsing.finish.Goals as goal
 
 pub returns-then-not-is_whole-clause-reads : goal.returns-then-not-is_whole-clause-reads
