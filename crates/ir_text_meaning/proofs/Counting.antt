@@ -157,6 +157,7 @@ operand_type_at_home _ e = absurd (false≢true e)
 
 pub result_type_at_home : (p : Part) → is_result_type p ≡ true → home p ≡ 6
 result_type_at_home parts.ResultType e = refl
+result_type_at_home parts.OnlyResultType e = refl
 result_type_at_home _ e = absurd (false≢true e)
 
 -- parts for which the test holds stand in that list of an operation

@@ -43,7 +43,7 @@ pub operand_home : (h : Head) (n k : ℕ) (x : Row) → IsAmong (operand_parts h
 operand_home h n k x t = each_among (λ (p : Part). home p ≡ 2) (operand_parts h) n k x (operands_each (λ (p : Part). home p ≡ 2) h refl refl refl refl) t
 
 pub tail_home : (l : Tail) (n k : ℕ) (x : Row) → IsAmong (tail_parts l) n k x → home x.part ≡ 6
-tail_home l n k x t = each_among (λ (p : Part). home p ≡ 6) (tail_parts l) n k x (tail_each (λ (p : Part). home p ≡ 6) l refl refl refl refl refl) t
+tail_home l n k x t = each_among (λ (p : Part). home p ≡ 6) (tail_parts l) n k x (tail_each (λ (p : Part). home p ≡ 6) l refl refl refl refl refl refl) t
 
 pub label_home : (l : Label) (n k : ℕ) (x : Row) → IsAmong (label_parts l) n k x → home x.part ≡ 5
 label_home l n k x t = each_among (λ (p : Part). home p ≡ 5) (label_parts l) n k x (label_each (λ (p : Part). home p ≡ 5) l refl refl refl refl) t

@@ -124,15 +124,15 @@ types_each : (P : Part → Type 0) {k : TextKind} (ts : List (Text k)) (ys : Lis
 types_each P [] ys p h = h
 types_each P (t ∷ ts) ys p h = (p, types_each P ts ys p h)
 
-result_types_each : (P : Part → Type 0) (rs : ResultTypes) (ys : List Row) → P parts.ResultType → Each P ys → Each P (result_type_rows rs ys)
-result_types_each P (bare name is_name group) ys p h = (p, h)
-result_types_each P (listed ts) ys p h = types_each P ts ys p h
+result_types_each : (P : Part → Type 0) (rs : ResultTypes) (ys : List Row) → P parts.ResultType → P parts.OnlyResultType → Each P ys → Each P (result_type_rows rs ys)
+result_types_each P (bare name is_name group) ys r o h = (o, h)
+result_types_each P (listed ts) ys r o h = types_each P ts ys r h
 
-pub tail_each : (P : Part → Type 0) (t : Tail) → P parts.Key → P parts.Value → P parts.OperandType → P parts.ResultType → P parts.Location → Each P (tail_rows t [])
-tail_each P t k v o r l =
+pub tail_each : (P : Part → Type 0) (t : Tail) → P parts.Key → P parts.Value → P parts.OperandType → P parts.ResultType → P parts.OnlyResultType → P parts.Location → Each P (tail_rows t [])
+tail_each P t k v o r only l =
     attributes_each P t.attributes (signature_rows t.operand_types t.result_types t.location []) k v
     (types_each P t.operand_types (result_type_rows t.result_types (maybe_text_row t.location [])) o
-    (result_types_each P t.result_types (maybe_text_row t.location []) r (text_each P t.location [] l tt)))
+    (result_types_each P t.result_types (maybe_text_row t.location []) r only (text_each P t.location [] l tt)))
 
 arguments_each : (P : Part → Type 0) (args : List Argument) (ys : List Row) → P parts.Argument → P parts.ArgumentType → P parts.ArgumentLocation → Each P ys → Each P (argument_rows args ys)
 arguments_each P [] ys a t l h = h

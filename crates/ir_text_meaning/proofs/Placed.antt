@@ -110,8 +110,8 @@ lists_results (bare name is_name group) l h = record {
   there = λ p s is. let size : 0 < suc (length l) = omega arith in (0, size, refl, is.1, sym is.0);
 }
   where
-    bare_found : (name : Span) (group : Option Span) (l : List Row) → ((j : ℕ) → j < length l → is_result_type (row_of l j).part ≡ true → ⊥) → (j : ℕ) → j < suc (length l) → is_result_type (row_of (row parts.ResultType (bare_span name group) ∷ l) j).part ≡ true
-        → (count_before is_result_type (row parts.ResultType (bare_span name group) ∷ l) j ≡ 0) × (bare_span name group ≡ (row_of (row parts.ResultType (bare_span name group) ∷ l) j).span)
+    bare_found : (name : Span) (group : Option Span) (l : List Row) → ((j : ℕ) → j < length l → is_result_type (row_of l j).part ≡ true → ⊥) → (j : ℕ) → j < suc (length l) → is_result_type (row_of (row parts.OnlyResultType (bare_span name group) ∷ l) j).part ≡ true
+        → (count_before is_result_type (row parts.OnlyResultType (bare_span name group) ∷ l) j ≡ 0) × (bare_span name group ≡ (row_of (row parts.OnlyResultType (bare_span name group) ∷ l) j).span)
     bare_found name group l h zero lt is = (refl, refl)
     bare_found name group l h (suc j) lt is = absurd (h j (omega (arith, lt)) is)
 lists_results (listed ts) l h = lists_types is_result_type ts l refl h

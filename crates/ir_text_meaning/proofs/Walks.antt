@@ -40,7 +40,7 @@ operands_plain : (h : Head) → Each IsPlain (operand_parts h)
 operands_plain h = operands_each IsPlain h tt tt tt tt
 
 tail_plain : (t : Tail) → Each IsPlain (tail_parts t)
-tail_plain t = tail_each IsPlain t tt tt tt tt tt
+tail_plain t = tail_each IsPlain t tt tt tt tt tt tt
 
 label_plain : (l : Label) → Each IsPlain (label_parts l)
 label_plain l = label_each IsPlain l tt tt tt tt
