@@ -12,3 +12,4 @@ pub mod Uses
 pub mod Resolved
 pub mod Numbers
 pub mod Indices
+pub mod Sorts

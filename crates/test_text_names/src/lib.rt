@@ -6,4 +6,6 @@ mod block_tests;
 #[cfg(test)]
 mod fault_tests;
 #[cfg(test)]
+mod law_tests;
+#[cfg(test)]
 mod value_tests;

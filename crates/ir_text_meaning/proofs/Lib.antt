@@ -1,0 +1,16 @@
+mod PartLists
+mod Cursors
+mod Walks
+mod Places
+mod Bodies
+mod Homes
+mod NameMeanings
+mod Owned
+mod NameFaults
+mod Counting
+mod Results
+mod Indexed
+mod Placed
+mod OtherTypes
+mod AllFaults
+mod Listed

@@ -1,0 +1,10 @@
+pub mod Parts
+pub mod Regions
+pub mod Meanings
+pub mod Owners
+pub mod Faults
+pub mod Numbered
+pub mod Values
+pub mod WellNamed
+pub mod ValueTypes
+pub mod Listings
