@@ -32,10 +32,14 @@ is_key_start b = is_letter b || (b == 95)
 abbrev pub is_key_rest : ℕ → Bool
 is_key_rest b = is_letter b || (is_digit b || ((b == 95) || ((b == 36) || (b == 46))))
 
+-- its first byte lets a key stand without quotes
+abbrev pub starts_key : List ℕ → Bool
+starts_key [] = false
+starts_key (b ∷ bs) = is_key_start b
+
 -- a key that may stand without quotes
 abbrev pub is_bare_key : List ℕ → Bool
-is_bare_key [] = false
-is_bare_key (b ∷ bs) = is_key_start b && list_all is_key_rest (b ∷ bs)
+is_bare_key key = starts_key key && list_all is_key_rest key
 
 -- a key, in quotes where it can't stand without
 abbrev pub key_text : List ℕ → List ℕ

@@ -1,6 +1,7 @@
 //! Texts in quotes, and keys, which have quotes only where they need them.
-ghost use Rattle.std.specs.Prelude.{◌≡◌, ◌++◌, OnOk};
-ghost use Rattle.ir_text_pieces.specs.Quotes.{escaped, hex_digit, is_bare_key, is_digit, is_key_start, is_key_rest, is_letter, is_shown, key_text, quoted};
+ghost use Rattle.std.specs.Prelude.{◌≡◌, ◌<◌, ◌++◌, OnOk};
+ghost use Rattle.std.specs.List.{list_all};
+ghost use Rattle.ir_text_pieces.specs.Quotes.{escaped, hex_digit, is_bare_key, is_digit, is_key_start, is_key_rest, is_letter, is_shown, key_text, quoted, starts_key};
 
 use std::alloc::AllocError;
 
@@ -79,14 +80,28 @@ fn is_key_rest(byte: u8) -> bool
     is_letter(byte) || (is_digit(byte) || (byte == b'_' || (byte == b'$' || byte == b'.')))
 }
 
+// Whether a key may stand without quotes by its first byte.
+fn starts_key(key: &[u8]) -> bool
+    ensures { result ≡ starts_key key.now }
+{
+    match key.first() {
+        None => false,
+        Some(first) => is_key_start(*first),
+    }
+}
+
+// Whether all bytes may stand in a key without quotes.
+fn is_all_key(key: &[u8]) -> bool
+    ensures { result ≡ list_all is_key_rest key.now }
+{
+    key.iter().all(|byte| is_key_rest(*byte))
+}
+
 /// Whether a key may stand without quotes: it begins with a letter or `_`, and has only letters, digits, `_`, `$` and `.`.
 pub fn is_bare_key(key: &[u8]) -> bool
     ensures { result ≡ is_bare_key key.now }
 {
-    match key.first() {
-        None => false,
-        Some(first) => is_key_start(*first) && key.iter().all(|byte| is_key_rest(*byte)),
-    }
+    starts_key(key) && is_all_key(key)
 }
 
 /// Writes a key, in quotes where it can't stand without.
