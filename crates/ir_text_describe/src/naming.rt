@@ -21,7 +21,9 @@ pub(crate) fn name_results<D: Dialects>(
         return Ok(());
     }
     if count == 1 {
-        return to.names.give_value(op.get_result(0).index.number, NameSort::Plain);
+        return to
+            .names
+            .give_value(op.get_result(0).index.number, NameSort::Plain);
     }
     let number = to.names.take_number()?;
     for (index, value) in op.results().enumerate() {
@@ -67,12 +69,12 @@ pub(crate) fn name_region<D: Dialects>(
     requires { IsLive (forest_of ctx.now) (a_region region.index) }
 {
     let mut sort = NameSort::Argument;
-    let mut place = 0;
+    let mut place = 0usize;
     for block in region.iter(ctx) {
         to.names.give_block(block.index().slot, place)?;
         name_block(ctx, to, block, sort)?;
         sort = NameSort::Plain;
-        place += 1;
+        place = place.saturating_add(1);
     }
     Ok(())
 }

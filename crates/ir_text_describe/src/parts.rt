@@ -7,7 +7,7 @@ ghost use Rattle.ir_core_queries.specs.State.{forest_of, types_of};
 
 use ir_base_dialects::{CoreError, Dialects, Ptr, TypeHandle};
 use ir_core_queries::{
-    BasicBlock, BlockPlace, BlockPtr, BlockUses, Context, Operation, OperationPtr,
+    BasicBlock, BlockPlace, BlockPtr, BlockUses, Context, Operation, OperationPtr, ValueQueries,
 };
 use ir_text_dialect::{AttributeForm, Located, Spelling};
 use ir_text_pieces::{DescribeErr, Part, Span, TreeWriter};
@@ -36,7 +36,9 @@ fn name_piece<D: Dialects, S: Spelling<D>>(
         return Ok(piece);
     }
     let mut name = Vec::new(from.ctx.alloc());
-    from.spelling.write_operation_name(from.ctx, kind, &mut name).map_err(wanting)?;
+    from.spelling
+        .write_operation_name(from.ctx, kind, &mut name)
+        .map_err(wanting)?;
     to.write_operation_name(kind, name.as_slice())
 }
 
@@ -52,7 +54,9 @@ fn type_piece<D: Dialects, S: Spelling<D>>(
         return Ok(piece);
     }
     let mut text = Vec::new(from.ctx.alloc());
-    from.spelling.write_type(from.ctx, ty, &mut text).map_err(wanting)?;
+    from.spelling
+        .write_type(from.ctx, ty, &mut text)
+        .map_err(wanting)?;
     to.write_type(ty.index(), text.as_slice())
 }
 
@@ -63,7 +67,11 @@ fn put_properties<D: Dialects, S: Spelling<D>>(
     op: &Operation<D>,
 ) -> Result<(), DescribeErr> {
     let start = to.description.text.len();
-    if from.spelling.write_properties(from.ctx, op.attributes(), &mut to.description.text).map_err(wanting)? {
+    if from
+        .spelling
+        .write_properties(from.ctx, op.attributes(), &mut to.description.text)
+        .map_err(wanting)?
+    {
         let piece = to.description.piece_from(start)?;
         to.description.put(Part::Properties, piece)?;
     }
@@ -104,7 +112,9 @@ fn put_attributes<D: Dialects, S: Spelling<D>>(
     for (name, attr) in op.attributes().iter() {
         key.clear();
         let start = to.description.text.len();
-        let form = from.spelling.write_attribute(from.ctx, name, attr, &mut key, &mut to.description.text)
+        let form = from
+            .spelling
+            .write_attribute(from.ctx, name, attr, &mut key, &mut to.description.text)
             .map_err(wanting)?;
         let value = to.description.piece_from(start)?;
         if form != AttributeForm::Property {
@@ -150,7 +160,11 @@ fn put_location<D: Dialects, S: Spelling<D>>(
     part: Part,
 ) -> Result<(), DescribeErr> {
     let start = to.description.text.len();
-    if from.spelling.write_location(from.ctx, loc, of, &mut to.description.text).map_err(wanting)? {
+    if from
+        .spelling
+        .write_location(from.ctx, loc, of, &mut to.description.text)
+        .map_err(wanting)?
+    {
         let piece = to.description.piece_from(start)?;
         to.description.put(part, piece)?;
     }
@@ -197,14 +211,16 @@ pub(crate) fn put_block_head<D: Dialects, S: Spelling<D>>(
     }
     to.put_label(block.index().slot)?;
     let record = block.deref(from.ctx);
-    for (index, ty) in record.argument_types().enumerate() {
-        to.put_argument(record.get_argument(index).index.number)?;
-        let piece = type_piece(from, to, ty)?;
+    let mut index = 0usize;
+    for value in record.arguments() {
+        to.put_argument(value.index.number)?;
+        let piece = type_piece(from, to, value.get_type(from.ctx))?;
         to.description.put(Part::ArgumentType, piece)?;
         if from.located {
             let of = Located::Argument(index);
             put_location(from, to, record.loc(), of, Part::ArgumentLocation)?;
         }
+        index = index.saturating_add(1);
     }
     Ok(())
 }

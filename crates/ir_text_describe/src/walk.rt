@@ -124,7 +124,12 @@ fn leave_region<D: Dialects>(
     walk.to.close_region()?;
     match walk.open.pop() {
         Some(index) => {
-            region_at(ctx, walk, region.get_parent_op(ctx), index.saturating_add(1))
+            region_at(
+                ctx,
+                walk,
+                region.get_parent_op(ctx),
+                index.saturating_add(1),
+            )
         }
         None => Ok(None),
     }

@@ -161,7 +161,12 @@ impl Names {
     ///
     /// # Errors
     /// `OutOfMemory`, or `TooLong` where the index has no room.
-    pub fn give_result(&mut self, value: u64, number: u32, index: usize) -> Result<(), DescribeErr> {
+    pub fn give_result(
+        &mut self,
+        value: u64,
+        number: u32,
+        index: usize,
+    ) -> Result<(), DescribeErr> {
         let name = Name {
             sort: NameSort::Plain,
             number,

@@ -26,7 +26,8 @@ impl Numbered {
     fn write_next(&mut self, to: &mut Description) -> Result<(), DescribeErr> {
         let start = to.text.len();
         to.text.extend_from_slice(self.mark.as_bytes())?;
-        to.text.extend_from_slice(Buffer::new().format(self.spans.len()).as_bytes())?;
+        to.text
+            .extend_from_slice(Buffer::new().format(self.spans.len()).as_bytes())?;
         self.spans.push(to.piece_from(start)?)?;
         Ok(())
     }

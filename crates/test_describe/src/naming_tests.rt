@@ -97,7 +97,11 @@ fn graph(ctx: &mut Ctx) -> Result<Vec<u8>, Fail> {
     let user = put(ctx, body, USE, 0, &[], 0)?;
     let pair = put(ctx, body, FUNC, 2, &[], 0)?;
     let one = put(ctx, body, CONSTANT, 1, &[], 0)?;
-    let (a, b, c) = (result(ctx, pair, 0)?, result(ctx, pair, 1)?, result(ctx, one, 0)?);
+    let (a, b, c) = (
+        result(ctx, pair, 0)?,
+        result(ctx, pair, 1)?,
+        result(ctx, one, 0)?,
+    );
     operation::push_operand(user, ctx, c)?;
     operation::push_operand(user, ctx, b)?;
     operation::push_operand(pair, ctx, a)?;
@@ -189,7 +193,11 @@ fn a_deep_nest(rt: HostRuntime) -> Result<(), Fail> {
     let mut ctx = Ctx::new(rt.alloc());
     let outcome = nest(&mut ctx, 500);
     let text = context::end(ctx, outcome)?;
-    let lines = text.as_slice().iter().filter(|byte| **byte == b'\n').count();
+    let lines = text
+        .as_slice()
+        .iter()
+        .filter(|byte| **byte == b'\n')
+        .count();
     assert!(rt; lines == 3 * 500 + 3);
     Ok(())
 }

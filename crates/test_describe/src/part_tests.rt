@@ -1,5 +1,7 @@
 // Heads of blocks, attributes, types and locations.
-use crate::building::{CONSTANT, Ctx, FUNC, MODULE, USE, int, printed, put, put_block, result, root};
+use crate::building::{
+    CONSTANT, Ctx, FUNC, MODULE, USE, int, printed, put, put_block, result, root,
+};
 use ir_checked_core::prelude::Identifier;
 use ir_checked_core::{basic_block, context, operation};
 use ir_text_describe::Locations;
@@ -51,7 +53,8 @@ fn attributes_in_their_order(rt: HostRuntime) -> Result<(), Fail> {
     let mut ctx = Ctx::new(rt.alloc());
     let outcome = with_attributes(&mut ctx);
     let text = context::end(ctx, outcome)?;
-    let wanted = b"\"toy.use\"() {number = -5 : i8, _2 = \"a \\22b\\22\\\\\\0A\", far = #toy.outlined<\"c\">} : () -> ()
+    let wanted =
+        b"\"toy.use\"() {number = -5 : i8, _2 = \"a \\22b\\22\\\\\\0A\", far = #toy.outlined<\"c\">} : () -> ()
 ";
     assert!(rt; text.as_slice() == wanted.as_slice());
     Ok(())
