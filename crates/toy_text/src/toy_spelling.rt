@@ -3,6 +3,7 @@ ghost use Rattle.std.specs.Prelude.{◌≡◌, ◌++◌, None, OnOk, codes, slic
 ghost use Rattle.std.specs.Option.{option_map};
 ghost use Rattle.ir_core_queries.specs.State.{types_of};
 ghost use Rattle.ir_text_dialect.specs.declared.spelling.AttributeForm.TheVariants.{Valued};
+ghost use Rattle.ir_text_pieces.specs.Quotes.{quoted};
 ghost use Rattle.toy_dialect.specs.Toy.{op_name};
 ghost use Rattle.toy_text.specs.ToyTexts.{attribute_text, key_text, location_text, type_text, typed_text};
 
@@ -43,6 +44,16 @@ fn write_typed(ctx: &Context<Toy>, ty: TypeHandle, out: &mut Vec<u8>) -> Result<
     Ok(())
 }
 
+// Writes a text that is to be outlined.
+fn write_outlined(text: &[u8], out: &mut Vec<u8>) -> Result<(), CoreError>
+    ensures { OnOk result (out.new.items ≡ out.old.items ++ (codes "#toy.outlined<" ++ (quoted text.now ++ codes ">"))) }
+{
+    out.extend_from_slice(b"#toy.outlined<")?;
+    write_quoted(out, text)?;
+    out.extend_from_slice(b">")?;
+    Ok(())
+}
+
 // Writes the value of an attribute.
 fn write_value(ctx: &Context<Toy>, attr: &ToyAttr, out: &mut Vec<u8>) -> Result<(), CoreError>
     ensures { OnOk result (out.new.items ≡ out.old.items ++ attribute_text (λ place. option_map (λ t. t.key) (slice_get (types_of ctx.now) place)) attr.now) }
@@ -53,11 +64,7 @@ fn write_value(ctx: &Context<Toy>, attr: &ToyAttr, out: &mut Vec<u8>) -> Result<
             write_typed(ctx, int.ty, out)?;
         }
         ToyAttr::Text(text) => write_quoted(out, text.0.as_str().as_bytes())?,
-        ToyAttr::Outlined(text) => {
-            out.extend_from_slice(b"#toy.outlined<")?;
-            write_quoted(out, text.0.as_str().as_bytes())?;
-            out.extend_from_slice(b">")?;
-        }
+        ToyAttr::Outlined(text) => write_outlined(text.0.as_str().as_bytes(), out)?,
     }
     Ok(())
 }
