@@ -37,7 +37,7 @@ pub(crate) fn is_counted(sort: Counted, part: Part) -> bool
             _ => false,
         },
         Counted::ResultTypes => match part {
-            Part::ResultType => true,
+            Part::ResultType | Part::OnlyResultType => true,
             _ => false,
         },
     }

@@ -355,7 +355,7 @@ result_types_follow d es rows (t ∷ ts) f =
 
 -- what a token does behind an operation, and behind such a type
 AfterCase : Bool → Sort → Type 0
-AfterCase inside x = (after_step inside x ≡ Bad) ⊎ ((a : Action) × (to : Mode) × (after_step inside x ≡ Go None a to) × (bare_step inside x ≡ Go (Some parts.ResultType) a to))
+AfterCase inside x = (after_step inside x ≡ Bad) ⊎ ((a : Action) × (to : Mode) × (after_step inside x ≡ Go None a to) × (bare_step inside x ≡ Go (Some parts.OnlyResultType) a to))
 
 after_case : (inside : Bool) (x : Sort) → AfterCase inside x
 unfolding AfterCase
@@ -373,43 +373,43 @@ err_not_ok y f rows e h = cc
 ok_same : (a b : List Row) → (let r : Result (List Row) Fault = Ok a in r) ≡ Ok b → a ≡ b
 ok_same a b e = cc
 
-bare_ends : (end d : ℕ) (rows : List Row) (bs : List Bracket) (t : Span) (xs : List Piece) → parsing end mode.After d bs t xs ≡ Ok rows → parsing end mode.Bare d bs t xs ≡ Ok (row parts.ResultType t ∷ rows)
+bare_ends : (end d : ℕ) (rows : List Row) (bs : List Bracket) (t : Span) (xs : List Piece) → parsing end mode.After d bs t xs ≡ Ok rows → parsing end mode.Bare d bs t xs ≡ Ok (row parts.OnlyResultType t ∷ rows)
 unfolding AfterCase
 bare_ends end zero rows bs t [] h =
     let e = ok_same [] rows (sym (parsing_done end mode.After zero bs t refl) ∙ h) in
-    parsing_done end mode.Bare zero bs t refl ∙ ap (λ (x : List Row). Ok (row parts.ResultType t ∷ x)) e
+    parsing_done end mode.Bare zero bs t refl ∙ ap (λ (x : List Row). Ok (row parts.OnlyResultType t ∷ x)) e
 bare_ends end (suc d) rows bs t [] h = absurd (err_not_ok _ _ rows (parsing_breaks_off end mode.After (suc d) bs t refl) h)
 bare_ends end d rows bs t (x ∷ xs) h = elim (after_case (is_inside d) x.sort) [
   | inl e ↦ absurd (err_not_ok _ _ rows (parsing_stops end mode.After d bs t x xs e) h)
   | inr w ↦
       let got = rest_read (parsing end w.1 (depth_behind w.0 d) (brackets_behind w.0 bs) (text_behind w.0 x.span t) xs) (ended_row None t) (token_row w.0 x.span t) rows (sym (parsing_goes end mode.After d bs t x xs None w.0 w.1 w.2) ∙ h) in
       let whole = parsing_reads end mode.After d bs t x xs None w.0 w.1 got.0 w.2 got.1 in
-      parsing_reads end mode.Bare d bs t x xs (Some parts.ResultType) w.0 w.1 got.0 w.3 got.1
-      ∙ ap (λ (y : List Row). Ok (row parts.ResultType t ∷ y)) (ok_same _ rows (sym whole ∙ h))
+      parsing_reads end mode.Bare d bs t x xs (Some parts.OnlyResultType) w.0 w.1 got.0 w.3 got.1
+      ∙ ap (λ (y : List Row). Ok (row parts.OnlyResultType t ∷ y)) (ok_same _ rows (sym whole ∙ h))
 ]
 
 -- the type's name was read, and is the text
-bare_rest : (end d : ℕ) (es : List Expected) (rows : List Row) (g : Option Span) (bs : List Bracket) (t : Span) (xs : List Piece) → Follows mode.After d es rows → Matches (group_then g es) xs → parsing end mode.Bare d bs t xs ≡ Ok (row parts.ResultType (bare_span t g) ∷ rows)
+bare_rest : (end d : ℕ) (es : List Expected) (rows : List Row) (g : Option Span) (bs : List Bracket) (t : Span) (xs : List Piece) → Follows mode.After d es rows → Matches (group_then g es) xs → parsing end mode.Bare d bs t xs ≡ Ok (row parts.OnlyResultType (bare_span t g) ∷ rows)
 unfolding Matches
 bare_rest end d es rows None bs t xs f h = bare_ends end d rows bs t xs (f.read end bs t xs h)
 bare_rest end d es rows (Some at) bs t [] f h = absurd h
 bare_rest end d es rows (Some at) bs t (x ∷ xs) f h =
-    parsing_reads end mode.Bare d bs t x xs None (action.Join parts.ResultType) mode.After rows (ap (bare_step (is_inside d)) h.0.0) (f.read end bs t xs h.1)
-    ∙ ap (λ (y : Span). Ok (row parts.ResultType (joined t y) ∷ rows)) h.0.1
+    parsing_reads end mode.Bare d bs t x xs None (action.Join parts.OnlyResultType) mode.After rows (ap (bare_step (is_inside d)) h.0.0) (f.read end bs t xs h.1)
+    ∙ ap (λ (y : Span). Ok (row parts.OnlyResultType (joined t y) ∷ rows)) h.0.1
 
 name_step : (x : Sort) (inside : Bool) (last : Option Bracket) → IsTypeName x → tree_step (mode.Types types.Results) inside last x ≡ Go None (action.Start nesting.Kept) mode.Bare
 name_step s.Word inside last h = refl
 name_step s.Type inside last h = refl
 name_step _ inside last h = absurd h
 
-bare_read : (end d : ℕ) (es : List Expected) (rows : List Row) (name : Piece) (g : Option Span) (bs : List Bracket) (t : Span) (xs : List Piece) → IsTypeName name.sort → Follows mode.After d es rows → Matches (token name.sort name.span ∷ group_then g es) xs → parsing end (mode.Types types.Results) d bs t xs ≡ Ok (row parts.ResultType (bare_span name.span g) ∷ rows)
+bare_read : (end d : ℕ) (es : List Expected) (rows : List Row) (name : Piece) (g : Option Span) (bs : List Bracket) (t : Span) (xs : List Piece) → IsTypeName name.sort → Follows mode.After d es rows → Matches (token name.sort name.span ∷ group_then g es) xs → parsing end (mode.Types types.Results) d bs t xs ≡ Ok (row parts.OnlyResultType (bare_span name.span g) ∷ rows)
 unfolding Matches
 bare_read end d es rows name g bs t [] i f h = absurd h
 bare_read end d es rows name g bs t (x ∷ xs) i f h =
-    parsing_reads end (mode.Types types.Results) d bs t x xs None (action.Start nesting.Kept) mode.Bare (row parts.ResultType (bare_span x.span g) ∷ rows)
+    parsing_reads end (mode.Types types.Results) d bs t x xs None (action.Start nesting.Kept) mode.Bare (row parts.OnlyResultType (bare_span x.span g) ∷ rows)
     (ap (tree_step (mode.Types types.Results) (is_inside d) (innermost bs)) h.0.0 ∙ name_step name.sort (is_inside d) (innermost bs) i)
     (bare_rest end d es rows g [] x.span xs f h.1)
-    ∙ ap (λ (y : Span). Ok (row parts.ResultType (bare_span y g) ∷ rows)) h.0.1
+    ∙ ap (λ (y : Span). Ok (row parts.OnlyResultType (bare_span y g) ∷ rows)) h.0.1
 
 types_follow : (d : ℕ) (es : List Expected) (rows : List Row) (rs : ResultTypes) → Follows mode.After d es rows → Follows (mode.Types types.Results) d (result_types_then rs es) (result_type_rows rs rows)
 types_follow d es rows (bare name i g) f = record { read = λ end bs t xs h. bare_read end d es rows name g bs t xs i f h }

@@ -76,7 +76,7 @@ behind_row r (Err e) = Err e
 
 -- a type in no parentheses ends where the tokens end
 abbrev pub last_row : Mode → Span → Option Row
-last_row mode.Bare text = Some (row parts.ResultType text)
+last_row mode.Bare text = Some (row parts.OnlyResultType text)
 last_row _ text = None
 
 -- at the end of the tokens

@@ -188,12 +188,12 @@ after_step inside x = body_step inside x
 
 -- the same, where a type ends before it
 abbrev pub behind_type : Step → Step
-behind_type (Go ended a to) = Go (Some parts.ResultType) a to
+behind_type (Go ended a to) = Go (Some parts.OnlyResultType) a to
 behind_type Bad = Bad
 
 -- behind a type in no parentheses
 abbrev pub bare_step : Bool → Sort → Step
-bare_step inside s.Group = Go None (action.Join parts.ResultType) mode.After
+bare_step inside s.Group = Go None (action.Join parts.OnlyResultType) mode.After
 bare_step inside x = behind_type (after_step inside x)
 
 -- what a token does, in a region or outside all, where this is the last open bracket of the text in which the reader is

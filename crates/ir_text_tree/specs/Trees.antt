@@ -320,7 +320,7 @@ bare_span name None = name
 bare_span name (Some group) = joined name group
 
 abbrev pub result_type_rows : ResultTypes → List Row → List Row
-result_type_rows (bare name is_name group) rows = row parts.ResultType (bare_span name.span group) ∷ rows
+result_type_rows (bare name is_name group) rows = row parts.OnlyResultType (bare_span name.span group) ∷ rows
 result_type_rows (listed ts) rows = type_rows ts rows
 
 abbrev pub signature_rows : List (Text kinds.OperandType) → ResultTypes → Option (Text kinds.Location) → List Row → List Row

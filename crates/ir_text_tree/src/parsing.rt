@@ -126,7 +126,7 @@ fn last_row(mode: Mode, text: Span) -> Option<Row>
 {
     match mode {
         Mode::Bare => Some(Row {
-            part: Part::ResultType,
+            part: Part::OnlyResultType,
             span: text,
         }),
         _ => None,

@@ -36,8 +36,10 @@ pub enum Part {
     Value,
     /// The type of an operand.
     OperandType,
-    /// The type of a result.
+    /// The type of a result, in parentheses.
     ResultType,
+    /// The type of the only result, in no parentheses.
+    OnlyResultType,
     /// The location of the operation before it, without `loc` and its parentheses.
     Location,
     /// The name of a block, at its beginning.

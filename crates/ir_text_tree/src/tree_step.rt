@@ -557,7 +557,7 @@ fn behind_type(step: Step) -> Step
             action,
             to,
         } => Step::Go {
-            ended: Some(Part::ResultType),
+            ended: Some(Part::OnlyResultType),
             action,
             to,
         },
@@ -572,7 +572,7 @@ fn bare_step(inside: bool, sort: Sort) -> Step
     match sort {
         Sort::Group => Step::Go {
             ended: None,
-            action: Action::Join(Part::ResultType),
+            action: Action::Join(Part::OnlyResultType),
             to: Mode::After,
         },
         _ => behind_type(after_step(inside, sort)),

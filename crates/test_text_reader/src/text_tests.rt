@@ -19,7 +19,7 @@ const ROWS: &[(&[u8], &[u8])] = &[
     ),
     (
         b"%0 = \"a\"() : () -> index // one\n%1 = \"b\"(%0) {map = affine_map<(d0) -> (d0 + 1)>, set = affine_set<(d0) : (d0 - 1 >= 0)>, loc = loc(\"x\")} : (index) -> vector<4xi1>",
-        b"|R %0|N \"a\"|U index|R %1|N \"b\"|O %0|K map|V affine_map<(d0) -> (d0 + 1)>|K set|V affine_set<(d0) : (d0 - 1 >= 0)>|K loc|V loc(\"x\")|T index|U vector<4xi1>",
+        b"|R %0|N \"a\"|u index|R %1|N \"b\"|O %0|K map|V affine_map<(d0) -> (d0 + 1)>|K set|V affine_set<(d0) : (d0 - 1 >= 0)>|K loc|V loc(\"x\")|T index|u vector<4xi1>",
     ),
     (
         b"\"c\"() {a = dense<\"0xFF\">, \"b c\" = [1, -2.5e+3, {d}], e.f = #g<\"h\">} : () -> ()",
@@ -136,6 +136,7 @@ fn letter_of(part: Part) -> u8 {
         Part::Value => b'V',
         Part::OperandType => b'T',
         Part::ResultType => b'U',
+        Part::OnlyResultType => b'u',
         Part::Location => b'L',
         Part::Label => b'B',
         Part::Argument => b'A',

@@ -43,6 +43,7 @@ fn letter_of(part: Part) -> u8 {
         Part::Value => b'V',
         Part::OperandType => b'T',
         Part::ResultType => b'U',
+        Part::OnlyResultType => b'u',
         Part::Location => b'L',
         Part::Label => b'B',
         Part::Argument => b'A',
