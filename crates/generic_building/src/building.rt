@@ -4,16 +4,16 @@ use crate::blocks::make_block;
 use crate::error::BuildError;
 use crate::made::{Block, Made, Op, Room};
 use crate::meanings::Meanings;
-use crate::narrow::narrow;
+use ir_text_outline::narrow;
 use crate::operations::{connect, make_op};
-use crate::outline::{OpRows, Outline, outline};
+use ir_text_outline::{OpRows, Outline, outline_of};
 use crate::regions::fill_regions;
-use crate::source::Source;
+use ir_text_outline::Source;
 use crate::taking_back::take_back;
 use generic_dialect::Generic;
 use ir_core_queries::Context;
-use ir_text_names::Names;
-use ir_text_tree::Row;
+use ir_text_outline::Names;
+use ir_text_outline::Row;
 
 /// What was built of a text.
 #[derive(Drop)]
@@ -94,7 +94,7 @@ fn make_all(
     made: &mut Made,
 ) -> Result<(), BuildError> {
     let alloc = ctx.alloc();
-    let outline = outline(alloc, source.rows)?;
+    let outline = outline_of(alloc, source.rows)?;
     let mut meanings = Meanings::new(alloc);
     let mut room = Room::new(alloc);
     make_blocks(ctx, source, &mut meanings, made, &mut room, &outline)?;

@@ -3,15 +3,14 @@
 
 mod blocks;
 mod building;
+mod enclosing;
 mod error;
 mod made;
 mod meanings;
-mod narrow;
 mod operations;
-mod outline;
 mod regions;
-mod source;
 mod taking_back;
 
 pub use building::{Built, build};
+pub use enclosing::enclose;
 pub use error::BuildError;

@@ -1,6 +1,6 @@
 //! What is made so far, and what an operation is made of.
 
-use crate::narrow::narrow;
+use ir_text_outline::narrow;
 use generic_dialect::{Generic, GenericAttr, TextId};
 use ir_base_dialects::{Ptr, TypeHandle};
 use ir_core_queries::{BasicBlock, Operation, Value};

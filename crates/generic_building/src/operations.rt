@@ -3,13 +3,13 @@
 use crate::error::BuildError;
 use crate::made::{Made, Op, Room};
 use crate::meanings::Meanings;
-use crate::outline::{OpRows, Outline};
-use crate::source::Source;
+use ir_text_outline::{OpRows, Outline};
+use ir_text_outline::Source;
 use generic_dialect::{Generic, GenericAttr, GenericLoc, TextId, properties_key};
 use ir_base_dialects::Identifier;
 use ir_checked_core::operation;
 use ir_core_queries::Context;
-use ir_text_tree::Part;
+use ir_text_outline::Part;
 
 // The operand in this row, if what it names is made.
 fn read_operand(
@@ -104,7 +104,9 @@ fn read_part<'a>(
     match source.part(at) {
         Part::Operand => read_operand(source, made, room, at),
         Part::Successor => read_successor(source, made, room, at),
-        Part::ResultType => read_result_type(ctx, source, meanings, room, at),
+        Part::ResultType | Part::OnlyResultType => {
+            read_result_type(ctx, source, meanings, room, at)
+        }
         Part::Key => read_key(room, at),
         Part::Value | Part::Properties | Part::Location => {
             read_text(ctx, source, meanings, room, at)

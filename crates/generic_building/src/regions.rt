@@ -2,7 +2,7 @@
 
 use crate::error::BuildError;
 use crate::made::{Made, Op};
-use crate::outline::{OpRows, Outline};
+use ir_text_outline::{OpRows, Outline};
 use generic_dialect::Generic;
 use ir_base_dialects::Ptr;
 use ir_checked_core::{basic_block, operation};

@@ -5,10 +5,10 @@ use ir_text_tree::{Part, Row, Span};
 
 /// The text, its rows and what their names mean.
 #[derive(Clone, Copy)]
-pub(crate) struct Source<'a> {
-    pub(crate) text: &'a [u8],
-    pub(crate) rows: &'a [Row],
-    pub(crate) names: &'a Names,
+pub struct Source<'a> {
+    pub text: &'a [u8],
+    pub rows: &'a [Row],
+    pub names: &'a Names,
 }
 
 // The row that another one names.
@@ -21,7 +21,7 @@ fn named(table: &Vec<Option<usize>>, at: usize) -> Option<usize> {
 
 impl<'a> Source<'a> {
     /// What the row is; past the end the end of a region.
-    pub(crate) fn part(self, at: usize) -> Part {
+    pub fn part(self, at: usize) -> Part {
         match self.rows.get(at) {
             Some(row) => row.part,
             None => Part::Close,
@@ -29,7 +29,7 @@ impl<'a> Source<'a> {
     }
 
     /// The piece of the text that the row is; nothing past the end.
-    pub(crate) fn piece(self, at: usize) -> &'a [u8] {
+    pub fn piece(self, at: usize) -> &'a [u8] {
         match self.rows.get(at) {
             Some(row) => piece(self.text, row.span),
             None => &self.text[..0],
@@ -37,7 +37,7 @@ impl<'a> Source<'a> {
     }
 
     /// The piece of the text that the row is, without its quotes.
-    pub(crate) fn unquoted(self, at: usize) -> &'a [u8] {
+    pub fn unquoted(self, at: usize) -> &'a [u8] {
         match self.piece(at) {
             [b'"', inner @ .., b'"'] => inner,
             piece => piece,
@@ -45,17 +45,17 @@ impl<'a> Source<'a> {
     }
 
     /// The row of the definition that an operand names.
-    pub(crate) fn definition(self, at: usize) -> Option<usize> {
+    pub fn definition(self, at: usize) -> Option<usize> {
         named(&self.names.values, at)
     }
 
     /// The row of the block that a successor names.
-    pub(crate) fn block(self, at: usize) -> Option<usize> {
+    pub fn block(self, at: usize) -> Option<usize> {
         named(&self.names.blocks, at)
     }
 
     /// Which of the values under its name an operand is.
-    pub(crate) fn index(self, at: usize) -> usize {
+    pub fn index(self, at: usize) -> usize {
         let behind = at.saturating_add(1);
         match self.part(behind) {
             Part::Index => number(self.piece(behind)),
@@ -64,7 +64,7 @@ impl<'a> Source<'a> {
     }
 
     /// How many values stand under the name of a result.
-    pub(crate) fn width(self, at: usize) -> usize {
+    pub fn width(self, at: usize) -> usize {
         let behind = at.saturating_add(1);
         match self.part(behind) {
             Part::Count => number(self.piece(behind)),

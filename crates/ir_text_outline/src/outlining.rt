@@ -1,56 +1,56 @@
 //! Which rows of a tree belong together: the operations, each behind all that stands inside it, and the blocks and regions.
 
-use crate::narrow::narrow;
+use crate::narrowing::narrow;
 use ir_text_tree::{Part, Row};
 use std::alloc::{AllocError, Global};
 
 /// The rows of an operation.
 #[derive(Clone, Copy, Debug, PartialEq, Eq)]
-pub(crate) struct OpRows {
+pub struct OpRows {
     /// The row of its first result, or of its name where it has none.
-    pub(crate) first: u32,
+    pub first: u32,
     /// The row of its name.
-    pub(crate) name: u32,
+    pub name: u32,
     /// The row behind its operands, successors and properties: that of its first region, or the end where it has none.
-    pub(crate) head_end: u32,
+    pub head_end: u32,
     /// The row behind its last region, or the end where it has none.
-    pub(crate) tail: u32,
+    pub tail: u32,
     /// The row behind its last.
-    pub(crate) end: u32,
+    pub end: u32,
     /// The place of its block among the blocks; none outside all regions.
-    pub(crate) block: Option<u32>,
+    pub block: Option<u32>,
     /// How many regions it has.
-    pub(crate) regions: u32,
+    pub regions: u32,
     /// The place of its last region among the regions.
-    pub(crate) last_region: Option<u32>,
+    pub last_region: Option<u32>,
     /// Whether it is the last of its block.
-    pub(crate) ends_block: bool,
+    pub ends_block: bool,
 }
 
 /// The row of a block: its label, or where it has none that of its region's beginning.
 #[derive(Clone, Copy, Debug, PartialEq, Eq)]
-pub(crate) struct BlockRows {
-    pub(crate) row: u32,
+pub struct BlockRows {
+    pub row: u32,
     /// The place of the block before it in its region.
-    pub(crate) before: Option<u32>,
+    pub before: Option<u32>,
 }
 
 /// A region.
 #[derive(Clone, Copy, Debug, PartialEq, Eq)]
-pub(crate) struct RegionRows {
+pub struct RegionRows {
     /// The place of its last block among the blocks.
-    pub(crate) last_block: Option<u32>,
+    pub last_block: Option<u32>,
     /// The place of the region before it in its operation.
-    pub(crate) before: Option<u32>,
+    pub before: Option<u32>,
 }
 
 /// The operations of a tree, its blocks in the order of the text, and its regions in the order of their ends.
 #[derive(Drop)]
-pub(crate) struct Outline {
+pub struct Outline {
     /// Each behind all operations inside it.
-    pub(crate) ops: Vec<OpRows>,
-    pub(crate) blocks: Vec<BlockRows>,
-    pub(crate) regions: Vec<RegionRows>,
+    pub ops: Vec<OpRows>,
+    pub blocks: Vec<BlockRows>,
+    pub regions: Vec<RegionRows>,
 }
 
 // What is read of a region that is open, or outside all regions.
@@ -204,11 +204,7 @@ fn add_region(
 }
 
 // Ends a region.
-fn close_region(
-    outline: &mut Outline,
-    levels: &mut Vec<Level>,
-    at: u32,
-) -> Result<(), AllocError> {
+fn close_region(outline: &mut Outline, levels: &mut Vec<Level>, at: u32) -> Result<(), AllocError> {
     match levels.pop() {
         None => Ok(()),
         Some(mut level) => {
@@ -263,7 +259,7 @@ fn part_at(rows: &[Row], at: usize) -> Part {
 }
 
 /// The outline of a tree with these rows.
-pub(crate) fn outline(alloc: Global, rows: &[Row]) -> Result<Outline, AllocError> {
+pub fn outline_of(alloc: Global, rows: &[Row]) -> Result<Outline, AllocError> {
     let mut outline = Outline {
         ops: Vec::new(alloc),
         blocks: Vec::new(alloc),
