@@ -1,0 +1,203 @@
+//! The rows of a tree, put one after another.
+
+use crate::description::Description;
+use crate::error::DescribeErr;
+use crate::names::{Name, NameSort, Names};
+use crate::numbered::Numbered;
+use crate::quoting::{write_key, write_quoted};
+use ir_text_tree::{Part, Span};
+use itoa::Buffer;
+use std::alloc::Global;
+use std::collections::HashMap;
+
+// The pieces that names are, each written once.
+#[derive(Debug, Drop)]
+struct NamePieces {
+    arguments: Numbered,
+    values: Numbered,
+    outside_values: Numbered,
+    blocks: Numbered,
+    outside_blocks: Numbered,
+    indices: Numbered,
+}
+
+/// The rows of a tree, put one after another, and the names in it. Each name, and each type, is written once in the text.
+#[derive(Debug, Drop)]
+pub struct TreeWriter {
+    /// What is written.
+    pub description: Description,
+    /// The names that are given.
+    pub names: Names,
+    pieces: NamePieces,
+    operation_names: HashMap<u32, Span>,
+    types: HashMap<usize, Span>,
+    braces: (Span, Span),
+}
+
+impl TreeWriter {
+    /// Nothing yet, outside all regions.
+    ///
+    /// # Errors
+    /// `OutOfMemory`.
+    pub fn new(alloc: Global) -> Result<Self, DescribeErr> {
+        let mut description = Description::new(alloc);
+        let braces = (description.write(b"{")?, description.write(b"}")?);
+        let mut names = Names::new(alloc);
+        names.open()?;
+        Ok(TreeWriter {
+            description,
+            names,
+            pieces: NamePieces {
+                arguments: Numbered::new(alloc, "%arg"),
+                values: Numbered::new(alloc, "%"),
+                outside_values: Numbered::new(alloc, "%outside"),
+                blocks: Numbered::new(alloc, "^bb"),
+                outside_blocks: Numbered::new(alloc, "^outside"),
+                indices: Numbered::new(alloc, "#"),
+            },
+            operation_names: HashMap::new(alloc),
+            types: HashMap::new(alloc),
+            braces,
+        })
+    }
+
+    // The piece that the name of a value is.
+    fn value_piece(&mut self, name: Name) -> Result<Span, DescribeErr> {
+        let pieces = match name.sort {
+            NameSort::Argument => &mut self.pieces.arguments,
+            NameSort::Plain => &mut self.pieces.values,
+            NameSort::Outside => &mut self.pieces.outside_values,
+        };
+        pieces.piece(&mut self.description, name.number)
+    }
+
+    // The piece that the name of a block is, where it is named in the innermost region.
+    fn block_piece(&mut self, block: u32) -> Result<Span, DescribeErr> {
+        let name = self.names.block(block)?;
+        let pieces = match name.sort {
+            NameSort::Outside => &mut self.pieces.outside_blocks,
+            _ => &mut self.pieces.blocks,
+        };
+        pieces.piece(&mut self.description, name.number)
+    }
+
+    /// Puts the name of the results of an operation, of which this is the first.
+    ///
+    /// # Errors
+    /// `OutOfMemory` or `TooLong`.
+    pub fn put_results(&mut self, first: u64, count: usize) -> Result<(), DescribeErr> {
+        let name = self.names.value(first)?;
+        let span = self.value_piece(name)?;
+        self.description.put(Part::Result, span)?;
+        if count > 1 {
+            let mut buffer = Buffer::new();
+            let span = self.description.write(buffer.format(count).as_bytes())?;
+            self.description.put(Part::Count, span)?;
+        }
+        Ok(())
+    }
+
+    /// Puts a value as an operand.
+    ///
+    /// # Errors
+    /// `OutOfMemory` or `TooLong`.
+    pub fn put_operand(&mut self, value: u64) -> Result<(), DescribeErr> {
+        let name = self.names.value(value)?;
+        let span = self.value_piece(name)?;
+        self.description.put(Part::Operand, span)?;
+        if let Some(index) = name.index {
+            let span = self.pieces.indices.piece(&mut self.description, index)?;
+            self.description.put(Part::Index, span)?;
+        }
+        Ok(())
+    }
+
+    /// Puts a block as a successor.
+    ///
+    /// # Errors
+    /// `OutOfMemory` or `TooLong`.
+    pub fn put_successor(&mut self, block: u32) -> Result<(), DescribeErr> {
+        let span = self.block_piece(block)?;
+        self.description.put(Part::Successor, span)
+    }
+
+    /// Puts the name of a block at its beginning.
+    ///
+    /// # Errors
+    /// `OutOfMemory` or `TooLong`.
+    pub fn put_label(&mut self, block: u32) -> Result<(), DescribeErr> {
+        let span = self.block_piece(block)?;
+        self.description.put(Part::Label, span)
+    }
+
+    /// Puts an argument of a block, without its type.
+    ///
+    /// # Errors
+    /// `OutOfMemory` or `TooLong`.
+    pub fn put_argument(&mut self, value: u64) -> Result<(), DescribeErr> {
+        let name = self.names.value(value)?;
+        let span = self.value_piece(name)?;
+        self.description.put(Part::Argument, span)
+    }
+
+    /// Begins a region.
+    ///
+    /// # Errors
+    /// `OutOfMemory`.
+    pub fn open_region(&mut self) -> Result<(), DescribeErr> {
+        self.names.open()?;
+        self.description.put(Part::Open, self.braces.0)
+    }
+
+    /// Ends the innermost region.
+    ///
+    /// # Errors
+    /// `OutOfMemory`.
+    pub fn close_region(&mut self) -> Result<(), DescribeErr> {
+        self.names.close();
+        self.description.put(Part::Close, self.braces.1)
+    }
+
+    /// The piece that the name of operations of this kind is, once it was written.
+    pub fn operation_name(&self, kind: u32) -> Option<Span> {
+        self.operation_names.get(&kind).copied()
+    }
+
+    /// Writes the name of operations of this kind, in quotes.
+    ///
+    /// # Errors
+    /// `OutOfMemory` or `TooLong`.
+    pub fn write_operation_name(&mut self, kind: u32, name: &[u8]) -> Result<Span, DescribeErr> {
+        let start = self.description.text.len();
+        write_quoted(&mut self.description.text, name)?;
+        let span = self.description.piece_from(start)?;
+        self.operation_names.insert(kind, span)?;
+        Ok(span)
+    }
+
+    /// The piece that the type at this place is, once it was written.
+    pub fn type_piece(&self, place: usize) -> Option<Span> {
+        self.types.get(&place).copied()
+    }
+
+    /// Keeps the type that was written in the text from this index on.
+    ///
+    /// # Errors
+    /// `OutOfMemory` or `TooLong`.
+    pub fn keep_type(&mut self, place: usize, start: usize) -> Result<Span, DescribeErr> {
+        let span = self.description.piece_from(start)?;
+        self.types.insert(place, span)?;
+        Ok(span)
+    }
+
+    /// Puts the key of an attribute, in quotes where it needs them.
+    ///
+    /// # Errors
+    /// `OutOfMemory` or `TooLong`.
+    pub fn put_key(&mut self, key: &[u8]) -> Result<(), DescribeErr> {
+        let start = self.description.text.len();
+        write_key(&mut self.description.text, key)?;
+        let span = self.description.piece_from(start)?;
+        self.description.put(Part::Key, span)
+    }
+}
