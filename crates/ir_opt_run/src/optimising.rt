@@ -6,8 +6,8 @@ use crate::passes::run_pass;
 use crate::reading::{Module, read_module};
 use crate::verifying::verify;
 use generic_dialect::Generic;
-use ir_core_queries::Context;
-use ir_text_describe::Description;
+use ir_core_queries::{Context, OperationPtr};
+use ir_text_describe::{Description, Locations, describe};
 use std::alloc::Global;
 use std::io::Write;
 
@@ -73,18 +73,25 @@ fn work<F: Write>(
     describe_module(ctx, options, &module)
 }
 
+// Whether locations are printed.
+fn locations(options: &Options) -> Locations {
+    if options.prints_locations {
+        Locations::Put
+    } else {
+        Locations::Left
+    }
+}
+
 // Describes the module.
 fn describe_module(
     ctx: &Context<Generic>,
     options: &Options,
     module: &Module,
 ) -> Result<Description, Fault> {
-    Ok(ir_text_describe::describe(
-        ctx.alloc(),
-        ctx,
-        module.root,
-        options.prints_locations,
-    )?)
+    if !module.root.is_live(ctx) {
+        return Err(Fault::TooLong);
+    }
+    Ok(describe(ctx.alloc(), ctx, module.root, locations(options))?)
 }
 
 /// Reads a text, runs the passes, and describes what comes of it. What passes did is told on the log, where it is asked for.
