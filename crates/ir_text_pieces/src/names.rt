@@ -188,7 +188,7 @@ impl Names {
     }
 
     // Whether the region in which a name was given is open.
-    fn is_open(&self, given: &Given) -> bool {
+    fn is_open(&self, given: Given) -> bool {
         if given.depth == 0 {
             return true;
         }
@@ -198,12 +198,17 @@ impl Names {
         }
     }
 
+    // Whether the region in which a name was given is the innermost that is open, or outside all.
+    fn is_of_innermost(&self, given: Given) -> bool {
+        given.depth == 0 || (given.depth == self.scopes.len() && self.is_open(given))
+    }
+
     /// The name of a value, where it is named in the innermost region.
     ///
     /// # Errors
     /// `OutOfMemory`, or `TooLong` where no number is left.
     pub fn value(&mut self, value: u64) -> Result<Name, DescribeErr> {
-        if let Some(given) = self.values.get(&value) {
+        if let Some(given) = self.values.get(&value).copied() {
             if self.is_open(given) {
                 return Ok(given.name);
             }
@@ -228,9 +233,8 @@ impl Names {
     /// # Errors
     /// `OutOfMemory`, or `TooLong` where no number is left.
     pub fn block(&mut self, block: u32) -> Result<Name, DescribeErr> {
-        if let Some(given) = self.blocks.get(&block) {
-            let outside = given.depth == 0;
-            if outside || given.depth == self.scopes.len() && self.is_open(given) {
+        if let Some(given) = self.blocks.get(&block).copied() {
+            if self.is_of_innermost(given) {
                 return Ok(given.name);
             }
         }

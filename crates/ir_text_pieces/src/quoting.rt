@@ -1,6 +1,7 @@
 //! Texts in quotes, and keys, which have quotes only where they need them.
-ghost use Rattle.std.specs.Prelude.{◌≡◌, ◌++◌, OnOk};
-ghost use Rattle.ir_text_pieces.specs.Quotes.{escaped, hex_digit, is_bare_key, is_key_start, is_key_rest, is_shown, key_text, quoted};
+ghost use Rattle.std.specs.Prelude.{◌≡◌, ◌<◌, ◌++◌, OnOk};
+ghost use Rattle.std.specs.List.{list_all};
+ghost use Rattle.ir_text_pieces.specs.Quotes.{escaped, hex_digit, is_bare_key, is_digit, is_key_start, is_key_rest, is_letter, is_shown, key_text, quoted, starts_key};
 
 use std::alloc::AllocError;
 
@@ -8,7 +9,7 @@ use std::alloc::AllocError;
 fn is_shown(byte: u8) -> bool
     ensures { result ≡ is_shown byte }
 {
-    byte >= b' ' && byte <= b'~' && byte != b'"'
+    byte >= b' ' && (byte <= b'~' && !(byte == b'"'))
 }
 
 // A hexadecimal digit.
@@ -16,7 +17,7 @@ fn hex_digit(value: u8) -> u8
     requires { value < 16 }
     ensures { result ≡ hex_digit value }
 {
-    if value < 10 {
+    if value <= 9 {
         b'0' + value
     } else {
         b'A' + (value - 10)
@@ -51,28 +52,56 @@ pub fn write_quoted(out: &mut Vec<u8>, bytes: &[u8]) -> Result<(), AllocError>
     Ok(())
 }
 
+// Whether a byte is a letter.
+fn is_letter(byte: u8) -> bool
+    ensures { result ≡ is_letter byte }
+{
+    (byte >= b'A' && byte <= b'Z') || (byte >= b'a' && byte <= b'z')
+}
+
+// Whether a byte is a digit.
+fn is_digit(byte: u8) -> bool
+    ensures { result ≡ is_digit byte }
+{
+    byte >= b'0' && byte <= b'9'
+}
+
 // Whether a key that begins with this byte may stand without quotes.
 fn is_key_start(byte: u8) -> bool
     ensures { result ≡ is_key_start byte }
 {
-    byte.is_ascii_alphabetic() || byte == b'_'
+    is_letter(byte) || byte == b'_'
 }
 
 // Whether a byte may stand in a key without quotes.
 fn is_key_rest(byte: u8) -> bool
     ensures { result ≡ is_key_rest byte }
 {
-    byte.is_ascii_alphanumeric() || byte == b'_' || byte == b'$' || byte == b'.'
+    is_letter(byte) || (is_digit(byte) || (byte == b'_' || (byte == b'$' || byte == b'.')))
+}
+
+// Whether a key may stand without quotes by its first byte.
+fn starts_key(key: &[u8]) -> bool
+    ensures { result ≡ starts_key key.now }
+{
+    match key.first() {
+        None => false,
+        Some(first) => is_key_start(*first),
+    }
+}
+
+// Whether all bytes may stand in a key without quotes.
+fn is_all_key(key: &[u8]) -> bool
+    ensures { result ≡ list_all is_key_rest key.now }
+{
+    key.iter().all(|byte| is_key_rest(*byte))
 }
 
 /// Whether a key may stand without quotes: it begins with a letter or `_`, and has only letters, digits, `_`, `$` and `.`.
 pub fn is_bare_key(key: &[u8]) -> bool
     ensures { result ≡ is_bare_key key.now }
 {
-    match key.first() {
-        None => false,
-        Some(first) => is_key_start(*first) && key.iter().all(|byte| is_key_rest(*byte)),
-    }
+    starts_key(key) && is_all_key(key)
 }
 
 /// Writes a key, in quotes where it can't stand without.

@@ -10,17 +10,6 @@ use itoa::Buffer;
 use std::alloc::Global;
 use std::collections::HashMap;
 
-// The pieces that names are, each written once.
-#[derive(Debug, Drop)]
-struct NamePieces {
-    arguments: Numbered,
-    values: Numbered,
-    outside_values: Numbered,
-    blocks: Numbered,
-    outside_blocks: Numbered,
-    indices: Numbered,
-}
-
 /// The rows of a tree, put one after another, and the names in it. Each name, and each type, is written once in the text.
 #[derive(Debug, Drop)]
 pub struct TreeWriter {
@@ -28,7 +17,12 @@ pub struct TreeWriter {
     pub description: Description,
     /// The names that are given.
     pub names: Names,
-    pieces: NamePieces,
+    arguments: Numbered,
+    values: Numbered,
+    outside_values: Numbered,
+    blocks: Numbered,
+    outside_blocks: Numbered,
+    indices: Numbered,
     operation_names: HashMap<u32, Span>,
     types: HashMap<usize, Span>,
     braces: (Span, Span),
@@ -47,14 +41,12 @@ impl TreeWriter {
         Ok(TreeWriter {
             description,
             names,
-            pieces: NamePieces {
-                arguments: Numbered::new(alloc, "%arg"),
-                values: Numbered::new(alloc, "%"),
-                outside_values: Numbered::new(alloc, "%outside"),
-                blocks: Numbered::new(alloc, "^bb"),
-                outside_blocks: Numbered::new(alloc, "^outside"),
-                indices: Numbered::new(alloc, "#"),
-            },
+            arguments: Numbered::new(alloc, "%arg"),
+            values: Numbered::new(alloc, "%"),
+            outside_values: Numbered::new(alloc, "%outside"),
+            blocks: Numbered::new(alloc, "^bb"),
+            outside_blocks: Numbered::new(alloc, "^outside"),
+            indices: Numbered::new(alloc, "#"),
             operation_names: HashMap::new(alloc),
             types: HashMap::new(alloc),
             braces,
@@ -63,22 +55,22 @@ impl TreeWriter {
 
     // The piece that the name of a value is.
     fn value_piece(&mut self, name: Name) -> Result<Span, DescribeErr> {
-        let pieces = match name.sort {
-            NameSort::Argument => &mut self.pieces.arguments,
-            NameSort::Plain => &mut self.pieces.values,
-            NameSort::Outside => &mut self.pieces.outside_values,
-        };
-        pieces.piece(&mut self.description, name.number)
+        let number = name.number;
+        match name.sort {
+            NameSort::Argument => self.arguments.piece(&mut self.description, number),
+            NameSort::Plain => self.values.piece(&mut self.description, number),
+            NameSort::Outside => self.outside_values.piece(&mut self.description, number),
+        }
     }
 
     // The piece that the name of a block is, where it is named in the innermost region.
     fn block_piece(&mut self, block: u32) -> Result<Span, DescribeErr> {
         let name = self.names.block(block)?;
-        let pieces = match name.sort {
-            NameSort::Outside => &mut self.pieces.outside_blocks,
-            _ => &mut self.pieces.blocks,
-        };
-        pieces.piece(&mut self.description, name.number)
+        let number = name.number;
+        match name.sort {
+            NameSort::Outside => self.outside_blocks.piece(&mut self.description, number),
+            _ => self.blocks.piece(&mut self.description, number),
+        }
     }
 
     /// Puts the name of the results of an operation, of which this is the first.
@@ -106,7 +98,7 @@ impl TreeWriter {
         let span = self.value_piece(name)?;
         self.description.put(Part::Operand, span)?;
         if let Some(index) = name.index {
-            let span = self.pieces.indices.piece(&mut self.description, index)?;
+            let span = self.indices.piece(&mut self.description, index)?;
             self.description.put(Part::Index, span)?;
         }
         Ok(())
@@ -180,14 +172,26 @@ impl TreeWriter {
         self.types.get(&place).copied()
     }
 
-    /// Keeps the type that was written in the text from this index on.
+    /// Writes the type at this place.
     ///
     /// # Errors
     /// `OutOfMemory` or `TooLong`.
-    pub fn keep_type(&mut self, place: usize, start: usize) -> Result<Span, DescribeErr> {
-        let span = self.description.piece_from(start)?;
+    pub fn write_type(&mut self, place: usize, text: &[u8]) -> Result<Span, DescribeErr> {
+        let span = self.description.write(text)?;
         self.types.insert(place, span)?;
         Ok(span)
+    }
+
+    /// Puts the type of the one result of an operation: in no parentheses, unless it begins with one.
+    ///
+    /// # Errors
+    /// `OutOfMemory`.
+    pub fn put_only_result_type(&mut self, piece: Span) -> Result<(), DescribeErr> {
+        let part = match self.description.text.get(piece.start as usize) {
+            Some(b'(') => Part::ResultType,
+            _ => Part::OnlyResultType,
+        };
+        self.description.put(part, piece)
     }
 
     /// Puts the key of an attribute, in quotes where it needs them.
