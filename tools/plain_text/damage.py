@@ -71,6 +71,12 @@ def copy_name(rng, text, at):
     return text[:one.start()] + other.group() + text[one.end():]
 
 
+def empty(rng, text, at):
+    """Drops what stands between two marks."""
+    found = re.compile(r'[^,)}\]]*').match(text, min((it for it in (text.find(mark, at) for mark in '=(,:[<') if it >= 0), default=at) + 1)
+    return text[:found.start()] + text[found.end():] if found else text
+
+
 def swap_bracket(rng, text, at):
     places = [place for place, letter in enumerate(text) if letter in BRACKETS]
     if not places:
@@ -79,7 +85,7 @@ def swap_bracket(rng, text, at):
     return text[:at] + rng.choice(BRACKETS) + text[at + 1:]
 
 
-WAYS = [drop, double, exchange, replace, insert, cut, move_token, drop_token, exchange_tokens, copy_token, copy_name, copy_name, copy_name, copy_name, swap_bracket]
+WAYS = [drop, double, exchange, replace, insert, cut, move_token, drop_token, exchange_tokens, copy_token, copy_name, copy_name, copy_name, copy_name, empty, empty, swap_bracket]
 
 
 def damaged(rng, text):

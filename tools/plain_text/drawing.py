@@ -163,11 +163,11 @@ class Drawer:
         operands = []
         self.listed(range(self.number(4)), lambda _: self.use(operands))
         self.write(')')
-        if self.scope.labels and self.happens(0.4):
+        if self.scope.labels and self.happens(0.6):
             self.write('[')
             self.listed([self.one(self.scope.labels) for _ in range(1 + self.number(2))], self.write)
             self.write(']')
-        if self.happens(0.1):
+        if self.happens(0.2):
             self.write(self.one(PROPERTIES))
         if depth < self.most and self.happens(0.45):
             self.write('(')
@@ -176,7 +176,7 @@ class Drawer:
         if self.happens(0.4):
             self.dictionary()
         self.types(operands, results)
-        if self.happens(0.1):
+        if self.happens(0.25):
             self.write('loc', '(', self.one(LOCATIONS), ')')
 
     def dictionary(self):
@@ -239,5 +239,5 @@ class Drawer:
         name, type_ = self.new_value([self.scope]), self.one(TYPES + LISTED)
         self.scope.values[name] = [type_]
         self.write(name, ':', type_)
-        if self.happens(0.15):
+        if self.happens(0.3):
             self.write('loc', '(', self.one(LOCATIONS), ')')
