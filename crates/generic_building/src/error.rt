@@ -14,6 +14,12 @@ pub enum BuildError {
     /// The context has more saved texts than can be names of operations.
     #[error("too many texts")]
     TooManyTexts,
+    /// Two keys of one dictionary are spelled apart and stand for the same bytes; this is the row of the second.
+    #[error("this key stands in this dictionary already")]
+    KeyTwice {
+        /// The row of the key.
+        row: usize,
+    },
     /// The rows are those of no tree, or the names aren't what `resolve` answers of them.
     #[error("no tree")]
     NoTree,

@@ -6,6 +6,7 @@ use generic_dialect::{
 };
 use ir_base_dialects::{Identifier, TypeHandle};
 use ir_core_queries::Context;
+use ir_text_outline::{has_escapes, unescaped};
 use std::alloc::Global;
 use std::collections::HashMap;
 
@@ -113,7 +114,11 @@ impl<'a> Meanings<'a> {
         ctx: &mut Context<Generic>,
         name: &'a [u8],
     ) -> Result<Kind, BuildError> {
-        let name = self.saved(ctx, name)?;
+        let name = if has_escapes(name) {
+            save_quoted(ctx, name)
+        } else {
+            self.saved(ctx, name)
+        }?;
         Ok(Kind::Open { name, ends: false })
     }
 
@@ -127,7 +132,7 @@ impl<'a> Meanings<'a> {
 
     // Makes the identifier of a key.
     fn make_key(&mut self, alloc: Global, key: &'a [u8]) -> Result<Identifier, BuildError> {
-        let identifier = key_identifier(alloc, key)?;
+        let identifier = identifier_of(alloc, key)?;
         self.keys.insert(key, identifier.clone()?)?;
         Ok(identifier)
     }
@@ -140,6 +145,22 @@ fn save_text(ctx: &mut Context<Generic>, text: &[u8]) -> Result<TextId, BuildErr
     match TextId::at(place) {
         Some(id) => Ok(id),
         None => Err(BuildError::TooManyTexts),
+    }
+}
+
+// The place of what a text between quotes stands for among the saved texts.
+fn save_quoted(ctx: &mut Context<Generic>, text: &[u8]) -> Result<TextId, BuildError> {
+    let bytes = unescaped(ctx.alloc(), text)?;
+    save_text(ctx, bytes.as_slice())
+}
+
+// The identifier of the key that a text between quotes stands for.
+fn identifier_of(alloc: Global, text: &[u8]) -> Result<Identifier, BuildError> {
+    if has_escapes(text) {
+        let bytes = unescaped(alloc, text)?;
+        Ok(key_identifier(alloc, bytes.as_slice())?)
+    } else {
+        Ok(key_identifier(alloc, text)?)
     }
 }
 

@@ -172,6 +172,14 @@ fn set_attribute(
     Ok(())
 }
 
+// Whether an operation has an attribute under that key.
+fn has_attribute(ctx: &Context<Generic>, op: Op, key: &Identifier) -> bool {
+    match operation::deref(op, ctx) {
+        Ok(record) => record.attributes().get::<GenericAttr>(key).is_some(),
+        Err(_) => false,
+    }
+}
+
 // Sets the attributes of an operation.
 fn set_attributes<'a>(
     ctx: &mut Context<Generic>,
@@ -182,6 +190,9 @@ fn set_attributes<'a>(
 ) -> Result<(), BuildError> {
     for (at, attribute) in room.attributes.iter() {
         let key = meanings.key_of(ctx.alloc(), source.unquoted(*at))?;
+        if has_attribute(ctx, op, &key) {
+            return Err(BuildError::KeyTwice { row: *at });
+        }
         set_attribute(ctx, op, key, *attribute)?;
     }
     Ok(())

@@ -8,7 +8,6 @@ mod passes;
 mod reading;
 mod running;
 mod telling;
-mod text_parts;
 mod verifying;
 
 pub use fault::{Fault, Finding};

@@ -6,6 +6,7 @@ use crate::passes::run_pass;
 use crate::reading::{Module, read_module};
 use crate::verifying::verify;
 use generic_dialect::Generic;
+use generic_text::GenericSpelling;
 use ir_core_queries::{Context, OperationPtr};
 use ir_text_describe::{Description, Locations, describe};
 use std::alloc::Global;
@@ -91,7 +92,13 @@ fn describe_module(
     if !module.root.is_live(ctx) {
         return Err(Fault::TooLong);
     }
-    Ok(describe(ctx.alloc(), ctx, module.root, locations(options))?)
+    Ok(describe(
+        ctx.alloc(),
+        ctx,
+        module.root,
+        &GenericSpelling,
+        locations(options),
+    )?)
 }
 
 /// Reads a text, runs the passes, and describes what comes of it. What passes did is told on the log, where it is asked for.

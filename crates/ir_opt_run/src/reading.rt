@@ -1,11 +1,11 @@
 //! A text read into a context, with the places of its operations.
 
 use crate::fault::Fault;
-use generic_building::{Built, build, enclose};
+use generic_building::{BuildError, Built, build, enclose};
 use generic_dialect::Generic;
 use ir_base_dialects::Ptr;
 use ir_core_queries::{BasicBlock, Context, Operation};
-use ir_text_names::resolve;
+use ir_text_names::{Wrong, resolve};
 use ir_text_reader::{Row, parse};
 use std::alloc::{AllocError, Global};
 
@@ -27,8 +27,8 @@ pub(crate) struct Module {
 }
 
 // The index of the first byte of a row.
-fn start_of(rows: &[Row], at: u32) -> u32 {
-    match rows.get(at as usize) {
+fn start_of(rows: &[Row], at: usize) -> u32 {
+    match rows.get(at) {
         Some(row) => row.span.start,
         None => 0,
     }
@@ -42,7 +42,7 @@ fn places(
 ) -> Result<Vec<(Op, u32)>, AllocError> {
     let mut places = Vec::with_capacity(alloc, ops.len())?;
     for (op, at) in ops {
-        places.push((*op, start_of(rows, *at)))?;
+        places.push((*op, start_of(rows, *at as usize)))?;
     }
     Ok(places)
 }
@@ -62,12 +62,25 @@ fn place_all(
     })
 }
 
+// Why nothing was built, by its place in the text.
+fn build_fault(rows: &[Row], error: BuildError) -> Fault {
+    match error {
+        BuildError::KeyTwice { row } => Fault::Naming(ir_text_names::Fault::Wrong {
+            what: Wrong::KeyTwice,
+            at: start_of(rows, row),
+        }),
+        _ => Fault::from(error),
+    }
+}
+
 /// Reads a text into a context.
 pub(crate) fn read_module(ctx: &mut Context<Generic>, text: &[u8]) -> Result<Module, Fault> {
     let alloc = ctx.alloc();
     let tree = parse(alloc, text)?;
     let rows = tree.rows.as_slice();
     let names = resolve(alloc, text, rows)?;
-    let built = build(ctx, text, rows, &names)?;
-    place_all(ctx, rows, built)
+    match build(ctx, text, rows, &names) {
+        Ok(built) => place_all(ctx, rows, built),
+        Err(error) => Err(build_fault(rows, error)),
+    }
 }

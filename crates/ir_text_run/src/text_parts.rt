@@ -6,13 +6,13 @@ const MARKER: &[u8] = b"// -----";
 
 /// The first part of an input.
 #[derive(Drop)]
-pub(crate) struct Front<'a> {
+pub struct Front<'a> {
     /// The part: whole lines, but for the last of an input.
-    pub(crate) part: &'a [u8],
+    pub part: &'a [u8],
     /// The lines of the part and the line that ends it.
-    pub(crate) lines: u64,
+    pub lines: u64,
     /// What stands behind that line; none where no such line ends the part.
-    pub(crate) rest: Option<&'a [u8]>,
+    pub rest: Option<&'a [u8]>,
 }
 
 // The index behind the line that begins there, with its line feed.
@@ -35,7 +35,7 @@ fn is_marker(line: &[u8]) -> bool {
 }
 
 /// The first part of an input.
-pub(crate) fn first_part<'a>(text: &'a [u8]) -> Front<'a>
+pub fn first_part<'a>(text: &'a [u8]) -> Front<'a>
     ensures { IfSome result.rest (λ rest. length rest.now < length text.now) }
 {
     let mut at = 0;
