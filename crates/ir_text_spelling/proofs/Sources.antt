@@ -1,5 +1,5 @@
 -- What the tokens that a tree expects are in the text that it was read of.
-use Rattle.std.proofs.Common.{◌≡◌, ℕ, ◌+◌, Bool, true, List, [], ◌∷◌, ◌++◌, length, refl, sym, ap, subst, ◌∙◌, append_assoc, arith}
+use Rattle.std.proofs.Common.{◌≡◌, ℕ, ◌+◌, Bool, true, List, [], ◌∷◌, ◌++◌, length, Option, Some, None, refl, sym, ap, subst, ◌∙◌, append_assoc, arith}
 use Rattle.std.specs.Prelude.{codes}
 use Rattle.std.specs.Str.{bytes_eq}
 use Rattle.std.proofs.lemmas.List.{length-append}
@@ -13,10 +13,14 @@ use Rattle.ir_text_tokens.proofs.Following.{Calm, first_same}
 use Rattle.ir_text_tokens.proofs.Respelling.{ahead_append}
 use Rattle.ir_text_tree.specs.declared.row.Span.{Span}
 use Rattle.ir_text_tree.specs.declared.sort.Sort.{Sort}
+use Rattle.ir_text_tree.specs.declared.sort.Sort.TheVariants as s
 use Rattle.ir_text_tree.specs.declared.sort.Piece.{Piece}
 use Rattle.ir_text_tree.specs.declared.text_step.TextKind.{TextKind}
+use Rattle.ir_text_tree.specs.declared.text_step.TextKind.TheVariants as kinds
+use Rattle.ir_text_tree.specs.declared.text_step.Nesting.TheVariants as nesting
+use Rattle.ir_text_tree.specs.TextSteps.{takes}
 use Rattle.ir_text_tree.specs.Rows.{span, joined}
-use Rattle.ir_text_tree.specs.Trees.{Expected, mark, token, Matches, Text, span_through, text_span, pieces_then, text_then}
+use Rattle.ir_text_tree.specs.Trees.{Expected, mark, token, Matches, StaysText, Text, span_through, text_span, pieces_then, text_then, IsTypeName, bare, bare_span, result_types_then}
 use Rattle.ir_text_reader.specs.Pieces.{sort_of, pieces}
 use Rattle.ir_text_spelling.specs.Spellings.{piece}
 use Rattle.ir_text_spelling.proofs.TokensPlaced.{piece_there, cut_more, length_more, ahead_calm}
@@ -214,3 +218,44 @@ text_of text front rest behind (t ∷ ts) k v es e h m =
 
 pub source_text : (text : List ℕ) (k : TextKind) (v : Text k) (es : List Expected) → Source text (text_then v es) → Chunk text k v × Source text es
 source_text text k v es g = text_of text g.front g.rest g.behind g.tokens k v es g.whole g.covers g.match
+
+-- ---- a type in no parentheses
+
+unfoldable pub group_list : Option Span → List Piece
+group_list None = []
+group_list (Some g) = record { sort = s.Group; span = g } ∷ []
+
+name_takes : (x : Sort) → IsTypeName x → takes kinds.ResultType None x ≡ Some nesting.Kept
+name_takes s.Word h = refl
+name_takes s.Type h = refl
+name_takes _ h = absurd h
+
+group_stays : (g : Option Span) → StaysText kinds.ResultType [] (group_list g)
+unfolding StaysText group_list
+group_stays None = refl
+group_stays (Some g) = (nesting.Kept, refl, refl)
+
+-- as a text
+bare_text : (name : Piece) → IsTypeName name.sort → Option Span → Text kinds.ResultType
+unfolding StaysText
+bare_text name i g = record { first = name; others = group_list g; is_text = (nesting.Kept, name_takes name.sort i, group_stays g) }
+
+-- its bytes: its name, and the group behind it, if there is one
+pub record BareChunk (text : List ℕ) (name : Piece) (g : Option Span) : Type 0 where
+  pub first : List ℕ
+  pub trail : List ℕ
+  pub next : Class
+  pub kind : Kind
+  pub whole : piece text (bare_span name.span g) ≡ first ++ trail
+  pub is_token : IsToken kind first (ahead trail next)
+  pub sort : sort_of kind (bytes_eq first (codes "loc")) ≡ name.sort
+  pub is_trail : Trail next (group_list g) trail
+
+pub source_bare : (text : List ℕ) (name : Piece) (i : IsTypeName name.sort) (g : Option Span) (es : List Expected) → Source text (result_types_then (bare name i g) es) → BareChunk text name g × Source text es
+unfolding bare_text group_list
+source_bare text name i None es h =
+    let c = source_text text kinds.ResultType (bare_text name i None) es h in
+    (record { first = c.0.first; trail = c.0.trail; next = c.0.next; kind = c.0.kind; whole = c.0.whole; is_token = c.0.is_token; sort = c.0.sort; is_trail = c.0.is_trail }, c.1)
+source_bare text name i (Some g) es h =
+    let c = source_text text kinds.ResultType (bare_text name i (Some g)) es h in
+    (record { first = c.0.first; trail = c.0.trail; next = c.0.next; kind = c.0.kind; whole = c.0.whole; is_token = c.0.is_token; sort = c.0.sort; is_trail = c.0.is_trail }, c.1)

@@ -1,5 +1,5 @@
 -- The text of a tree that was read of a text is read as the same tree.
-use Rattle.std.proofs.Common.{◌≡◌, ℕ, false, List, [], ◌∷◌, ◌++◌, length, Option, Some, None, Result, Ok, refl, sym, ap, ◌∙◌}
+use Rattle.std.proofs.Common.{◌≡◌, ℕ, zero, false, List, [], ◌∷◌, ◌++◌, length, Option, Some, None, Result, Ok, refl, sym, ap, ◌∙◌}
 use Rattle.ir_text_tree.specs.declared.row.Part.{Part}
 use Rattle.ir_text_tree.specs.declared.row.Row.{Row}
 use Rattle.ir_text_tree.specs.declared.sort.Piece.{Piece}
@@ -10,7 +10,7 @@ use Rattle.ir_text_tree.specs.Trees.{Body, IsWholeText, Spells, body_then, tree_
 use Rattle.ir_text_reader.specs.Pieces.{pieces}
 use Rattle.ir_text_reader.specs.Texts.{SpellsTree}
 use Rattle.ir_text_spelling.specs.Spellings.{piece, spelled, row_texts}
-use Rattle.ir_text_spelling.specs.Marks.{before, ending}
+use Rattle.ir_text_spelling.specs.Marks.{depth_behind, before, ending}
 use Rattle.ir_text_spelling.specs.TreeTexts.{tree_text}
 use Rattle.ir_text_spelling.specs.RoundTrips.{SpellsAgain}
 use Rattle.ir_text_spelling.proofs.Sources.{Source}
@@ -34,18 +34,18 @@ same : (a b : List Row) → fine a ≡ fine b → a ≡ b
 same a b e = cc
 
 -- the text of rows rests on their parts and pieces alone
-texts_spelled : Option Part → List (Part × List ℕ) → List ℕ
-texts_spelled last [] = ending last
-texts_spelled last (x ∷ xs) = before last x.0 ++ (x.1 ++ texts_spelled (Some x.0) xs)
+texts_spelled : ℕ → Option Part → List (Part × List ℕ) → List ℕ
+texts_spelled d last [] = ending last
+texts_spelled d last (x ∷ xs) = before d last x.0 ++ (x.1 ++ texts_spelled (depth_behind x.0 d) (Some x.0) xs)
 
-spelled_is : (text : List ℕ) (last : Option Part) (rows : List Row) → spelled text last rows ≡ texts_spelled last (row_texts text rows)
+spelled_is : (text : List ℕ) (d : ℕ) (last : Option Part) (rows : List Row) → spelled text d last rows ≡ texts_spelled d last (row_texts text rows)
 unfolding spelled texts_spelled
-spelled_is text last [] = refl
-spelled_is text last (r ∷ rows) = ap (λ (o : List ℕ). before last r.part ++ (piece text r.span ++ o)) (spelled_is text (Some r.part) rows)
+spelled_is text d last [] = refl
+spelled_is text d last (r ∷ rows) = ap (λ (o : List ℕ). before d last r.part ++ (piece text r.span ++ o)) (spelled_is text (depth_behind r.part d) (Some r.part) rows)
 
 alike : (text out : List ℕ) (b c : Body) → row_texts out (tree_rows c) ≡ row_texts text (tree_rows b) → tree_text out c ≡ tree_text text b
 alike text out b c e =
-    sym (rows_are_tree out (tree_rows c) c refl) ∙ spelled_is out None (tree_rows c) ∙ ap (texts_spelled None) e ∙ sym (spelled_is text None (tree_rows b)) ∙ rows_are_tree text (tree_rows b) b refl
+    sym (rows_are_tree out (tree_rows c) c refl) ∙ spelled_is out zero None (tree_rows c) ∙ ap (texts_spelled zero None) e ∙ sym (spelled_is text zero None (tree_rows b)) ∙ rows_are_tree text (tree_rows b) b refl
 
 pub spelled_again : ParsedIsTree → TreeIsParsed → (text : List ℕ) (b : Body) → IsWholeText b → SpellsTree text b → SpellsAgain (tree_text text b) text b
 spelled_again found parsed text b whole spells =

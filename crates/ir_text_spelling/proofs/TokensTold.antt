@@ -22,7 +22,9 @@ use Rattle.ir_text_tree.specs.declared.sort.Sort.TheVariants as s
 use Rattle.ir_text_tree.specs.declared.sort.Piece.{Piece}
 use Rattle.ir_text_tree.specs.declared.text_step.TextKind.{TextKind}
 use Rattle.ir_text_tree.specs.declared.text_step.Nesting.{Nesting}
+use Rattle.ir_text_tree.specs.declared.text_step.Nesting.TheVariants as nesting
 use Rattle.ir_text_tree.specs.declared.tree_step.PartsMode.TheVariants as pieces_mode
+use Rattle.ir_text_tree.specs.declared.tree_step.TypesMode.TheVariants as types
 use Rattle.ir_text_tree.specs.declared.tree_step.Mode.{Mode}
 use Rattle.ir_text_tree.specs.declared.tree_step.Mode.TheVariants as mode
 use Rattle.ir_text_tree.specs.declared.tree_step.Action.{Action}
@@ -32,13 +34,13 @@ use Rattle.ir_text_tree.specs.TextSteps.{takes, part_of_text, innermost, reneste
 use Rattle.ir_text_tree.specs.TreeSteps.{skip, put, begun, begin_text, stops_outside, text_end, taken, stops, text_step, tree_step}
 use Rattle.ir_text_tree.specs.Parsings.{is_inside, ended_row, token_row, text_behind, brackets_behind, depth_behind, before_rows, parsing}
 use Rattle.ir_text_tree.specs.Rows.{row, span}
-use Rattle.ir_text_tree.specs.Trees.{StaysText, Text, text_span}
+use Rattle.ir_text_tree.specs.Trees.{StaysText, Text, text_span, IsTypeName, bare_span}
 use Rattle.ir_text_tree.proofs.ParsingSteps.{parsing_reads}
-use Rattle.ir_text_tree.proofs.TreesRead.{Steps, stop_step}
+use Rattle.ir_text_tree.proofs.TreesRead.{Steps, stop_step, bare_ends, name_step}
 use Rattle.ir_text_reader.specs.Pieces.{sort_of, piece as piece_of, pieces}
 use Rattle.ir_text_spelling.specs.Spellings.{piece, row_texts}
 use Rattle.ir_text_spelling.proofs.TokensPlaced.{piece_there, cut_more, length_more, IsGap, gap_covers, token_covers, link_covers, ahead_calm}
-use Rattle.ir_text_spelling.proofs.Sources.{Trail, trail_calm, Chunk}
+use Rattle.ir_text_spelling.proofs.Sources.{Trail, trail_calm, Chunk, group_list, BareChunk}
 
 -- From a place on the bytes of a text are tokens that are read as rows with these texts.
 pub record IsTold (out : List ℕ) (m : Mode) (d : ℕ) (o : List ℕ) (made : List (Part × List ℕ)) (at : ℕ) (behind : Bool) (end : ℕ) (bs : List Bracket) (t : Span) : Type 0 where
@@ -252,3 +254,87 @@ pub told_text : (text : List ℕ) (k : TextKind) (v : Text k) (m : Mode) (d : �
 told_text text k v m d o made c calm steps w =
     subst (λ (b : List ℕ). Told m d (b ++ o) ((part_of_text k, b) ∷ made)) (sym c.whole)
     (text_told k v m d o c.first c.trail c.kind made (ahead_calm c.first c.trail c.kind c.next (class_ahead o) calm c.is_token) c.sort (trail_calm v.others c.trail c.next (class_ahead o) calm c.is_trail) steps w)
+
+-- ---- a type in no parentheses
+
+-- behind its name, these bytes are the rest of it, and what follows is read as rows with these texts
+record IsBareTold (out : List ℕ) (d : ℕ) (o bytes : List ℕ) (made : List (Part × List ℕ)) (start at end : ℕ) : Type 0 where
+  tokens : List Token
+  covers : Covers at true (bytes ++ o) tokens
+  rows : List Row
+  parsed : parsing end mode.Bare d [] (span start at) (pieces out tokens) ≡ Ok (row parts.OnlyResultType (span start (at + length bytes)) ∷ rows)
+  texts : row_texts out rows ≡ made
+
+name_ends : (d : ℕ) (o : List ℕ) (made : List (Part × List ℕ)) (out front : List ℕ) (start at end : ℕ) → Told mode.After d o made → out ≡ front ++ o → at ≡ length front → IsBareTold out d o [] made start at end
+name_ends d o made out front start at end w e l =
+    let y = w.told out front at true end [] (span start at) e l in
+    let there : at ≡ at + length {A = ℕ} [] = omega arith in
+    record {
+      tokens = y.tokens;
+      covers = y.covers;
+      rows = y.rows;
+      parsed = subst (λ (n : ℕ). parsing end mode.Bare d [] (span start at) (pieces out y.tokens) ≡ Ok (row parts.OnlyResultType (span start n) ∷ y.rows)) there (bare_ends end d y.rows [] (span start at) (pieces out y.tokens) y.parsed);
+      texts = y.texts;
+    }
+
+group_read : (g : Option Span) (d : ℕ) (o bytes : List ℕ) (made : List (Part × List ℕ)) (out front : List ℕ) (start at end : ℕ) → Trail (class_ahead o) (group_list g) bytes → Told mode.After d o made → out ≡ front ++ (bytes ++ o) → at ≡ length front
+    → IsBareTold out d o bytes made start at end
+unfolding Trail group_list
+group_read None d o bytes made out front start at end tr w e l =
+    subst (λ (b : List ℕ). IsBareTold out d o b made start at end) (sym tr) (name_ends d o made out front start at end w (e ∙ ap (λ (b : List ℕ). front ++ (b ++ o)) tr) l)
+group_read (Some g) d o bytes made out front start at end tr w e l =
+    let q = tr.0 in
+    let link = tr.1 in
+    let one = at + length q.gap in
+    let two = one + length q.piece in
+    let whole : bytes ++ o ≡ q.gap ++ (q.piece ++ (q.after ++ o)) = ap (λ (b : List ℕ). b ++ o) q.whole ∙ append_assoc q.gap (q.piece ++ q.after) o ∙ ap (λ (b : List ℕ). q.gap ++ b) (append_assoc q.piece q.after o) in
+    let cut : out ≡ (front ++ q.gap) ++ (q.piece ++ (q.after ++ o)) = cut_more out front q.gap (q.piece ++ (q.after ++ o)) (e ∙ ap (λ (b : List ℕ). front ++ b) whole) in
+    let begins : one ≡ length (front ++ q.gap) = length_more front q.gap at l in
+    let behind : Told mode.After d (q.after ++ o) made = subst (λ (b : List ℕ). Told mode.After d (b ++ o) made) (sym tr.2) w in
+    let y = behind.told out ((front ++ q.gap) ++ q.piece) two true end [] (span start at) (cut_more out (front ++ q.gap) q.piece (q.after ++ o) cut) (length_more (front ++ q.gap) q.piece one begins) in
+    let u = token link.kind (both true (is_empty q.gap)) one two in
+    let sorted : (piece_of out u).sort ≡ s.Group = sort_there out (front ++ q.gap) q.piece (q.after ++ o) link.kind s.Group one (both true (is_empty q.gap)) cut begins link.sort in
+    let steps : tree_step mode.Bare (is_inside d) None (piece_of out u).sort ≡ Go None (action.Join parts.OnlyResultType) mode.After = ap (tree_step mode.Bare (is_inside d) None) sorted in
+    let parsed = parsing_reads end mode.Bare d [] (span start at) (piece_of out u) (pieces out y.tokens) None (action.Join parts.OnlyResultType) mode.After y.rows steps y.parsed in
+    let size : two ≡ at + length bytes = omega (arith, ap length q.whole, length-append q.gap (q.piece ++ q.after), length-append q.piece q.after, ap length tr.2) in
+    record {
+      tokens = u ∷ y.tokens;
+      covers = link_covers q.gap q.piece (q.after ++ o) (bytes ++ o) link.kind at true y.tokens whole
+          (subst (λ (c : Class). Skips reader.Between q.gap c reader.Between) (first_same q.piece q.after (q.after ++ o) reader.Between [] link.kind (ahead q.after (class_ahead o)) link.is_token) link.blank)
+          (subst (λ (c : Class). IsToken link.kind q.piece c) (ahead_append q.after o) link.is_token) y.covers;
+      rows = y.rows;
+      parsed = subst (λ (z : ℕ). parsing end mode.Bare d [] (span start at) (pieces out (u ∷ y.tokens)) ≡ Ok (row parts.OnlyResultType (span start z) ∷ y.rows)) size parsed;
+      texts = y.texts;
+    }
+
+bare_read : (name : Sort) (g : Option Span) (d : ℕ) (o first trail : List ℕ) (kind : Kind) (made : List (Part × List ℕ)) (out front : List ℕ) (at : ℕ) (behind : Bool) (end : ℕ) (bs : List Bracket) (t : Span)
+    → IsTypeName name → IsToken kind first (ahead trail (class_ahead o)) → sort_of kind (bytes_eq first (codes "loc")) ≡ name → Trail (class_ahead o) (group_list g) trail → Told mode.After d o made
+    → out ≡ front ++ ((first ++ trail) ++ o) → at ≡ length front → IsTold out (mode.Types types.Results) d ((first ++ trail) ++ o) ((parts.OnlyResultType, first ++ trail) ∷ made) at behind end bs t
+bare_read name g d o first trail kind made out front at behind end bs t i is_token sorted tr w e l =
+    let cut : out ≡ front ++ (first ++ (trail ++ o)) = e ∙ ap (λ (b : List ℕ). front ++ b) (append_assoc first trail o) in
+    let one = at + length first in
+    let y = group_read g d o trail made out (front ++ first) at one end tr w (cut_more out front first (trail ++ o) cut) (length_more front first at l) in
+    let u = token kind behind at one in
+    let step : tree_step (mode.Types types.Results) (is_inside d) (innermost bs) (piece_of out u).sort ≡ Go None (action.Start nesting.Kept) mode.Bare =
+    ap (tree_step (mode.Types types.Results) (is_inside d) (innermost bs)) (sort_there out front first (trail ++ o) kind name at behind cut l sorted) ∙ name_step name (is_inside d) (innermost bs) i in
+    let end_is : one + length trail ≡ at + length (first ++ trail) = omega (arith, length-append first trail) in
+    let covers = token_covers first kind at behind (trail ++ o) y.tokens (subst (λ (c : Class). IsToken kind first c) (ahead_append trail o) is_token) y.covers in
+    record {
+      tokens = u ∷ y.tokens;
+      covers = subst (λ (b : List ℕ). Covers at behind b (u ∷ y.tokens)) (sym (append_assoc first trail o)) covers;
+      rows = row parts.OnlyResultType (span at (one + length trail)) ∷ y.rows;
+      parsed = parsing_reads end (mode.Types types.Results) d bs t (piece_of out u) (pieces out y.tokens) None (action.Start nesting.Kept) mode.Bare (row parts.OnlyResultType (span at (one + length trail)) ∷ y.rows) step y.parsed;
+      texts = row_there out front (first ++ trail) o parts.OnlyResultType y.rows made at (one + length trail) e l end_is y.texts;
+    }
+
+bare_told : (name : Sort) (g : Option Span) (d : ℕ) (o first trail : List ℕ) (kind : Kind) (made : List (Part × List ℕ)) → IsTypeName name → IsToken kind first (ahead trail (class_ahead o)) → sort_of kind (bytes_eq first (codes "loc")) ≡ name
+    → Trail (class_ahead o) (group_list g) trail → Told mode.After d o made → Told (mode.Types types.Results) d ((first ++ trail) ++ o) ((parts.OnlyResultType, first ++ trail) ∷ made)
+bare_told name g d o first trail kind made i is_token sorted tr w = record {
+  told = λ out front at behind end bs t e l. bare_read name g d o first trail kind made out front at behind end bs t i is_token sorted tr w e l;
+}
+
+pub told_bare : (text : List ℕ) (name : Piece) (g : Option Span) (d : ℕ) (o : List ℕ) (made : List (Part × List ℕ)) → IsTypeName name.sort → BareChunk text name g → Calm (class_ahead o) → Told mode.After d o made
+    → Told (mode.Types types.Results) d (piece text (bare_span name.span g) ++ o) ((parts.OnlyResultType, piece text (bare_span name.span g)) ∷ made)
+told_bare text name g d o made i c calm w =
+    subst (λ (b : List ℕ). Told (mode.Types types.Results) d (b ++ o) ((parts.OnlyResultType, b) ∷ made)) (sym c.whole)
+    (bare_told name.sort g d o c.first c.trail c.kind made i (ahead_calm c.first c.trail c.kind c.next (class_ahead o) calm c.is_token) c.sort (trail_calm (group_list g) c.trail c.next (class_ahead o) calm c.is_trail) w)

@@ -1,5 +1,5 @@
 -- The text of a tree is read as the same parts with the same texts.
-use Rattle.std.proofs.Common.{◌≡◌, ℕ, zero, suc, List, [], ◌∷◌, ◌++◌, Option, Some, None, Ok, refl, ap, ◌∙◌}
+use Rattle.std.proofs.Common.{◌≡◌, ℕ, zero, suc, ◌*◌, List, [], ◌∷◌, ◌++◌, replicate, Option, Some, None, Ok, refl, ap, ◌∙◌}
 use Rattle.std.specs.Prelude.{codes}
 use Rattle.std.specs.Str.{bytes_eq}
 use Rattle.ir_text_tokens.specs.declared.token.Kind.TheVariants as token_kinds
@@ -16,7 +16,6 @@ use Rattle.ir_text_tree.specs.declared.sort.Sort.TheVariants as s
 use Rattle.ir_text_tree.specs.declared.sort.Piece.{Piece}
 use Rattle.ir_text_tree.specs.declared.text_step.TextKind.{TextKind}
 use Rattle.ir_text_tree.specs.declared.text_step.TextKind.TheVariants as kinds
-use Rattle.ir_text_tree.specs.declared.text_step.Nesting.TheVariants as nesting
 use Rattle.ir_text_tree.specs.declared.tree_step.ResultsMode.TheVariants as results
 use Rattle.ir_text_tree.specs.declared.tree_step.OperandsMode.TheVariants as operands
 use Rattle.ir_text_tree.specs.declared.tree_step.PartsMode.{PartsMode}
@@ -32,15 +31,16 @@ use Rattle.ir_text_tree.specs.TextSteps.{takes}
 use Rattle.ir_text_tree.specs.TreeSteps.{skip, put, begin_text, stops_outside}
 use Rattle.ir_text_tree.specs.Parsings.{listed as one_row}
 use Rattle.ir_text_tree.specs.Rows.{row}
-use Rattle.ir_text_tree.specs.Trees.{Expected, mark, token, StaysText, Text, text_span, text_then, text_row, ResultName, Use, Entry, IsTypeName, ResultTypes, bare, listed, Head, Tail, Argument, Label, Body, Regions, done, op, block, none, one, HasNoBlocks, IsWholeText, count_then, more_results_then, results_then, index_then, more_uses_then, uses_then, more_successors_then, successors_then, properties_then, value_then, entry_then, more_entries_then, attributes_then, more_types_then, types_then, result_types_then, location_then, signature_then, tail_then, argument_then, more_arguments_then, signed_then, label_then, body_then, regions_then, more_regions_then, maybe_row, maybe_text_row, result_rows, use_rows, successor_rows, entry_rows, attribute_rows, type_rows, result_type_rows, signature_rows, tail_rows, argument_rows, signed_rows, label_rows, body_rows, region_rows}
+use Rattle.ir_text_tree.specs.Trees.{Expected, mark, token, StaysText, Text, text_span, text_then, text_row, ResultName, Use, Entry, IsTypeName, ResultTypes, bare, listed, Head, Tail, Argument, Label, Body, Regions, done, op, block, none, one, HasNoBlocks, IsWholeText, count_then, more_results_then, results_then, index_then, more_uses_then, uses_then, more_successors_then, successors_then, properties_then, value_then, entry_then, more_entries_then, attributes_then, more_types_then, types_then, result_types_then, location_then, signature_then, tail_then, argument_then, more_arguments_then, signed_then, label_then, body_then, regions_then, more_regions_then, maybe_row, maybe_text_row, result_rows, use_rows, successor_rows, entry_rows, attribute_rows, type_rows, result_type_rows, signature_rows, tail_rows, bare_span, argument_rows, signed_rows, label_rows, body_rows, region_rows}
 use Rattle.ir_text_tree.proofs.ParsingSteps.{parsing_done}
 use Rattle.ir_text_tree.proofs.TreesRead.{Steps, after_count, comma_behind, equals_behind, TakesBody, start_takes, Rests, body_rests, after_rests, after_index, comma_used, round_used, TakesTail, TakesRegions, TakesProperties, operands_take, successors_take, properties_take, regions_take, key_next, key_first, first_operand, first_result}
+use Rattle.ir_text_spelling.specs.Marks.{around, blanks}
 use Rattle.ir_text_spelling.specs.Spellings.{piece, row_texts}
 use Rattle.ir_text_spelling.specs.TreeTexts as written
 use Rattle.ir_text_spelling.proofs.TokensPlaced.{blank_gap, line_gap, Written, comma, colon, equals, open_round, close_round, open_square, close_square, open_curly, close_curly, arrow, loc_token, comma_calm, colon_calm, open_round_calm, close_round_calm, close_square_calm, close_curly_calm, space_calm, line_calm, token_calm}
 use Rattle.ir_text_spelling.proofs.HashNames.{attribute_is_name, name_calm}
-use Rattle.ir_text_spelling.proofs.Sources.{Source, IsPiece, source_mark, source_token, source_text}
-use Rattle.ir_text_spelling.proofs.TokensTold.{Told, told_gap, told_skip, told_put, told_open, told_close, TextTold, text_told_gap, text_told_stop, told_text}
+use Rattle.ir_text_spelling.proofs.Sources.{Source, IsPiece, source_mark, source_token, source_text, source_bare}
+use Rattle.ir_text_spelling.proofs.TokensTold.{Told, told_gap, told_skip, told_put, told_open, told_close, told_bare, TextTold, text_told_gap, text_told_stop, told_text}
 
 -- From this mode on, if what is expected stands in the text, these bytes are read as these rows with their texts there.
 record Respells (text : List ℕ) (m : Mode) (d : ℕ) (es : List Expected) (o : List ℕ) (rows : List Row) : Type 0 where
@@ -70,6 +70,14 @@ gap {text = text} {m = m} {d = d} {o = o} {rows = rows} f = record { told = λ g
 
 line : {text : List ℕ} {m : Mode} {d : ℕ} {es : List Expected} {o : List ℕ} {rows : List Row} → Respells text m d es o rows → Respells text m d es (10 ∷ o) rows
 line {text = text} {m = m} {d = d} {o = o} {rows = rows} f = record { told = λ g. told_gap 10 m d o (row_texts text rows) line_gap (f.told g) }
+
+-- the blanks before a line
+indents : {text : List ℕ} {m : Mode} {d : ℕ} {es : List Expected} {o : List ℕ} {rows : List Row} (n : ℕ) → Respells text m d es o rows → Respells text m d es (blanks n ++ o) rows
+indents n f = gaps (2 * n) f
+  where
+    gaps : {text : List ℕ} {m : Mode} {d : ℕ} {es : List Expected} {o : List ℕ} {rows : List Row} (n : ℕ) → Respells text m d es o rows → Respells text m d es (replicate n 32 ++ o) rows
+    gaps zero f = f
+    gaps (suc n) f = gap (gaps n f)
 
 -- the word `loc`
 locs : {text : List ℕ} {d : ℕ} {es : List Expected} {o : List ℕ} {rows : List Row} (m to : Mode) → Steps m d s.Loc (skip to) → Calm (class_ahead o) → Respells text to d es o rows → Respells text m d (mark s.Loc ∷ es) (codes "loc" ++ o) rows
@@ -302,41 +310,23 @@ operand_types_follow text d es o rows (t ∷ ts) f =
     text_follows kinds.OperandType (mode.Types types.FirstOperand) t (first_operand t.first.sort t.is_text.0 d t.is_text.1) (more_types_calm text kinds.OperandType ts (41 ∷ o) close_round_calm)
     (more_types_follow text d es (41 ∷ o) rows kinds.OperandType ts refl refl close_round_calm (ends kinds.OperandType s.CloseRound (mode.Types types.Arrow) close_round refl refl f))
 
--- a type in no parentheses as one in parentheses
-group_list : Option Span → List Piece
-group_list None = []
-group_list (Some g) = record { sort = s.Group; span = g } ∷ []
+-- in no parentheses
+bare_follows : (text : List ℕ) (d : ℕ) (es : List Expected) (o : List ℕ) (rows : List Row) (name : Piece) (i : IsTypeName name.sort) (g : Option Span) → Calm (class_ahead o) → Respells text mode.After d es o rows
+    → Respells text (mode.Types types.Results) d (result_types_then (bare name i g) es) (piece text (bare_span name.span g) ++ o) (row parts.OnlyResultType (bare_span name.span g) ∷ rows)
+bare_follows text d es o rows name i g calm f = record {
+  told = λ h.
+      let c = source_bare text name i g es h in
+      told_bare text name g d o (row_texts text rows) i c.0 calm (f.told c.1);
+}
 
-name_takes : (x : Sort) → IsTypeName x → takes kinds.ResultType None x ≡ Some nesting.Kept
-name_takes s.Word h = refl
-name_takes s.Type h = refl
-name_takes _ h = absurd h
-
-group_stays : (g : Option Span) → StaysText kinds.ResultType [] (group_list g)
-unfolding StaysText group_list
-group_stays None = refl
-group_stays (Some g) = (nesting.Kept, refl, refl)
-
-bare_text : (name : Piece) → IsTypeName name.sort → Option Span → Text kinds.ResultType
+result_types_follow : (text : List ℕ) (d : ℕ) (es : List Expected) (o : List ℕ) (rows : List Row) (rs : ResultTypes) → Calm (class_ahead o) → Respells text mode.After d es o rows
+    → Respells text (mode.Types types.Results) d (result_types_then rs es) (written.result_types_then text rs o) (result_type_rows rs rows)
 unfolding StaysText
-bare_text name i g = record { first = name; others = group_list g; is_text = (nesting.Kept, name_takes name.sort i, group_stays g) }
-
-bare_follows : (text : List ℕ) (d : ℕ) (es : List Expected) (o : List ℕ) (rows : List Row) (name : Piece) (i : IsTypeName name.sort) (g : Option Span) → Respells text mode.After d es o rows
-    → Respells text (mode.Types types.FirstResult) d (result_types_then (bare name i g) es) (written.result_types_then text (bare name i g) (41 ∷ o)) (result_type_rows (bare name i g) rows)
-unfolding bare_text group_list
-bare_follows text d es o rows name i None f =
-    text_follows kinds.ResultType (mode.Types types.FirstResult) (bare_text name i None) (first_result name.sort nesting.Kept d (name_takes name.sort i)) close_round_calm (stops kinds.ResultType s.CloseRound mode.After close_round refl refl f)
-bare_follows text d es o rows name i (Some g) f =
-    text_follows kinds.ResultType (mode.Types types.FirstResult) (bare_text name i (Some g)) (first_result name.sort nesting.Kept d (name_takes name.sort i)) close_round_calm (stops kinds.ResultType s.CloseRound mode.After close_round refl refl f)
-
-result_types_follow : (text : List ℕ) (d : ℕ) (es : List Expected) (o : List ℕ) (rows : List Row) (rs : ResultTypes) → Respells text mode.After d es o rows
-    → Respells text (mode.Types types.Results) d (result_types_then rs es) (40 ∷ written.result_types_then text rs (41 ∷ o)) (result_type_rows rs rows)
-unfolding StaysText
-result_types_follow text d es o rows (bare name i g) f = writes (mode.Types types.Results) s.OpenRound (mode.Types types.FirstResult) open_round (λ last. refl) (bare_follows text d es o rows name i g f)
-result_types_follow text d es o rows (listed []) f =
+result_types_follow text d es o rows (bare name i g) calm f = bare_follows text d es o rows name i g calm f
+result_types_follow text d es o rows (listed []) calm f =
     skips (mode.Types types.Results) s.OpenRound (mode.Types types.FirstResult) open_round (λ last. refl)
     (skips (mode.Types types.FirstResult) s.CloseRound mode.After close_round (λ last. refl) f)
-result_types_follow text d es o rows (listed (t ∷ ts)) f =
+result_types_follow text d es o rows (listed (t ∷ ts)) calm f =
     skips (mode.Types types.Results) s.OpenRound (mode.Types types.FirstResult) open_round (λ last. refl)
     (text_follows kinds.ResultType (mode.Types types.FirstResult) t (first_result t.first.sort t.is_text.0 d t.is_text.1) (more_types_calm text kinds.ResultType ts (41 ∷ o) close_round_calm)
     (more_types_follow text d es (41 ∷ o) rows kinds.ResultType ts refl refl close_round_calm (ends kinds.ResultType s.CloseRound mode.After close_round refl refl f)))
@@ -351,16 +341,20 @@ location_follows text d es o rows (Some l) f =
     (skips (mode.Types types.Location) s.OpenRound (mode.Next kinds.Location) open_round (λ last. refl)
     (next_text kinds.Location l close_round_calm (ends kinds.Location s.CloseRound mode.Body close_round refl refl (line (f mode.Body body_rests))))))
 
+location_calm : (text : List ℕ) (l : Option (Text kinds.Location)) (o : List ℕ) → Calm (class_ahead (written.location_then text l (10 ∷ o)))
+location_calm text None o = line_calm
+location_calm text (Some l) o = space_calm
+
 signature_follows : (text : List ℕ) (d : ℕ) (es : List Expected) (o : List ℕ) (rows : List Row) (t : Tail) (m : Mode) → Steps m d s.Colon (skip (mode.Types types.Open)) → ((n : Mode) → Rests n → Respells text n d es o rows)
     → Respells text m d (mark s.Colon ∷ signature_then t.operand_types t.result_types t.location es) (written.signature_then text t o) (signature_rows t.operand_types t.result_types t.location rows)
 signature_follows text d es o rows t m st f =
     let behind = location_follows text d es o rows t.location f in
     let located = written.location_then text t.location (10 ∷ o) in
-    let typed = result_types_follow text d (location_then t.location es) located (maybe_text_row t.location rows) t.result_types behind in
+    let typed = result_types_follow text d (location_then t.location es) located (maybe_text_row t.location rows) t.result_types (location_calm text t.location o) behind in
     let arrows = gap (skips (mode.Types types.Arrow) s.Arrow (mode.Types types.Results) arrow (λ last. refl) (gap typed)) in
     gap (skips m s.Colon (mode.Types types.Open) colon st
     (gap (skips (mode.Types types.Open) s.OpenRound (mode.Types types.FirstOperand) open_round (λ last. refl)
-    (operand_types_follow text d (mark s.Arrow ∷ result_types_then t.result_types (location_then t.location es)) (codes " -> (" ++ written.result_types_then text t.result_types (41 ∷ located)) (result_type_rows t.result_types (maybe_text_row t.location rows)) t.operand_types arrows))))
+    (operand_types_follow text d (mark s.Arrow ∷ result_types_then t.result_types (location_then t.location es)) (codes " -> " ++ written.result_types_then text t.result_types located) (result_type_rows t.result_types (maybe_text_row t.location rows)) t.operand_types arrows))))
 
 tail_follows : (text : List ℕ) (d : ℕ) (es : List Expected) (o : List ℕ) (rows : List Row) (p : PartsMode) (t : Tail) → TakesTail p → ((m : Mode) → Rests m → Respells text m d es o rows) → Respells text (mode.Parts p) d (tail_then t es) (written.tail_then text t o) (tail_rows t rows)
 tail_follows text d es o rows p t g f =
@@ -445,43 +439,45 @@ op_follows text d es o rows m h b calm f =
     (uses_follow text d two_es two_o two_rows h.operands
     (successors_follow text d one_es one_o one_rows h.successors (λ p g. properties_follow text d es o rows p h.properties g calm f)))
 
-more_regions_calm : (text : List ℕ) (rs : Regions) (o : List ℕ) → Calm (class_ahead (written.more_regions_then text rs o))
+more_regions_calm : (text : List ℕ) (d : ℕ) (rs : Regions) (o : List ℕ) → Calm (class_ahead (written.more_regions_then text d rs o))
 unfolding written.more_regions_then
-more_regions_calm text none o = close_round_calm
-more_regions_calm text (one from b to rs) o = comma_calm
+more_regions_calm text d none o = close_round_calm
+more_regions_calm text d (one from b to rs) o = comma_calm
 
-regions_calm : (text : List ℕ) (rs : Regions) (o : List ℕ) → Calm (class_ahead o) → Calm (class_ahead (written.regions_then text rs o))
+regions_calm : (text : List ℕ) (d : ℕ) (rs : Regions) (o : List ℕ) → Calm (class_ahead o) → Calm (class_ahead (written.regions_then text d rs o))
 unfolding written.regions_then
-regions_calm text none o h = h
-regions_calm text (one from b to rs) o h = space_calm
+regions_calm text d none o h = h
+regions_calm text d (one from b to rs) o h = space_calm
 
 mutual
   unfolding body_then body_rows written.body_then
 
-  body_follows : (b : Body) (text : List ℕ) (d : ℕ) (es : List Expected) (o : List ℕ) (rows : List Row) (m : Mode) → Rests m → ((q : Mode) → Rests q → Respells text q (suc d) es o rows) → Respells text m (suc d) (body_then b es) (written.body_then text b o) (body_rows b rows)
+  body_follows : (b : Body) (text : List ℕ) (d : ℕ) (es : List Expected) (o : List ℕ) (rows : List Row) (m : Mode) → Rests m → ((q : Mode) → Rests q → Respells text q (suc d) es o rows) → Respells text m (suc d) (body_then b es) (written.body_then text (suc d) b o) (body_rows b rows)
   body_follows done text d es o rows m r f = f m r
   body_follows (op h rs t b) text d es o rows m r f =
       let tail_es = tail_then t (body_then b es) in
-      let tail_o = written.tail_then text t (written.body_then text b o) in
+      let tail_o = written.tail_then text t (written.body_then text (suc d) b o) in
       let rest_rows = tail_rows t (body_rows b rows) in
-      op_follows text (suc d) (regions_then rs tail_es) (written.regions_then text rs tail_o) (region_rows rs rest_rows) m h r.takes (regions_calm text rs tail_o (tail_calm text t (written.body_then text b o)))
+      indents (suc d)
+      (op_follows text (suc d) (regions_then rs tail_es) (written.regions_then text (suc d) rs tail_o) (region_rows rs rest_rows) m h r.takes (regions_calm text (suc d) rs tail_o (tail_calm text t (written.body_then text (suc d) b o)))
       (λ p g. regions_follow rs text (suc d) tail_es tail_o rest_rows p g
-      (λ q i. tail_follows text (suc d) (body_then b es) (written.body_then text b o) (body_rows b rows) q t i (λ n j. body_follows b text d es o rows n j f)))
-  body_follows (block l b) text d es o rows m r f = label_follows text d (body_then b es) (written.body_then text b o) (body_rows b rows) m l r.takes (body_follows b text d es o rows mode.Body body_rests f)
+      (λ q i. tail_follows text (suc d) (body_then b es) (written.body_then text (suc d) b o) (body_rows b rows) q t i (λ n j. body_follows b text d es o rows n j f))))
+  body_follows (block l b) text d es o rows m r f =
+      indents (around (suc d)) (label_follows text d (body_then b es) (written.body_then text (suc d) b o) (body_rows b rows) m l r.takes (body_follows b text d es o rows mode.Body body_rests f))
 
-  regions_follow : (rs : Regions) (text : List ℕ) (d : ℕ) (es : List Expected) (o : List ℕ) (rows : List Row) (p : PartsMode) → TakesRegions p → ((q : PartsMode) → TakesTail q → Respells text (mode.Parts q) d es o rows) → Respells text (mode.Parts p) d (regions_then rs es) (written.regions_then text rs o) (region_rows rs rows)
+  regions_follow : (rs : Regions) (text : List ℕ) (d : ℕ) (es : List Expected) (o : List ℕ) (rows : List Row) (p : PartsMode) → TakesRegions p → ((q : PartsMode) → TakesTail q → Respells text (mode.Parts q) d es o rows) → Respells text (mode.Parts p) d (regions_then rs es) (written.regions_then text d rs o) (region_rows rs rows)
   regions_follow none text d es o rows p g f = f p g.tail
   regions_follow (one from b to rs) text d es o rows p g f =
       gap (skips (mode.Parts p) s.OpenRound (mode.Parts pieces.NextRegion) open_round (λ last. g.round)
-      (opens from line_calm (line (body_follows b text d (token s.CloseCurly to ∷ more_regions_then rs es) (piece text to ++ written.more_regions_then text rs o) (row parts.Close to ∷ region_rows rs rows) mode.Body body_rests
-      (λ q r. shuts q to (r.takes.close d) (more_regions_calm text rs o) (more_regions_follow rs text d es o rows f))))))
+      (opens from line_calm (line (body_follows b text d (token s.CloseCurly to ∷ more_regions_then rs es) (blanks d ++ (piece text to ++ written.more_regions_then text d rs o)) (row parts.Close to ∷ region_rows rs rows) mode.Body body_rests
+      (λ q r. indents d (shuts q to (r.takes.close d) (more_regions_calm text d rs o) (more_regions_follow rs text d es o rows f)))))))
 
-  more_regions_follow : (rs : Regions) (text : List ℕ) (d : ℕ) (es : List Expected) (o : List ℕ) (rows : List Row) → ((q : PartsMode) → TakesTail q → Respells text (mode.Parts q) d es o rows) → Respells text (mode.Parts pieces.Region) d (more_regions_then rs es) (written.more_regions_then text rs o) (region_rows rs rows)
+  more_regions_follow : (rs : Regions) (text : List ℕ) (d : ℕ) (es : List Expected) (o : List ℕ) (rows : List Row) → ((q : PartsMode) → TakesTail q → Respells text (mode.Parts q) d es o rows) → Respells text (mode.Parts pieces.Region) d (more_regions_then rs es) (written.more_regions_then text d rs o) (region_rows rs rows)
   more_regions_follow none text d es o rows f = skips (mode.Parts pieces.Region) s.CloseRound (mode.Parts pieces.Regions) close_round (λ last. refl) (f pieces.Regions regions_take)
   more_regions_follow (one from b to rs) text d es o rows f =
       skips (mode.Parts pieces.Region) s.Comma (mode.Parts pieces.NextRegion) comma (λ last. refl)
-      (gap (opens from line_calm (line (body_follows b text d (token s.CloseCurly to ∷ more_regions_then rs es) (piece text to ++ written.more_regions_then text rs o) (row parts.Close to ∷ region_rows rs rows) mode.Body body_rests
-      (λ q r. shuts q to (r.takes.close d) (more_regions_calm text rs o) (more_regions_follow rs text d es o rows f))))))
+      (gap (opens from line_calm (line (body_follows b text d (token s.CloseCurly to ∷ more_regions_then rs es) (blanks d ++ (piece text to ++ written.more_regions_then text d rs o)) (row parts.Close to ∷ region_rows rs rows) mode.Body body_rests
+      (λ q r. indents d (shuts q to (r.takes.close d) (more_regions_calm text d rs o) (more_regions_follow rs text d es o rows f)))))))
 
 -- ---- the whole
 
@@ -501,24 +497,24 @@ end_follows : (text : List ℕ) (m : Mode) → Rests m → Respells text m zero 
 end_follows text m r = record { told = λ g. end_told m r }
 
 -- an operation outside all regions
-top_op : (text : List ℕ) (h : Head) (rs : Regions) (t : Tail) (b : Body) (m : Mode) → TakesBody m → ((n : Mode) → Rests n → Respells text n zero (body_then b []) (written.body_then text b []) (body_rows b []))
-    → Respells text m zero (body_then (op h rs t b) []) (written.body_then text (op h rs t b) []) (body_rows (op h rs t b) [])
+top_op : (text : List ℕ) (h : Head) (rs : Regions) (t : Tail) (b : Body) (m : Mode) → TakesBody m → ((n : Mode) → Rests n → Respells text n zero (body_then b []) (written.body_then text zero b []) (body_rows b []))
+    → Respells text m zero (body_then (op h rs t b) []) (written.body_then text zero (op h rs t b) []) (body_rows (op h rs t b) [])
 unfolding body_then body_rows written.body_then
 top_op text h rs t b m g f =
     let tail_es = tail_then t (body_then b []) in
-    let tail_o = written.tail_then text t (written.body_then text b []) in
+    let tail_o = written.tail_then text t (written.body_then text zero b []) in
     let rest_rows = tail_rows t (body_rows b []) in
-    op_follows text zero (regions_then rs tail_es) (written.regions_then text rs tail_o) (region_rows rs rest_rows) m h g (regions_calm text rs tail_o (tail_calm text t (written.body_then text b [])))
+    op_follows text zero (regions_then rs tail_es) (written.regions_then text zero rs tail_o) (region_rows rs rest_rows) m h g (regions_calm text zero rs tail_o (tail_calm text t (written.body_then text zero b [])))
     (λ p i. regions_follow rs text zero tail_es tail_o rest_rows p i
-    (λ q j. tail_follows text zero (body_then b []) (written.body_then text b []) (body_rows b []) q t j f))
+    (λ q j. tail_follows text zero (body_then b []) (written.body_then text zero b []) (body_rows b []) q t j f))
 
-top_follows : (b : Body) (text : List ℕ) (m : Mode) → HasNoBlocks b → Rests m → Respells text m zero (body_then b []) (written.body_then text b []) (body_rows b [])
+top_follows : (b : Body) (text : List ℕ) (m : Mode) → HasNoBlocks b → Rests m → Respells text m zero (body_then b []) (written.body_then text zero b []) (body_rows b [])
 unfolding body_then body_rows written.body_then
 top_follows done text m h r = end_follows text m r
 top_follows (op h rs t b) text m free r = top_op text h rs t b m r.takes (λ n j. top_follows b text n free j)
 top_follows (block l b) text m h r = absurd h
 
-whole_follows : (b : Body) (text : List ℕ) → IsWholeText b → Respells text mode.Start zero (body_then b []) (written.body_then text b []) (body_rows b [])
+whole_follows : (b : Body) (text : List ℕ) → IsWholeText b → Respells text mode.Start zero (body_then b []) (written.body_then text zero b []) (body_rows b [])
 whole_follows done text h = absurd h
 whole_follows (op h rs t b) text free = top_op text h rs t b mode.Start start_takes (λ n j. top_follows b text n free j)
 whole_follows (block l b) text h = absurd h

@@ -1,12 +1,12 @@
 -- Writes one behind the other: what was written before, and what is still written, are one total.
-use Rattle.std.proofs.Common.{◌≡◌, ℕ, ◌-◌, Bool, false, List, [], ◌∷◌, ◌++◌, length, take, drop, Option, Some, Result, Ok, Err, sym, ap, subst, ◌∙◌, append_assoc, take-append-drop}
-use Rattle.std.proofs.lemmas.List.{take_rest}
+use Rattle.std.proofs.Common.{◌≡◌, ◌<◌, ℕ, ◌+◌, ◌-◌, ◌*◌, Bool, false, List, [], ◌∷◌, ◌++◌, length, take, drop, replicate, Option, Some, Result, Ok, Err, sym, ap, subst, ◌∙◌, append_assoc, take-append-drop, arith}
+use Rattle.std.proofs.lemmas.List.{take_rest, replicate-append-replicate}
 use Rattle.std.specs.Prelude.{if◌then◌else◌}
 use Rattle.std.specs.Io.KnownBytes.{Appends, WriteAppends}
 use Rattle.std.proofs.KnownBytes.{Appends-trans, Appends-kept}
 use Rattle.ir_text_tree.specs.declared.row.Part.{Part}
 use Rattle.ir_text_tree.specs.declared.row.Row.{Row}
-use Rattle.ir_text_spelling.specs.Marks.{is_joined, joint, closing, opening, to_line_end, before, between, ending}
+use Rattle.ir_text_spelling.specs.Marks.{is_joined, joint, closing, opening, to_line_end, depth_behind, levels, blanks, before, between, ending}
 use Rattle.ir_text_spelling.specs.Spellings.{piece, spelled}
 use Rattle.ir_text_spelling.specs.Writings.{AppendsFront, Writes}
 use Rattle.ir_text_spelling.proofs.SpellingSteps.{goes_on, ends}
@@ -40,17 +40,49 @@ pub bytes_kept : {E : Type 0} (a b c : Option (List ℕ)) (all done rest : List 
     → (more : List ℕ) × (all ≡ more ++ rest) × Appends a c more
 bytes_kept {E = E} a b c all done rest r f is e p q = (done, e, Appends-kept a b c done p (subst (λ (x : Result ℕ E). WriteAppends b c x rest) is q))
 
+-- ---- blanks
+
+-- of more levels than one write takes
+pub blanks_more : (n : ℕ) → 32 < n → blanks 32 ++ blanks (n - 32) ≡ blanks n
+blanks_more n lt =
+    let sum : 2 * 32 + 2 * (n - 32) ≡ 2 * n = omega (arith, lt) in
+    replicate-append-replicate (2 * 32) (2 * (n - 32)) 32 ∙ ap (λ (k : ℕ). replicate k 32) sum
+
+pub blanks_went : (a b c : Option (List ℕ)) (done chunk : List ℕ) (n all : ℕ) → 32 < n → chunk ≡ blanks 32 → Appends a b done → Appends b c chunk → done ++ blanks n ≡ blanks all → (more : List ℕ) × Appends a c more × (more ++ blanks (n - 32) ≡ blanks all)
+blanks_went a b c done chunk n all lt e p q h = (
+  done ++ chunk,
+  Appends-trans a b c done chunk p q,
+  append_assoc done chunk (blanks (n - 32)) ∙ ap (λ (x : List ℕ). done ++ (x ++ blanks (n - 32))) e ∙ ap (λ (x : List ℕ). done ++ x) (blanks_more n lt) ∙ h,
+)
+
+pub blanks_broke : (a b c : Option (List ℕ)) (done chunk : List ℕ) (n all : ℕ) → 32 < n → chunk ≡ blanks 32 → Appends a b done → AppendsFront b c chunk → done ++ blanks n ≡ blanks all → AppendsFront a c (blanks all)
+blanks_broke a b c done chunk n all lt e p q h =
+    let rest = blanks (n - 32) in
+    let is : (done ++ chunk) ++ rest ≡ blanks all = append_assoc done chunk rest ∙ ap (λ (x : List ℕ). done ++ (x ++ rest)) e ∙ ap (λ (x : List ℕ). done ++ x) (blanks_more n lt) ∙ h in
+    subst (λ (l : List ℕ). AppendsFront a c l) is (front_of a c (done ++ chunk) rest (front_after a b c done chunk p q))
+
+pub blanks_end : {X E : Type 0} (a b c : Option (List ℕ)) (done chunk : List ℕ) (n all : ℕ) (r : Result X E) → chunk ≡ blanks n → Appends a b done → Writes b c chunk r → done ++ blanks n ≡ blanks all → Writes a c (blanks all) r
+blanks_end a b c done chunk n all r e p q h =
+    subst (λ (l : List ℕ). Writes a c l r) (ap (λ (x : List ℕ). done ++ x) e ∙ h) (then_writes a b c done chunk r p q)
+
 -- ---- what stands between two parts, and at the end
 
-parts_open : (p q : Part) (j : Bool) → j ≡ is_joined p q → j ≡ false → between p q ≡ closing p ++ opening p q
-parts_open p q j e f = ap (λ (b : Bool). if b then joint p q else (closing p ++ opening p q)) (sym e ∙ f)
+parts_open : (d : ℕ) (p q : Part) (j : Bool) → j ≡ is_joined p q → j ≡ false → between d p q ≡ closing p ++ (opening p q ++ blanks (levels d q))
+parts_open d p q j e f = ap (λ (b : Bool). if b then joint p q else (closing p ++ (opening p q ++ blanks (levels d q)))) (sym e ∙ f)
 
-pub between_broke : (a b : Option (List ℕ)) (p q : Part) (j : Bool) (x : List ℕ) → j ≡ is_joined p q → j ≡ false → x ≡ closing p → AppendsFront a b x → AppendsFront a b (between p q)
-between_broke a b p q j x e f g h = subst (λ (l : List ℕ). AppendsFront a b l) (sym (parts_open p q j e f)) (front_of a b (closing p) (opening p q) (subst (λ (l : List ℕ). AppendsFront a b l) g h))
+pub opening_broke : (a b : Option (List ℕ)) (p q : Part) (x y : List ℕ) → x ≡ opening p q → AppendsFront a b x → AppendsFront a b (opening p q ++ y)
+opening_broke a b p q x y e h = front_of a b (opening p q) y (subst (λ (l : List ℕ). AppendsFront a b l) e h)
 
-pub between_wrote : {X E : Type 0} (a b c : Option (List ℕ)) (p q : Part) (j : Bool) (x y : List ℕ) (r : Result X E) → j ≡ is_joined p q → j ≡ false → x ≡ closing p → y ≡ opening p q → Appends a b x → Writes b c y r → Writes a c (between p q) r
-between_wrote a b c p q j x y r e f g i h k =
-    subst (λ (l : List ℕ). Writes a c l r) (sym (parts_open p q j e f)) (then_writes a b c (closing p) (opening p q) r (subst (λ (l : List ℕ). Appends a b l) g h) (subst (λ (l : List ℕ). Writes b c l r) i k))
+pub opening_wrote : {X E : Type 0} (a b c : Option (List ℕ)) (p q : Part) (x y z : List ℕ) (r : Result X E) → x ≡ opening p q → y ≡ z → Appends a b x → Writes b c y r → Writes a c (opening p q ++ z) r
+opening_wrote a b c p q x y z r e f h k = then_writes a b c (opening p q) z r (subst (λ (l : List ℕ). Appends a b l) e h) (subst (λ (l : List ℕ). Writes b c l r) f k)
+
+pub between_broke : (a b : Option (List ℕ)) (d : ℕ) (p q : Part) (j : Bool) (x : List ℕ) → j ≡ is_joined p q → j ≡ false → x ≡ closing p → AppendsFront a b x → AppendsFront a b (between d p q)
+between_broke a b d p q j x e f g h =
+    subst (λ (l : List ℕ). AppendsFront a b l) (sym (parts_open d p q j e f)) (front_of a b (closing p) (opening p q ++ blanks (levels d q)) (subst (λ (l : List ℕ). AppendsFront a b l) g h))
+
+pub between_wrote : {X E : Type 0} (a b c : Option (List ℕ)) (d : ℕ) (p q : Part) (j : Bool) (x : List ℕ) (r : Result X E) → j ≡ is_joined p q → j ≡ false → x ≡ closing p → Appends a b x → Writes b c (opening p q ++ blanks (levels d q)) r → Writes a c (between d p q) r
+between_wrote a b c d p q j x r e f g h k =
+    subst (λ (l : List ℕ). Writes a c l r) (sym (parts_open d p q j e f)) (then_writes a b c (closing p) (opening p q ++ blanks (levels d q)) r (subst (λ (l : List ℕ). Appends a b l) g h) k)
 
 pub ending_broke : (a b : Option (List ℕ)) (o : Option Part) (p : Part) (x : List ℕ) → o ≡ Some p → x ≡ closing p → AppendsFront a b x → AppendsFront a b (ending o)
 ending_broke a b o p x e g h = subst (λ (z : Option Part). AppendsFront a b (ending z)) (sym e) (front_of a b (closing p) (to_line_end p) (subst (λ (l : List ℕ). AppendsFront a b l) g h))
@@ -61,21 +93,21 @@ ending_wrote a b c o p x y r e g i h k =
 
 -- ---- the loop over the rows
 
-pub row_wrote : (a b c : Option (List ℕ)) (text done total : List ℕ) (last : Option Part) (x : Row) (rows rest : List Row) → rows ≡ x ∷ rest → Appends a b done → done ++ spelled text last rows ≡ total
-    → Appends b c (before last x.part ++ piece text x.span) → (more : List ℕ) × Appends a c more × (more ++ spelled text (Some x.part) rest ≡ total)
-row_wrote a b c text done total last x rows rest e p h q =
-    let more = before last x.part ++ piece text x.span in
-    (done ++ more, Appends-trans a b c done more p q, goes_on text done (done ++ more) total last x rows rest e (sym (append_assoc done (before last x.part) (piece text x.span))) h)
+pub row_wrote : (a b c : Option (List ℕ)) (text done total : List ℕ) (d : ℕ) (last : Option Part) (x : Row) (rows rest : List Row) → rows ≡ x ∷ rest → Appends a b done → done ++ spelled text d last rows ≡ total
+    → Appends b c (before d last x.part ++ piece text x.span) → (more : List ℕ) × Appends a c more × (more ++ spelled text (depth_behind x.part d) (Some x.part) rest ≡ total)
+row_wrote a b c text done total d last x rows rest e p h q =
+    let more = before d last x.part ++ piece text x.span in
+    (done ++ more, Appends-trans a b c done more p q, goes_on text done (done ++ more) total d last x rows rest e (sym (append_assoc done (before d last x.part) (piece text x.span))) h)
 
-pub row_broke : (a b c : Option (List ℕ)) (text done total : List ℕ) (last : Option Part) (x : Row) (rows rest : List Row) → rows ≡ x ∷ rest → Appends a b done → done ++ spelled text last rows ≡ total
-    → AppendsFront b c (before last x.part ++ piece text x.span) → AppendsFront a c total
-row_broke a b c text done total last x rows rest e p h q =
-    let more = before last x.part ++ piece text x.span in
-    subst (λ (l : List ℕ). AppendsFront a c l) (goes_on text done (done ++ more) total last x rows rest e (sym (append_assoc done (before last x.part) (piece text x.span))) h)
-    (front_of a c (done ++ more) (spelled text (Some x.part) rest) (front_after a b c done more p q))
+pub row_broke : (a b c : Option (List ℕ)) (text done total : List ℕ) (d : ℕ) (last : Option Part) (x : Row) (rows rest : List Row) → rows ≡ x ∷ rest → Appends a b done → done ++ spelled text d last rows ≡ total
+    → AppendsFront b c (before d last x.part ++ piece text x.span) → AppendsFront a c total
+row_broke a b c text done total d last x rows rest e p h q =
+    let more = before d last x.part ++ piece text x.span in
+    subst (λ (l : List ℕ). AppendsFront a c l) (goes_on text done (done ++ more) total d last x rows rest e (sym (append_assoc done (before d last x.part) (piece text x.span))) h)
+    (front_of a c (done ++ more) (spelled text (depth_behind x.part d) (Some x.part) rest) (front_after a b c done more p q))
 
-pub end_wrote : {X E : Type 0} (a b c : Option (List ℕ)) (text done total : List ℕ) (last : Option Part) (rows : List Row) (r : Result X E) → rows ≡ [] → Appends a b done → done ++ spelled text last rows ≡ total → Writes b c (ending last) r → Writes a c total r
-end_wrote a b c text done total last rows r e p h q = subst (λ (l : List ℕ). Writes a c l r) (ends text done total last rows e h) (then_writes a b c done (ending last) r p q)
+pub end_wrote : {X E : Type 0} (a b c : Option (List ℕ)) (text done total : List ℕ) (d : ℕ) (last : Option Part) (rows : List Row) (r : Result X E) → rows ≡ [] → Appends a b done → done ++ spelled text d last rows ≡ total → Writes b c (ending last) r → Writes a c total r
+end_wrote a b c text done total d last rows r e p h q = subst (λ (l : List ℕ). Writes a c l r) (ends text done total d last rows e h) (then_writes a b c done (ending last) r p q)
 
 -- all was written into a vector that had nothing
 pub all_written : {X E : Type 0} (old items bytes : List ℕ) (r : Result X E) (x : X) → old ≡ [] → r ≡ Ok x → Writes (Some old) (Some items) bytes r → items ≡ bytes

@@ -1,9 +1,10 @@
 -- The text of a tree, part by part.
-use Rattle.std.specs.Prelude.{ℕ, ◌++◌, List, [], ◌∷◌, Option, Some, None, codes}
+use Rattle.std.specs.Prelude.{ℕ, zero, suc, ◌++◌, List, [], ◌∷◌, Option, Some, None, codes}
 use Rattle.ir_text_tree.specs.declared.row.Span.{Span}
 use Rattle.ir_text_tree.specs.declared.text_step.TextKind.{TextKind}
 use Rattle.ir_text_tree.specs.declared.text_step.TextKind.TheVariants as kinds
 use Rattle.ir_text_tree.specs.Trees.{Text, text_span, ResultName, Use, Entry, ResultTypes, bare, listed, Tail, Argument, Label, Body, Regions, done, op, block, none, one, bare_span}
+use Rattle.ir_text_spelling.specs.Marks.{around, blanks}
 use Rattle.ir_text_spelling.specs.Spellings.{piece}
 
 -- Each is written in front of what follows it, `es`; names, keys, types, values, properties and locations are pieces of the text that the tree was read of.
@@ -88,19 +89,19 @@ abbrev pub types_then : {k : TextKind} → List ℕ → List (Text k) → List �
 types_then text [] es = es
 types_then text (t ∷ ts) es = text_then text t (more_types_then text ts es)
 
--- one type as any number
+-- one in no parentheses, as it stood in none; any number in parentheses
 abbrev pub result_types_then : List ℕ → ResultTypes → List ℕ → List ℕ
 result_types_then text (bare name is_name group) es = piece_then text (bare_span name.span group) es
-result_types_then text (listed ts) es = types_then text ts es
+result_types_then text (listed ts) es = codes "(" ++ types_then text ts (codes ")" ++ es)
 
 abbrev pub location_then : {k : TextKind} → List ℕ → Option (Text k) → List ℕ → List ℕ
 location_then text None es = es
 location_then text (Some l) es = codes " loc(" ++ text_then text l (codes ")" ++ es)
 
--- types in parentheses, then the location and the line's end
+-- types, then the location and the line's end
 abbrev pub signature_then : List ℕ → Tail → List ℕ → List ℕ
 signature_then text t es =
-    codes " : (" ++ types_then text t.operand_types (codes ") -> (" ++ result_types_then text t.result_types (codes ")" ++ location_then text t.location (codes "\n" ++ es)))
+    codes " : (" ++ types_then text t.operand_types (codes ") -> " ++ result_types_then text t.result_types (location_then text t.location (codes "\n" ++ es)))
 
 abbrev pub tail_then : List ℕ → Tail → List ℕ → List ℕ
 tail_then text t es = attributes_then text t.attributes (signature_then text t es)
@@ -125,23 +126,23 @@ signed_then text (Some args) es = arguments_then text args es
 abbrev pub label_then : List ℕ → Label → List ℕ → List ℕ
 label_then text l es = piece_then text l.name (signed_then text l.arguments (codes ":\n" ++ es))
 
--- a line for each operation and each block's head, and for the end of each region
+-- In so many regions, a line for each operation and each block's head, and for the end of each region. An operation is indented by a level for each region that it stands in; a block's head and the end of a region as the operation that has the region.
 unfoldable mutual
-  pub body_then : List ℕ → Body → List ℕ → List ℕ
-  body_then text done es = es
-  body_then text (op h rs t b) es =
-      results_then text h.results (piece_then text h.name (uses_then text h.operands (
-      successors_then text h.successors (properties_then text h.properties (regions_then text rs (tail_then text t (body_then text b es)))))))
-  body_then text (block l b) es = label_then text l (body_then text b es)
+  pub body_then : List ℕ → ℕ → Body → List ℕ → List ℕ
+  body_then text d done es = es
+  body_then text d (op h rs t b) es =
+      blanks d ++ results_then text h.results (piece_then text h.name (uses_then text h.operands (
+      successors_then text h.successors (properties_then text h.properties (regions_then text d rs (tail_then text t (body_then text d b es)))))))
+  body_then text d (block l b) es = blanks (around d) ++ label_then text l (body_then text d b es)
 
-  pub regions_then : List ℕ → Regions → List ℕ → List ℕ
-  regions_then text none es = es
-  regions_then text (one from b to rs) es = codes " (" ++ piece_then text from (codes "\n" ++ body_then text b (piece_then text to (more_regions_then text rs es)))
+  pub regions_then : List ℕ → ℕ → Regions → List ℕ → List ℕ
+  regions_then text d none es = es
+  regions_then text d (one from b to rs) es = codes " (" ++ piece_then text from (codes "\n" ++ body_then text (suc d) b (blanks d ++ piece_then text to (more_regions_then text d rs es)))
 
-  pub more_regions_then : List ℕ → Regions → List ℕ → List ℕ
-  more_regions_then text none es = codes ")" ++ es
-  more_regions_then text (one from b to rs) es = codes ", " ++ piece_then text from (codes "\n" ++ body_then text b (piece_then text to (more_regions_then text rs es)))
+  pub more_regions_then : List ℕ → ℕ → Regions → List ℕ → List ℕ
+  more_regions_then text d none es = codes ")" ++ es
+  more_regions_then text d (one from b to rs) es = codes ", " ++ piece_then text from (codes "\n" ++ body_then text (suc d) b (blanks d ++ piece_then text to (more_regions_then text d rs es)))
 
 -- the text of a tree that was read of this text
 abbrev pub tree_text : List ℕ → Body → List ℕ
-tree_text text b = body_then text b []
+tree_text text b = body_then text zero b []

@@ -1,6 +1,6 @@
 //! What stands between two parts of a tree.
-ghost use Rattle.std.specs.Prelude.{◌≡◌};
-ghost use Rattle.ir_text_spelling.specs.Marks.{is_result, is_successor, is_close, is_entry, is_operand_type, is_result_type, is_joined, to_operand, to_argument, joint, closing, to_results, to_location, to_line_end, opening};
+ghost use Rattle.std.specs.Prelude.{◌≡◌, ◌+◌, ◌<◌, ◌^◌};
+ghost use Rattle.ir_text_spelling.specs.Marks.{is_result, is_successor, is_close, is_entry, is_operand_type, is_result_type, is_joined, to_operand, to_argument, joint, closing, to_results, to_only_result, to_location, to_line_end, opening, depth_behind, levels};
 
 use ir_text_tree::Part;
 
@@ -54,7 +54,7 @@ fn is_operand_type(part: Part) -> bool
     }
 }
 
-// Whether a part is the type of a result.
+// Whether a part is the type of a result, in parentheses.
 fn is_result_type(part: Part) -> bool
     ensures { result ≡ is_result_type part }
 {
@@ -75,7 +75,8 @@ pub(crate) fn is_joined(last: Part, next: Part) -> bool
         Part::Key => is_entry(last),
         Part::OperandType => is_operand_type(last),
         Part::ResultType => is_result_type(last),
-        Part::Properties | Part::Close | Part::Location | Part::Label => false,
+        Part::Properties | Part::Close | Part::OnlyResultType => false,
+        Part::Location | Part::Label => false,
         _ => true,
     }
 }
@@ -132,7 +133,7 @@ pub(crate) fn closing(last: Part) -> &'static str
     }
 }
 
-// What leads from there to the types of the results.
+// What leads from there to the types of the results, in parentheses.
 fn to_results(last: Part) -> &'static str
     ensures { result.now ≡ to_results last }
 {
@@ -142,12 +143,22 @@ fn to_results(last: Part) -> &'static str
     }
 }
 
+// What leads from there to the type of the only result, in no parentheses.
+fn to_only_result(last: Part) -> &'static str
+    ensures { result.now ≡ to_only_result last }
+{
+    match last {
+        Part::OperandType => " -> ",
+        _ => " : () -> ",
+    }
+}
+
 // What leads from there to the location.
 fn to_location(last: Part) -> &'static str
     ensures { result.now ≡ to_location last }
 {
     match last {
-        Part::ResultType => " loc(",
+        Part::ResultType | Part::OnlyResultType => " loc(",
         Part::OperandType => " -> () loc(",
         _ => " : () -> () loc(",
     }
@@ -158,7 +169,7 @@ pub(crate) fn to_line_end(last: Part) -> &'static str
     ensures { result.now ≡ to_line_end last }
 {
     match last {
-        Part::Open | Part::Location | Part::ResultType => "\n",
+        Part::Open | Part::Location | Part::ResultType | Part::OnlyResultType => "\n",
         Part::Label | Part::ArgumentType | Part::ArgumentLocation => ":\n",
         Part::OperandType => " -> ()\n",
         _ => " : () -> ()\n",
@@ -176,7 +187,31 @@ pub(crate) fn opening(last: Part, next: Part) -> &'static str
         Part::Key => " {",
         Part::OperandType => " : (",
         Part::ResultType => to_results(last),
+        Part::OnlyResultType => to_only_result(last),
         Part::Location => to_location(last),
         _ => to_line_end(last),
+    }
+}
+
+/// How many regions are open behind a part.
+pub(crate) fn depth_behind(part: Part, depth: usize) -> usize
+    requires { depth + 1 < 2 ^ 64 }
+    ensures { result ≡ depth_behind part depth }
+{
+    match part {
+        Part::Open => depth + 1,
+        Part::Close => depth.saturating_sub(1),
+        _ => depth,
+    }
+}
+
+/// By how many levels a part is indented that begins a line, in so many open regions; none for the others.
+pub(crate) fn levels(depth: usize, part: Part) -> usize
+    ensures { result ≡ levels depth part }
+{
+    match part {
+        Part::Result | Part::Name => depth,
+        Part::Label | Part::Close => depth.saturating_sub(1),
+        _ => 0,
     }
 }

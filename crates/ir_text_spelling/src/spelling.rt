@@ -2,15 +2,15 @@
 ghost use Rattle.std.specs.Prelude.{◌≡◌, ◌++◌, IfOk};
 ghost use Rattle.ir_text_tree.specs.Trees.{Body, IsWholeText, tree_rows};
 ghost use Rattle.ir_text_reader.specs.Texts.{SpellsTree};
-ghost use Rattle.ir_text_spelling.specs.Marks.{before, between, ending};
+ghost use Rattle.ir_text_spelling.specs.Marks.{opening, levels, blanks, before, between, ending};
 ghost use Rattle.ir_text_spelling.specs.Spellings.{piece, rows_spelled};
 ghost use Rattle.ir_text_spelling.specs.TreeTexts.{tree_text};
 ghost use Rattle.ir_text_spelling.specs.RoundTrips.{SpellsAgain};
 ghost use Rattle.ir_text_spelling.specs.Writings.{Writes};
 
-use crate::mark::{closing, is_joined, joint, opening, to_line_end};
+use crate::mark::{closing, depth_behind, is_joined, joint, levels, opening, to_line_end};
 use crate::spelling_laws::tree_text_spells_again;
-use crate::writing::write_bytes;
+use crate::writing::{write_blanks, write_bytes};
 use ir_text_tree::{Part, Row, Span};
 use std::alloc::{AllocError, Global};
 use std::io;
@@ -25,33 +25,52 @@ fn piece_of(text: &[u8], span: Span) -> &[u8]
     &text[start..end]
 }
 
-// Writes what stands between two parts.
-fn write_between<W: Write>(output: &mut W, last: Part, next: Part) -> io::Result<()>
-    ensures { Writes (W.contents output.old) (W.contents output.new) (between last next) result }
+// Writes what leads to the first part of another list, or to the next line with its indentation.
+fn write_opening<W: Write>(output: &mut W, depth: usize, last: Part, next: Part) -> io::Result<()>
+    ensures { Writes (W.contents output.old) (W.contents output.new) (opening last next ++ blanks (levels depth next)) result }
+{
+    write_bytes(output, opening(last, next).as_bytes())?;
+    write_blanks(output, levels(depth, next))
+}
+
+// Writes what stands between two parts, in so many open regions.
+fn write_between<W: Write>(output: &mut W, depth: usize, last: Part, next: Part) -> io::Result<()>
+    ensures { Writes (W.contents output.old) (W.contents output.new) (between depth last next) result }
 {
     if is_joined(last, next) {
         write_bytes(output, joint(last, next).as_bytes())
     } else {
         write_bytes(output, closing(last).as_bytes())?;
-        write_bytes(output, opening(last, next).as_bytes())
+        write_opening(output, depth, last, next)
     }
 }
 
 // Writes what stands before a part.
-fn write_before<W: Write>(output: &mut W, last: Option<Part>, next: Part) -> io::Result<()>
-    ensures { Writes (W.contents output.old) (W.contents output.new) (before last next) result }
+fn write_before<W: Write>(
+    output: &mut W,
+    depth: usize,
+    last: Option<Part>,
+    next: Part,
+) -> io::Result<()>
+    ensures { Writes (W.contents output.old) (W.contents output.new) (before depth last next) result }
 {
     match last {
         None => write_bytes(output, &[]),
-        Some(last) => write_between(output, last, next),
+        Some(last) => write_between(output, depth, last, next),
     }
 }
 
 // Writes a part behind what leads to it.
-fn write_row<W: Write>(output: &mut W, text: &[u8], last: Option<Part>, row: Row) -> io::Result<()>
-    ensures { Writes (W.contents output.old) (W.contents output.new) (before last row.part ++ piece text.now row.span) result }
+fn write_row<W: Write>(
+    output: &mut W,
+    text: &[u8],
+    depth: usize,
+    last: Option<Part>,
+    row: Row,
+) -> io::Result<()>
+    ensures { Writes (W.contents output.old) (W.contents output.new) (before depth last row.part ++ piece text.now row.span) result }
 {
-    write_before(output, last, row.part)?;
+    write_before(output, depth, last, row.part)?;
     write_bytes(output, piece_of(text, row.span))
 }
 
@@ -68,7 +87,7 @@ fn write_end<W: Write>(output: &mut W, last: Option<Part>) -> io::Result<()>
     }
 }
 
-/// Writes the text of rows whose spans are pieces of this text: each piece as it stands there, a line for each operation, each head of a block and the end of each region. Types of results stand in parentheses; braces, and parentheses of a block's head, only where something stands in them. The writer isn't flushed.
+/// Writes the text of rows whose spans are pieces of this text: each piece as it stands there, a line for each operation, each head of a block and the end of each region. An operation is indented by two blanks for each region that it stands in; a block's head and the end of a region as the operation that has the region. A single type of a result stands in parentheses only where its row says so; braces, and parentheses of a block's head, stand only where something stands in them. The writer isn't flushed.
 ///
 /// # Errors
 /// What the writer answers that can't take the text.
@@ -78,9 +97,11 @@ pub fn spell_to<W: Write>(text: &[u8], rows: &[Row], output: &mut W) -> io::Resu
     // If they are the rows of a tree, that is the text of the tree.
     ensures tree { (b : Body) → rows.now ≡ tree_rows b → Writes (W.contents output.old) (W.contents output.new) (tree_text text.now b) result }
 {
+    let mut depth = 0;
     let mut last = None;
     for row in rows {
-        write_row(output, text, last, *row)?;
+        write_row(output, text, depth, last, *row)?;
+        depth = depth_behind(row.part, depth);
         last = Some(row.part);
     }
     write_end(output, last)

@@ -373,7 +373,7 @@ err_not_ok y f rows e h = cc
 ok_same : (a b : List Row) → (let r : Result (List Row) Fault = Ok a in r) ≡ Ok b → a ≡ b
 ok_same a b e = cc
 
-bare_ends : (end d : ℕ) (rows : List Row) (bs : List Bracket) (t : Span) (xs : List Piece) → parsing end mode.After d bs t xs ≡ Ok rows → parsing end mode.Bare d bs t xs ≡ Ok (row parts.OnlyResultType t ∷ rows)
+pub bare_ends : (end d : ℕ) (rows : List Row) (bs : List Bracket) (t : Span) (xs : List Piece) → parsing end mode.After d bs t xs ≡ Ok rows → parsing end mode.Bare d bs t xs ≡ Ok (row parts.OnlyResultType t ∷ rows)
 unfolding AfterCase
 bare_ends end zero rows bs t [] h =
     let e = ok_same [] rows (sym (parsing_done end mode.After zero bs t refl) ∙ h) in
@@ -397,7 +397,7 @@ bare_rest end d es rows (Some at) bs t (x ∷ xs) f h =
     parsing_reads end mode.Bare d bs t x xs None (action.Join parts.OnlyResultType) mode.After rows (ap (bare_step (is_inside d)) h.0.0) (f.read end bs t xs h.1)
     ∙ ap (λ (y : Span). Ok (row parts.OnlyResultType (joined t y) ∷ rows)) h.0.1
 
-name_step : (x : Sort) (inside : Bool) (last : Option Bracket) → IsTypeName x → tree_step (mode.Types types.Results) inside last x ≡ Go None (action.Start nesting.Kept) mode.Bare
+pub name_step : (x : Sort) (inside : Bool) (last : Option Bracket) → IsTypeName x → tree_step (mode.Types types.Results) inside last x ≡ Go None (action.Start nesting.Kept) mode.Bare
 name_step s.Word inside last h = refl
 name_step s.Type inside last h = refl
 name_step _ inside last h = absurd h
