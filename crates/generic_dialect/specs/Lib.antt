@@ -1,2 +1,3 @@
 pub mod Kinds
-pub mod Generic
+pub mod Implemented
+pub mod Keys

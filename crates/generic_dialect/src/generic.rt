@@ -1,11 +1,10 @@
 //! The dialect Generic: types, attributes and locations are texts.
 ghost use Rattle.std.specs.Prelude.{◌≡◌, IfOk, IfErr, None, Some, codes, false, refl, true};
-ghost use Rattle.std.proofs.Common.{rules};
-ghost use Rattle.generic_dialect.specs.Generic.{implements, has_dominance};
+ghost use Rattle.generic_dialect.specs.Implemented.{has_dominance, implements, listed_implements, open_implements};
 
 use crate::kinds::Kind;
 use crate::texts::TextId;
-use generic_table::{Operation, operation_at};
+use generic_table::{Traits, traits_at};
 use ir_base_dialects::attribute::Attribute;
 use ir_base_dialects::interfaces::{NO_TERMINATOR, PURE_OPERATION, REGION_KIND, TERMINATOR};
 use ir_base_dialects::{
@@ -47,13 +46,26 @@ pub enum GenericLoc {
 #[derive(Debug, Drop, PartialEq, Eq, Hash)]
 pub struct GenericSaved(pub Vec<u8>);
 
-// Whether the listed operation implements this interface.
-fn row_implements(operation: &Operation, interface: u32) -> bool {
+// Whether an operation of the table of which MLIR says this implements this interface.
+fn listed_implements(traits: Traits, interface: u32) -> bool
+    ensures { result ≡ listed_implements traits interface }
+{
     match interface {
-        TERMINATOR => operation.terminator,
-        NO_TERMINATOR => operation.no_terminator,
+        TERMINATOR => traits.terminator,
+        NO_TERMINATOR => traits.no_terminator,
         REGION_KIND => true,
-        PURE_OPERATION => operation.pure_operation,
+        PURE_OPERATION => traits.pure_operation,
+        _ => false,
+    }
+}
+
+// Whether an operation that isn't in the table implements this interface, by whether it was last in its block.
+fn open_implements(ends: bool, interface: u32) -> bool
+    ensures { result ≡ open_implements ends interface }
+{
+    match interface {
+        TERMINATOR => ends,
+        NO_TERMINATOR | REGION_KIND => true,
         _ => false,
     }
 }
@@ -103,15 +115,11 @@ impl Dialects for Generic {
 
     fn op_impls(kind: u32, interface: u32) -> bool {
         match Kind::of(kind) {
-            Kind::Listed { row } => match operation_at(row as usize) {
-                Some(operation) => row_implements(operation, interface),
+            Kind::Listed { row } => match traits_at(row) {
+                Some(traits) => listed_implements(traits, interface),
                 None => false,
             },
-            Kind::Open { ends, .. } => match interface {
-                TERMINATOR => ends,
-                NO_TERMINATOR | REGION_KIND => true,
-                _ => false,
-            },
+            Kind::Open { ends, .. } => open_implements(ends, interface),
         }
     }
 
@@ -137,8 +145,8 @@ impl Dialects for Generic {
 
     fn region_ssa_dominance(kind: u32, _index: usize) -> bool {
         match Kind::of(kind) {
-            Kind::Listed { row } => match operation_at(row as usize) {
-                Some(operation) => operation.dominance,
+            Kind::Listed { row } => match traits_at(row) {
+                Some(traits) => traits.dominance,
                 None => false,
             },
             Kind::Open { .. } => false,

@@ -1,23 +1,24 @@
 //! Kinds of operations: rows of the table, and names that are saved.
-ghost use Rattle.std.specs.Prelude.{◌≡◌, ◌↔◌, Some};
-ghost use Rattle.generic_dialect.specs.Kinds.{kind_of, number_of};
+ghost use Rattle.std.specs.Prelude.{◌≡◌};
+ghost use Rattle.std.specs.Option.{option_copied};
+ghost use Rattle.generic_dialect.specs.Kinds.{kind_of, listed_kind, listed_name, number_of};
 
 use crate::texts::TextId;
-use generic_table::{operation_at, row_of};
+use generic_table::{name_at, row_of};
 
-/// The first kind of an operation that isn't in the table.
-pub const OPEN_KINDS: u32 = 65536;
+/// The first kind of an operation that isn't in the table. A kind below it is a row of the table.
+pub const OPEN_KINDS: u32 = 65_536;
 
-/// How many saved texts can be names of operations that aren't in the table.
-pub const OPEN_NAMES: u32 = 2147450880;
+/// How many of the saved texts can be names of operations that aren't in the table: those at the places below.
+pub const OPEN_NAMES: u32 = 2_147_450_880;
 
 /// What a kind of operations stands for.
-#[derive(Clone, Copy, Debug, PartialEq, Eq, Drop)]
+#[derive(Clone, Copy, Debug, Drop, PartialEq, Eq)]
 pub enum Kind {
     /// The operation in this row of the table.
     Listed {
         /// The row, from 0.
-        row: u32,
+        row: u16,
     },
     /// An operation that isn't in the table.
     Open {
@@ -34,7 +35,7 @@ impl Kind {
         ensures { result ≡ kind_of number }
     {
         if number < OPEN_KINDS {
-            return Kind::Listed { row: number };
+            return Kind::Listed { row: number as u16 };
         }
         let open = number - OPEN_KINDS;
         Kind::Open {
@@ -43,15 +44,16 @@ impl Kind {
         }
     }
 
-    /// The number of the kind. `None` where the row isn't below `OPEN_KINDS`, or the place of the name isn't below `OPEN_NAMES`.
+    /// The number of the kind. `None` where the place of an open kind's name isn't below `OPEN_NAMES`.
     pub fn number(self) -> Option<u32>
         ensures { result ≡ number_of self }
     {
         match self {
-            Kind::Listed { row } => { if row < OPEN_KINDS { Some(row) } else { None } }
+            Kind::Listed { row } => Some(u32::from(row)),
             Kind::Open { name, ends } => {
                 if name.0 < OPEN_NAMES {
-                    Some(OPEN_KINDS + 2 * name.0 + ends as u32)
+                    let first = OPEN_KINDS + 2 * name.0;
+                    Some(if ends { first + 1 } else { first })
                 } else {
                     None
                 }
@@ -61,13 +63,19 @@ impl Kind {
 }
 
 /// The kind of the operation with this name, where the table has it.
-pub fn table_kind(name: &[u8]) -> Option<u32> {
+pub fn table_kind(name: &[u8]) -> Option<u32>
+    ensures { result ≡ listed_kind name.now }
+{
     let row = row_of(name)?;
-    Some(row as u32)
+    Some(u32::from(row))
 }
 
 /// The name of the operation of this kind, where the table has it.
-pub fn kind_name(kind: u32) -> Option<&'static str> {
-    let operation = operation_at(kind as usize)?;
-    Some(operation.name)
+pub fn kind_name(kind: u32) -> Option<&'static [u8]>
+    ensures { option_copied result ≡ listed_name (kind_of kind) }
+{
+    match Kind::of(kind) {
+        Kind::Listed { row } => name_at(row),
+        Kind::Open { .. } => None,
+    }
 }

@@ -1,0 +1,3 @@
+mod CutLemmas
+mod RisingLemmas
+pub mod TableFacts

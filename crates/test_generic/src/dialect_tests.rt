@@ -1,0 +1,83 @@
+//! Types, attributes, locations and saved data of the dialect Generic.
+
+use generic_dialect::{
+    Generic, GenericAttr, GenericLoc, GenericSaved, GenericType, TextId, properties_key,
+};
+use ir_base_dialects::attribute::{AttributeDict, attr_type};
+use ir_base_dialects::interfaces::{OUTLINED_ATTRIBUTE, TYPED_ATTRIBUTE};
+use ir_base_dialects::{Dialects, Identifier, SavedValue, unknown_loc};
+use std::alloc::Global;
+use std::fmt::Display;
+use std::process::Abort;
+
+// Whether a value prints as this text.
+fn prints<T: Display>(rt: &impl Abort, alloc: Global, value: &T, expected: &str) -> bool {
+    format!(in alloc; "{value}").expect(rt, "memory").as_str() == expected
+}
+
+#[test]
+fn ids(rt: HostRuntime) {
+    let alloc = rt.alloc();
+    let operation = Generic::op_id(alloc, 65_536).expect(&rt, "memory");
+    let attribute = Generic::attr_id(alloc, 0).expect(&rt, "memory");
+    let ty = Generic::type_id(alloc, 0).expect(&rt, "memory");
+    assert!(rt; prints(&rt, alloc, &operation, "generic.operation"));
+    assert!(rt; prints(&rt, alloc, &attribute, "generic.text"));
+    assert!(rt; prints(&rt, alloc, &ty, "generic.text"));
+}
+
+#[test]
+fn places_of_texts(rt: HostRuntime) {
+    let last = u32::MAX as usize;
+    assert!(rt; TextId::at(7) == Some(TextId(7)) && TextId(7).index() == 7);
+    assert!(rt; TextId::at(last) == Some(TextId(u32::MAX)));
+    assert!(rt; TextId::at(last + 1).is_none());
+}
+
+#[test]
+fn attributes(rt: HostRuntime) {
+    let alloc = rt.alloc();
+    for attr in [GenericAttr::Unit, GenericAttr::Text(TextId(5))] {
+        let kind = Generic::attr_kind(&attr);
+        assert!(rt; kind == 0 && attr_type::<Generic>(&attr).is_none());
+        assert!(rt; !Generic::attr_impls(kind, TYPED_ATTRIBUTE));
+        assert!(rt; !Generic::attr_impls(kind, OUTLINED_ATTRIBUTE));
+        assert!(rt; !Generic::attr_outline(&attr));
+        assert!(rt; Generic::copy_attr(alloc, &attr).expect(&rt, "memory") == attr);
+    }
+}
+
+#[test]
+fn dictionaries(rt: HostRuntime) {
+    let mut dict: AttributeDict<Generic> = AttributeDict::new(rt.alloc());
+    let text = GenericAttr::Text(TextId(5));
+    dict.set(properties_key(), text).expect(&rt, "memory");
+    dict.set(Identifier::new("flag"), GenericAttr::Unit)
+        .expect(&rt, "memory");
+    assert!(rt; dict.get::<GenericAttr>(&properties_key()) == Some(&text));
+    assert!(rt; dict.get::<GenericAttr>(&Identifier::new("flag")) == Some(&GenericAttr::Unit));
+    assert!(rt; dict.get::<GenericAttr>(&Identifier::new("other")).is_none());
+    if let Some(attr) = dict.get_mut::<GenericAttr>(&Identifier::new("flag")) {
+        *attr = text;
+    }
+    assert!(rt; dict.get::<GenericAttr>(&Identifier::new("flag")) == Some(&text));
+}
+
+#[test]
+fn types_and_saved(rt: HostRuntime) {
+    let alloc = rt.alloc();
+    let ty = GenericType(TextId(2));
+    assert!(rt; Generic::type_kind(&ty) == 0 && !Generic::type_impls(0, 16));
+    let bytes = Vec::from_slice(alloc, b"i32").expect(&rt, "memory");
+    let saved = GenericSaved(bytes).to_saved();
+    assert!(rt; Generic::saved_kind(&saved) == 0);
+    let found = GenericSaved::of_saved(&saved).expect(&rt, "a text");
+    assert!(rt; found.0.as_slice() == b"i32");
+}
+
+#[test]
+fn locations(rt: HostRuntime) {
+    assert!(rt; unknown_loc::<Generic>() == GenericLoc::Unknown);
+    assert!(rt; GenericLoc::default() == GenericLoc::Unknown);
+    assert!(rt; GenericLoc::Text(TextId(1)) != GenericLoc::Unknown);
+}
