@@ -1,5 +1,5 @@
 //! The words of the command line.
-ghost use Rattle.std.specs.Prelude.{◌≡◌, [], Some};
+ghost use Rattle.std.specs.Prelude.{◌≡◌, ◌↔◌, [], Some};
 
 /// How the input is taken.
 #[derive(Clone, Copy, Debug, Drop, PartialEq, Eq)]
@@ -11,17 +11,17 @@ pub enum Form {
 }
 
 impl Form {
-    /// What these words ask for: parts, where each is `--split-input-file`; none, where one is another word.
+    /// What these words ask for: with none the whole; parts, where each is `--split-input-file`; nothing, where one is another word.
     pub fn of_words(words: &[String]) -> Option<Form>
-        ensures { words.now ≡ [] → result ≡ Some Form.Whole }
+        ensures { (result ≡ Some Form.Whole) ↔ (words.now ≡ []) }
     {
-        let mut form = Form::Whole;
-        for word in words {
-            if word.as_str() != "--split-input-file" {
-                return None;
-            }
-            form = Form::Parts;
+        if words.is_empty() {
+            return Some(Form::Whole);
         }
-        Some(form)
+        if words.iter().all(|word| word.as_str() == "--split-input-file") {
+            Some(Form::Parts)
+        } else {
+            None
+        }
     }
 }

@@ -1,7 +1,8 @@
 //! The work of the program `irtext`.
-ghost use Rattle.std.specs.Prelude.{◌≡◌, ◌⊎◌, IfSome, IfErr, IfOk, OnOk, ◌≢◌};
-ghost use Rattle.std.specs.Io.KnownBytes.{Keeps};
+ghost use Rattle.std.specs.Prelude.{◌≡◌, ◌⊎◌, IfSome, IfErr, IfOk, OnOk, ◌≢◌, codes};
+ghost use Rattle.std.specs.Io.KnownBytes.{Keeps, Appends};
 ghost use Rattle.ir_text_run.specs.Faults.{StandsWithin};
+ghost use Rattle.ir_text_run.specs.Parts.{RespellsParts};
 ghost use Rattle.ir_text_run.specs.Respellings.{Respells, RespellsFront};
 
 use crate::fault::Fault;
@@ -96,12 +97,13 @@ fn spell_parts<W: Write, F: Write>(
     fault: &mut F,
 ) -> Result<u8, Fault>
     ensures status { IfOk result (λ s. (s ≡ 0) ⊎ (s ≡ 1)) }
+    ensures spelled { IfOk result (λ s. s ≡ 0 → RespellsParts text.now (W.contents output.old) (W.contents output.new)) }
     ensures error { IfErr result (λ e. e ≡ Fault.Unwritable) }
 {
     let mut worst = 0;
     let mut lines = 0u64;
     let mut rest = text;
-    for _ in 0..u64::MAX {
+    loop {
         let front = first_part(rest);
         let outcome = respell(alloc, front.part, output);
         match told(name, front.part, lines, outcome, fault) {
@@ -110,18 +112,18 @@ fn spell_parts<W: Write, F: Write>(
             _ => return Err(Fault::Unwritable),
         }
         let Some(behind) = front.rest else {
-            break;
+            flush(output)?;
+            return Ok(worst);
         };
-        write_marker(output)?;
+        write_divider(output)?;
         lines = lines.saturating_add(front.lines);
         rest = behind;
     }
-    flush(output)?;
-    Ok(worst)
 }
 
 // Writes the line between two parts.
-fn write_marker<W: Write>(output: &mut W) -> Result<(), Fault>
+fn write_divider<W: Write>(output: &mut W) -> Result<(), Fault>
+    ensures whole { OnOk result (Appends (W.contents output.old) (W.contents output.new) (codes "// -----\n")) }
     ensures error { IfErr result (λ e. e ≡ Fault.Unwritable) }
 {
     match output.write_all(b"// -----\n") {
@@ -142,6 +144,8 @@ pub fn run_parts<R: Read, W: Write, F: Write>(
 ) -> u8
     // No other status comes.
     ensures status { (result ≡ 0) ⊎ ((result ≡ 1) ⊎ (result ≡ 3)) }
+    // Under 0 each part of the input spells a tree none of whose names is wrong, and the output got the texts of these trees, with the line between each two.
+    ensures spelled { result ≡ 0 → IfSome (R.remaining input.old) (λ text. RespellsParts text (W.contents output.old) (W.contents output.new)) }
 {
     match read_input(alloc, input) {
         Ok(text) => match spell_parts(alloc, name, text.as_slice(), output, fault) {
@@ -162,6 +166,7 @@ pub fn run<R: Read, W: Write, F: Write>(
     fault: &mut F,
 ) -> u8
     ensures status { (result ≡ 0) ⊎ ((result ≡ 1) ⊎ (result ≡ 3)) }
+    ensures parts { form ≡ Form.Parts → result ≡ 0 → IfSome (R.remaining input.old) (λ text. RespellsParts text (W.contents output.old) (W.contents output.new)) }
     ensures spelled { form ≡ Form.Whole → result ≡ 0 → IfSome (R.remaining input.old) (λ text. Respells text (W.contents output.old) (W.contents output.new)) }
     ensures nothing_written { form ≡ Form.Whole → result ≡ 1 → output.new ≡ output.old }
     ensures front { form ≡ Form.Whole → result ≡ 3 → IfSome (R.remaining input.old) (λ text. RespellsFront text (W.contents output.old) (W.contents output.new)) }

@@ -1,17 +1,15 @@
 //! The parts of an input that lines `// -----` divide.
-ghost use Rattle.std.specs.Prelude.{◌≡◌, ◌<◌, ◌≤◌, length, IfSome};
-
-// The line between two parts.
-const MARKER: &[u8] = b"// -----";
+ghost use Rattle.std.specs.Prelude.{◌≡◌, ◌<◌, ◌≤◌, ◌↔◌, length, IfSome, IsTrue, MatchOption};
+ghost use Rattle.ir_text_run.specs.Parts.{IsDivider, IsDivided};
 
 /// The first part of an input.
 #[derive(Drop)]
 pub struct Front<'a> {
     /// The part: whole lines, but for the last of an input.
     pub part: &'a [u8],
-    /// The lines of the part and the line that ends it.
+    /// How many lines the part has, with the one that ends it.
     pub lines: u64,
-    /// What stands behind that line; none where no such line ends the part.
+    /// What stands behind the line that ends the part; none where no such line does.
     pub rest: Option<&'a [u8]>,
 }
 
@@ -27,23 +25,27 @@ fn line_end(text: &[u8], at: usize) -> usize
     }
 }
 
-// Whether a line is the one between two parts.
-fn is_marker(line: &[u8]) -> bool {
-    let line = line.strip_suffix(b"\n").unwrap_or(line);
-    let line = line.strip_suffix(b"\r").unwrap_or(line);
-    line == MARKER
+// Whether a line divides parts.
+fn is_divider(line: &[u8]) -> bool
+    ensures { IsTrue result → IsDivider line.now }
+{
+    line == b"// -----\n".as_slice()
+        || line == b"// -----\r\n".as_slice()
+        || line == b"// -----".as_slice()
+        || line == b"// -----\r".as_slice()
 }
 
 /// The first part of an input.
 pub fn first_part<'a>(text: &'a [u8]) -> Front<'a>
-    ensures { IfSome result.rest (λ rest. length rest.now < length text.now) }
+    ensures shorter { IfSome result.rest (λ rest. length rest.now < length text.now) }
+    ensures divided { MatchOption result.rest (result.part.now ≡ text.now) (λ rest. IsDivided text.now result.part.now rest.now) }
 {
     let mut at = 0;
     let mut lines = 0u64;
     while at < text.len() {
         let end = line_end(text, at);
         lines = lines.saturating_add(1);
-        if is_marker(&text[at..end]) {
+        if is_divider(&text[at..end]) {
             return Front {
                 part: &text[..at],
                 lines,
