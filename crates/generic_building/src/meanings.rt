@@ -101,7 +101,7 @@ impl<'a> Meanings<'a> {
         name: &'a [u8],
     ) -> Result<Kind, BuildError> {
         let kind = match table_kind(name) {
-            Some(row) => Ok(Kind::Listed { row }),
+            Some(kind) => Ok(Kind::of(kind)),
             None => self.open_kind(ctx, name),
         }?;
         self.kinds.insert(name, kind)?;

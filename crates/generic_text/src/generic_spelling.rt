@@ -22,12 +22,12 @@ fn write_text(
     Ok(())
 }
 
-// Writes the name of the operations in a row of the table.
-fn write_listed(row: u32, out: &mut Vec<u8>) -> Result<(), CoreError> {
-    if let Some(name) = kind_name(row) {
-        out.extend_from_slice(name.as_bytes())?;
+// Writes the name of an operation that isn't in the table; nothing of one that is.
+fn write_open(ctx: &Context<Generic>, kind: Kind, out: &mut Vec<u8>) -> Result<(), CoreError> {
+    match kind {
+        Kind::Listed { .. } => Ok(()),
+        Kind::Open { name, .. } => write_text(ctx, name, out),
     }
-    Ok(())
 }
 
 // Writes the value of an attribute that isn't unit.
@@ -96,9 +96,12 @@ impl Spelling<Generic> for GenericSpelling {
         kind: u32,
         out: &mut Vec<u8>,
     ) -> Result<(), CoreError> {
-        match Kind::of(kind) {
-            Kind::Listed { row } => write_listed(row, out),
-            Kind::Open { name, .. } => write_text(ctx, name, out),
+        match kind_name(kind) {
+            Some(name) => {
+                out.extend_from_slice(name)?;
+                Ok(())
+            }
+            None => write_open(ctx, Kind::of(kind), out),
         }
     }
 
