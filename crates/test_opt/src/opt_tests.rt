@@ -250,12 +250,13 @@ fn failing_streams(rt: HostRuntime) -> Result<(), Fail> {
 // How many regions stand in one another.
 const DEPTH: u32 = 100000;
 
-// A text with that many regions in one another.
+// A text with that many regions in one another, and an operation in the innermost that names no value.
 fn nest(alloc: Global) -> Result<Vec<u8>, AllocError> {
     let mut text = Vec::new(alloc);
     for _ in 0..DEPTH {
         text.extend_from_slice(b"\"t\"() ({")?;
     }
+    text.extend_from_slice(b"\n\"u\"(%x) : (i1) -> ()\n")?;
     for _ in 0..DEPTH {
         text.extend_from_slice(b"}) : () -> ()")?;
     }
@@ -263,14 +264,16 @@ fn nest(alloc: Global) -> Result<Vec<u8>, AllocError> {
 }
 
 #[test]
-fn deep_nest(rt: HostRuntime) -> Result<(), Fail> {
+fn deep_fault(rt: HostRuntime) -> Result<(), Fail> {
     let alloc = rt.alloc();
     let text = nest(alloc)?;
     let mut input = text.as_slice();
-    let mut output = io::sink();
+    let mut output = sink(alloc, 10000);
     let mut log = sink(alloc, 10000);
     let options = options(alloc, SWEEP)?;
-    assert_eq!(rt; run_opt(alloc, &options, &mut input, &mut output, &mut log), 0);
-    assert!(rt; log.taken.is_empty());
+    assert_eq!(rt; run_opt(alloc, &options, &mut input, &mut output, &mut log), 1);
+    assert!(rt; output.taken.is_empty());
+    let told = b"in:2:5: error: no value of this name is defined here\n";
+    assert_eq!(rt; log.taken.as_slice(), told.as_slice());
     Ok(())
 }
