@@ -3,11 +3,10 @@
 use crate::error::BuildError;
 use crate::made::{Block, Made, Room};
 use crate::meanings::Meanings;
-use ir_text_outline::Source;
 use generic_dialect::{Generic, GenericLoc, TextId};
 use ir_checked_core::basic_block;
 use ir_core_queries::Context;
-use ir_text_outline::Part;
+use ir_text_outline::{Part, Source};
 use std::alloc::{AllocError, Global};
 
 // Whether a part tells of an argument.

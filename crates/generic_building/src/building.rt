@@ -4,16 +4,12 @@ use crate::blocks::make_block;
 use crate::error::BuildError;
 use crate::made::{Block, Made, Op, Room};
 use crate::meanings::Meanings;
-use ir_text_outline::narrow;
 use crate::operations::{connect, make_op};
-use ir_text_outline::{OpRows, Outline, outline_of};
 use crate::regions::fill_regions;
-use ir_text_outline::Source;
 use crate::taking_back::take_back;
 use generic_dialect::Generic;
 use ir_core_queries::Context;
-use ir_text_outline::Names;
-use ir_text_outline::Row;
+use ir_text_outline::{Names, OpRows, Outline, Row, Source, narrow, outline_of};
 
 /// What was built of a text.
 #[derive(Drop)]
@@ -88,11 +84,7 @@ fn connect_all(
 }
 
 // Makes all.
-fn make_all(
-    ctx: &mut Context<Generic>,
-    source: Source,
-    made: &mut Made,
-) -> Result<(), BuildError> {
+fn make_all(ctx: &mut Context<Generic>, source: Source, made: &mut Made) -> Result<(), BuildError> {
     let alloc = ctx.alloc();
     let outline = outline_of(alloc, source.rows)?;
     let mut meanings = Meanings::new(alloc);

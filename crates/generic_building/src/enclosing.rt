@@ -42,11 +42,7 @@ fn fill(ctx: &mut Context<Generic>, module: Op, tops: &[Op]) -> Result<(), Build
 }
 
 // Makes a module of the operations.
-fn make_module(
-    ctx: &mut Context<Generic>,
-    kind: u32,
-    tops: &[Op],
-) -> Result<Op, BuildError> {
+fn make_module(ctx: &mut Context<Generic>, kind: u32, tops: &[Op]) -> Result<Op, BuildError> {
     let module = operation::new(ctx, kind, &[], &[], &[], 1)?;
     match fill(ctx, module, tops) {
         Ok(()) => Ok(module),

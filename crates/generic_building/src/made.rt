@@ -1,9 +1,9 @@
 //! What is made so far, and what an operation is made of.
 
-use ir_text_outline::narrow;
 use generic_dialect::{Generic, GenericAttr, TextId};
 use ir_base_dialects::{Ptr, TypeHandle};
 use ir_core_queries::{BasicBlock, Operation, Value};
+use ir_text_outline::narrow;
 use std::alloc::{AllocError, Global};
 
 /// An operation of the dialect.

@@ -43,11 +43,7 @@ impl<'a> Meanings<'a> {
     }
 
     // Saves a text.
-    fn save(
-        &mut self,
-        ctx: &mut Context<Generic>,
-        text: &'a [u8],
-    ) -> Result<TextId, BuildError> {
+    fn save(&mut self, ctx: &mut Context<Generic>, text: &'a [u8]) -> Result<TextId, BuildError> {
         let id = save_text(ctx, text)?;
         self.saved.insert(text, id)?;
         Ok(id)
@@ -123,7 +119,11 @@ impl<'a> Meanings<'a> {
     }
 
     /// The identifier of a key.
-    pub(crate) fn key_of(&mut self, alloc: Global, key: &'a [u8]) -> Result<Identifier, BuildError> {
+    pub(crate) fn key_of(
+        &mut self,
+        alloc: Global,
+        key: &'a [u8],
+    ) -> Result<Identifier, BuildError> {
         match self.keys.get(&key) {
             Some(identifier) => Ok(identifier.clone()?),
             None => self.make_key(alloc, key),

@@ -3,21 +3,14 @@
 use crate::error::BuildError;
 use crate::made::{Made, Op, Room};
 use crate::meanings::Meanings;
-use ir_text_outline::{OpRows, Outline};
-use ir_text_outline::Source;
 use generic_dialect::{Generic, GenericAttr, GenericLoc, TextId, properties_key};
 use ir_base_dialects::Identifier;
 use ir_checked_core::operation;
 use ir_core_queries::Context;
-use ir_text_outline::Part;
+use ir_text_outline::{OpRows, Outline, Part, Source};
 
 // The operand in this row, if what it names is made.
-fn read_operand(
-    source: Source,
-    made: &Made,
-    room: &mut Room,
-    at: usize,
-) -> Result<(), BuildError> {
+fn read_operand(source: Source, made: &Made, room: &mut Room, at: usize) -> Result<(), BuildError> {
     let Some(row) = source.definition(at) else {
         return Err(BuildError::NoTree);
     };
@@ -199,11 +192,7 @@ fn set_attributes<'a>(
 }
 
 // Sets the properties of an operation.
-fn set_properties(
-    ctx: &mut Context<Generic>,
-    room: &Room,
-    op: Op,
-) -> Result<(), BuildError> {
+fn set_properties(ctx: &mut Context<Generic>, room: &Room, op: Op) -> Result<(), BuildError> {
     match room.properties {
         None => Ok(()),
         Some(id) => set_attribute(ctx, op, properties_key(), GenericAttr::Text(id)),

@@ -2,11 +2,11 @@
 
 use crate::error::BuildError;
 use crate::made::{Made, Op};
-use ir_text_outline::{OpRows, Outline};
 use generic_dialect::Generic;
 use ir_base_dialects::Ptr;
 use ir_checked_core::{basic_block, operation};
 use ir_core_queries::{Context, Region};
+use ir_text_outline::{OpRows, Outline};
 
 // Puts a block before the others of a region, and answers the place of the block before it.
 fn put_block(

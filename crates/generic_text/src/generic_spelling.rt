@@ -11,11 +11,7 @@ use ir_core_queries::{Context, TypeQueries};
 use ir_text_dialect::{AttributeForm, Located, Spelling};
 
 // Writes a saved text; nothing where there is none.
-fn write_text(
-    ctx: &Context<Generic>,
-    id: TextId,
-    out: &mut Vec<u8>,
-) -> Result<(), CoreError> {
+fn write_text(ctx: &Context<Generic>, id: TextId, out: &mut Vec<u8>) -> Result<(), CoreError> {
     if let Some(text) = ctx.saved_at(id.index()) {
         out.extend_from_slice(text.0.as_slice())?;
     }

@@ -65,9 +65,9 @@ fn with_switches(alloc: Global, command: Command<'static>) -> Result<Command<'st
 
 // The command line.
 fn command(alloc: Global) -> Result<Command<'static>, AllocError> {
-    let command = Command::new(alloc, "ir_opt")
-        .version("0.1.0")
-        .about("Reads MLIR's generic textual form, runs passes and prints what comes of it");
+    let command = Command::new(alloc, "ir_opt").version("0.1.0").about(
+        "Reads MLIR's generic textual form, runs passes and prints what comes of it",
+    );
     with_switches(alloc, with_passes(alloc, with_files(alloc, command)?)?)
 }
 

@@ -8,12 +8,11 @@ use crate::command_line::{Request, request};
 use crate::replacing::replace_file;
 use ir_opt_run::run_opt;
 use std::alloc::Global;
-use std::env;
 use std::env::Env;
 use std::fs::File;
-use std::io;
 use std::io::{BufWriter, Write};
 use std::process::ExitCode;
+use std::{env, io};
 
 // How many bytes are written at once.
 const AT_ONCE: usize = 65536;
@@ -43,7 +42,13 @@ fn run_to<W: Write + Drop>(rt: &HostRuntime, request: &Request, output: W) -> u8
         return fail(rt, request.options.name, "out of memory", 1);
     };
     match request.input {
-        None => run_opt(alloc, &request.options, &mut rt.stdin(), &mut output, &mut log),
+        None => run_opt(
+            alloc,
+            &request.options,
+            &mut rt.stdin(),
+            &mut output,
+            &mut log,
+        ),
         Some(path) => match File::open(rt, path) {
             Ok(mut input) => run_opt(alloc, &request.options, &mut input, &mut output, &mut log),
             Err(_) => fail(rt, request.options.name, "unreadable input", 1),

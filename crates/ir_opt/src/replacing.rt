@@ -2,9 +2,8 @@
 
 use crate::command_line::Request;
 use crate::{fail, run_to};
-use std::fs;
 use std::fs::File;
-use std::process;
+use std::{fs, process};
 
 // Runs into a new file beside the one that is asked for, and puts it in its place where all goes well; the status.
 fn run_beside(rt: &HostRuntime, path: &str, beside: &str, request: &Request) -> u8 {

@@ -13,11 +13,7 @@ use std::alloc::Global;
 use std::io::Write;
 
 // Verifies, where it is asked for.
-fn verify_if(
-    ctx: &Context<Generic>,
-    options: &Options,
-    module: &Module,
-) -> Result<(), Fault> {
+fn verify_if(ctx: &Context<Generic>, options: &Options, module: &Module) -> Result<(), Fault> {
     if options.verifies_each {
         verify(ctx, module)
     } else {

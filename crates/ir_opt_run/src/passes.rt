@@ -57,11 +57,7 @@ fn sweep_all(ctx: &mut Context<Generic>, root: Op) -> Result<usize, Fault> {
 }
 
 /// Runs a pass, and answers how many operations it took out.
-pub(crate) fn run_pass(
-    ctx: &mut Context<Generic>,
-    root: Op,
-    pass: Pass,
-) -> Result<usize, Fault> {
+pub(crate) fn run_pass(ctx: &mut Context<Generic>, root: Op, pass: Pass) -> Result<usize, Fault> {
     match pass {
         Pass::Sweep => sweep_all(ctx, root),
     }

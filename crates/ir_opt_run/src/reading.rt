@@ -35,11 +35,7 @@ fn start_of(rows: &[Row], at: usize) -> u32 {
 }
 
 // The operations with the indices of their names in the text, for those with the rows of their names.
-fn places(
-    alloc: Global,
-    rows: &[Row],
-    ops: &[(Op, u32)],
-) -> Result<Vec<(Op, u32)>, AllocError> {
+fn places(alloc: Global, rows: &[Row], ops: &[(Op, u32)]) -> Result<Vec<(Op, u32)>, AllocError> {
     let mut places = Vec::with_capacity(alloc, ops.len())?;
     for (op, at) in ops {
         places.push((*op, start_of(rows, *at as usize)))?;
@@ -48,11 +44,7 @@ fn places(
 }
 
 // Builds the rows of a text, and notes where its operations stand.
-fn place_all(
-    ctx: &mut Context<Generic>,
-    rows: &[Row],
-    built: Built,
-) -> Result<Module, Fault> {
+fn place_all(ctx: &mut Context<Generic>, rows: &[Row], built: Built) -> Result<Module, Fault> {
     let root = enclose(ctx, built.tops.as_slice())?;
     let places = places(ctx.alloc(), rows, built.ops.as_slice())?;
     Ok(Module {

@@ -71,12 +71,7 @@ fn place_of_successor(ctx: &Context<Generic>, module: &Module) -> u32 {
 }
 
 // A fault of a block.
-fn block_fault(
-    ctx: &Context<Generic>,
-    module: &Module,
-    name: &Identifier,
-    what: Finding,
-) -> Fault {
+fn block_fault(ctx: &Context<Generic>, module: &Module, name: &Identifier, what: Finding) -> Fault {
     let at = place_of_block(ctx, module, name);
     Fault::Verifying { what, at }
 }

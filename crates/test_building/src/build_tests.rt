@@ -44,7 +44,10 @@ fn all_parts(rt: HostRuntime) -> Result<(), Fail> {
     assert_eq!(rt; built.ops.len(), 5);
     assert_eq!(rt; built.blocks.len(), 2);
     let two = operation::deref(built.tops[0], &ctx)?;
-    assert_eq!(rt; name_of(&ctx, two.kind()).ok_or("none")?, b"a.two".as_slice());
+    assert_eq!(rt;
+        name_of(&ctx, two.kind()).ok_or("none")?,
+        b"a.two".as_slice()
+    );
     assert_eq!(rt; two.get_num_results(), 2);
     assert_eq!(rt; two.get_num_operands(), 1);
     let late = operation::get_result(built.tops[1], &ctx, 0)?;

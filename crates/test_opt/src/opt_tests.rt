@@ -178,7 +178,10 @@ fn expect_row(rt: &impl Abort, alloc: Global, row: &Row) -> Result<(), Fail> {
     let mut output = sink(alloc, 10000);
     let mut log = sink(alloc, 10000);
     let options = options(alloc, asked)?;
-    assert_eq!(rt; run_opt(alloc, &options, &mut input, &mut output, &mut log), status);
+    assert_eq!(rt;
+        run_opt(alloc, &options, &mut input, &mut output, &mut log),
+        status
+    );
     assert_eq!(rt; output.taken.as_slice(), printed);
     assert_eq!(rt; log.taken.as_slice(), told);
     Ok(())
@@ -228,7 +231,10 @@ fn expect_failing(rt: &impl Abort, alloc: Global, row: &Failing) -> Result<(), F
     let mut output = sink(alloc, room);
     let mut log = sink(alloc, log_room);
     let options = options(alloc, PLAIN)?;
-    assert_eq!(rt; run_opt(alloc, &options, &mut input, &mut output, &mut log), status);
+    assert_eq!(rt;
+        run_opt(alloc, &options, &mut input, &mut output, &mut log),
+        status
+    );
     assert_eq!(rt; log.taken.as_slice(), told);
     if status == 1 {
         assert!(rt; output.taken.is_empty());
@@ -271,7 +277,10 @@ fn deep_fault(rt: HostRuntime) -> Result<(), Fail> {
     let mut output = sink(alloc, 10000);
     let mut log = sink(alloc, 10000);
     let options = options(alloc, SWEEP)?;
-    assert_eq!(rt; run_opt(alloc, &options, &mut input, &mut output, &mut log), 1);
+    assert_eq!(rt;
+        run_opt(alloc, &options, &mut input, &mut output, &mut log),
+        1
+    );
     assert!(rt; output.taken.is_empty());
     let told = b"in:2:5: error: no value of this name is defined here\n";
     assert_eq!(rt; log.taken.as_slice(), told.as_slice());
