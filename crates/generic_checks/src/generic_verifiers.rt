@@ -2,7 +2,7 @@
 
 ghost use Rattle.generic_checks.specs.GenericVerifiers.{generic_verifiers};
 
-use generic_dialect::{Generic, GenericAttr, GenericType};
+use generic_dialect::{Generic, GenericType, KeptAttr};
 use ir_verify_checks::{CheckErr, Context, OpObj, Verifiers};
 
 /// The checks of the dialect Generic. None finds anything, none is listed for any kind, and none takes memory.
@@ -40,7 +40,7 @@ impl Verifiers<Generic> for GenericVerifiers {
     fn check_attr_interface(
         &self,
         _number: u32,
-        _attr: &GenericAttr,
+        _attr: &KeptAttr,
         _ctx: &Context<Generic>,
     ) -> Result<(), CheckErr> {
         // No check of an attribute has a number.
@@ -62,7 +62,7 @@ impl Verifiers<Generic> for GenericVerifiers {
         Ok(())
     }
 
-    fn check_attr(&self, _attr: &GenericAttr, _ctx: &Context<Generic>) -> Result<(), CheckErr> {
+    fn check_attr(&self, _attr: &KeptAttr, _ctx: &Context<Generic>) -> Result<(), CheckErr> {
         // Attributes have no own check.
         Ok(())
     }

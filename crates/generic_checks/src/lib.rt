@@ -3,7 +3,7 @@
 
 mod generic_verifiers;
 
-pub use generic_dialect::{Generic, GenericAttr, GenericLoc, GenericSaved, GenericType};
+pub use generic_dialect::{Generic, GenericAttr, GenericLoc, GenericSaved, GenericType, KeptAttr};
 pub use generic_verifiers::GenericVerifiers;
 pub use ir_verify_checks::{
     BasicBlockVerifyErr, DefUseVerifyErr, VerifierErr, VerifyErr, verify_operation,

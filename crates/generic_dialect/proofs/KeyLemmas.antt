@@ -1,17 +1,18 @@
 -- Keys and their identifiers: the way there and back.
-use Rattle.std.proofs.Common.{◌≡◌, ◌≢◌, ◌⊎◌, ◌&&◌, ℕ, ◌<◌, ◌≤◌, Bool, true, false, not, cond, List, [], ◌∷◌, length, get_or, drop, Result, Ok, is_ok, IsAscii, IsUtf8, codes, refl, sym, ap, subst, ◌∙◌, inl, inr, ⊎_elim, true≢false, arith}
+use Rattle.std.proofs.Common.{◌≡◌, ◌⊎◌, ℕ, ◌<◌, ◌≤◌, Bool, true, false, not, cond, List, [], ◌∷◌, length, get_or, drop, Result, Ok, Err, is_ok, bytes_eq, IsAscii, IsUtf8, codes, refl, sym, ap, ◌∙◌, inl, inr, ⊎_elim, true≢false, arith}
 use Rattle.std.specs.List.{list_all}
 use Rattle.std.proofs.lemmas.Bool.{and_parts, and_from, cases_lt}
 use Rattle.std.proofs.lemmas.Grind.{common_steps}
 use Rattle.std.proofs.lemmas.List.{get_or_past}
 use Rattle.std.proofs.lemmas.List.Sums.{AllPass-from_list_all, list_all-from_AllPass}
+use Rattle.std.proofs.lemmas.Slice.Eq.{bytes_eq-Decides}
 use Rattle.std.proofs.lemmas.Str.{IsUtf8-from_ascii}
 use Rattle.hex.specs.Hex.{IsBytes, encode_lower, decode_of, is_hex_digit}
 use Rattle.hex.specs.declared.error.FromHexError.{FromHexError}
+use Rattle.hex.specs.declared.error.FromHexError.TheVariants as variants
 use Rattle.hex.proofs.HexLemmas.{decode_of-encode_lower, decode_of-ok}
 use Rattle.hex.proofs.OnLiterals.{hex_on_literals}
-use Rattle.ir_model.specs.Identifier.{IsIdentifier, is_identifier, can_continue}
-use Rattle.ir_base_identifiers.proofs.IdentifierLemmas.{is_identifier-can_continue}
+use Rattle.ir_model.specs.Identifier.{IsIdentifier, is_identifier, can_start, can_continue}
 use Rattle.generic_dialect.specs.Keys.{HasNoKey, is_marked, is_plain, key_name}
 
 -- what begins with `__` doesn't stand for itself
@@ -68,11 +69,20 @@ plain_identifier key plain = (and_parts (is_identifier key) (not (is_marked key)
 continues_ascii : (b : ℕ) → can_continue b ≡ true → b < 128
 continues_ascii b continues = grind (arith, common_steps)
 
+start_continues : (b : ℕ) → can_start b ≡ true → can_continue b ≡ true
+start_continues b starts = grind (arith, common_steps)
+
+identifier_continues : (key : List ℕ) → IsIdentifier key → list_all can_continue key ≡ true
+identifier_continues [] valid = absurd (true≢false (sym valid))
+identifier_continues (b ∷ bs) valid =
+    let both = and_parts (can_start b) (list_all can_continue bs) valid in
+    and_from (can_continue b) (list_all can_continue bs) (start_continues b both.0) both.1
+
 identifier_ascii : (key : List ℕ) → IsIdentifier key → IsAscii key
 identifier_ascii key valid i = by (cases_lt i (length key))
   where
     by : (i < length key) ⊎ (length key ≤ i) → get_or key i 0 < 128
-    by (inl lt) = continues_ascii (get_or key i 0) (AllPass-from_list_all can_continue key (is_identifier-can_continue key valid) i 0 lt)
+    by (inl lt) = continues_ascii (get_or key i 0) (AllPass-from_list_all can_continue key (identifier_continues key valid) i 0 lt)
     by (inr le) = let none = get_or_past key i 0 le in omega (arith, none)
 
 -- and so it is a text
@@ -102,3 +112,13 @@ pub other_decoded : (digits found : List ℕ) → decode_of digits ≡ ok_bytes 
 other_decoded digits found decoded other key bytes e =
     let same : found ≡ key = same_ok found key (sym decoded ∙ forth_back key digits bytes e) in
     other (ap key_name same ∙ e)
+
+-- how a refusal to decode is told
+pub not_decoded : (digits : List ℕ) (error : FromHexError) → (error ≡ variants.OutOfMemory → ⊥) → (error ≡ variants.OutOfMemory) ⊎ (decode_of digits ≡ Err error) → is_ok (decode_of digits) ≡ false
+not_decoded digits error other told = ⊎_elim (λ (e : error ≡ variants.OutOfMemory). absurd (other e)) (λ (e : decode_of digits ≡ Err error). ap is_ok e) told
+
+pub same_text : (a b : List ℕ) → bytes_eq a b ≡ true → a ≡ b
+same_text a b e = (bytes_eq-Decides a b).0 e
+
+pub other_text : (a b : List ℕ) → bytes_eq a b ≡ false → a ≡ b → ⊥
+other_text a b e f = true≢false (sym ((bytes_eq-Decides a b).1 f) ∙ e)

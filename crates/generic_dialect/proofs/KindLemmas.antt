@@ -1,11 +1,9 @@
 -- Kinds and their numbers, and which kinds are pure.
-use Rattle.std.proofs.Common.{◌≡◌, ◌≢◌, ℕ, ◌+◌, ◌-◌, ◌*◌, ◌/◌, ◌%◌, ◌<◌, ◌≤◌, ◌^◌, Bool, true, false, cond, nat_eq, nat_lt, Option, Some, None, is_some, slice_get, get_or, refl, sym, ap, ap₂, subst, ◌∙◌, true≢false, arith, ltb-false, ltb-true, lt-ltb, le-ltb, eqb-true, eq-eqb}
+use Rattle.std.proofs.Common.{◌≡◌, ℕ, ◌+◌, ◌-◌, ◌*◌, ◌/◌, ◌%◌, ◌<◌, ◌≤◌, ◌^◌, Bool, true, false, cond, nat_eq, nat_lt, Option, Some, None, slice_get, All, refl, sym, ap, ap₂, subst, ◌∙◌, true≢false, arith, ltb-false, lt-ltb, le-ltb, eqb-true, eq-eqb}
 use Rattle.std.proofs.lemmas.Option.{slice_get_within, get_or_from_slice_get}
-use Rattle.generic_table.specs.declared.traits.Traits.{Traits}
 use Rattle.generic_table.specs.Cut.{Operation}
 use Rattle.generic_table.specs.Safe.{IsSafe}
 use Rattle.generic_table.specs.Table.{operations}
-use Rattle.generic_table.proofs.TableFacts.{operations-IsSafe}
 use Rattle.generic_dialect.specs.declared.kinds.Kind.{Kind}
 use Rattle.generic_dialect.specs.declared.kinds.Kind.TheVariants.{Listed, Open}
 use Rattle.generic_dialect.specs.declared.texts.TextId.{TextId}
@@ -76,16 +74,19 @@ kind_back (Open name ends) number small e = by (nat_lt name.0 2147450880) ends e
     by true true e = ap kind_of (sym (some_same ((65536 + 2 * name.0) + 1) number e)) ∙ open_odd name.0 name refl
     by true false e = ap kind_of (sym (some_same (65536 + 2 * name.0) number e)) ∙ open_even name.0 name refl
 
-row_safe : (row : ℕ) (o : Option Operation) → slice_get operations row ≡ o → row_implements o 6 ≡ true → row_implements o 1 ≡ false
-row_safe row None at pure = refl
-row_safe row (Some o) at pure =
+abbrev AreSafe : Type 0
+AreSafe = All (λ (o : Operation). IsSafe o.1) operations
+
+row_safe : AreSafe → (row : ℕ) (o : Option Operation) → slice_get operations row ≡ o → row_implements o 6 ≡ true → row_implements o 1 ≡ false
+row_safe all row None at pure = refl
+row_safe all row (Some o) at pure =
     let within = slice_get_within operations row o at in
-    let safe = operations-IsSafe row o within in
+    let safe = all row o within in
     (subst (λ (q : Operation). IsSafe q.1) (get_or_from_slice_get operations row o o at) safe).ends_no_block pure
 
-kind_safe : (kind : Kind) → kind_implements kind 6 ≡ true → kind_implements kind 1 ≡ false
-kind_safe (Listed row) pure = row_safe row (slice_get operations row) refl pure
-kind_safe (Open name ends) pure = absurd (true≢false (sym pure))
+kind_safe : AreSafe → (kind : Kind) → kind_implements kind 6 ≡ true → kind_implements kind 1 ≡ false
+kind_safe all (Listed row) pure = row_safe all row (slice_get operations row) refl pure
+kind_safe all (Open name ends) pure = absurd (true≢false (sym pure))
 
-pub pure_safe : (kind : ℕ) → implements kind 6 ≡ true → implements kind 1 ≡ false
-pure_safe kind pure = kind_safe (kind_of kind) pure
+pub pure_safe : AreSafe → (kind : ℕ) → implements kind 6 ≡ true → implements kind 1 ≡ false
+pure_safe all kind pure = kind_safe all (kind_of kind) pure

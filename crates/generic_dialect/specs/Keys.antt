@@ -1,5 +1,5 @@
 -- Keys of attributes, and their identifiers.
-use Rattle.std.specs.Prelude.{◌≢◌, ℕ, Bool, true, false, ◌&&◌, ◌==◌, not, List, [], ◌∷◌, if◌then◌else◌}
+use Rattle.std.specs.Prelude.{◌≢◌, ℕ, Bool, false, ◌&&◌, ◌==◌, not, List, [], ◌∷◌, if◌then◌else◌}
 use Rattle.hex.specs.Hex.{IsBytes, encode_lower}
 use Rattle.ir_model.specs.Identifier.{is_identifier}
 

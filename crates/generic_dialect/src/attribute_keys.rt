@@ -1,8 +1,9 @@
 //! Keys of attributes as identifiers, so that no two keys meet.
 //!
 //! A key that is an identifier and doesn't begin with `__` stands for itself. Any other is `__` and two hexadecimal digits, of lower case, for each of its bytes.
-ghost use Rattle.std.specs.Prelude.{◌≡◌, ◌∷◌, codes, is_some, IfOk, IfSome, IsOkUnless, MatchOption, string_bytes};
-ghost use Rattle.hex.specs.Hex.{encode_lower};
+ghost use Rattle.std.specs.Prelude.{◌≡◌, ◌∷◌, codes, false, is_ok, is_some, Ok, IfOk, IfSome, IsOkUnless, MatchOption, string_bytes};
+ghost use Rattle.std.specs.Str.{bytes_eq};
+ghost use Rattle.hex.specs.Hex.{decode_of, encode_lower};
 ghost use Rattle.generic_dialect.specs.Keys.{HasNoKey, is_marked, is_plain, key_name};
 
 use hex::FromHexError;
@@ -66,19 +67,41 @@ pub fn key_identifier(alloc: Global, key: &[u8]) -> Result<Identifier, CoreError
     }
 }
 
+// The bytes of which these are the digits, where they are digits.
+fn decoded(alloc: Global, digits: &[u8]) -> Result<Option<Vec<u8>>, CoreError>
+    ensures bytes { IfOk result (λ found. MatchOption found (is_ok (decode_of digits.now) ≡ false) (λ bytes. decode_of digits.now ≡ Ok bytes.items)) }
+    ensures refused { IsOkUnless result CoreError.OutOfMemory }
+{
+    match hex::decode(alloc, digits) {
+        Ok(bytes) => Ok(Some(bytes)),
+        Err(error) => match error {
+            FromHexError::OutOfMemory => Err(CoreError::OutOfMemory),
+            FromHexError::InvalidHexCharacter { .. } => Ok(None),
+            FromHexError::OddLength => Ok(None),
+            FromHexError::InvalidStringLength => Ok(None),
+        },
+    }
+}
+
+// Whether the identifier is that of the key.
+fn is_name_of(alloc: Global, name: &Identifier, key: &[u8]) -> Result<bool, CoreError>
+    ensures same { IfOk result (λ same. same ≡ bytes_eq (key_name key.now) name.now) }
+    ensures refused { IsOkUnless result CoreError.OutOfMemory }
+{
+    let found = key_identifier(alloc, key)?;
+    Ok(found == *name)
+}
+
 // The key of an identifier that begins with `__`, of which these are the further bytes.
 fn marked_key(alloc: Global, name: &Identifier, digits: &[u8]) -> Result<Option<Vec<u8>>, CoreError>
     requires { name.now ≡ 95 ∷ 95 ∷ digits.now }
     ensures key { IfOk result (λ found. MatchOption found (HasNoKey name.now) (λ key. key_name key.items ≡ name.now)) }
     ensures refused { IsOkUnless result CoreError.OutOfMemory }
 {
-    let key = match hex::decode(alloc, digits) {
-        Ok(key) => key,
-        Err(FromHexError::OutOfMemory) => return Err(CoreError::OutOfMemory),
-        Err(_) => return Ok(None),
+    let Some(key) = decoded(alloc, digits)? else {
+        return Ok(None);
     };
-    let back = key_identifier(alloc, key.as_slice())?;
-    if back == *name {
+    if is_name_of(alloc, name, key.as_slice())? {
         Ok(Some(key))
     } else {
         Ok(None)

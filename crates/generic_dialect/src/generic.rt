@@ -17,7 +17,7 @@ use std::alloc::Global;
 #[derive(Drop)]
 pub struct Generic;
 
-/// An attribute.
+/// An attribute: its text, or none.
 #[derive(Clone, Copy, Debug, Drop, PartialEq, Eq, Hash)]
 pub enum GenericAttr {
     /// No text: the key alone says it.
@@ -25,6 +25,10 @@ pub enum GenericAttr {
     /// A text.
     Text(TextId),
 }
+
+/// An attribute as a dictionary keeps it.
+#[derive(Clone, Copy, Debug, Drop, PartialEq, Eq, Hash)]
+pub struct KeptAttr(pub GenericAttr);
 
 /// The uniqued part of a type: its text.
 #[derive(Clone, Copy, Debug, Drop, PartialEq, Eq, Hash)]
@@ -73,7 +77,7 @@ fn open_implements(ends: bool, interface: u32) -> bool
 impl Dialects for Generic {
     ghost use Rattle.generic_dialect.specs.declared.generic.GenericLoc.TheVariants as loc;
 
-    type Attr = GenericAttr;
+    type Attr = KeptAttr;
 
     type TypeKey = GenericType;
 
@@ -123,7 +127,7 @@ impl Dialects for Generic {
         }
     }
 
-    fn attr_kind(_attr: &GenericAttr) -> u32 {
+    fn attr_kind(_attr: &KeptAttr) -> u32 {
         0
     }
 
@@ -153,15 +157,15 @@ impl Dialects for Generic {
         }
     }
 
-    fn attr_outline(_attr: &GenericAttr) -> bool {
+    fn attr_outline(_attr: &KeptAttr) -> bool {
         false
     }
 
-    fn attr_type(_attr: &GenericAttr) -> Option<TypeHandle> {
+    fn attr_type(_attr: &KeptAttr) -> Option<TypeHandle> {
         None
     }
 
-    fn copy_attr(_alloc: Global, attr: &GenericAttr) -> Result<GenericAttr, CoreError> {
+    fn copy_attr(_alloc: Global, attr: &KeptAttr) -> Result<KeptAttr, CoreError> {
         Ok(*attr)
     }
 
@@ -204,22 +208,22 @@ impl Attribute<Generic> for GenericAttr {
 
     const KIND: u32 = 0;
 
-    ghost attr_of = { λ a. a };
+    ghost attr_of = { λ a. record { 0 = a } };
 
-    ghost value_of = { Some };
+    ghost value_of = { λ attribute. Some attribute.0 };
 
-    ghost with_value = { λ attribute a. a };
+    ghost with_value = { λ attribute a. record { 0 = a } };
 
-    fn into_attr(self) -> GenericAttr {
-        self
+    fn into_attr(self) -> KeptAttr {
+        KeptAttr(self)
     }
 
-    fn of_attr(attr: &GenericAttr) -> Option<&GenericAttr> {
-        Some(attr)
+    fn of_attr(attr: &KeptAttr) -> Option<&GenericAttr> {
+        Some(&attr.0)
     }
 
-    fn of_attr_mut(attr: &mut GenericAttr) -> Option<&mut GenericAttr> {
-        Some(attr)
+    fn of_attr_mut(attr: &mut KeptAttr) -> Option<&mut GenericAttr> {
+        Some(&mut attr.0)
     }
 
     ghost given_back = { λ a. refl };

@@ -4,6 +4,8 @@ ghost use Rattle.generic_dialect.specs.Kinds.{kind_of, number_of, IsKind};
 ghost use Rattle.generic_dialect.specs.Implemented.{implements};
 ghost use Rattle.generic_dialect.specs.declared.kinds.Kind.{Kind};
 
+use generic_table::laws::pure_operations_are_safe;
+
 /// A number stands for one kind, and a kind that has a number has one alone.
 pub fn kinds_and_numbers()
     ensures there { (number : ℕ) → number < 2 ^ 32 → number_of (kind_of number) ≡ Some number }
@@ -13,4 +15,6 @@ pub fn kinds_and_numbers()
 /// A kind that is pure ends no block.
 pub fn pure_kinds_are_safe()
     ensures { (kind : ℕ) → implements kind 6 ≡ true → implements kind 1 ≡ false }
-{}
+{
+    pure_operations_are_safe();
+}

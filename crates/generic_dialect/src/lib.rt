@@ -12,7 +12,7 @@ mod saved;
 mod texts;
 
 pub use attribute_keys::{key_bytes, key_identifier, properties_key};
-pub use generic::{Generic, GenericAttr, GenericLoc, GenericSaved, GenericType};
+pub use generic::{Generic, GenericAttr, GenericLoc, GenericSaved, GenericType, KeptAttr};
 pub use kinds::{Kind, OPEN_KINDS, OPEN_NAMES, kind_name, table_kind};
 pub use texts::TextId;
 

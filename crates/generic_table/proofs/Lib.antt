@@ -1,3 +1,3 @@
 mod CutLemmas
 mod RisingLemmas
-pub mod TableFacts
+mod TableFacts

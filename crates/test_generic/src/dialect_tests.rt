@@ -1,7 +1,7 @@
 //! Types, attributes, locations and saved data of the dialect Generic.
 
 use generic_dialect::{
-    Generic, GenericAttr, GenericLoc, GenericSaved, GenericType, TextId, properties_key,
+    Generic, GenericAttr, GenericLoc, GenericSaved, GenericType, KeptAttr, TextId, properties_key,
 };
 use ir_base_dialects::attribute::{AttributeDict, attr_type};
 use ir_base_dialects::interfaces::{OUTLINED_ATTRIBUTE, TYPED_ATTRIBUTE};
@@ -38,12 +38,13 @@ fn places_of_texts(rt: HostRuntime) {
 fn attributes(rt: HostRuntime) {
     let alloc = rt.alloc();
     for attr in [GenericAttr::Unit, GenericAttr::Text(TextId(5))] {
-        let kind = Generic::attr_kind(&attr);
-        assert!(rt; kind == 0 && attr_type::<Generic>(&attr).is_none());
+        let kept = KeptAttr(attr);
+        let kind = Generic::attr_kind(&kept);
+        assert!(rt; kind == 0 && attr_type::<Generic>(&kept).is_none());
         assert!(rt; !Generic::attr_impls(kind, TYPED_ATTRIBUTE));
         assert!(rt; !Generic::attr_impls(kind, OUTLINED_ATTRIBUTE));
-        assert!(rt; !Generic::attr_outline(&attr));
-        assert!(rt; Generic::copy_attr(alloc, &attr).expect(&rt, "memory") == attr);
+        assert!(rt; !Generic::attr_outline(&kept));
+        assert!(rt; Generic::copy_attr(alloc, &kept).expect(&rt, "memory") == kept);
     }
 }
 
@@ -72,7 +73,7 @@ fn types_and_saved(rt: HostRuntime) {
     let saved = GenericSaved(bytes).to_saved();
     assert!(rt; Generic::saved_kind(&saved) == 0);
     let found = GenericSaved::of_saved(&saved).expect(&rt, "a text");
-    assert!(rt; found.0.as_slice() == b"i32");
+    assert!(rt; found.0.as_slice() == b"i32".as_slice());
 }
 
 #[test]
