@@ -1,0 +1,50 @@
+-- Records before and after blocks were swept: how many operations went.
+use mathlib.Core.Path.{◌≡◌}
+use Rattle.std.proofs.Common.{ℕ, ◌-◌, ◌≤◌, ◌<◌, arith}
+use Rattle.ir_model.specs.declared.ids.ArenaIndex.{ArenaIndex}
+use Rattle.ir_model.specs.ContextIds.{context_ids}
+use Rattle.ir_model.specs.Forest.{Behaviour, Entity, an_op, a_block}
+use Rattle.ir_model.specs.Nesting.{Nested, WellFormed, ops_of}
+use Rattle.ir_model.specs.Arenas.{arena_len}
+use Rattle.ir_model.specs.Dead.{Sweeps}
+use Rattle.ir_model.proofs.Nests.{In-map}
+use Rattle.ir_model_passes.specs.SweepInside.{SweepsInside, SweepsBlocks, NoneIsClosedInside}
+use Rattle.ir_model_passes.specs.PassLaws.{BlocksSweepInside, SweepInsideIsOne}
+use Rattle.ir_core_records.specs.declared.records.Records.{Records}
+use Rattle.ir_core_records.specs.Meaning.{closed, forest_in, op_record, block_record}
+use Rattle.ir_core_records.specs.Tree.{tree_of, ops_in, blocks_in}
+use Rattle.ir_run_passes.specs.Walks.{CanBeSwept}
+use Rattle.ir_run_passes.proofs.LiveIds.{IsKeptIn, kept_by, fewer_live}
+use Rattle.ir_run_passes.proofs.Swept.{op_was, closed_gone}
+use Rattle.ir_run_passes.proofs.Counted.{so_many, is_counted}
+
+module _ {D A K S X L C : Type 0} where
+  ops_kept : (t : Records D A K C S X L) → IsKeptIn (forest_in t).ops t.ops
+  ops_kept t = kept_by (λ _. op_record) t.ops
+
+  blocks_kept : (t : Records D A K C S X L) → IsKeptIn (forest_in t).blocks t.blocks
+  blocks_kept t = kept_by (λ b. block_record (ops_in (tree_of t) b)) t.blocks
+
+  regions_kept : (t : Records D A K C S X L) → IsKeptIn (forest_in t).regions t.regions
+  regions_kept t = kept_by (λ g _. blocks_in (tree_of t) g) t.regions
+
+  -- a block is swept of which something could go: fewer operations are live
+  pub sweep_takes : (B : Behaviour (closed A K C S X L)) (t u : Records D A K C S X L) (b : ArenaIndex) (count : ℕ) → Nested (forest_in t) → Sweeps B (forest_in t) b (forest_in u) count → CanBeSwept B (forest_in t) b → arena_len u.ops < arena_len t.ops
+  sweep_takes B t u b count n s can =
+      fewer_live (forest_in t) (forest_in u) t.ops u.ops (ops_kept t) (ops_kept u) (op_was B (forest_in t) (forest_in u) b count n s) can.0
+      (n.live (an_op can.0) (a_block b) (In-map an_op can.0 (ops_of (forest_in t) b) can.1))
+      (closed_gone B (forest_in t) (forest_in u) b count n s can.0 can.1 can.2.is_pure can.2.closed)
+
+  module _ (steps : BlocksSweepInside (closed A K C S X L)) (one : SweepInsideIsOne (closed A K C S X L)) (B : Behaviour (closed A K C S X L)) (t u : Records D A K C S X L) (keys : ℕ) (root : Entity context_ids)
+      (formed : WellFormed (forest_in t) keys) (swept : SweepsBlocks B root (forest_in t) (forest_in u)) (none : NoneIsClosedInside B root (forest_in u)) (before after : ℕ) (was : before ≡ arena_len t.ops) (is : after ≡ arena_len u.ops) where
+    -- no more are live than were
+    pub not_more : after ≤ before
+    not_more =
+        let e = (so_many steps one B (forest_in t) (forest_in u) keys root formed t.ops t.blocks t.regions (ops_kept t) (blocks_kept t) (regions_kept t) u.ops (ops_kept u) swept none).2 in
+        omega (arith, e, was, is)
+
+    -- and so many are gone
+    pub so_many_gone : SweepsInside B (forest_in t) root (forest_in u) (before - after)
+    so_many_gone =
+        let less = not_more in
+        is_counted steps one B (forest_in t) (forest_in u) keys root formed t.ops t.blocks t.regions (ops_kept t) (blocks_kept t) (regions_kept t) u.ops (ops_kept u) swept none (before - after) (omega (arith, less, was, is))
