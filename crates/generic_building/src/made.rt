@@ -64,7 +64,8 @@ impl Made {
 
     /// The block of a label, or of the region that begins with that row.
     pub(crate) fn add_block(&mut self, row: usize, block: Block) -> Result<(), AllocError> {
-        self.put_number(row, self.blocks.len());
+        let number = self.blocks.len();
+        self.put_number(row, number);
         self.blocks.push(block)?;
         Ok(())
     }
@@ -77,7 +78,8 @@ impl Made {
 
     /// The values that are put next stand under the name in that row.
     pub(crate) fn begin_values(&mut self, row: usize, ahead: usize) {
-        self.put_number(row, self.values.len().saturating_add(ahead));
+        let number = self.values.len().saturating_add(ahead);
+        self.put_number(row, number);
     }
 
     /// A value is made.

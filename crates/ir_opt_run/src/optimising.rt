@@ -39,7 +39,7 @@ fn run_one<F: Write>(
     pass: Pass,
     log: &mut F,
 ) -> Result<(), Fault> {
-    let gone = run_pass(ctx, module.root, pass)?;
+    let gone = run_pass(ctx, module.root, pass);
     tell_if(options, pass, gone, log);
     verify_if(ctx, options, module)
 }
