@@ -1,5 +1,5 @@
 //! The parts of the dialect Generic as texts.
-ghost use Rattle.std.specs.Prelude.{◌≡◌, ◌++◌, [], OnOk, IfOk, codes, drop, is_some, unwrap_or, slice_get};
+ghost use Rattle.std.specs.Prelude.{◌≡◌, ◌++◌, [], OnOk, IfOk, codes, drop, is_some, unwrap_or, option_and_then, slice_get, Some};
 ghost use Rattle.std.specs.Option.{option_copied, option_map};
 ghost use Rattle.hex.specs.Hex.{decode_of};
 ghost use Rattle.ir_model.specs.Stores.{attribute_at};
@@ -8,7 +8,8 @@ ghost use Rattle.generic_dialect.specs.Kinds.{kind_of, listed_name};
 ghost use Rattle.generic_text.specs.GenericTexts.{attribute_of, decoded, joined, known, name_of, open_name, place_of, properties_of, text_at, the_key, type_text};
 
 use generic_dialect::{
-    Generic, GenericAttr, GenericLoc, GenericType, Kind, TextId, kind_name, properties_key,
+    Generic, GenericAttr, GenericLoc, GenericType, KeptAttr, Kind, TextId, kind_name,
+    properties_key,
 };
 use hex::FromHexError;
 use ir_base_dialects::attribute::AttributeDict;
@@ -133,9 +134,9 @@ impl Spelling<Generic> for GenericSpelling {
 
     ghost type_text = { λ _ s place. type_text (bare s).beside.saved (option_map (λ t. t.key) (slice_get (types_of s) place)) };
 
-    ghost attribute_text = { λ _ s name attr. attribute_of (bare s).beside.saved (the_key name) attr };
+    ghost attribute_text = { λ _ s name attr. attribute_of (bare s).beside.saved (the_key name) attr.0 };
 
-    ghost properties_text = { λ _ s attributes. properties_of (bare s).beside.saved (attribute_at attributes (codes "__properties")) };
+    ghost properties_text = { λ _ s attributes. properties_of (bare s).beside.saved (option_and_then (λ a. Some a.0) (attribute_at attributes (codes "__properties"))) };
 
     ghost location_text = { λ _ s loc of. known (bare s).beside.saved (place_of loc of) };
 
@@ -168,7 +169,7 @@ impl Spelling<Generic> for GenericSpelling {
         &self,
         ctx: &Context<Generic>,
         key: &Identifier,
-        attr: &GenericAttr,
+        attr: &KeptAttr,
         key_out: &mut Vec<u8>,
         value_out: &mut Vec<u8>,
     ) -> Result<AttributeForm, CoreError> {
@@ -176,7 +177,7 @@ impl Spelling<Generic> for GenericSpelling {
             None => Ok(AttributeForm::Property),
             Some(bytes) => {
                 key_out.extend_from_slice(bytes.as_slice())?;
-                write_value(ctx, *attr, value_out)
+                write_value(ctx, attr.0, value_out)
             }
         }
     }
