@@ -12,3 +12,4 @@ pub use fault::Fault;
 pub use form::Form;
 pub use respelling::respell;
 pub use running::{run, run_parts, run_text};
+pub use text_parts::{Front, first_part};

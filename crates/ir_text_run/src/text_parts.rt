@@ -4,13 +4,13 @@ ghost use Rattle.ir_text_run.specs.Parts.{IsDivider, IsDivided};
 
 /// The first part of an input.
 #[derive(Drop)]
-pub(crate) struct Front<'a> {
+pub struct Front<'a> {
     /// The part: whole lines, but for the last of an input.
-    pub(crate) part: &'a [u8],
+    pub part: &'a [u8],
     /// How many lines the part has, with the one that ends it.
-    pub(crate) lines: u64,
+    pub lines: u64,
     /// What stands behind the line that ends the part; none where no such line does.
-    pub(crate) rest: Option<&'a [u8]>,
+    pub rest: Option<&'a [u8]>,
 }
 
 // The index behind the line that begins there, with its line feed.
@@ -36,7 +36,7 @@ fn is_divider(line: &[u8]) -> bool
 }
 
 /// The first part of an input.
-pub(crate) fn first_part<'a>(text: &'a [u8]) -> Front<'a>
+pub fn first_part<'a>(text: &'a [u8]) -> Front<'a>
     ensures shorter { IfSome result.rest (λ rest. length rest.now < length text.now) }
     ensures divided { MatchOption result.rest (result.part.now ≡ text.now) (λ rest. IsDivided text.now result.part.now rest.now) }
 {

@@ -1,0 +1,6 @@
+//! How the dialect `Generic` is spelled in MLIR's generic textual form: by the texts that are saved in the context.
+#![tactic(auto)]
+
+mod generic_spelling;
+
+pub use generic_spelling::GenericSpelling;

@@ -1,0 +1,113 @@
+//! What the command line asks for.
+
+use clap::{Arg, ArgAction, ArgMatches, Command, Error};
+use ir_opt_run::{Options, Pass};
+use std::alloc::{AllocError, Global};
+
+/// What the command line asks for.
+#[derive(Drop)]
+pub struct Request<'a> {
+    /// The file to read; none for standard input.
+    pub input: Option<&'a str>,
+    /// The file to write; none for standard output.
+    pub output: Option<&'a str>,
+    /// What to do.
+    pub options: Options<'a>,
+}
+
+// A switch that may be given once and again.
+fn switch(alloc: Global, name: &'static str, help: &'static str) -> Arg<'static> {
+    Arg::new(alloc, name)
+        .long(name)
+        .help(help)
+        .action(ArgAction::Count)
+}
+
+// The arguments that are files.
+fn with_files(alloc: Global, command: Command<'static>) -> Result<Command<'static>, AllocError> {
+    let input = Arg::new(alloc, "FILE")
+        .help("The text to read; standard input where it is `-` or absent")
+        .action(ArgAction::Set);
+    let output = Arg::new(alloc, "output")
+        .short('o')
+        .value_name("FILE")
+        .help("The file to write; it stays as it was unless all goes well")
+        .action(ArgAction::Set);
+    command.arg(input)?.arg(output)
+}
+
+// The switches that are passes.
+fn with_passes(alloc: Global, command: Command<'static>) -> Result<Command<'static>, AllocError> {
+    command.arg(switch(alloc, "sweep", "Dead operations go"))
+}
+
+// The other switches.
+fn with_switches(alloc: Global, command: Command<'static>) -> Result<Command<'static>, AllocError> {
+    command
+        .arg(switch(
+            alloc,
+            "split-input-file",
+            "The input has texts that lines `// -----` divide",
+        ))?
+        .arg(switch(
+            alloc,
+            "verify-each",
+            "Verify behind reading and each pass; so it is without this word too",
+        ))?
+        .arg(switch(alloc, "no-verify-each", "Don't verify"))?
+        .arg(switch(
+            alloc,
+            "pass-statistics",
+            "Tell on standard error what each pass did",
+        ))?
+        .arg(switch(alloc, "print-locations", "Print locations"))
+}
+
+// The command line.
+fn command(alloc: Global) -> Result<Command<'static>, AllocError> {
+    let command = Command::new(alloc, "ir_opt").version("0.1.0").about(
+        "Reads MLIR's generic textual form, runs passes and prints what comes of it",
+    );
+    with_switches(alloc, with_passes(alloc, with_files(alloc, command)?)?)
+}
+
+// A file that isn't `-`.
+fn file<'a>(matches: &ArgMatches<'a>, id: &str) -> Option<&'a str> {
+    let name = matches.get_str(id)?;
+    if name == "-" { None } else { Some(name) }
+}
+
+// The passes, in the order in which they are named.
+fn passes(alloc: Global, matches: &ArgMatches) -> Result<Vec<Pass>, AllocError> {
+    let mut passes = Vec::new(alloc);
+    for _ in 0..matches.get_count("sweep") {
+        passes.push(Pass::Sweep)?;
+    }
+    Ok(passes)
+}
+
+// What the matches ask for.
+fn asked<'a>(alloc: Global, matches: &ArgMatches<'a>) -> Result<Request<'a>, AllocError> {
+    let input = file(matches, "FILE");
+    Ok(Request {
+        input,
+        output: file(matches, "output"),
+        options: Options {
+            name: input.unwrap_or("-"),
+            passes: passes(alloc, matches)?,
+            splits_input: matches.get_count("split-input-file") > 0,
+            verifies_each: matches.get_count("no-verify-each") == 0,
+            tells_statistics: matches.get_count("pass-statistics") > 0,
+            prints_locations: matches.get_count("print-locations") > 0,
+        },
+    })
+}
+
+/// What the words of the command line ask for.
+///
+/// # Errors
+/// Help and the version, where they are asked for; words that mean nothing; and want of memory.
+pub fn request<'a>(alloc: Global, words: &'a [String]) -> Result<Request<'a>, Error> {
+    let matches = command(alloc)?.try_get_matches_from(words)?;
+    Ok(asked(alloc, &matches)?)
+}

@@ -1,0 +1,34 @@
+//! What is asked of the program.
+
+/// A pass.
+#[derive(Clone, Copy, Debug, Drop, PartialEq, Eq)]
+pub enum Pass {
+    /// Dead operations go, anywhere inside.
+    Sweep,
+}
+
+impl Pass {
+    /// The word that asks for it, without its dashes.
+    pub fn name(self) -> &'static str {
+        match self {
+            Pass::Sweep => "sweep",
+        }
+    }
+}
+
+/// What is asked of the program.
+#[derive(Debug, Drop)]
+pub struct Options<'a> {
+    /// The name of the input, for what is told of it.
+    pub name: &'a str,
+    /// The passes, in the order in which they run.
+    pub passes: Vec<Pass>,
+    /// The input has parts that lines `// -----` divide, each a text of its own.
+    pub splits_input: bool,
+    /// What was read is verified, and again behind each pass.
+    pub verifies_each: bool,
+    /// What each pass did is told.
+    pub tells_statistics: bool,
+    /// Locations are printed.
+    pub prints_locations: bool,
+}

@@ -1,0 +1,94 @@
+//! What is built: the text, its rows and what their names mean.
+
+use ir_text_names::Names;
+use ir_text_tree::{Part, Row, Span};
+
+/// The text, its rows and what their names mean.
+#[derive(Clone, Copy)]
+pub struct Source<'a> {
+    pub text: &'a [u8],
+    pub rows: &'a [Row],
+    pub names: &'a Names,
+}
+
+// The row that another one names.
+fn named(table: &Vec<Option<usize>>, at: usize) -> Option<usize> {
+    match table.get(at) {
+        Some(row) => *row,
+        None => None,
+    }
+}
+
+impl<'a> Source<'a> {
+    /// What the row is; past the end the end of a region.
+    pub fn part(self, at: usize) -> Part {
+        match self.rows.get(at) {
+            Some(row) => row.part,
+            None => Part::Close,
+        }
+    }
+
+    /// The piece of the text that the row is; nothing past the end.
+    pub fn piece(self, at: usize) -> &'a [u8] {
+        match self.rows.get(at) {
+            Some(row) => piece(self.text, row.span),
+            None => &self.text[..0],
+        }
+    }
+
+    /// The piece of the text that the row is, without its quotes.
+    pub fn unquoted(self, at: usize) -> &'a [u8] {
+        match self.piece(at) {
+            [b'"', inner @ .., b'"'] => inner,
+            piece => piece,
+        }
+    }
+
+    /// The row of the definition that an operand names.
+    pub fn definition(self, at: usize) -> Option<usize> {
+        named(&self.names.values, at)
+    }
+
+    /// The row of the block that a successor names.
+    pub fn block(self, at: usize) -> Option<usize> {
+        named(&self.names.blocks, at)
+    }
+
+    /// Which of the values under its name an operand is.
+    pub fn index(self, at: usize) -> usize {
+        let behind = at.saturating_add(1);
+        match self.part(behind) {
+            Part::Index => number(self.piece(behind)),
+            _ => 0,
+        }
+    }
+
+    /// How many values stand under the name of a result.
+    pub fn width(self, at: usize) -> usize {
+        let behind = at.saturating_add(1);
+        match self.part(behind) {
+            Part::Count => number(self.piece(behind)),
+            _ => 1,
+        }
+    }
+}
+
+// The piece of a text, as far as it lies in the text.
+fn piece(text: &[u8], span: Span) -> &[u8] {
+    let end = text.len().min(span.end as usize);
+    let start = end.min(span.start as usize);
+    &text[start..end]
+}
+
+// The number that the digits of a piece make, as far as it can be held.
+fn number(piece: &[u8]) -> usize {
+    let mut number: usize = 0;
+    for byte in piece {
+        if byte.is_ascii_digit() {
+            number = number
+                .saturating_mul(10)
+                .saturating_add(byte.saturating_sub(b'0') as usize);
+        }
+    }
+    number
+}

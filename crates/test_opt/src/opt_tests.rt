@@ -1,0 +1,288 @@
+// What `run_opt` prints and tells, and its status.
+use ir_opt_run::{Options, Pass, run_opt};
+use std::alloc::{AllocError, Global};
+use std::io;
+use std::io::{ErrorKind, Read, Write};
+use std::process::Abort;
+use std::test::Fail;
+
+// Gives its bytes, and then fails, if it is to.
+#[derive(Drop)]
+struct Source {
+    left: &'static [u8],
+    failure: Option<ErrorKind>,
+}
+
+impl Read for Source {
+    fn read(&mut self, buf: &mut [u8]) -> io::Result<usize> {
+        match self.failure {
+            Some(kind) if self.left.is_empty() => Err(io::Error::from(kind)),
+            _ => self.left.read(buf),
+        }
+    }
+}
+
+// Takes so many bytes, and then fails.
+#[derive(Drop)]
+struct Sink {
+    taken: Vec<u8>,
+    room: usize,
+}
+
+impl Write for Sink {
+    fn write(&mut self, buf: &[u8]) -> io::Result<usize> {
+        let count = self.room.min(buf.len());
+        if count == 0 && !buf.is_empty() {
+            return Err(io::Error::from(ErrorKind::BrokenPipe));
+        }
+        self.room = self.room.saturating_sub(count);
+        self.taken.write(&buf[..count])
+    }
+
+    fn flush(&mut self) -> io::Result<()> {
+        Ok(())
+    }
+}
+
+// What is asked: how often to sweep, whether the input has parts, whether statistics are told.
+type Asked = (usize, bool, bool);
+
+const PLAIN: Asked = (0, false, false);
+
+const SWEEP: Asked = (1, false, false);
+
+const PARTS: Asked = (0, true, false);
+
+// A text, what is asked, the status, what is printed, and what is told.
+type Row = (&'static [u8], Asked, u8, &'static [u8], &'static [u8]);
+
+const ROWS: &[Row] = &[
+    // Values and blocks are numbered anew; what stands outside all regions is put into a module.
+    (
+        b"%c = \"t.one\"() {value = 1 : i32} : () -> i32 \"t.use\"(%c) : (i32) -> ()",
+        PLAIN,
+        0,
+        b"\"builtin.module\"() ({\n  %0 = \"t.one\"() {value = 1 : i32} : () -> i32\n  \"t.use\"(%0) : (i32) -> ()\n}) : () -> ()\n",
+        b"",
+    ),
+    // A module stays the only one.
+    (
+        b"\"builtin.module\"() ({\n}) : () -> ()",
+        PLAIN,
+        0,
+        b"\"builtin.module\"() ({\n}) : () -> ()\n",
+        b"",
+    ),
+    // A value that is named before its definition, and several under one name.
+    (
+        b"\"t.use\"(%x#1, %y) : (i2, i3) -> ()\n%x:2, %y = \"t.three\"() : () -> (i1, i2, i3)",
+        PLAIN,
+        0,
+        b"\"builtin.module\"() ({\n  \"t.use\"(%0#1, %0#2) : (i2, i3) -> ()\n  %0:3 = \"t.three\"() : () -> (i1, i2, i3)\n}) : () -> ()\n",
+        b"",
+    ),
+    // Dead operations go, also where they name each other from inside a region, and what isn't known stays.
+    (
+        b"%a = \"arith.constant\"() {value = 1 : i32} : () -> i32 %b = \"arith.addi\"(%a, %a) : (i32, i32) -> i32 \"t.r\"() ({ %d = \"arith.muli\"(%b, %b) : (i32, i32) -> i32 \"t.end\"() : () -> () }) : () -> ()",
+        SWEEP,
+        0,
+        b"\"builtin.module\"() ({\n  \"t.r\"() ({\n    \"t.end\"() : () -> ()\n  }) : () -> ()\n}) : () -> ()\n",
+        b"",
+    ),
+    // What passes did is told.
+    (
+        b"%a = \"arith.constant\"() {value = 1 : i32} : () -> i32 \"t.end\"() : () -> ()",
+        (2, false, true),
+        0,
+        b"\"builtin.module\"() ({\n  \"t.end\"() : () -> ()\n}) : () -> ()\n",
+        b"in: sweep: 1 operations erased\nin: sweep: 0 operations erased\n",
+    ),
+    // A name that means nothing.
+    (
+        b"\"t.use\"(%x) : (i32) -> ()",
+        PLAIN,
+        1,
+        b"",
+        b"in:1:9: error: no value of this name is defined here\n",
+    ),
+    // Two keys that stand for the same bytes.
+    (
+        b"\"t.op\"() {a,\n \"\\61\"} : () -> ()",
+        PLAIN,
+        1,
+        b"",
+        b"in:2:2: error: this key stands in this dictionary already\n",
+    ),
+    // A block without a terminator.
+    (
+        b"\"t.op\"() : () -> ()\n  \"func.func\"() ({\n^b:\n  %c = \"arith.constant\"() {value = 1 : i32} : () -> i32\n}) : () -> ()",
+        PLAIN,
+        1,
+        b"",
+        b"in:2:3: error: a block of this operation has no terminator\n",
+    ),
+    // The first block of a region that is a successor.
+    (
+        b"\"func.func\"() ({\n^b:\n  \"cf.br\"()[^b] : () -> ()\n}) : () -> ()",
+        PLAIN,
+        1,
+        b"",
+        b"in:1:1: error: the first block of a region of this operation is a successor\n",
+    ),
+    // Parts, each on its own.
+    (
+        b"\"t.a\"() : () -> ()\n// -----\n\"t.b\"() : () -> ()\n",
+        PARTS,
+        0,
+        b"\"builtin.module\"() ({\n  \"t.a\"() : () -> ()\n}) : () -> ()\n// -----\n\"builtin.module\"() ({\n  \"t.b\"() : () -> ()\n}) : () -> ()\n",
+        b"",
+    ),
+    // Each part's first fault is told, with its line in the input, and nothing is printed.
+    (
+        b"\"t.a\"(%x) : (i1) -> ()\n// -----\n\"t.b\"() : () -> ()\n// -----\n\"t.c\"(%x) : (i1) -> ()\n",
+        PARTS,
+        1,
+        b"",
+        b"in:1:7: error: no value of this name is defined here\nin:5:7: error: no value of this name is defined here\n",
+    ),
+];
+
+// What is asked, under the name `in`.
+fn options(alloc: Global, asked: Asked) -> Result<Options<'static>, AllocError> {
+    let (sweeps, splits_input, tells_statistics) = asked;
+    let mut passes = Vec::new(alloc);
+    for _ in 0..sweeps {
+        passes.push(Pass::Sweep)?;
+    }
+    Ok(Options {
+        name: "in",
+        passes,
+        splits_input,
+        verifies_each: true,
+        tells_statistics,
+        prints_locations: false,
+    })
+}
+
+// A sink of this room.
+fn sink(alloc: Global, room: usize) -> Sink {
+    Sink {
+        taken: Vec::new(alloc),
+        room,
+    }
+}
+
+fn expect_row(rt: &impl Abort, alloc: Global, row: &Row) -> Result<(), Fail> {
+    let (text, asked, status, printed, told) = *row;
+    let mut input = text;
+    let mut output = sink(alloc, 10000);
+    let mut log = sink(alloc, 10000);
+    let options = options(alloc, asked)?;
+    assert_eq!(rt;
+        run_opt(alloc, &options, &mut input, &mut output, &mut log),
+        status
+    );
+    assert_eq!(rt; output.taken.as_slice(), printed);
+    assert_eq!(rt; log.taken.as_slice(), told);
+    Ok(())
+}
+
+#[test]
+fn texts(rt: HostRuntime) -> Result<(), Fail> {
+    for row in ROWS {
+        expect_row(&rt, rt.alloc(), row)?;
+    }
+    Ok(())
+}
+
+// How the input fails, the room of the output and of the log, the status, and what is told.
+type Failing = (Option<ErrorKind>, usize, usize, u8, &'static [u8]);
+
+const FAILING: &[Failing] = &[
+    (None, 10000, 0, 0, b""),
+    (
+        Some(ErrorKind::BrokenPipe),
+        10000,
+        10000,
+        1,
+        b"in: error: unreadable input\n",
+    ),
+    (
+        Some(ErrorKind::OutOfMemory),
+        10000,
+        10000,
+        1,
+        b"in: error: out of memory\n",
+    ),
+    (Some(ErrorKind::BrokenPipe), 10000, 0, 1, b""),
+    (None, 0, 10000, 3, b""),
+    (None, 20, 10000, 3, b""),
+];
+
+// What is printed of the text that the failing streams have.
+const PRINTED: &[u8] = b"\"builtin.module\"() ({\n  \"t.a\"() : () -> ()\n}) : () -> ()\n";
+
+fn expect_failing(rt: &impl Abort, alloc: Global, row: &Failing) -> Result<(), Fail> {
+    let (failure, room, log_room, status, told) = *row;
+    let mut input = Source {
+        left: b"\"t.a\"() : () -> ()",
+        failure,
+    };
+    let mut output = sink(alloc, room);
+    let mut log = sink(alloc, log_room);
+    let options = options(alloc, PLAIN)?;
+    assert_eq!(rt;
+        run_opt(alloc, &options, &mut input, &mut output, &mut log),
+        status
+    );
+    assert_eq!(rt; log.taken.as_slice(), told);
+    if status == 1 {
+        assert!(rt; output.taken.is_empty());
+    } else {
+        let front = room.min(PRINTED.len());
+        assert_eq!(rt; output.taken.as_slice(), &PRINTED[..front]);
+    }
+    Ok(())
+}
+
+#[test]
+fn failing_streams(rt: HostRuntime) -> Result<(), Fail> {
+    for row in FAILING {
+        expect_failing(&rt, rt.alloc(), row)?;
+    }
+    Ok(())
+}
+
+// How many regions stand in one another.
+const DEPTH: u32 = 100000;
+
+// A text with that many regions in one another, and an operation in the innermost that names no value.
+fn nest(alloc: Global) -> Result<Vec<u8>, AllocError> {
+    let mut text = Vec::new(alloc);
+    for _ in 0..DEPTH {
+        text.extend_from_slice(b"\"t\"() ({")?;
+    }
+    text.extend_from_slice(b"\n\"u\"(%x) : (i1) -> ()\n")?;
+    for _ in 0..DEPTH {
+        text.extend_from_slice(b"}) : () -> ()")?;
+    }
+    Ok(text)
+}
+
+#[test]
+fn deep_fault(rt: HostRuntime) -> Result<(), Fail> {
+    let alloc = rt.alloc();
+    let text = nest(alloc)?;
+    let mut input = text.as_slice();
+    let mut output = sink(alloc, 10000);
+    let mut log = sink(alloc, 10000);
+    let options = options(alloc, SWEEP)?;
+    assert_eq!(rt;
+        run_opt(alloc, &options, &mut input, &mut output, &mut log),
+        1
+    );
+    assert!(rt; output.taken.is_empty());
+    let told = b"in:2:5: error: no value of this name is defined here\n";
+    assert_eq!(rt; log.taken.as_slice(), told.as_slice());
+    Ok(())
+}
