@@ -1,5 +1,5 @@
 //! The parts of the dialect Generic as texts.
-ghost use Rattle.std.specs.Prelude.{◌≡◌, ◌++◌, [], OnOk, IfOk, codes, drop, is_some, unwrap_or, option_and_then, slice_get, Some};
+ghost use Rattle.std.specs.Prelude.{◌≡◌, ◌++◌, ℕ, List, [], OnOk, IfOk, codes, drop, is_some, unwrap_or, option_and_then, slice_get, Some};
 ghost use Rattle.std.specs.Option.{option_copied, option_map};
 ghost use Rattle.hex.specs.Hex.{decode_of};
 ghost use Rattle.ir_model.specs.Stores.{attribute_at};
