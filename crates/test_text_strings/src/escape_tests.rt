@@ -59,6 +59,6 @@ fn texts_appended(rt: HostRuntime) -> Result<(), Fail> {
     extend_unescaped(&mut bytes, b"a\\62")?;
     extend_unescaped(&mut bytes, b"")?;
     extend_unescaped(&mut bytes, b"\\63d")?;
-    assert!(rt; bytes.as_slice() == b"abcd");
+    assert!(rt; bytes.as_slice() == b"abcd".as_slice());
     Ok(())
 }
