@@ -1,0 +1,2 @@
+pub mod PartSteps
+pub mod RowsWithin

@@ -1,0 +1,4 @@
+pub mod Endings
+pub mod Faults
+pub mod Parts
+pub mod Respellings

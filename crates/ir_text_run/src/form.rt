@@ -1,0 +1,30 @@
+//! The words of the command line.
+ghost use Rattle.std.specs.Prelude.{◌≡◌, ◌↔◌, [], Some};
+
+/// How the input is taken.
+#[derive(Clone, Copy, Debug, Drop, PartialEq, Eq)]
+pub enum Form {
+    /// As one text.
+    Whole,
+    /// As parts, each a text of its own, divided by lines `// -----`.
+    Parts,
+}
+
+impl Form {
+    /// What these words ask for: with none the whole; parts, where each is `--split-input-file`; nothing, where one is another word.
+    pub fn of_words(words: &[String]) -> Option<Form>
+        ensures { (result ≡ Some Form.Whole) ↔ (words.now ≡ []) }
+    {
+        if words.is_empty() {
+            return Some(Form::Whole);
+        }
+        if words
+            .iter()
+            .all(|word| word.as_str() == "--split-input-file")
+        {
+            Some(Form::Parts)
+        } else {
+            None
+        }
+    }
+}

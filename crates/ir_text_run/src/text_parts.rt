@@ -1,0 +1,62 @@
+//! The parts of an input that lines `// -----` divide.
+ghost use Rattle.std.specs.Prelude.{◌≡◌, ◌<◌, ◌≤◌, ◌↔◌, length, IfSome, IsTrue, MatchOption};
+ghost use Rattle.ir_text_run.specs.Parts.{IsDivider, IsDivided};
+
+/// The first part of an input.
+#[derive(Drop)]
+pub(crate) struct Front<'a> {
+    /// The part: whole lines, but for the last of an input.
+    pub(crate) part: &'a [u8],
+    /// How many lines the part has, with the one that ends it.
+    pub(crate) lines: u64,
+    /// What stands behind the line that ends the part; none where no such line does.
+    pub(crate) rest: Option<&'a [u8]>,
+}
+
+// The index behind the line that begins there, with its line feed.
+fn line_end(text: &[u8], at: usize) -> usize
+    requires { at < length text.now }
+    ensures after { at < result }
+    ensures within { result ≤ length text.now }
+{
+    match text[at..].iter().position(|byte| *byte == b'\n') {
+        Some(length) => at + length + 1,
+        None => text.len(),
+    }
+}
+
+// Whether a line divides parts.
+fn is_divider(line: &[u8]) -> bool
+    ensures { IsTrue result → IsDivider line.now }
+{
+    line == b"// -----\n".as_slice()
+        || line == b"// -----\r\n".as_slice()
+        || line == b"// -----".as_slice()
+        || line == b"// -----\r".as_slice()
+}
+
+/// The first part of an input.
+pub(crate) fn first_part<'a>(text: &'a [u8]) -> Front<'a>
+    ensures shorter { IfSome result.rest (λ rest. length rest.now < length text.now) }
+    ensures divided { MatchOption result.rest (result.part.now ≡ text.now) (λ rest. IsDivided text.now result.part.now rest.now) }
+{
+    let mut at = 0;
+    let mut lines = 0u64;
+    while at < text.len() {
+        let end = line_end(text, at);
+        lines = lines.saturating_add(1);
+        if is_divider(&text[at..end]) {
+            return Front {
+                part: &text[..at],
+                lines,
+                rest: Some(&text[end..]),
+            };
+        }
+        at = end;
+    }
+    Front {
+        part: text,
+        lines,
+        rest: None,
+    }
+}
