@@ -1,8 +1,11 @@
 """Texts that are cut, or changed in few places."""
 import re
 
+from .names import meaning_of_key
+
 TOKENS = re.compile(r'\s+|//[^\n]*|"(?:[^"\\\n]|\\.)*"|[%^@#!]?[\w$.-]+|->|.', re.S)
 NAMES = [re.compile(it) for it in (r'%[\w$.-]+', r'\^[\w$.-]+', r'(?<=[{,])\s*(?:[\w$.]+|"(?:[^"\\\n]|\\.)*")(?=\s*[=,}])', r'#\d+', r'(?<=:)\d+', r'(?<=[(,])\s*\w+(?=[,)])')]
+KEY = re.compile(r'(?<=[{,])\s*([\w$.]+|"(?:[^"\\\n]|\\[\\"nt]|\\[0-9a-fA-F]{2})*")(?=\s*[=,}])')
 BYTES = '%^@#!"\\(){}[]<>,:=-+*?|/ \n\t\r09afgzZ_$.;~\x00\x7f\xc3\xff'
 BRACKETS = '()[]{}<>'
 
@@ -71,6 +74,16 @@ def copy_name(rng, text, at):
     return text[:one.start()] + other.group() + text[one.end():]
 
 
+def spell_key_again(rng, text, at):
+    """Puts another spelling of a key in front of it: in quotes, with some of its bytes as escapes."""
+    found = list(KEY.finditer(text))
+    if not found:
+        return text
+    one = rng.choice(found)
+    spelled = (rng.choice([f'\\{ord(it):02x}', f'\\{ord(it):02X}', it if it.isalnum() else f'\\{ord(it):02x}']) for it in meaning_of_key(one.group(1)))
+    return f'{text[:one.start(1)]}"{"".join(spelled)}", {text[one.start(1):]}'
+
+
 def empty(rng, text, at):
     """Drops what stands between two marks."""
     found = re.compile(r'[^,)}\]]*').match(text, min((it for it in (text.find(mark, at) for mark in '=(,:[<') if it >= 0), default=at) + 1)
@@ -85,7 +98,8 @@ def swap_bracket(rng, text, at):
     return text[:at] + rng.choice(BRACKETS) + text[at + 1:]
 
 
-WAYS = [drop, double, exchange, replace, insert, cut, move_token, drop_token, exchange_tokens, copy_token, copy_name, copy_name, copy_name, copy_name, empty, empty, swap_bracket]
+WAYS = [drop, double, exchange, replace, insert, cut, move_token, drop_token, exchange_tokens, copy_token, copy_name, copy_name, copy_name, copy_name, empty, empty, swap_bracket,
+        exchange_tokens, drop_token, spell_key_again]
 
 
 def damaged(rng, text):

@@ -1,6 +1,8 @@
 """Random texts of every production of the generic form."""
 import re
 
+from .names import meaning_of_key
+
 # The last character of a token, and the first of another that would go on with it.
 GOES_ON = re.compile(r'[\w$.%^@#!-][\w$.-]')
 
@@ -20,7 +22,8 @@ VALUES = [
 ]
 LOCATIONS = ['unknown', '"f.mlir":1:2', 'fused["a":1:1, callsite("b" at "c")]', '#loc1', '"x"("y":3:4)', 'loc(unknown)']
 PROPERTIES = ['<{}>', '<{a = 1 : i32, b = "}>"}>', '<{x = [1, 2], y = {z}}>', '<>', '<(a) -> b>']
-KEYS = ['a', 'b', 'c.d', '$e', '_', '0', '1x', 'loc', 'value', 'sym_name', '"a"', '"b c"', '"\\61"', '"\\n"', '"x\\"y"', '""']
+KEYS = ['a', 'b', 'c.d', '$e', '_', '0', '1x', 'loc', 'value', 'sym_name', '"a"', '"b c"', '"\\61"', '"\\n"', '"x\\"y"', '""',
+        '"\\62"', '"b\\20c"', '"\\0a"', '"\\0A"', '"x\\22y"', '"\\6c\\6Fc"', '"\\\\61"', '"\\5c61"']
 
 
 class Scope:
@@ -183,7 +186,7 @@ class Drawer:
         keys, seen = [], set()
         for _ in range(self.number(4)):
             key = self.one(KEYS)
-            meaning = {'"a"': 'a', '"\\61"': 'a'}.get(key, key)
+            meaning = meaning_of_key(key)
             if meaning not in seen:
                 seen.add(meaning)
                 keys.append(key)

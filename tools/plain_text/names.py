@@ -16,13 +16,11 @@ def is_around(region, other):
     return other[:len(region)] == region
 
 
-def meaning_of_key(text, decoded):
+def meaning_of_key(text):
     """The bytes that a key stands for."""
     if not text.startswith('"'):
         return text
     text = text[1:-1]
-    if not decoded:
-        return text
     found, at = '', 0
     while at < len(text):
         if text[at] != '\\':
@@ -42,8 +40,8 @@ def number(text):
 class Names:
     """The names of a tree, and what is wrong with them."""
 
-    def __init__(self, operations, decoded):
-        self.decoded, self.regions = decoded, 0
+    def __init__(self, operations):
+        self.regions = 0
         self.definitions, self.uses, self.wrong = [], [], []
         self.go_over(operations, ())
 
@@ -76,7 +74,7 @@ class Names:
     def look_at_keys(self, it):
         seen = set()
         for key, _ in it.entries:
-            meaning = meaning_of_key(key.text, self.decoded)
+            meaning = meaning_of_key(key.text)
             if meaning in seen:
                 self.wrong.append(Fault(key.at, 'this key stands in this dictionary already'))
             seen.add(meaning)
@@ -127,9 +125,9 @@ class Names:
                     self.wrong.append(Fault(use.name.at, 'this operand has another type than the value that it names'))
 
 
-def check(operations, decoded):
+def check(operations):
     """Raises the first fault of the names; several may stand at its place."""
-    names = Names(operations, decoded)
+    names = Names(operations)
     for it in operations:
         names.look_for_blocks(it, set())
     names.look_at_uses()

@@ -37,6 +37,8 @@ PLANTED = {
     'ir_text_names/region-that-ended-goes-on': 'a value of a region that has ended is taken',
     'ir_text_names/inner-definition-behind-taken': 'a value of a region that begins later is taken',
     'ir_text_names/quoted-keys-differ': 'a key in quotes is another than the key without',
+    'ir_text_names/quoted-keys-with-escapes-differ': 'a key with escapes is another than the key without',
+    'ir_text_strings/first-digit-weighs-ten': 'the first hexadecimal digit of an escape weighs ten',
     'ir_text_names/later-fault-told': 'the later of two faults of names is told',
     'ir_text_tokens/line-told-later': 'a fault is told one line later',
     'ir_text_tokens/column-goes-on': 'columns go on in the next line',

@@ -5,9 +5,6 @@ import subprocess
 from . import names, reading, spelling
 from .tree import Fault
 
-# Whether a key in quotes stands for the bytes that its escapes mean, or for those with which it is spelled.
-DECODED = False
-
 MARKER = '// -----\n'
 SECONDS = 120
 TOLD = re.compile(r'^-:(\d+):(\d+): error: (.*)$')
@@ -16,11 +13,11 @@ TOLD = re.compile(r'^-:(\d+):(\d+): error: (.*)$')
 class Wanted:
     """What a text has to give: its tree's text, or a fault, by its line and column in the text and the words for it."""
 
-    def __init__(self, text, decoded=DECODED):
+    def __init__(self, text):
         self.lines = text.count('\n')
         try:
             operations = reading.read(text)
-            names.check(operations, decoded)
+            names.check(operations)
             self.text, self.place, self.words = spelling.spell(operations), None, ()
         except Fault as it:
             front = text[:it.at]

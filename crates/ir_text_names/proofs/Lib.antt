@@ -1,5 +1,6 @@
 mod Scopes
 mod FirstRows
+mod EscapedNames
 mod GivenNames
 mod NamedBlocks
 mod KeyFaults

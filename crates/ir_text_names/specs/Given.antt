@@ -1,11 +1,13 @@
 -- Names that rows give, and names that are given again.
-use Rattle.std.specs.Prelude.{◌≡◌, ℕ, ◌-◌, ◌<◌, Bool, false, cond, nat_eq, List, [], ◌∷◌, length, Option, Some, IsSome, slice_index_or, slice_range}
+use Rattle.std.specs.Prelude.{◌≡◌, ℕ, ◌-◌, ◌<◌, ◌&&◌, Bool, false, cond, nat_eq, List, [], ◌∷◌, length, Option, Some, IsSome, slice_index_or, slice_range}
+use Rattle.std.specs.List.{flat_map}
 use Rattle.ir_text_tree.specs.declared.row.Part.{Part}
 use Rattle.ir_text_tree.specs.declared.row.Part.TheVariants as parts
 use Rattle.ir_text_tree.specs.declared.row.Row.{Row}
 use Rattle.ir_text_names.specs.declared.given.NameKind.{NameKind}
 use Rattle.ir_text_names.specs.declared.given.NameKind.TheVariants as kinds
-use Rattle.ir_text_names.specs.Rows.{part_of, text_of}
+use Rattle.ir_text_strings.specs.Escapes.{has_escapes, unescaped}
+use Rattle.ir_text_names.specs.Rows.{part_of, piece, text_of}
 
 -- the part of a tree that gives such names
 abbrev pub giver : NameKind → Part
@@ -17,14 +19,45 @@ abbrev pub is_quoted : List ℕ → Bool
 is_quoted [] = false
 is_quoted (b ∷ bs) = nat_eq b 34
 
--- the text without its quotes, if it has some
-abbrev pub unquoted : List ℕ → List ℕ
-unquoted t = cond (is_quoted t) (slice_range t 1 (length t - 1)) t
+-- the text between its quotes
+abbrev pub between_quotes : List ℕ → List ℕ
+between_quotes t = slice_range t 1 (length t - 1)
 
--- the name that the text of such a part is: a key's without its quotes; escapes in them stay as they are spelled
+-- the bytes that a key stands for: in quotes, what the text between them stands for
+abbrev pub unquoted : List ℕ → List ℕ
+unquoted t = cond (is_quoted t) (unescaped (between_quotes t)) t
+
+-- the name that the text of such a part is: the bytes that a key stands for
 abbrev pub name_of : Part → List ℕ → List ℕ
 name_of parts.Key t = unquoted t
 name_of _ t = t
+
+-- the name that the text of such a part is, if it has no escapes
+abbrev pub plain_name : NameKind → List ℕ → List ℕ
+plain_name kinds.Block t = t
+plain_name kinds.Key t = cond (is_quoted t) (between_quotes t) t
+
+-- the text of that part is a key in quotes, with escapes
+abbrev pub is_escaped_key : Part → List ℕ → Bool
+is_escaped_key parts.Key t = is_quoted t && has_escapes (between_quotes t)
+is_escaped_key _ t = false
+
+-- the text of that part is a name with escapes
+abbrev pub is_escaped : NameKind → Part → List ℕ → Bool
+is_escaped kinds.Block part t = false
+is_escaped kinds.Key part t = is_escaped_key part t
+
+-- the name that the text of that part is, if it is one with escapes
+abbrev pub escaped_name : NameKind → Part → List ℕ → List ℕ
+escaped_name kind part t = cond (is_escaped kind part t) (unescaped (between_quotes t)) []
+
+-- the name that the row gives, if it is one with escapes
+abbrev pub escaped_name_of : NameKind → List ℕ → Row → List ℕ
+escaped_name_of kind text r = escaped_name kind r.part (piece text r.span)
+
+-- the names with escapes that rows give, behind one another
+abbrev pub escaped_names : NameKind → List ℕ → List Row → List ℕ
+escaped_names kind text rows = flat_map (escaped_name_of kind text) rows
 
 -- the name that row i gives, if it is such a part
 abbrev pub given_name : Part → List ℕ → List Row → ℕ → List ℕ

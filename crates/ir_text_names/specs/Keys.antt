@@ -7,7 +7,7 @@ use Rattle.ir_text_names.specs.declared.fault.Wrong.TheVariants as wrongs
 use Rattle.ir_text_names.specs.Rows.{row_operations}
 use Rattle.ir_text_names.specs.Given.{IsAgain}
 
--- The row is a key, and a key before it in the dictionary of its operation is spelled so too, in quotes or not.
+-- The row is a key, and a key before it in the dictionary of its operation is the same.
 abbrev pub IsKeyAgain : List ℕ → List Row → ℕ → Type 0
 IsKeyAgain text rows i = IsAgain parts.Key text rows (row_operations rows) i
 

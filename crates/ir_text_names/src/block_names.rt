@@ -89,7 +89,7 @@ pub(crate) fn block_table(
     ensures found { IfOk result (λ b. IsFirstWrong (IsBlockWrong text.now rows.now) (length rows.now) b.found) }
 {
     let regions = regions(alloc, rows)?;
-    let given = given(alloc, NameKind::Block, text, rows, &regions)?;
+    let given = given(alloc, NameKind::Block, text, &text[..0], rows, &regions)?;
     let named = named(alloc, text, rows, &regions, &given.places)?;
     let twice = told(given.again, Wrong::BlockTwice);
     let unknown = told(named.unknown, Wrong::UnknownBlock);

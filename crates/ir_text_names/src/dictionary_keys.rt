@@ -5,12 +5,12 @@ ghost use Rattle.ir_text_names.specs.Keys.{IsKeyWrong};
 
 use crate::fault::{Fault, Wrong};
 use crate::firsts::{Found, fault_of, told};
-use crate::given::{NameKind, given};
+use crate::given::{NameKind, escaped_names, given};
 use crate::rows::operations;
 use ir_text_tree::Row;
 use std::alloc::{AllocError, Global};
 
-/// The first key that is spelled as one before it in its dictionary, in quotes or not.
+/// The first key that is the same as one before it in its dictionary.
 pub(crate) fn key_fault(
     alloc: Global,
     text: &[u8],
@@ -19,7 +19,8 @@ pub(crate) fn key_fault(
     ensures { IfOk result (λ f. IsFirstWrong (IsKeyWrong text.now rows.now) (length rows.now) f) }
 {
     let operations = operations(alloc, rows)?;
-    let given = given(alloc, NameKind::Key, text, rows, &operations)?;
+    let escaped = escaped_names(alloc, NameKind::Key, text, rows)?;
+    let given = given(alloc, NameKind::Key, text, &escaped, rows, &operations)?;
     let found = told(given.again, Wrong::KeyTwice);
     Ok(found)
 }
@@ -27,7 +28,7 @@ pub(crate) fn key_fault(
 /// Whether the keys of each dictionary of a tree of that text differ.
 ///
 /// # Errors
-/// `OutOfMemory`, and else the first key that is spelled as one before it in its dictionary, in quotes or not. Escapes in quotes count as they are spelled.
+/// `OutOfMemory`, and else the first key that is the same as one before it in its dictionary. A key in quotes is the bytes that it stands for, with each escape read: `"a\62"`, `"ab"` and `ab` are one key.
 pub fn keys(alloc: Global, text: &[u8], rows: &[Row]) -> Result<(), Fault>
     ensures { IsChecked (IsKeyWrong text.now rows.now) rows.now result }
 {

@@ -14,7 +14,7 @@ pub enum Wrong {
     /// No block of the region has this name.
     #[error("no block of this region has this name")]
     UnknownBlock,
-    /// A key before this one in its dictionary is spelled so too, in quotes or not.
+    /// A key before this one in its dictionary is the same, in quotes or not, by escapes or not.
     #[error("this key stands in this dictionary already")]
     KeyTwice,
     /// The operation has more operand types than operands, or fewer.

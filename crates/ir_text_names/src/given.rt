@@ -1,12 +1,13 @@
 //! Names that rows give: where each was given last, and the first that was given before.
-ghost use Rattle.std.specs.Prelude.{◌≡◌, length, IfOk, IsTrue, ◌↔◌};
+ghost use Rattle.std.specs.Prelude.{◌≡◌, length, IfOk, IsTrue, ◌↔◌, ◌++◌, drop};
 ghost use Rattle.ir_text_names.specs.Firsts.{IsFirst};
-ghost use Rattle.ir_text_names.specs.Given.{giver, is_quoted, unquoted, name_of, IsAgain, AreGiven};
+ghost use Rattle.ir_text_names.specs.Given.{giver, is_quoted, between_quotes, plain_name, is_escaped, escaped_name, escaped_names, name_of, IsAgain, AreGiven};
 ghost use Rattle.ir_text_names.specs.Places.{row_at};
 
 use crate::firsts::noted;
 use crate::places::put_if;
 use crate::rows::piece;
+use ir_text_strings::{extend_unescaped, has_escapes, unescaped_len};
 use ir_text_tree::{Part, Row};
 use std::alloc::{AllocError, Global};
 use std::collections::HashMap;
@@ -55,46 +56,109 @@ fn is_quoted(text: &[u8]) -> bool
     }
 }
 
-// The text without its quotes, if it has some.
-fn unquoted<'a>(text: &'a [u8]) -> &'a [u8]
-    ensures { result.now ≡ unquoted text.now }
+// The text between its quotes.
+fn between_quotes<'a>(text: &'a [u8]) -> &'a [u8]
+    requires { IsTrue (is_quoted text.now) }
+    ensures { result.now ≡ between_quotes text.now }
 {
-    if is_quoted(text) {
-        let end = text.len().saturating_sub(1).max(1);
-        &text[1..end]
-    } else {
-        text
-    }
+    let end = text.len().saturating_sub(1).max(1);
+    &text[1..end]
 }
 
-// The name that the text of such a part is.
-fn name_of<'a>(kind: NameKind, text: &'a [u8]) -> &'a [u8]
-    ensures { result.now ≡ name_of (giver kind) text.now }
+// The name that the text of such a part is, if it has no escapes.
+fn plain_name<'a>(kind: NameKind, text: &'a [u8]) -> &'a [u8]
+    ensures { result.now ≡ plain_name kind text.now }
 {
     match kind {
         NameKind::Block => text,
-        NameKind::Key => unquoted(text),
+        NameKind::Key => {
+            if is_quoted(text) {
+                between_quotes(text)
+            } else {
+                text
+            }
+        }
     }
 }
 
-/// The names that rows give in the scopes in which they stand.
+// Whether the text of the part is a name with escapes.
+fn is_escaped(kind: NameKind, part: Part, text: &[u8]) -> bool
+    ensures { result ≡ is_escaped kind part text.now }
+{
+    match kind {
+        NameKind::Block => false,
+        NameKind::Key => match part {
+            Part::Key => is_quoted(text) && has_escapes(between_quotes(text)),
+            _ => false,
+        },
+    }
+}
+
+/// The names with escapes that rows give, behind one another.
+pub(crate) fn escaped_names(
+    alloc: Global,
+    kind: NameKind,
+    text: &[u8],
+    rows: &[Row],
+) -> Result<Vec<u8>, AllocError>
+    ensures { IfOk result (λ v. v.items ≡ escaped_names kind text.now rows.now) }
+{
+    let mut names = Vec::new(alloc);
+    for row in rows {
+        let name = piece(text, row.span);
+        if is_escaped(kind, row.part, name) {
+            extend_unescaped(&mut names, between_quotes(name))?;
+        }
+    }
+    Ok(names)
+}
+
+// A name, and the names with escapes that are given behind it.
+#[derive(Clone, Copy)]
+struct NextName<'a> {
+    name: &'a [u8],
+    escaped: &'a [u8],
+}
+
+// The name that the text of the part is, which is the first of those with escapes if it has some.
+fn next_name<'a>(kind: NameKind, part: Part, text: &'a [u8], escaped: &'a [u8]) -> NextName<'a>
+    requires { escaped.now ≡ escaped_name kind part text.now ++ drop (length (escaped_name kind part text.now)) escaped.now }
+    ensures name { part ≡ giver kind → result.name.now ≡ name_of (giver kind) text.now }
+    ensures escaped { result.escaped.now ≡ drop (length (escaped_name kind part text.now)) escaped.now }
+{
+    if is_escaped(kind, part, text) {
+        let (name, escaped) = escaped.split_at(unescaped_len(between_quotes(text)));
+        NextName { name, escaped }
+    } else {
+        NextName {
+            name: plain_name(kind, text),
+            escaped,
+        }
+    }
+}
+
+/// The names that rows give in the scopes in which they stand; `escaped` has those with escapes.
 pub(crate) fn given<'a>(
     alloc: Global,
     kind: NameKind,
     text: &'a [u8],
+    escaped: &'a [u8],
     rows: &[Row],
     scopes: &[usize],
 ) -> Result<GivenNames<'a>, AllocError>
-    requires { length scopes.now ≡ length rows.now }
+    requires counted { length scopes.now ≡ length rows.now }
+    requires escaped { escaped.now ≡ escaped_names kind text.now rows.now }
     ensures places { IfOk result (λ g. AreGiven (giver kind) text.now rows.now scopes.now (length rows.now) (row_at g.places)) }
     ensures again { IfOk result (λ g. IsFirst (IsAgain (giver kind) text.now rows.now scopes.now) (length rows.now) g.again) }
 {
     let mut places = HashMap::new(alloc);
     let mut again = None;
+    let mut behind = escaped;
     for (at, row) in rows.iter().enumerate() {
         let is = gives(kind, row.part);
-        let name = name_of(kind, piece(text, row.span));
-        let twice = put_if(&mut places, is, scopes[at], name, at)?;
+        let next = next_name(kind, row.part, piece(text, row.span), behind);
+        behind = next.escaped;
+        let twice = put_if(&mut places, is, scopes[at], next.name, at)?;
         again = noted(again, at, twice);
     }
     Ok(GivenNames { places, again })

@@ -64,6 +64,62 @@ const FAULTS: &[(&[u8], Wrong, u32, u64, u64)] = &[
         18,
     ),
     (
+        b"\"f\"() {\"a\\62\", ab} : () -> ()",
+        Wrong::KeyTwice,
+        15,
+        1,
+        16,
+    ),
+    (
+        b"\"f\"() {\"\\\\\", \"\\5c\"} : () -> ()",
+        Wrong::KeyTwice,
+        13,
+        1,
+        14,
+    ),
+    (
+        b"\"f\"() {\"a\\22\", \"a\\\"\"} : () -> ()",
+        Wrong::KeyTwice,
+        15,
+        1,
+        16,
+    ),
+    (
+        b"\"f\"() {\"\\n\", \"\\0A\"} : () -> ()",
+        Wrong::KeyTwice,
+        13,
+        1,
+        14,
+    ),
+    (
+        b"\"f\"() {\"\\t\", \"\\09\"} : () -> ()",
+        Wrong::KeyTwice,
+        13,
+        1,
+        14,
+    ),
+    (
+        b"\"f\"() {\"\\4a\", \"\\4A\"} : () -> ()",
+        Wrong::KeyTwice,
+        14,
+        1,
+        15,
+    ),
+    (
+        b"\"f\"() {n, \"\\6e\"} : () -> ()",
+        Wrong::KeyTwice,
+        10,
+        1,
+        11,
+    ),
+    (
+        b"\"f\"() {\"x\\79\", \"\\7A\", c, \"z\"} : () -> ()",
+        Wrong::KeyTwice,
+        25,
+        1,
+        26,
+    ),
+    (
         b"%a = \"c\"() : () -> i1\n\"f\"(%a) : () -> ()",
         Wrong::OperandTypes,
         22,
@@ -250,11 +306,13 @@ const FAULTS: &[(&[u8], Wrong, u32, u64, u64)] = &[
     ),
 ];
 
-// Texts without faults: one key in several dictionaries, one block's name in several regions, several results under one name.
+// Texts without faults: one key in several dictionaries, keys that an escaped backslash tells apart, one block's name in several regions, several results under one name.
 const SOUND: &[&[u8]] = &[
     b"\"d\"(%a) : (i1) -> ()\n%a = \"c\"() ({\n  %x = \"e\"() : () -> i9\n}) : () -> i1",
     b"%a:2, %b:03 = \"c\"() : () -> (i1, i1, i1, i1, i1)\n\"d\"(%a#1, %b#2) : (i1, i1) -> ()",
     b"\"f\"() ({\n  \"g\"() {a, b} : () -> ()\n  \"h\"() {b, a} : () -> ()\n}) {a, b} : () -> ()\n\"i\"() {a} : () -> ()",
+    b"\"f\"() {\"\\\\6e\", n, \"\\\\n\", \"\\n\"} : () -> ()",
+    b"\"f\"() ({\n  \"g\"() {\"a\\62\"} : () -> ()\n  \"h\"() {ab} : () -> ()\n}) {\"\\61b\"} : () -> ()",
     b"\"f\"() ({\n^a:\n  \"x\"() : () -> ()\n}, {\n^a:\n  \"y\"()[^a] : () -> ()\n}) : () -> ()",
 ];
 

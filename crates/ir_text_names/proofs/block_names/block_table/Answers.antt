@@ -7,12 +7,16 @@ use Rattle.ir_text_names.specs.Firsts.{IsFirst, IsFirstWrong, told, sooner}
 use Rattle.ir_text_names.specs.Given.{IsAgain}
 use Rattle.ir_text_names.specs.Blocks.{IsBlockWrong}
 use Rattle.ir_text_names.specs.Rows.{regions_behind, row_regions}
+use Rattle.ir_text_names.proofs.EscapedNames.{no_blocks_escaped}
 use Rattle.ir_text_names.proofs.Scopes.{length-scopes_from}
 use Rattle.ir_text_names.proofs.NamedBlocks.{block_wrong}
 use Rattle.ir_text_names.proofs.block_names.block_table.Goals as goal
 
-pub given-requires : goal.given-requires
-given-requires c = ap length c.deref.ensures.value ∙ ap length c.in_ok-regions.ensures ∙ length-scopes_from regions_behind [] 0 c.args.rows.now
+pub given-requires-clause-counted : goal.given-requires-clause-counted
+given-requires-clause-counted c = ap length c.deref.ensures.value ∙ ap length c.in_ok-regions.ensures ∙ length-scopes_from regions_behind [] 0 c.args.rows.now
+
+pub given-requires-clause-escaped : goal.given-requires-clause-escaped
+given-requires-clause-escaped c = sym (no_blocks_escaped c.args.text.now c.args.rows.now)
 
 pub named-requires-clause-counted : goal.named-requires-clause-counted
 named-requires-clause-counted c = ap length c.deref-2.ensures.value ∙ ap length c.in_ok-regions.ensures ∙ length-scopes_from regions_behind [] 0 c.args.rows.now

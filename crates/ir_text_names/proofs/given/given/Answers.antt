@@ -1,29 +1,52 @@
-use Rattle.std.proofs.Common.{◌≡◌, ◌&&◌, ℕ, ◌+◌, cond, nat_eq, bytes_eq, List, length, get_or, Option, Some, is_some, sym, ap, subst, ◌∙◌, arith}
+use Rattle.std.proofs.Common.{◌≡◌, ◌&&◌, ℕ, ◌+◌, Bool, true, false, cond, nat_eq, bytes_eq, List, ◌++◌, length, get_or, drop, Option, Some, is_some, refl, sym, ap, subst, ◌∙◌, arith}
 use Rattle.ir_text_names.specs.Firsts.{IsFirst}
-use Rattle.ir_text_names.specs.Given.{giver, name_of, given_name, IsAgain, AreGiven}
+use Rattle.ir_text_names.specs.Given.{giver, name_of, given_name, escaped_name, escaped_name_of, escaped_names, IsAgain, AreGiven}
 use Rattle.ir_text_names.specs.Places.{row_at}
+use Rattle.ir_text_names.specs.Rows.{row_of, part_of}
+use Rattle.ir_text_names.proofs.EscapedNames.{names_from, front_again, front_dropped}
 use Rattle.ir_text_names.proofs.FirstRows.{first_more}
 use Rattle.ir_text_names.proofs.GivenNames.{given_more, again_is, again_told}
 use Rattle.ir_text_names.proofs.given.given.Goals as goal
 
+if_so : (b : Bool) (f : List ℕ → Bool) (m n : List ℕ) → (b ≡ true → m ≡ n) → (b && f m) ≡ (b && f n)
+if_so true f m n e = ap f (e refl)
+if_so false f m n e = refl
+
+pub next_name-next-requires : goal.next_name-next-requires
+next_name-next-requires c =
+    let l = c.loop-at in
+    let kind = c.args.kind in
+    let rows = c.args.rows.now in
+    let front : List ℕ = escaped_name_of kind c.args.text.now (row_of rows l.at) in
+    let names = names_from kind c.args.text.now rows l.at l.behind.now c.loop-at-test.true l.invariant.behind in
+    subst (λ (t : List ℕ). l.behind.now ≡ escaped_name kind (part_of rows l.at) t ++ drop (length (escaped_name kind (part_of rows l.at) t)) l.behind.now) (sym c.piece.ensures)
+    (front_again front (escaped_names kind c.args.text.now (drop (l.at + 1) rows)) l.behind.now names)
+
 pub loop-at-preserved : goal.loop-at-preserved
 loop-at-preserved c =
     let l = c.loop-at in
-    let part = giver c.args.kind in
+    let kind = c.args.kind in
+    let part = giver kind in
     let text = c.args.text.now in
     let rows = c.args.rows.now in
     let scopes = c.args.scopes.now in
     let holds = c.gives-is.result in
     let scope = get_or scopes l.at 0 in
-    let name : c.name_of-name.result.now ≡ given_name part text rows l.at = c.name_of-name.ensures ∙ ap (name_of part) c.piece.ensures in
-    let twice : c.in_ok-twice.twice ≡ (holds && is_some (row_at l.places scope (given_name part text rows l.at))) =
-    c.in_ok-twice.ensures.again ∙ ap (λ (t : List ℕ). holds && is_some (row_at l.places scope t)) name in
+    let next = c.next_name-next.result in
+    let name = given_name part text rows l.at in
+    let named : holds ≡ true → next.name.now ≡ name = λ h. c.next_name-next.ensures.name (c.gives-is.ensures.0 h) ∙ ap (name_of part) c.piece.ensures in
+    let twice : c.in_ok-twice.twice ≡ (holds && is_some (row_at l.places scope name)) =
+    c.in_ok-twice.ensures.again ∙ if_so holds (λ (t : List ℕ). is_some (row_at l.places scope t)) next.name.now name named in
+    let front : List ℕ = escaped_name_of kind text (row_of rows l.at) in
+    let names = names_from kind text rows l.at l.behind.now c.loop-at-test.true l.invariant.behind in
     record {
       places = given_more part text rows scopes l.at (row_at l.places) (row_at c.put_if.new.places) holds c.gives-is.ensures
-          (λ s m. c.in_ok-twice.ensures.puts s m ∙ ap (λ (t : List ℕ). cond (holds && (nat_eq scope s && bytes_eq t m)) (Some l.at) (row_at l.places s m)) name) l.invariant.places;
+          (λ s m. c.in_ok-twice.ensures.puts s m ∙ ap (λ (b : Bool). cond b (Some l.at) (row_at l.places s m)) (if_so holds (λ (t : List ℕ). nat_eq scope s && bytes_eq t m) next.name.now name named)) l.invariant.places;
       again = subst (λ (o : Option ℕ). IsFirst (IsAgain part text rows scopes) (l.at + 1) o) (sym c.noted-again.ensures)
           (first_more (IsAgain part text rows scopes) l.at l.again c.in_ok-twice.twice (again_is part text rows scopes l.at (row_at l.places) holds c.in_ok-twice.twice c.gives-is.ensures twice l.invariant.places)
           (again_told part text rows scopes l.at (row_at l.places) holds c.in_ok-twice.twice c.gives-is.ensures twice l.invariant.places) l.invariant.again);
+      behind = c.next_name-next.ensures.escaped ∙ ap (λ (t : List ℕ). drop (length (escaped_name kind (part_of rows l.at) t)) l.behind.now) c.piece.ensures
+          ∙ front_dropped front (escaped_names kind text (drop (l.at + 1) rows)) l.behind.now names;
     }
 
 pub returns-clause-places : goal.returns-clause-places

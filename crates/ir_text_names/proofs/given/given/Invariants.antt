@@ -1,5 +1,6 @@
+use Rattle.std.proofs.Common.{◌≡◌, drop}
 use Rattle.ir_text_names.specs.Firsts.{IsFirst}
-use Rattle.ir_text_names.specs.Given.{giver, IsAgain, AreGiven}
+use Rattle.ir_text_names.specs.Given.{giver, escaped_names, IsAgain, AreGiven}
 use Rattle.ir_text_names.specs.Places.{row_at}
 use Rattle.ir_text_names.proofs.given.given.Given as goal
 
@@ -7,4 +8,5 @@ abbrev pub invariant-loop-at : goal.invariant-loop-at
 invariant-loop-at l = record {
   places : AreGiven (giver l.kind) l.text l.rows l.scopes l.at (row_at l.places);
   again : IsFirst (IsAgain (giver l.kind) l.text l.rows l.scopes) l.at l.again;
+  behind : l.behind ≡ escaped_names l.kind l.text (drop l.at l.rows);
 }

@@ -1,0 +1,5 @@
+//! Tests of what texts between quotes stand for.
+#![tactic(auto)]
+
+#[cfg(test)]
+mod escape_tests;
