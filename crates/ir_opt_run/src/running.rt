@@ -1,4 +1,5 @@
 //! The work of the program `ir_opt`.
+ghost use Rattle.std.specs.Prelude.{◌≡◌, ◌⊎◌};
 
 use crate::fault::Fault;
 use crate::optimising::optimise;

@@ -1,4 +1,5 @@
 //! What is said of a fault, and the status that it makes.
+ghost use Rattle.std.specs.Prelude.{◌≡◌, ◌⊎◌};
 
 use crate::fault::Fault;
 use ir_text_reader::line_and_column;
