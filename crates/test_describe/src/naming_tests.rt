@@ -161,13 +161,18 @@ fn what_is_defined_elsewhere(rt: HostRuntime) -> Result<(), Fail> {
     Ok(())
 }
 
+// A module in a block of the operation's region.
+fn deeper(ctx: &mut Ctx, around: Op) -> Result<Op, Fail> {
+    let block = put_block(ctx, around, 0, 1)?;
+    put(ctx, block, MODULE, 0, &[], 1)
+}
+
 // A module in a module, so many deep, with a constant in the innermost.
 fn nest(ctx: &mut Ctx, depth: usize) -> Result<Vec<u8>, Fail> {
     let module = root(ctx, MODULE, 1)?;
-    let mut inner: Op = module;
+    let mut inner = module;
     for _ in 0..depth {
-        let block = put_block(ctx, inner, 0, 1)?;
-        inner = put(ctx, block, MODULE, 0, &[], 1)?;
+        inner = deeper(ctx, inner)?;
     }
     let block = put_block(ctx, inner, 0, 0)?;
     put(ctx, block, CONSTANT, 1, &[], 0)?;
