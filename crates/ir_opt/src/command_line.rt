@@ -16,7 +16,7 @@ pub struct Request<'a> {
 }
 
 // A switch that may be given once and again.
-fn switch(alloc: Global, name: &'static str, help: &'static str) -> Arg<'static> {
+fn switch<'a>(alloc: Global, name: &'a str, help: &'a str) -> Arg<'a> {
     Arg::new(alloc, name)
         .long(name)
         .help(help)
@@ -24,7 +24,7 @@ fn switch(alloc: Global, name: &'static str, help: &'static str) -> Arg<'static>
 }
 
 // The arguments that are files.
-fn with_files(alloc: Global, command: Command<'static>) -> Result<Command<'static>, AllocError> {
+fn with_files<'a>(alloc: Global, command: Command<'a>) -> Result<Command<'a>, AllocError> {
     let input = Arg::new(alloc, "FILE")
         .help("The text to read; standard input where it is `-` or absent")
         .action(ArgAction::Set);
@@ -37,12 +37,12 @@ fn with_files(alloc: Global, command: Command<'static>) -> Result<Command<'stati
 }
 
 // The switches that are passes.
-fn with_passes(alloc: Global, command: Command<'static>) -> Result<Command<'static>, AllocError> {
+fn with_passes<'a>(alloc: Global, command: Command<'a>) -> Result<Command<'a>, AllocError> {
     command.arg(switch(alloc, "sweep", "Dead operations go"))
 }
 
 // The other switches.
-fn with_switches(alloc: Global, command: Command<'static>) -> Result<Command<'static>, AllocError> {
+fn with_switches<'a>(alloc: Global, command: Command<'a>) -> Result<Command<'a>, AllocError> {
     command
         .arg(switch(
             alloc,
@@ -64,7 +64,7 @@ fn with_switches(alloc: Global, command: Command<'static>) -> Result<Command<'st
 }
 
 // The command line.
-fn command(alloc: Global) -> Result<Command<'static>, AllocError> {
+fn command<'a>(alloc: Global) -> Result<Command<'a>, AllocError> {
     let command = Command::new(alloc, "ir_opt").version("0.1.0").about(
         "Reads MLIR's generic textual form, runs passes and prints what comes of it",
     );
@@ -107,7 +107,7 @@ fn asked<'a>(alloc: Global, matches: &ArgMatches<'a>) -> Result<Request<'a>, All
 ///
 /// # Errors
 /// Help and the version, where they are asked for; words that mean nothing; and want of memory.
-pub fn request<'a>(alloc: Global, words: &'a [String]) -> Result<Request<'a>, Error> {
+pub fn read_request<'a>(alloc: Global, words: &'a [String]) -> Result<Request<'a>, Error> {
     let matches = command(alloc)?.try_get_matches_from(words)?;
     Ok(asked(alloc, &matches)?)
 }

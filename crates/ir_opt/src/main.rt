@@ -4,7 +4,7 @@
 mod command_line;
 mod replacing;
 
-use crate::command_line::{Request, request};
+use crate::command_line::{Request, read_request};
 use crate::replacing::replace_file;
 use ir_opt_run::run_opt;
 use std::alloc::Global;
@@ -69,7 +69,7 @@ fn run(rt: &HostRuntime) -> u8 {
     let Ok(words) = words(rt) else {
         return fail(rt, "ir_opt", "out of memory", 1);
     };
-    match request(rt.alloc(), words.as_slice()) {
+    match read_request(rt.alloc(), words.as_slice()) {
         Ok(request) => answer(rt, &request),
         Err(error) => tell(rt, &error),
     }
