@@ -165,7 +165,7 @@ fn options(alloc: Global, asked: Asked) -> Result<Options<'static>, AllocError> 
 }
 
 // A sink of this room.
-fn sink(alloc: Global, room: usize) -> Sink {
+fn sink_with(alloc: Global, room: usize) -> Sink {
     Sink {
         taken: Vec::new(alloc),
         room,
@@ -175,8 +175,8 @@ fn sink(alloc: Global, room: usize) -> Sink {
 fn expect_row(rt: &impl Abort, alloc: Global, row: &Row) -> Result<(), Fail> {
     let (text, asked, status, printed, told) = *row;
     let mut input = text;
-    let mut output = sink(alloc, 10000);
-    let mut log = sink(alloc, 10000);
+    let mut output = sink_with(alloc, 10000);
+    let mut log = sink_with(alloc, 10000);
     let options = options(alloc, asked)?;
     assert_eq!(rt;
         run_opt(alloc, &options, &mut input, &mut output, &mut log),
@@ -228,8 +228,8 @@ fn expect_failing(rt: &impl Abort, alloc: Global, row: &Failing) -> Result<(), F
         left: b"\"t.a\"() : () -> ()",
         failure,
     };
-    let mut output = sink(alloc, room);
-    let mut log = sink(alloc, log_room);
+    let mut output = sink_with(alloc, room);
+    let mut log = sink_with(alloc, log_room);
     let options = options(alloc, PLAIN)?;
     assert_eq!(rt;
         run_opt(alloc, &options, &mut input, &mut output, &mut log),
@@ -274,8 +274,8 @@ fn deep_fault(rt: HostRuntime) -> Result<(), Fail> {
     let alloc = rt.alloc();
     let text = nest(alloc)?;
     let mut input = text.as_slice();
-    let mut output = sink(alloc, 10000);
-    let mut log = sink(alloc, 10000);
+    let mut output = sink_with(alloc, 10000);
+    let mut log = sink_with(alloc, 10000);
     let options = options(alloc, SWEEP)?;
     assert_eq!(rt;
         run_opt(alloc, &options, &mut input, &mut output, &mut log),
