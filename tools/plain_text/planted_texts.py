@@ -31,7 +31,7 @@ PLANTED = {
     'ir_text_tree/value-dropped': 'the value of an attribute is dropped',
     'ir_text_tree/operand-place-changed': "an operand's place is changed",
     'ir_text_tree/index-dropped': 'which of several values an operand is, is dropped',
-    'ir_text_names/operand-taken-of-another-row': 'an operand names what stands behind it alone',
+    'ir_text_names/operand-taken-of-another-row': 'an operand names what stands before it, in a region that has ended too',
     'ir_text_names/type-of-the-first-result': "an operand's type is compared with that of the first result",
     'ir_text_names/region-begins-a-row-before': 'a block of the region around is taken',
     'ir_text_names/region-that-ended-goes-on': 'a value of a region that has ended is taken',

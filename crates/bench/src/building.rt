@@ -1,11 +1,14 @@
 //! What the workloads build: operations and blocks, made and put in their place.
 
+use crate::outcome::BenchErr;
 use ir_base::context::{CoreError, Ptr};
 use ir_base::types::TypeHandle;
-use ir_checked::{
-    BasicBlock, CheckedErr, Context, Operation, Region, Value, argument, block_at_back, new_block,
-    new_op, op_at_back, result,
-};
+use ir_checked::{basic_block, operation};
+use ir_core::basic_block::BasicBlock;
+use ir_core::context::Context;
+use ir_core::operation::Operation;
+use ir_core::region::Region;
+use ir_core::value::Value;
 use ir_run::toy::Toy;
 use std::alloc::Global;
 
@@ -29,9 +32,9 @@ pub(crate) fn add_op(
     types: &[TypeHandle],
     operands: &[ToyValue],
     num_regions: usize,
-) -> Result<ToyOp, CheckedErr> {
-    let op = new_op(ctx, kind, types, operands, &[], num_regions)?;
-    op_at_back(ctx, op, block)?;
+) -> Result<ToyOp, BenchErr> {
+    let op = operation::new(ctx, kind, types, operands, &[], num_regions)?;
+    operation::insert_at_back(op, block, ctx)?;
     Ok(op)
 }
 
@@ -40,25 +43,25 @@ pub(crate) fn add_block(
     ctx: &mut ToyContext,
     region: Ptr<Region>,
     types: &[TypeHandle],
-) -> Result<ToyBlock, CheckedErr> {
-    let block = new_block(ctx, None, types)?;
-    block_at_back(ctx, block, region)?;
+) -> Result<ToyBlock, BenchErr> {
+    let block = basic_block::new(ctx, None, types)?;
+    basic_block::insert_at_back(block, region, ctx)?;
     Ok(block)
 }
 
 /// Makes an unlinked block with two arguments of a type.
-pub(crate) fn pair_block(ctx: &mut ToyContext, ty: TypeHandle) -> Result<ToyBlock, CheckedErr> {
-    new_block(ctx, None, &[ty, ty])
+pub(crate) fn pair_block(ctx: &mut ToyContext, ty: TypeHandle) -> Result<ToyBlock, BenchErr> {
+    Ok(basic_block::new(ctx, None, &[ty, ty])?)
 }
 
 /// Makes such a block, and answers it and its arguments.
 pub(crate) fn block_and_pair(
     ctx: &mut ToyContext,
     ty: TypeHandle,
-) -> Result<(ToyBlock, ToyValue, ToyValue), CheckedErr> {
+) -> Result<(ToyBlock, ToyValue, ToyValue), BenchErr> {
     let block = pair_block(ctx, ty)?;
-    let first = argument(ctx, block, 0)?;
-    let second = argument(ctx, block, 1)?;
+    let first = basic_block::get_argument(block, ctx, 0)?;
+    let second = basic_block::get_argument(block, ctx, 1)?;
     Ok((block, first, second))
 }
 
@@ -68,9 +71,9 @@ pub(crate) fn build(
     ty: TypeHandle,
     block: ToyBlock,
     count: usize,
-) -> Result<(), CheckedErr> {
-    let first = argument(ctx, block, 0)?;
-    let second = argument(ctx, block, 1)?;
+) -> Result<(), BenchErr> {
+    let first = basic_block::get_argument(block, ctx, 0)?;
+    let second = basic_block::get_argument(block, ctx, 1)?;
     build_from(ctx, ty, block, first, second, count)
 }
 
@@ -82,13 +85,13 @@ fn build_from(
     mut first: ToyValue,
     mut second: ToyValue,
     count: usize,
-) -> Result<(), CheckedErr> {
+) -> Result<(), BenchErr> {
     for _i in 0..count {
         let types = [ty];
         let operands = [first, second];
         let op = add_op(ctx, block, 1, &types, &operands, 0)?;
         first = second;
-        second = result(ctx, op, 0)?;
+        second = operation::get_result(op, ctx, 0)?;
     }
     Ok(())
 }
@@ -112,7 +115,7 @@ fn add_users(
     value: ToyValue,
     count: usize,
     made: &mut Vec<ToyOp>,
-) -> Result<(), CheckedErr> {
+) -> Result<(), BenchErr> {
     reserve(made, count)?;
     for _i in 0..count {
         let operands = [value];
@@ -128,7 +131,7 @@ pub(crate) fn used_value(
     ty: TypeHandle,
     count: usize,
     users: &mut Vec<ToyOp>,
-) -> Result<(ToyBlock, ToyValue, ToyValue), CheckedErr> {
+) -> Result<(ToyBlock, ToyValue, ToyValue), BenchErr> {
     let (block, value, other) = block_and_pair(ctx, ty)?;
     add_users(ctx, block, value, count, users)?;
     Ok((block, value, other))
@@ -140,7 +143,7 @@ fn add_wide(
     block: ToyBlock,
     value: ToyValue,
     count: usize,
-) -> Result<ToyOp, CheckedErr> {
+) -> Result<ToyOp, BenchErr> {
     let operands = copies(ctx.alloc(), value, count)?;
     add_op(ctx, block, 4, &[], operands.as_slice(), 0)
 }
@@ -150,7 +153,7 @@ pub(crate) fn wide(
     ctx: &mut ToyContext,
     ty: TypeHandle,
     count: usize,
-) -> Result<(ToyOp, ToyValue, ToyValue), CheckedErr> {
+) -> Result<(ToyOp, ToyValue, ToyValue), BenchErr> {
     let (block, value, other) = block_and_pair(ctx, ty)?;
     Ok((add_wide(ctx, block, value, count)?, value, other))
 }
@@ -163,7 +166,7 @@ pub(crate) fn add_marked(
     value: ToyValue,
     count: usize,
     made: &mut Vec<ToyOp>,
-) -> Result<(), CheckedErr> {
+) -> Result<(), BenchErr> {
     reserve(made, count)?;
     let operands = [value, value];
     for i in 0..count {

@@ -1,12 +1,10 @@
 //! Chains of operations, each of which uses the results of the two before.
 
 use crate::building::{ToyBlock, ToyContext, ToyOp, ToyValue, build, keep, pair_block, reserve};
-use crate::outcome::{block_sum, outcome, uses_sum};
+use crate::outcome::{BenchErr, block_sum, outcome, uses_sum};
 use bench_clock::{Outcome, Stopwatch};
 use ir_base::types::TypeHandle;
-use ir_checked::{
-    CheckedErr, block_head, erase_op, new_op, next_op, op_after, operand, replace_all_uses, result,
-};
+use ir_checked::{basic_block, operation, value};
 use std::time::CpuClock;
 
 // Makes so many operations and puts their handles behind the others.
@@ -18,32 +16,32 @@ fn timed_checked(
     second: ToyValue,
     count: usize,
     made: &mut Vec<ToyOp>,
-) -> Result<(), CheckedErr> {
+) -> Result<(), BenchErr> {
     let mut first = first;
     let mut second = second;
     let successors = [];
     for _i in 0..count {
         let types = [ty];
         let operands = [first, second];
-        let op = new_op(ctx, 1, &types, &operands, &successors, 0)?;
+        let op = operation::new(ctx, 1, &types, &operands, &successors, 0)?;
         keep(made, op)?;
         first = second;
-        second = result(ctx, op, 0)?;
+        second = operation::get_result(op, ctx, 0)?;
     }
     Ok(())
 }
 
 // Makes an operation with one result of this type, and gives the result.
-fn new_value(ctx: &mut ToyContext, ty: TypeHandle) -> Result<ToyValue, CheckedErr> {
-    let op = new_op(ctx, 0, &[ty], &[], &[], 0)?;
-    result(ctx, op, 0)
+fn new_value(ctx: &mut ToyContext, ty: TypeHandle) -> Result<ToyValue, BenchErr> {
+    let op = operation::new(ctx, 0, &[ty], &[], &[], 0)?;
+    Ok(operation::get_result(op, ctx, 0)?)
 }
 
 /// Makes two such operations, and gives their results.
 pub(crate) fn two_values(
     ctx: &mut ToyContext,
     ty: TypeHandle,
-) -> Result<(ToyValue, ToyValue), CheckedErr> {
+) -> Result<(ToyValue, ToyValue), BenchErr> {
     let first = new_value(ctx, ty)?;
     let second = new_value(ctx, ty)?;
     Ok((first, second))
@@ -56,7 +54,7 @@ pub(crate) fn unlinked_checked<C: CpuClock>(
     ty: TypeHandle,
     count: usize,
     made: &mut Vec<ToyOp>,
-) -> Result<Outcome, CheckedErr> {
+) -> Result<Outcome, BenchErr> {
     reserve(made, count)?;
     let (first, second) = two_values(ctx, ty)?;
     watch.start();
@@ -72,7 +70,7 @@ fn timed_building(
     ty: TypeHandle,
     block: ToyBlock,
     count: usize,
-) -> Result<(), CheckedErr> {
+) -> Result<(), BenchErr> {
     build(ctx, ty, block, count)
 }
 
@@ -82,7 +80,7 @@ pub(crate) fn building<C: CpuClock>(
     ctx: &mut ToyContext,
     ty: TypeHandle,
     count: usize,
-) -> Result<Outcome, CheckedErr> {
+) -> Result<Outcome, BenchErr> {
     let block = pair_block(ctx, ty)?;
     watch.start();
     timed_building(ctx, ty, block, count)?;
@@ -91,23 +89,23 @@ pub(crate) fn building<C: CpuClock>(
 }
 
 // Puts a new operation with the same operands behind one with two, and answers it.
-fn copy_behind(ctx: &mut ToyContext, ty: TypeHandle, op: ToyOp) -> Result<ToyOp, CheckedErr> {
+fn copy_behind(ctx: &mut ToyContext, ty: TypeHandle, op: ToyOp) -> Result<ToyOp, BenchErr> {
     let types = [ty];
-    let first = operand(ctx, op, 0)?;
-    let second = operand(ctx, op, 1)?;
+    let first = operation::get_operand(op, ctx, 0)?;
+    let second = operation::get_operand(op, ctx, 1)?;
     let operands = [first, second];
-    let new = new_op(ctx, 1, &types, &operands, &[], 0)?;
-    op_after(ctx, new, op)?;
+    let new = operation::new(ctx, 1, &types, &operands, &[], 0)?;
+    operation::insert_after(new, ctx, op)?;
     Ok(new)
 }
 
 // Puts such an operation behind one, lets what used the one's result use the new one's, and erases the one.
-fn rebuild(ctx: &mut ToyContext, ty: TypeHandle, old: ToyOp) -> Result<(), CheckedErr> {
+fn rebuild(ctx: &mut ToyContext, ty: TypeHandle, old: ToyOp) -> Result<(), BenchErr> {
     let new = copy_behind(ctx, ty, old)?;
-    let old_value = result(ctx, old, 0)?;
-    let new_value = result(ctx, new, 0)?;
-    replace_all_uses(ctx, old_value, new_value)?;
-    erase_op(ctx, old)
+    let old_value = operation::get_result(old, ctx, 0)?;
+    let new_value = operation::get_result(new, ctx, 0)?;
+    value::replace_all_uses_with(old_value, ctx, new_value)?;
+    Ok(operation::erase(old, ctx)?)
 }
 
 // Rebuilds so many operations of a chain, from its first on.
@@ -117,13 +115,13 @@ fn timed_rebuilding(
     ty: TypeHandle,
     block: ToyBlock,
     count: usize,
-) -> Result<(), CheckedErr> {
-    let mut place = block_head(ctx, block)?;
+) -> Result<(), BenchErr> {
+    let mut place = basic_block::get_head(block, ctx)?;
     for _i in 0..count {
         let Some(old) = place else {
-            return Err(CheckedErr::Condition);
+            return Err(BenchErr::Astray);
         };
-        place = next_op(ctx, old)?;
+        place = operation::get_next(old, ctx)?;
         rebuild(ctx, ty, old)?;
     }
     Ok(())
@@ -135,7 +133,7 @@ pub(crate) fn rebuilding<C: CpuClock>(
     ctx: &mut ToyContext,
     ty: TypeHandle,
     count: usize,
-) -> Result<Outcome, CheckedErr> {
+) -> Result<Outcome, BenchErr> {
     let block = pair_block(ctx, ty)?;
     build(ctx, ty, block, count)?;
     watch.start();

@@ -1,13 +1,11 @@
 //! Results and arguments that are put in front of others.
 
 use crate::building::{ToyBlock, ToyContext, ToyOp, ToyValue};
-use crate::outcome::outcome;
+use crate::outcome::{BenchErr, outcome};
 use bench_clock::{Outcome, Stopwatch, mix};
 use ir_base::types::TypeHandle;
-use ir_checked::{
-    CheckedErr, ValueQueries, argument, insert_argument, insert_result, new_block, new_op,
-    new_type, result,
-};
+use ir_checked::{basic_block, operation};
+use ir_core::prelude::*;
 use ir_run::toy::ToyType;
 use std::time::CpuClock;
 
@@ -19,10 +17,10 @@ fn timed_results(
     first: TypeHandle,
     second: TypeHandle,
     count: usize,
-) -> Result<(), CheckedErr> {
+) -> Result<(), BenchErr> {
     for i in 0..count {
         let ty = if i % 2 == 0 { first } else { second };
-        insert_result(ctx, op, 0, ty)?;
+        operation::insert_result(op, ctx, 0, ty)?;
     }
     Ok(())
 }
@@ -35,33 +33,28 @@ fn timed_arguments(
     first: TypeHandle,
     second: TypeHandle,
     count: usize,
-) -> Result<(), CheckedErr> {
+) -> Result<(), BenchErr> {
     for i in 0..count {
         let ty = if i % 2 == 0 { first } else { second };
-        insert_argument(ctx, block, 0, ty)?;
+        basic_block::insert_argument(block, ctx, 0, ty)?;
     }
     Ok(())
 }
 
 // Whether a value has a type, as 2 or 1.
-fn type_number(ctx: &ToyContext, value: ToyValue, ty: TypeHandle) -> Result<u64, CheckedErr> {
+fn type_number(ctx: &ToyContext, value: ToyValue, ty: TypeHandle) -> Result<u64, BenchErr> {
     if !value.is_live(ctx) {
-        return Err(CheckedErr::Condition);
+        return Err(BenchErr::Astray);
     }
     let same = value.get_type(ctx) == ty;
     Ok(same as u64 + 1)
 }
 
 // Of each of so many results, whether it has the type.
-fn results_sum(
-    ctx: &ToyContext,
-    op: ToyOp,
-    ty: TypeHandle,
-    count: usize,
-) -> Result<u64, CheckedErr> {
+fn results_sum(ctx: &ToyContext, op: ToyOp, ty: TypeHandle, count: usize) -> Result<u64, BenchErr> {
     let mut sum = 0;
     for index in 0..count {
-        let value = result(ctx, op, index)?;
+        let value = operation::get_result(op, ctx, index)?;
         sum = mix(sum, type_number(ctx, value, ty)?);
     }
     Ok(sum)
@@ -73,10 +66,10 @@ fn arguments_sum(
     block: ToyBlock,
     ty: TypeHandle,
     count: usize,
-) -> Result<u64, CheckedErr> {
+) -> Result<u64, BenchErr> {
     let mut sum = 0;
     for index in 0..count {
-        let value = argument(ctx, block, index)?;
+        let value = basic_block::get_argument(block, ctx, index)?;
         sum = mix(sum, type_number(ctx, value, ty)?);
     }
     Ok(sum)
@@ -88,9 +81,9 @@ pub(crate) fn results_front<C: CpuClock>(
     ctx: &mut ToyContext,
     ty: TypeHandle,
     count: usize,
-) -> Result<Outcome, CheckedErr> {
-    let other = new_type(ctx, ToyType::Int { width: 64 })?;
-    let op = new_op(ctx, 4, &[], &[], &[], 0)?;
+) -> Result<Outcome, BenchErr> {
+    let other = ctx.instantiate_key(ToyType::Int { width: 64 })?;
+    let op = operation::new(ctx, 4, &[], &[], &[], 0)?;
     watch.start();
     timed_results(ctx, op, ty, other, count)?;
     watch.stop();
@@ -103,9 +96,9 @@ pub(crate) fn arguments_front<C: CpuClock>(
     ctx: &mut ToyContext,
     ty: TypeHandle,
     count: usize,
-) -> Result<Outcome, CheckedErr> {
-    let other = new_type(ctx, ToyType::Int { width: 64 })?;
-    let block = new_block(ctx, None, &[])?;
+) -> Result<Outcome, BenchErr> {
+    let other = ctx.instantiate_key(ToyType::Int { width: 64 })?;
+    let block = basic_block::new(ctx, None, &[])?;
     watch.start();
     timed_arguments(ctx, block, ty, other, count)?;
     watch.stop();

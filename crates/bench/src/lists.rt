@@ -3,15 +3,14 @@
 ghost use Rattle.std.specs.Prelude.{◌<◌};
 
 use crate::building::{ToyBlock, ToyContext, ToyOp, ToyValue, add_block, add_marked};
-use crate::outcome::{block_sum, outcome};
+use crate::outcome::{BenchErr, block_sum, outcome};
 use crate::random::Random;
 use bench_clock::{Outcome, Stopwatch, mix};
 use ir_base::context::Ptr;
 use ir_base::types::TypeHandle;
-use ir_checked::{
-    BlockPtr, CheckedErr, Region, RegionPlace, RegionPtr, argument, block_at_back, block_head,
-    new_block, new_op, op_at_back, op_before, region, region_head, unlink_block, unlink_op,
-};
+use ir_checked::{basic_block, operation, region};
+use ir_core::prelude::*;
+use ir_core::region::Region;
 use std::time::CpuClock;
 
 // Takes so many operations from the front of a block and puts each at the back of another.
@@ -21,13 +20,13 @@ fn timed_front_to_back(
     from: ToyBlock,
     to: ToyBlock,
     count: usize,
-) -> Result<(), CheckedErr> {
+) -> Result<(), BenchErr> {
     for _i in 0..count {
-        let Some(op) = block_head(ctx, from)? else {
-            return Err(CheckedErr::Condition);
+        let Some(op) = basic_block::get_head(from, ctx)? else {
+            return Err(BenchErr::Astray);
         };
-        unlink_op(ctx, op)?;
-        op_at_back(ctx, op, to)?;
+        operation::unlink(op, ctx)?;
+        operation::insert_at_back(op, to, ctx)?;
     }
     Ok(())
 }
@@ -36,10 +35,10 @@ fn timed_front_to_back(
 pub(crate) fn two_blocks(
     ctx: &mut ToyContext,
     ty: TypeHandle,
-) -> Result<(ToyBlock, ToyBlock, ToyValue), CheckedErr> {
-    let first = new_block(ctx, None, &[ty])?;
-    let second = new_block(ctx, None, &[])?;
-    let value = argument(ctx, first, 0)?;
+) -> Result<(ToyBlock, ToyBlock, ToyValue), BenchErr> {
+    let first = basic_block::new(ctx, None, &[ty])?;
+    let second = basic_block::new(ctx, None, &[])?;
+    let value = basic_block::get_argument(first, ctx, 0)?;
     Ok((first, second, value))
 }
 
@@ -50,7 +49,7 @@ pub(crate) fn front_to_back<C: CpuClock>(
     ty: TypeHandle,
     count: usize,
     made: &mut Vec<ToyOp>,
-) -> Result<Outcome, CheckedErr> {
+) -> Result<Outcome, BenchErr> {
     let (from, to, value) = two_blocks(ctx, ty)?;
     add_marked(ctx, from, from, value, count, made)?;
     watch.start();
@@ -73,10 +72,10 @@ pub(crate) fn two_places(random: &mut Random, count: usize) -> (usize, usize)
 }
 
 // The operation at a place.
-fn op_at(ops: &[ToyOp], place: usize) -> Result<ToyOp, CheckedErr> {
+fn op_at(ops: &[ToyOp], place: usize) -> Result<ToyOp, BenchErr> {
     match ops.get(place) {
         Some(op) => Ok(*op),
-        None => Err(CheckedErr::Condition),
+        None => Err(BenchErr::Astray),
     }
 }
 
@@ -86,11 +85,11 @@ fn put_before(
     ops: &[ToyOp],
     place: usize,
     marked: usize,
-) -> Result<(), CheckedErr> {
+) -> Result<(), BenchErr> {
     let op = op_at(ops, place)?;
     let mark = op_at(ops, marked)?;
-    unlink_op(ctx, op)?;
-    op_before(ctx, op, mark)
+    operation::unlink(op, ctx)?;
+    Ok(operation::insert_before(op, ctx, mark)?)
 }
 
 // Puts a random operation before another random one, as often as there are operations.
@@ -99,7 +98,7 @@ fn timed_random_moves(
     ctx: &mut ToyContext,
     ops: &[ToyOp],
     random: &mut Random,
-) -> Result<(), CheckedErr> {
+) -> Result<(), BenchErr> {
     let count = ops.len();
     for _i in 0..count {
         let (one, other) = two_places(random, count);
@@ -115,7 +114,7 @@ pub(crate) fn both_sums(
     ctx: &ToyContext,
     first: ToyBlock,
     second: ToyBlock,
-) -> Result<u64, CheckedErr> {
+) -> Result<u64, BenchErr> {
     let sum = block_sum(ctx, first)?;
     Ok(mix(sum, block_sum(ctx, second)?))
 }
@@ -127,7 +126,7 @@ pub(crate) fn random_moves<C: CpuClock>(
     ty: TypeHandle,
     count: usize,
     made: &mut Vec<ToyOp>,
-) -> Result<Outcome, CheckedErr> {
+) -> Result<Outcome, BenchErr> {
     let (even, odd, value) = two_blocks(ctx, ty)?;
     add_marked(ctx, even, odd, value, count, made)?;
     let mut random = Random::new();
@@ -144,13 +143,13 @@ fn timed_blocks(
     from: Ptr<Region>,
     to: Ptr<Region>,
     count: usize,
-) -> Result<(), CheckedErr> {
+) -> Result<(), BenchErr> {
     for _i in 0..count {
-        let Some(block) = region_head(ctx, from)? else {
-            return Err(CheckedErr::Condition);
+        let Some(block) = region::get_head(from, ctx)? else {
+            return Err(BenchErr::Astray);
         };
-        unlink_block(ctx, block)?;
-        block_at_back(ctx, block, to)?;
+        basic_block::unlink(block, ctx)?;
+        basic_block::insert_at_back(block, to, ctx)?;
     }
     Ok(())
 }
@@ -164,9 +163,9 @@ fn argument_count(ctx: &ToyContext, block: ToyBlock) -> usize {
 }
 
 /// How many arguments each block of a region has.
-pub(crate) fn arguments_sum(ctx: &ToyContext, region: Ptr<Region>) -> Result<u64, CheckedErr> {
+pub(crate) fn arguments_sum(ctx: &ToyContext, region: Ptr<Region>) -> Result<u64, BenchErr> {
     if !region.is_live(ctx) {
-        return Err(CheckedErr::Condition);
+        return Err(BenchErr::Astray);
     }
     let mut sum = 0;
     for block in region.iter(ctx) {
@@ -181,7 +180,7 @@ pub(crate) fn add_blocks(
     region: Ptr<Region>,
     ty: TypeHandle,
     count: usize,
-) -> Result<(), CheckedErr> {
+) -> Result<(), BenchErr> {
     let types = [ty, ty];
     for i in 0..count {
         add_block(ctx, region, &types[..i % 3])?;
@@ -190,10 +189,10 @@ pub(crate) fn add_blocks(
 }
 
 /// Makes an operation with two regions, and answers these.
-pub(crate) fn two_regions(ctx: &mut ToyContext) -> Result<(Ptr<Region>, Ptr<Region>), CheckedErr> {
-    let module = new_op(ctx, 5, &[], &[], &[], 2)?;
-    let first = region(ctx, module, 0)?;
-    let second = region(ctx, module, 1)?;
+pub(crate) fn two_regions(ctx: &mut ToyContext) -> Result<(Ptr<Region>, Ptr<Region>), BenchErr> {
+    let module = operation::new(ctx, 5, &[], &[], &[], 2)?;
+    let first = operation::get_region(module, ctx, 0)?;
+    let second = operation::get_region(module, ctx, 1)?;
     Ok((first, second))
 }
 
@@ -203,7 +202,7 @@ pub(crate) fn blocks<C: CpuClock>(
     ctx: &mut ToyContext,
     ty: TypeHandle,
     count: usize,
-) -> Result<Outcome, CheckedErr> {
+) -> Result<Outcome, BenchErr> {
     let (from, to) = two_regions(ctx)?;
     add_blocks(ctx, from, ty, count)?;
     watch.start();

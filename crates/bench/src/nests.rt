@@ -1,19 +1,17 @@
 //! Nests of operations: what is built, asked, verified, and erased with all inside.
 
 use crate::building::{ToyBlock, ToyContext, ToyOp, add_block, add_op, build};
-use crate::outcome::well;
+use crate::outcome::{BenchErr, well};
 use bench_clock::{Outcome, Stopwatch};
 use ir_base::types::TypeHandle;
-use ir_checked::{
-    CheckedErr, Entity, block_at_back, can_erase, drop_op_uses, erase_op, is_inside, new_block,
-    new_op, op_at_back, region,
-};
+use ir_checked::{basic_block, entity, operation};
+use ir_core::context::{Entity, is_inside};
 use std::time::CpuClock;
 
 /// Makes an operation with one region and a block in it, and answers both.
-pub(crate) fn with_block(ctx: &mut ToyContext, kind: u32) -> Result<(ToyOp, ToyBlock), CheckedErr> {
-    let op = new_op(ctx, kind, &[], &[], &[], 1)?;
-    let inside = region(ctx, op, 0)?;
+pub(crate) fn with_block(ctx: &mut ToyContext, kind: u32) -> Result<(ToyOp, ToyBlock), BenchErr> {
+    let op = operation::new(ctx, kind, &[], &[], &[], 1)?;
+    let inside = operation::get_region(op, ctx, 0)?;
     let block = add_block(ctx, inside, &[])?;
     Ok((op, block))
 }
@@ -23,9 +21,9 @@ pub(crate) fn add_function(
     ctx: &mut ToyContext,
     ty: TypeHandle,
     outer: ToyBlock,
-) -> Result<ToyBlock, CheckedErr> {
+) -> Result<ToyBlock, BenchErr> {
     let function = add_op(ctx, outer, 6, &[], &[], 1)?;
-    let body = region(ctx, function, 0)?;
+    let body = operation::get_region(function, ctx, 0)?;
     add_block(ctx, body, &[ty, ty])
 }
 
@@ -35,7 +33,7 @@ fn add_functions(
     ty: TypeHandle,
     outer: ToyBlock,
     functions: usize,
-) -> Result<(), CheckedErr> {
+) -> Result<(), BenchErr> {
     for _i in 0..functions {
         let block = add_function(ctx, ty, outer)?;
         build(ctx, ty, block, 5)?;
@@ -44,7 +42,7 @@ fn add_functions(
 }
 
 // Makes a module of so many functions.
-fn module(ctx: &mut ToyContext, ty: TypeHandle, functions: usize) -> Result<ToyOp, CheckedErr> {
+fn module(ctx: &mut ToyContext, ty: TypeHandle, functions: usize) -> Result<ToyOp, BenchErr> {
     let (root, outer) = with_block(ctx, 5)?;
     add_functions(ctx, ty, outer, functions)?;
     Ok(root)
@@ -52,7 +50,7 @@ fn module(ctx: &mut ToyContext, ty: TypeHandle, functions: usize) -> Result<ToyO
 
 // Makes a module of so many functions.
 #[inline(never)]
-fn timed_module(ctx: &mut ToyContext, ty: TypeHandle, functions: usize) -> Result<(), CheckedErr> {
+fn timed_module(ctx: &mut ToyContext, ty: TypeHandle, functions: usize) -> Result<(), BenchErr> {
     module(ctx, ty, functions)?;
     Ok(())
 }
@@ -72,7 +70,7 @@ pub(crate) fn module_built<C: CpuClock>(
     ctx: &mut ToyContext,
     ty: TypeHandle,
     count: usize,
-) -> Result<Outcome, CheckedErr> {
+) -> Result<Outcome, BenchErr> {
     watch.start();
     timed_module(ctx, ty, count / 8)?;
     watch.stop();
@@ -81,8 +79,8 @@ pub(crate) fn module_built<C: CpuClock>(
 
 // Erases an operation with all that stands inside it, where nothing outside names what is inside.
 #[inline(never)]
-fn timed_erase(ctx: &mut ToyContext, op: ToyOp) -> Result<(), CheckedErr> {
-    erase_op(ctx, op)
+fn timed_erase(ctx: &mut ToyContext, op: ToyOp) -> Result<(), BenchErr> {
+    Ok(operation::erase(op, ctx)?)
 }
 
 // Erases an operation inside which all others stand, and asks whether any is left.
@@ -90,7 +88,7 @@ fn erase_all<C: CpuClock>(
     watch: &mut Stopwatch<'_, C>,
     ctx: &mut ToyContext,
     op: ToyOp,
-) -> Result<(), CheckedErr> {
+) -> Result<(), BenchErr> {
     watch.start();
     timed_erase(ctx, op)?;
     watch.stop();
@@ -103,21 +101,21 @@ pub(crate) fn module_erased<C: CpuClock>(
     ctx: &mut ToyContext,
     ty: TypeHandle,
     count: usize,
-) -> Result<Outcome, CheckedErr> {
+) -> Result<Outcome, BenchErr> {
     let root = module(ctx, ty, count / 8)?;
     erase_all(watch, ctx, root)?;
     Ok(module_outcome(count / 8))
 }
 
 // Puts a level into an operation: a block with an operation of one region, which it answers.
-fn level_inside(ctx: &mut ToyContext, outer: ToyOp) -> Result<ToyOp, CheckedErr> {
-    let inside = region(ctx, outer, 0)?;
+fn level_inside(ctx: &mut ToyContext, outer: ToyOp) -> Result<ToyOp, BenchErr> {
+    let inside = operation::get_region(outer, ctx, 0)?;
     let block = add_block(ctx, inside, &[])?;
     add_op(ctx, block, 5, &[], &[], 1)
 }
 
 // Puts so many levels into an operation, each into the one before, and answers the innermost operation.
-fn nest_inside(ctx: &mut ToyContext, outer: ToyOp, levels: usize) -> Result<ToyOp, CheckedErr> {
+fn nest_inside(ctx: &mut ToyContext, outer: ToyOp, levels: usize) -> Result<ToyOp, BenchErr> {
     let mut inner = outer;
     for _i in 0..levels {
         inner = level_inside(ctx, inner)?;
@@ -129,25 +127,25 @@ fn nest_inside(ctx: &mut ToyContext, outer: ToyOp, levels: usize) -> Result<ToyO
 pub(crate) fn nest_from_above(
     ctx: &mut ToyContext,
     levels: usize,
-) -> Result<(ToyOp, ToyOp), CheckedErr> {
-    let outer = new_op(ctx, 5, &[], &[], &[], 1)?;
+) -> Result<(ToyOp, ToyOp), BenchErr> {
+    let outer = operation::new(ctx, 5, &[], &[], &[], 1)?;
     let inner = nest_inside(ctx, outer, levels)?;
     Ok((outer, inner))
 }
 
 // Puts an operation into a new block, and that into the region of a new operation, which it answers.
-fn wrap(ctx: &mut ToyContext, op: ToyOp) -> Result<ToyOp, CheckedErr> {
-    let block = new_block(ctx, None, &[])?;
-    op_at_back(ctx, op, block)?;
-    let outer = new_op(ctx, 5, &[], &[], &[], 1)?;
-    let inside = region(ctx, outer, 0)?;
-    block_at_back(ctx, block, inside)?;
+fn wrap(ctx: &mut ToyContext, op: ToyOp) -> Result<ToyOp, BenchErr> {
+    let block = basic_block::new(ctx, None, &[])?;
+    operation::insert_at_back(op, block, ctx)?;
+    let outer = operation::new(ctx, 5, &[], &[], &[], 1)?;
+    let inside = operation::get_region(outer, ctx, 0)?;
+    basic_block::insert_at_back(block, inside, ctx)?;
     Ok(outer)
 }
 
 // Makes such a nest from the innermost on, and answers its ends: the outer one first.
-fn nest_from_below(ctx: &mut ToyContext, levels: usize) -> Result<(ToyOp, ToyOp), CheckedErr> {
-    let inner = new_op(ctx, 5, &[], &[], &[], 1)?;
+fn nest_from_below(ctx: &mut ToyContext, levels: usize) -> Result<(ToyOp, ToyOp), BenchErr> {
+    let inner = operation::new(ctx, 5, &[], &[], &[], 1)?;
     let mut outer = inner;
     for _i in 0..levels {
         outer = wrap(ctx, outer)?;
@@ -163,14 +161,14 @@ fn is_below(ctx: &ToyContext, inner: ToyOp, outer: ToyOp) -> bool {
 
 // Makes a nest from above, and asks whether each end is inside the other: where there is a level, the inner one is, and the outer one isn't.
 #[inline(never)]
-fn timed_nest_above(ctx: &mut ToyContext, levels: usize) -> Result<bool, CheckedErr> {
+fn timed_nest_above(ctx: &mut ToyContext, levels: usize) -> Result<bool, BenchErr> {
     let (outer, inner) = nest_from_above(ctx, levels)?;
     Ok(is_below(ctx, inner, outer) || levels == 0)
 }
 
 // Makes a nest from below, and asks the same.
 #[inline(never)]
-fn timed_nest_below(ctx: &mut ToyContext, levels: usize) -> Result<bool, CheckedErr> {
+fn timed_nest_below(ctx: &mut ToyContext, levels: usize) -> Result<bool, BenchErr> {
     let (outer, inner) = nest_from_below(ctx, levels)?;
     Ok(is_below(ctx, inner, outer) || levels == 0)
 }
@@ -189,7 +187,7 @@ pub(crate) fn nest_above<C: CpuClock>(
     watch: &mut Stopwatch<'_, C>,
     ctx: &mut ToyContext,
     count: usize,
-) -> Result<Outcome, CheckedErr> {
+) -> Result<Outcome, BenchErr> {
     watch.start();
     well(timed_nest_above(ctx, count / 3))?;
     watch.stop();
@@ -201,7 +199,7 @@ pub(crate) fn nest_below<C: CpuClock>(
     watch: &mut Stopwatch<'_, C>,
     ctx: &mut ToyContext,
     count: usize,
-) -> Result<Outcome, CheckedErr> {
+) -> Result<Outcome, BenchErr> {
     watch.start();
     well(timed_nest_below(ctx, count / 3))?;
     watch.stop();
@@ -210,9 +208,9 @@ pub(crate) fn nest_below<C: CpuClock>(
 
 // Drops all uses inside an operation, and tells whether it can be erased.
 #[inline(never)]
-fn timed_asking(ctx: &mut ToyContext, op: ToyOp) -> Result<bool, CheckedErr> {
-    drop_op_uses(ctx, op)?;
-    can_erase(ctx, Entity::Op(op))
+fn timed_asking(ctx: &mut ToyContext, op: ToyOp) -> Result<bool, BenchErr> {
+    operation::drop_all_uses(op, ctx)?;
+    Ok(entity::can_erase(ctx, Entity::Op(op))?)
 }
 
 /// In a nest N/3 deep all uses are dropped, and it is asked whether it can be erased. The units are the entities.
@@ -220,7 +218,7 @@ pub(crate) fn deep_asked<C: CpuClock>(
     watch: &mut Stopwatch<'_, C>,
     ctx: &mut ToyContext,
     count: usize,
-) -> Result<Outcome, CheckedErr> {
+) -> Result<Outcome, BenchErr> {
     let (outer, _inner) = nest_from_above(ctx, count / 3)?;
     watch.start();
     well(timed_asking(ctx, outer))?;
@@ -233,9 +231,9 @@ pub(crate) fn deep<C: CpuClock>(
     watch: &mut Stopwatch<'_, C>,
     ctx: &mut ToyContext,
     count: usize,
-) -> Result<Outcome, CheckedErr> {
+) -> Result<Outcome, BenchErr> {
     let (outer, _inner) = nest_from_above(ctx, count / 3)?;
-    drop_op_uses(ctx, outer)?;
+    operation::drop_all_uses(outer, ctx)?;
     erase_all(watch, ctx, outer)?;
     Ok(nest_outcome(count / 3))
 }

@@ -1,11 +1,11 @@
 //! Operands that are put in, taken out and replaced.
 
 use crate::building::{ToyContext, ToyOp, ToyValue, add_op, pair_block, used_value, wide};
-use crate::outcome::{naming_sum, operand_count, outcome, uses_of};
+use crate::outcome::{BenchErr, naming_sum, operand_count, outcome, uses_of};
 use crate::random::fill_at_random;
 use bench_clock::{Outcome, Stopwatch, mix};
 use ir_base::types::TypeHandle;
-use ir_checked::{CheckedErr, argument, push_operand, remove_operand, replace_operand};
+use ir_checked::{basic_block, operation};
 use std::time::CpuClock;
 
 // Puts an operand that names the value behind the others and takes it out again, so often.
@@ -15,10 +15,10 @@ fn timed_push_and_remove(
     op: ToyOp,
     value: ToyValue,
     count: usize,
-) -> Result<(), CheckedErr> {
+) -> Result<(), BenchErr> {
     for _i in 0..count {
-        let index = push_operand(ctx, op, value)?;
-        remove_operand(ctx, op, index)?;
+        let index = operation::push_operand(op, ctx, value)?;
+        operation::remove_operand(op, ctx, index)?;
     }
     Ok(())
 }
@@ -28,7 +28,7 @@ pub(crate) fn uses_and_operands(
     ctx: &ToyContext,
     value: ToyValue,
     op: ToyOp,
-) -> Result<u64, CheckedErr> {
+) -> Result<u64, BenchErr> {
     let operands = operand_count(ctx, op) as u64;
     Ok(uses_of(ctx, value)?.wrapping_add(operands))
 }
@@ -40,7 +40,7 @@ pub(crate) fn push_and_remove<C: CpuClock>(
     ty: TypeHandle,
     count: usize,
     users: &mut Vec<ToyOp>,
-) -> Result<Outcome, CheckedErr> {
+) -> Result<Outcome, BenchErr> {
     let (block, value, _other) = used_value(ctx, ty, count, users)?;
     let op = add_op(ctx, block, 4, &[], &[], 0)?;
     watch.start();
@@ -56,18 +56,18 @@ fn timed_pushes(
     op: ToyOp,
     value: ToyValue,
     count: usize,
-) -> Result<(), CheckedErr> {
+) -> Result<(), BenchErr> {
     for _i in 0..count {
-        push_operand(ctx, op, value)?;
+        operation::push_operand(op, ctx, value)?;
     }
     Ok(())
 }
 
 // Takes the first so many operands out, from the last of them on.
 #[inline(never)]
-fn timed_removals(ctx: &mut ToyContext, op: ToyOp, count: usize) -> Result<(), CheckedErr> {
+fn timed_removals(ctx: &mut ToyContext, op: ToyOp, count: usize) -> Result<(), BenchErr> {
     for index in (0..count).rev() {
-        remove_operand(ctx, op, index)?;
+        operation::remove_operand(op, ctx, index)?;
     }
     Ok(())
 }
@@ -78,7 +78,7 @@ fn push_and_remove_all(
     op: ToyOp,
     value: ToyValue,
     count: usize,
-) -> Result<u64, CheckedErr> {
+) -> Result<u64, BenchErr> {
     timed_pushes(ctx, op, value, count)?;
     let middle = uses_of(ctx, value)?;
     timed_removals(ctx, op, count)?;
@@ -89,9 +89,9 @@ fn push_and_remove_all(
 pub(crate) fn op_and_argument(
     ctx: &mut ToyContext,
     ty: TypeHandle,
-) -> Result<(ToyOp, ToyValue), CheckedErr> {
+) -> Result<(ToyOp, ToyValue), BenchErr> {
     let block = pair_block(ctx, ty)?;
-    let value = argument(ctx, block, 0)?;
+    let value = basic_block::get_argument(block, ctx, 0)?;
     Ok((add_op(ctx, block, 4, &[], &[], 0)?, value))
 }
 
@@ -101,7 +101,7 @@ pub(crate) fn pushes_and_removals<C: CpuClock>(
     ctx: &mut ToyContext,
     ty: TypeHandle,
     count: usize,
-) -> Result<Outcome, CheckedErr> {
+) -> Result<Outcome, BenchErr> {
     let (op, value) = op_and_argument(ctx, ty)?;
     watch.start();
     let middle = push_and_remove_all(ctx, op, value, count)?;
@@ -118,14 +118,14 @@ fn timed_replacements(
     order: &[usize],
     first: ToyValue,
     second: ToyValue,
-) -> Result<(), CheckedErr> {
+) -> Result<(), BenchErr> {
     let mut even = true;
     for place in order {
         let Some(op) = ops.get(*place) else {
-            return Err(CheckedErr::Condition);
+            return Err(BenchErr::Astray);
         };
         let value = if even { first } else { second };
-        replace_operand(ctx, *op, 0, value)?;
+        operation::replace_operand(*op, ctx, 0, value)?;
         even = !even;
     }
     Ok(())
@@ -139,7 +139,7 @@ pub(crate) fn replacements<C: CpuClock>(
     count: usize,
     users: &mut Vec<ToyOp>,
     order: &mut Vec<usize>,
-) -> Result<Outcome, CheckedErr> {
+) -> Result<Outcome, BenchErr> {
     let (_block, value, other) = used_value(ctx, ty, count, users)?;
     fill_at_random(order, count)?;
     watch.start();
@@ -149,7 +149,7 @@ pub(crate) fn replacements<C: CpuClock>(
 }
 
 // What is left of a wide operation whose operands were replaced.
-fn wide_outcome(ctx: &ToyContext, op: ToyOp, value: ToyValue) -> Result<Outcome, CheckedErr> {
+fn wide_outcome(ctx: &ToyContext, op: ToyOp, value: ToyValue) -> Result<Outcome, BenchErr> {
     let operands = operand_count(ctx, op);
     outcome(operands, naming_sum(ctx, &[op], value))
 }
@@ -161,9 +161,9 @@ fn timed_from_front(
     op: ToyOp,
     value: ToyValue,
     count: usize,
-) -> Result<(), CheckedErr> {
+) -> Result<(), BenchErr> {
     for index in 0..count {
-        replace_operand(ctx, op, index, value)?;
+        operation::replace_operand(op, ctx, index, value)?;
     }
     Ok(())
 }
@@ -174,7 +174,7 @@ pub(crate) fn replaced_front<C: CpuClock>(
     ctx: &mut ToyContext,
     ty: TypeHandle,
     count: usize,
-) -> Result<Outcome, CheckedErr> {
+) -> Result<Outcome, BenchErr> {
     let (op, value, other) = wide(ctx, ty, count)?;
     watch.start();
     timed_from_front(ctx, op, other, count)?;
@@ -189,9 +189,9 @@ fn timed_from_back(
     op: ToyOp,
     value: ToyValue,
     count: usize,
-) -> Result<(), CheckedErr> {
+) -> Result<(), BenchErr> {
     for index in (0..count).rev() {
-        replace_operand(ctx, op, index, value)?;
+        operation::replace_operand(op, ctx, index, value)?;
     }
     Ok(())
 }
@@ -202,7 +202,7 @@ pub(crate) fn replaced_back<C: CpuClock>(
     ctx: &mut ToyContext,
     ty: TypeHandle,
     count: usize,
-) -> Result<Outcome, CheckedErr> {
+) -> Result<Outcome, BenchErr> {
     let (op, value, other) = wide(ctx, ty, count)?;
     watch.start();
     timed_from_back(ctx, op, other, count)?;
@@ -218,11 +218,11 @@ fn timed_in_order(
     order: &[usize],
     first: ToyValue,
     second: ToyValue,
-) -> Result<(), CheckedErr> {
+) -> Result<(), BenchErr> {
     let mut even = true;
     for place in order {
         let value = if even { first } else { second };
-        replace_operand(ctx, op, *place, value)?;
+        operation::replace_operand(op, ctx, *place, value)?;
         even = !even;
     }
     Ok(())
@@ -235,7 +235,7 @@ pub(crate) fn replaced_random<C: CpuClock>(
     ty: TypeHandle,
     count: usize,
     order: &mut Vec<usize>,
-) -> Result<Outcome, CheckedErr> {
+) -> Result<Outcome, BenchErr> {
     let (op, value, other) = wide(ctx, ty, count)?;
     fill_at_random(order, count)?;
     watch.start();

@@ -2,24 +2,39 @@
 
 use crate::building::{ToyBlock, ToyContext, ToyOp, ToyValue};
 use bench_clock::{Outcome, mix};
-use ir_checked::{BlockPlace, BlockPtr, CheckedErr, OperationPtr, num_uses, operand, result};
+use ir_base::context::CoreError;
+use ir_checked::error::CheckedErr;
+use ir_checked::{operation, value};
+use ir_core::prelude::*;
+use thiserror::Error;
+
+/// Why a run gives no outcome.
+#[derive(Clone, Copy, Debug, Drop, Error)]
+pub(crate) enum BenchErr {
+    /// What stands there isn't what the timed part takes it to be.
+    #[error("what stands there isn't what the timed part takes it to be")]
+    Astray,
+    /// A call can't be made, or was refused.
+    #[error(transparent)]
+    Checked(#[from] CheckedErr),
+    /// A call was refused.
+    #[error(transparent)]
+    Core(#[from] CoreError),
+}
 
 /// What comes out of a run with so many units, where its checksum succeeded.
-pub(crate) fn outcome(
-    units: usize,
-    checksum: Result<u64, CheckedErr>,
-) -> Result<Outcome, CheckedErr> {
+pub(crate) fn outcome(units: usize, checksum: Result<u64, BenchErr>) -> Result<Outcome, BenchErr> {
     let checksum = checksum?;
     let units = units as u64;
     Ok(Outcome { units, checksum })
 }
 
 /// Refuses an answer of a timed part that finds something wrong.
-pub(crate) fn well(answer: Result<bool, CheckedErr>) -> Result<(), CheckedErr> {
+pub(crate) fn well(answer: Result<bool, BenchErr>) -> Result<(), BenchErr> {
     if answer? {
         Ok(())
     } else {
-        Err(CheckedErr::Condition)
+        Err(BenchErr::Astray)
     }
 }
 
@@ -40,23 +55,23 @@ pub(crate) fn operand_count(ctx: &ToyContext, op: ToyOp) -> usize {
 }
 
 /// How many uses a value has.
-pub(crate) fn uses_of(ctx: &ToyContext, value: ToyValue) -> Result<u64, CheckedErr> {
-    Ok(num_uses(ctx, value)? as u64)
+pub(crate) fn uses_of(ctx: &ToyContext, value: ToyValue) -> Result<u64, BenchErr> {
+    Ok(value::num_uses(value, ctx)? as u64)
 }
 
 // What an operation adds to a sum: the uses of its first result, and its operands.
-fn op_number(ctx: &ToyContext, op: ToyOp) -> Result<u64, CheckedErr> {
+fn op_number(ctx: &ToyContext, op: ToyOp) -> Result<u64, BenchErr> {
     let operands = operand_count(ctx, op) as u64;
     if result_count(ctx, op) == 0 {
         return Ok(operands);
     }
-    let value = result(ctx, op, 0)?;
+    let value = operation::get_result(op, ctx, 0)?;
     let uses = uses_of(ctx, value)?;
     Ok(uses.wrapping_mul(7).wrapping_add(operands))
 }
 
 /// Of each operation, how many uses its result and how many operands it has.
-pub(crate) fn uses_sum(ctx: &ToyContext, ops: &[ToyOp]) -> Result<u64, CheckedErr> {
+pub(crate) fn uses_sum(ctx: &ToyContext, ops: &[ToyOp]) -> Result<u64, BenchErr> {
     let mut sum = 0;
     for op in ops {
         sum = mix(sum, op_number(ctx, *op)?);
@@ -65,9 +80,9 @@ pub(crate) fn uses_sum(ctx: &ToyContext, ops: &[ToyOp]) -> Result<u64, CheckedEr
 }
 
 /// The same of the operations of a block.
-pub(crate) fn block_sum(ctx: &ToyContext, block: ToyBlock) -> Result<u64, CheckedErr> {
+pub(crate) fn block_sum(ctx: &ToyContext, block: ToyBlock) -> Result<u64, BenchErr> {
     if !block.is_live(ctx) {
-        return Err(CheckedErr::Condition);
+        return Err(BenchErr::Astray);
     }
     let mut sum = 0;
     for op in block.iter(ctx) {
@@ -82,10 +97,10 @@ fn operands_added(
     op: ToyOp,
     value: ToyValue,
     before: u64,
-) -> Result<u64, CheckedErr> {
+) -> Result<u64, BenchErr> {
     let mut sum = before;
     for index in 0..operand_count(ctx, op) {
-        let named = operand(ctx, op, index)? == value;
+        let named = operation::get_operand(op, ctx, index)? == value;
         sum = mix(sum, named as u64 + 1);
     }
     Ok(sum)
@@ -96,7 +111,7 @@ pub(crate) fn operand_sum(
     ctx: &ToyContext,
     ops: &[ToyOp],
     value: ToyValue,
-) -> Result<u64, CheckedErr> {
+) -> Result<u64, BenchErr> {
     let mut sum = 0;
     for op in ops {
         sum = operands_added(ctx, *op, value, sum)?;
@@ -109,7 +124,7 @@ pub(crate) fn naming_sum(
     ctx: &ToyContext,
     ops: &[ToyOp],
     value: ToyValue,
-) -> Result<u64, CheckedErr> {
+) -> Result<u64, BenchErr> {
     let sum = operand_sum(ctx, ops, value)?;
     Ok(mix(sum, uses_of(ctx, value)?))
 }

@@ -8,11 +8,10 @@ ghost use Rattle.ir_core.specs.Context.State.{forest_of, types_of};
 
 use crate::building::{ToyContext, ToyOp, reserve};
 use crate::chains::two_values;
-use crate::outcome::{outcome, uses_sum};
+use crate::outcome::{BenchErr, outcome, uses_sum};
 use bench_clock::{Outcome, Stopwatch};
 use ir_base::context::{CoreError, Dialects, Ptr};
 use ir_base::types::TypeHandle;
-use ir_checked::CheckedErr;
 use ir_core::context::Context;
 use ir_core::operation::Operation;
 use ir_core::prelude::*;
@@ -52,11 +51,11 @@ pub(crate) fn unlinked<C: CpuClock>(
     ty: TypeHandle,
     count: usize,
     made: &mut Vec<ToyOp>,
-) -> Result<Outcome, CheckedErr> {
+) -> Result<Outcome, BenchErr> {
     reserve(made, count)?;
     let (first, second) = two_values(ctx, ty)?;
     if !ty.is_known(ctx) || !first.is_live(ctx) || !second.is_live(ctx) {
-        return Err(CheckedErr::Condition);
+        return Err(BenchErr::Astray);
     }
     watch.start();
     timed_unlinked(ctx, ty, first, second, count, made)?;

@@ -13,12 +13,11 @@ ghost use Rattle.bench.specs.Settled.{AllInside, GrowsIn};
 
 use crate::building::{ToyContext, block_and_pair};
 use crate::nests::module_outcome;
-use crate::outcome::{block_sum, outcome};
+use crate::outcome::{BenchErr, block_sum, outcome};
 use crate::uses::wide_block;
 use bench_clock::{Outcome, Stopwatch};
 use ir_base::context::{CoreError, Dialects, Ptr};
 use ir_base::types::TypeHandle;
-use ir_checked::CheckedErr;
 use ir_core::basic_block::BasicBlock;
 use ir_core::context::Context;
 use ir_core::operation::Operation;
@@ -128,10 +127,10 @@ pub(crate) fn building<C: CpuClock>(
     ctx: &mut ToyContext,
     ty: TypeHandle,
     count: usize,
-) -> Result<Outcome, CheckedErr> {
+) -> Result<Outcome, BenchErr> {
     let (block, first, second) = block_and_pair(ctx, ty)?;
     if !ty.is_known(ctx) || !block.is_live(ctx) || !first.is_live(ctx) || !second.is_live(ctx) {
-        return Err(CheckedErr::Condition);
+        return Err(BenchErr::Astray);
     }
     watch.start();
     timed_building(ctx, ty, block, first, second, count)?;
@@ -238,9 +237,9 @@ pub(crate) fn module_built<C: CpuClock>(
     ctx: &mut ToyContext,
     ty: TypeHandle,
     count: usize,
-) -> Result<Outcome, CheckedErr> {
+) -> Result<Outcome, BenchErr> {
     if !ty.is_known(ctx) {
-        return Err(CheckedErr::Condition);
+        return Err(BenchErr::Astray);
     }
     watch.start();
     timed_module(ctx, ty, count / 8)?;
@@ -284,10 +283,10 @@ pub(crate) fn argument_users<C: CpuClock>(
     ctx: &mut ToyContext,
     ty: TypeHandle,
     count: usize,
-) -> Result<Outcome, CheckedErr> {
+) -> Result<Outcome, BenchErr> {
     let block = wide_block(ctx, ty, count)?;
     if !has_arguments(ctx, block, count) {
-        return Err(CheckedErr::Condition);
+        return Err(BenchErr::Astray);
     }
     watch.start();
     timed_argument_users(ctx, block, count)?;

@@ -10,11 +10,10 @@ ghost use Rattle.ir_core.specs.Context.State.{forest_of, types_of};
 ghost use Rattle.bench.specs.Settled.{AreLinks, IsLink};
 
 use crate::building::{ToyContext, build, pair_block};
-use crate::outcome::{block_sum, outcome};
+use crate::outcome::{BenchErr, block_sum, outcome};
 use bench_clock::{Outcome, Stopwatch};
 use ir_base::context::{CoreError, Dialects, Ptr};
 use ir_base::types::TypeHandle;
-use ir_checked::CheckedErr;
 use ir_core::basic_block::BasicBlock;
 use ir_core::context::Context;
 use ir_core::operation::Operation;
@@ -61,7 +60,7 @@ fn timed_rebuilding<D: Dialects>(
     ty: TypeHandle,
     block: Ptr<BasicBlock<D>>,
     count: usize,
-) -> Result<(), CheckedErr>
+) -> Result<(), BenchErr>
     requires known { ty.place < length (types_of ctx.old) }
     requires live { IsLive (forest_of ctx.old) (a_block block.index) }
     requires links { AreLinks (forest_of ctx.old) block.index }
@@ -69,7 +68,7 @@ fn timed_rebuilding<D: Dialects>(
     let mut place = block.get_head(ctx);
     for _i in 0..count {
         let Some(old) = place else {
-            return Err(CheckedErr::Condition);
+            return Err(BenchErr::Astray);
         };
         ctx.recall_well_formed();
         place = old.get_next(ctx);
@@ -111,11 +110,11 @@ pub(crate) fn rebuilding<C: CpuClock>(
     ctx: &mut ToyContext,
     ty: TypeHandle,
     count: usize,
-) -> Result<Outcome, CheckedErr> {
+) -> Result<Outcome, BenchErr> {
     let block = pair_block(ctx, ty)?;
     build(ctx, ty, block, count)?;
     if !ty.is_known(ctx) || !block.is_live(ctx) || !are_links(ctx, block) {
-        return Err(CheckedErr::Condition);
+        return Err(BenchErr::Astray);
     }
     watch.start();
     timed_rebuilding(ctx, ty, block, count)?;

@@ -11,12 +11,11 @@ ghost use Rattle.bench.specs.Settled.{StandsFree};
 
 use crate::building::{ToyContext, ToyOp, add_marked};
 use crate::lists::{add_blocks, arguments_sum, both_sums, two_blocks, two_places, two_regions};
-use crate::outcome::{block_sum, outcome};
+use crate::outcome::{BenchErr, block_sum, outcome};
 use crate::random::Random;
 use bench_clock::{Outcome, Stopwatch};
 use ir_base::context::{Dialects, Ptr};
 use ir_base::types::TypeHandle;
-use ir_checked::CheckedErr;
 use ir_core::basic_block::BasicBlock;
 use ir_core::context::Context;
 use ir_core::operation::Operation;
@@ -31,14 +30,14 @@ fn timed_front_to_back<D: Dialects>(
     from: Ptr<BasicBlock<D>>,
     to: Ptr<BasicBlock<D>>,
     count: usize,
-) -> Result<(), CheckedErr>
+) -> Result<(), BenchErr>
     requires from { IsLive (forest_of ctx.old) (a_block from.index) }
     requires to { IsLive (forest_of ctx.old) (a_block to.index) }
     requires free { IsLinked (forest_of ctx.old) (a_block to.index) → ⊥ }
 {
     for _i in 0..count {
         let Some(op) = from.get_head(ctx) else {
-            return Err(CheckedErr::Condition);
+            return Err(BenchErr::Astray);
         };
         op.unlink(ctx);
         op.insert_at_back(to, ctx);
@@ -53,11 +52,11 @@ pub(crate) fn front_to_back<C: CpuClock>(
     ty: TypeHandle,
     count: usize,
     made: &mut Vec<ToyOp>,
-) -> Result<Outcome, CheckedErr> {
+) -> Result<Outcome, BenchErr> {
     let (from, to, value) = two_blocks(ctx, ty)?;
     add_marked(ctx, from, from, value, count, made)?;
     if !from.is_live(ctx) || !to.is_live(ctx) || to.is_linked(ctx) {
-        return Err(CheckedErr::Condition);
+        return Err(BenchErr::Astray);
     }
     watch.start();
     timed_front_to_back(ctx, from, to, count)?;
@@ -124,13 +123,13 @@ pub(crate) fn random_moves<C: CpuClock>(
     ty: TypeHandle,
     count: usize,
     made: &mut Vec<ToyOp>,
-) -> Result<Outcome, CheckedErr> {
+) -> Result<Outcome, BenchErr> {
     let (even, odd, value) = two_blocks(ctx, ty)?;
     add_marked(ctx, even, odd, value, count, made)?;
     let ops = made.as_slice();
     let mut random = Random::new();
     if !all_stand_free(ctx, ops) {
-        return Err(CheckedErr::Condition);
+        return Err(BenchErr::Astray);
     }
     watch.start();
     timed_random_moves(ctx, ops, &mut random);
@@ -146,7 +145,7 @@ fn timed_blocks<D: Dialects>(
     from: Ptr<Region>,
     to: Ptr<Region>,
     count: usize,
-) -> Result<(), CheckedErr>
+) -> Result<(), BenchErr>
     requires from { IsLive (forest_of ctx.old) (a_region from.index) }
     requires to { IsLive (forest_of ctx.old) (a_region to.index) }
     requires stands { In to.index (regions_of (forest_of ctx.old) module.index) }
@@ -154,7 +153,7 @@ fn timed_blocks<D: Dialects>(
 {
     for _i in 0..count {
         let Some(block) = RegionPlace::<D>::get_head(from, ctx) else {
-            return Err(CheckedErr::Condition);
+            return Err(BenchErr::Astray);
         };
         block.unlink(ctx);
         ctx.recall_well_formed();
@@ -169,15 +168,15 @@ pub(crate) fn blocks<C: CpuClock>(
     ctx: &mut ToyContext,
     ty: TypeHandle,
     count: usize,
-) -> Result<Outcome, CheckedErr> {
+) -> Result<Outcome, BenchErr> {
     let (from, to) = two_regions(ctx)?;
     add_blocks(ctx, from, ty, count)?;
     if !from.is_live(ctx) || !to.is_live(ctx) {
-        return Err(CheckedErr::Condition);
+        return Err(BenchErr::Astray);
     }
     let module = to.get_parent_op(ctx);
     if module.is_linked(ctx) {
-        return Err(CheckedErr::Condition);
+        return Err(BenchErr::Astray);
     }
     watch.start();
     timed_blocks(ctx, module, from, to, count)?;

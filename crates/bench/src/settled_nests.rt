@@ -11,12 +11,11 @@ ghost use Rattle.bench.specs.Settled.{AllInside, GrowsIn};
 
 use crate::building::{ToyContext, ToyOp};
 use crate::nests::{module_outcome, nest_outcome};
-use crate::outcome::well;
+use crate::outcome::{BenchErr, well};
 use crate::settled_building::{add_block, add_op, module};
 use bench_clock::{Outcome, Stopwatch};
 use ir_base::context::{CoreError, Dialects, Ptr};
 use ir_base::types::TypeHandle;
-use ir_checked::CheckedErr;
 use ir_core::context::Context;
 use ir_core::operation::Operation;
 use ir_core::prelude::*;
@@ -84,7 +83,7 @@ fn erase_all<C: CpuClock>(
     watch: &mut Stopwatch<'_, C>,
     ctx: &mut ToyContext,
     op: ToyOp,
-) -> Result<(), CheckedErr>
+) -> Result<(), BenchErr>
     requires live { IsLive (forest_of ctx.old) (an_op op.index) }
     requires all { AllInside (forest_of ctx.old) op.index }
 {
@@ -100,9 +99,9 @@ pub(crate) fn module_erased<C: CpuClock>(
     ctx: &mut ToyContext,
     ty: TypeHandle,
     count: usize,
-) -> Result<Outcome, CheckedErr> {
+) -> Result<Outcome, BenchErr> {
     if !ty.is_known(ctx) || !ctx.is_ir_empty() {
-        return Err(CheckedErr::Condition);
+        return Err(BenchErr::Astray);
     }
     let root = module(ctx, ty, count / 8)?;
     erase_all(watch, ctx, root)?;
@@ -114,9 +113,9 @@ pub(crate) fn deep<C: CpuClock>(
     watch: &mut Stopwatch<'_, C>,
     ctx: &mut ToyContext,
     count: usize,
-) -> Result<Outcome, CheckedErr> {
+) -> Result<Outcome, BenchErr> {
     if !ctx.is_ir_empty() {
-        return Err(CheckedErr::Condition);
+        return Err(BenchErr::Astray);
     }
     let outer = nest(ctx, count / 3)?;
     erase_all(watch, ctx, outer)?;

@@ -11,13 +11,12 @@ ghost use Rattle.ir_core.specs.Context.State.{forest_of};
 
 use crate::building::{ToyContext, ToyOp, ToyValue, add_op, used_value, wide};
 use crate::operands::{op_and_argument, uses_and_operands};
-use crate::outcome::{naming_sum, operand_sum, outcome, uses_of};
+use crate::outcome::{BenchErr, naming_sum, operand_sum, outcome, uses_of};
 use crate::random::fill_at_random;
 use crate::uses::{both_uses, returned_sum};
 use bench_clock::{Outcome, Stopwatch, mix};
 use ir_base::context::{CoreError, Dialects, Ptr};
 use ir_base::types::TypeHandle;
-use ir_checked::CheckedErr;
 use ir_core::context::Context;
 use ir_core::operation::Operation;
 use ir_core::prelude::*;
@@ -44,9 +43,9 @@ fn there_and_back<C: CpuClock>(
     ctx: &mut ToyContext,
     value: ToyValue,
     other: ToyValue,
-) -> Result<u64, CheckedErr> {
+) -> Result<u64, BenchErr> {
     if !value.is_live(ctx) || !other.is_live(ctx) {
-        return Err(CheckedErr::Condition);
+        return Err(BenchErr::Astray);
     }
     watch.start();
     timed_replacing(ctx, value, other)?;
@@ -65,7 +64,7 @@ pub(crate) fn replacing<C: CpuClock>(
     ty: TypeHandle,
     count: usize,
     users: &mut Vec<ToyOp>,
-) -> Result<Outcome, CheckedErr> {
+) -> Result<Outcome, BenchErr> {
     let (_block, value, other) = used_value(ctx, ty, count, users)?;
     let between = there_and_back(watch, ctx, value, other)?;
     let checksum = returned_sum(ctx, users.as_slice(), value, other, between);
@@ -78,7 +77,7 @@ pub(crate) fn replacing_in_one<C: CpuClock>(
     ctx: &mut ToyContext,
     ty: TypeHandle,
     count: usize,
-) -> Result<Outcome, CheckedErr> {
+) -> Result<Outcome, BenchErr> {
     let (op, value, other) = wide(ctx, ty, count)?;
     there_and_back(watch, ctx, value, other)?;
     outcome(count.wrapping_mul(2), operand_sum(ctx, &[op], value))
@@ -109,11 +108,11 @@ pub(crate) fn push_and_remove<C: CpuClock>(
     ty: TypeHandle,
     count: usize,
     users: &mut Vec<ToyOp>,
-) -> Result<Outcome, CheckedErr> {
+) -> Result<Outcome, BenchErr> {
     let (block, value, _other) = used_value(ctx, ty, count, users)?;
     let op = add_op(ctx, block, 4, &[], &[], 0)?;
     if !op.is_live(ctx) || !value.is_live(ctx) {
-        return Err(CheckedErr::Condition);
+        return Err(BenchErr::Astray);
     }
     watch.start();
     timed_push_and_remove(ctx, op, value, count)?;
@@ -159,9 +158,9 @@ fn push_and_remove_all(
     op: ToyOp,
     value: ToyValue,
     count: usize,
-) -> Result<u64, CheckedErr> {
+) -> Result<u64, BenchErr> {
     if !op.is_live(ctx) || !value.is_live(ctx) {
-        return Err(CheckedErr::Condition);
+        return Err(BenchErr::Astray);
     }
     timed_pushes(ctx, op, value, count)?;
     let middle = uses_of(ctx, value)?;
@@ -175,7 +174,7 @@ pub(crate) fn pushes_and_removals<C: CpuClock>(
     ctx: &mut ToyContext,
     ty: TypeHandle,
     count: usize,
-) -> Result<Outcome, CheckedErr> {
+) -> Result<Outcome, BenchErr> {
     let (op, value) = op_and_argument(ctx, ty)?;
     watch.start();
     let middle = push_and_remove_all(ctx, op, value, count)?;
@@ -240,16 +239,16 @@ pub(crate) fn replacements<C: CpuClock>(
     count: usize,
     users: &mut Vec<ToyOp>,
     order: &mut Vec<usize>,
-) -> Result<Outcome, CheckedErr> {
+) -> Result<Outcome, BenchErr> {
     let (_block, value, other) = used_value(ctx, ty, count, users)?;
     fill_at_random(order, count)?;
     let ops = users.as_slice();
     let places = order.as_slice();
     if !value.is_live(ctx) || !other.is_live(ctx) {
-        return Err(CheckedErr::Condition);
+        return Err(BenchErr::Astray);
     }
     if !are_users(ctx, ops) || !are_below(places, ops.len()) {
-        return Err(CheckedErr::Condition);
+        return Err(BenchErr::Astray);
     }
     watch.start();
     timed_replacements(ctx, ops, places, other, value)?;

@@ -1,26 +1,27 @@
 //! Blocks that are swept: dead chains, whichever way they run, fans, a comb that runs backward, and a block with nothing dead.
 
 use crate::building::{ToyBlock, ToyContext, ToyValue, add_op, keep, reserve};
-use crate::outcome::outcome;
+use crate::outcome::{BenchErr, outcome};
 use bench_clock::{Outcome, Stopwatch, mix};
 use ir_base::types::TypeHandle;
-use ir_checked::{BlockPlace, BlockPtr, CheckedErr, new_block, new_op, op_at_front, result};
+use ir_checked::{basic_block, operation};
+use ir_core::prelude::*;
 use ir_run::dead::sweep;
 use std::time::CpuClock;
 
 // Sweeps a block, and answers how many of its operations went.
 #[inline(never)]
-fn timed_sweep(ctx: &mut ToyContext, block: ToyBlock) -> Result<usize, CheckedErr> {
+fn timed_sweep(ctx: &mut ToyContext, block: ToyBlock) -> Result<usize, BenchErr> {
     if !block.is_live(ctx) {
-        return Err(CheckedErr::Condition);
+        return Err(BenchErr::Astray);
     }
     Ok(sweep(block, ctx))
 }
 
 // How many operations stand in a block.
-fn length_of(ctx: &ToyContext, block: ToyBlock) -> Result<u64, CheckedErr> {
+fn length_of(ctx: &ToyContext, block: ToyBlock) -> Result<u64, BenchErr> {
     if !block.is_live(ctx) {
-        return Err(CheckedErr::Condition);
+        return Err(BenchErr::Astray);
     }
     let mut length = 0u64;
     for _op in block.iter(ctx) {
@@ -35,7 +36,7 @@ fn swept<C: CpuClock>(
     ctx: &mut ToyContext,
     block: ToyBlock,
     count: usize,
-) -> Result<Outcome, CheckedErr> {
+) -> Result<Outcome, BenchErr> {
     watch.start();
     let gone = timed_sweep(ctx, block)?;
     watch.stop();
@@ -44,13 +45,10 @@ fn swept<C: CpuClock>(
 }
 
 // Makes a block with an operation that has one result, and answers both.
-fn first_of_chain(
-    ctx: &mut ToyContext,
-    ty: TypeHandle,
-) -> Result<(ToyBlock, ToyValue), CheckedErr> {
-    let block = new_block(ctx, None, &[])?;
+fn first_of_chain(ctx: &mut ToyContext, ty: TypeHandle) -> Result<(ToyBlock, ToyValue), BenchErr> {
+    let block = basic_block::new(ctx, None, &[])?;
     let op = add_op(ctx, block, 0, &[ty], &[], 0)?;
-    Ok((block, result(ctx, op, 0)?))
+    Ok((block, operation::get_result(op, ctx, 0)?))
 }
 
 // Makes so many pure operations at the back of a block, each of which uses the result of the one before, from this value on, and answers the last result.
@@ -60,13 +58,13 @@ fn chain_to_back(
     block: ToyBlock,
     first: ToyValue,
     count: usize,
-) -> Result<ToyValue, CheckedErr> {
+) -> Result<ToyValue, BenchErr> {
     let mut last = first;
     for _i in 0..count {
         let types = [ty];
         let operands = [last];
         let op = add_op(ctx, block, 1, &types, &operands, 0)?;
-        last = result(ctx, op, 0)?;
+        last = operation::get_result(op, ctx, 0)?;
     }
     Ok(last)
 }
@@ -77,10 +75,10 @@ fn put_in_front(
     ty: TypeHandle,
     block: ToyBlock,
     operands: &[ToyValue],
-) -> Result<ToyValue, CheckedErr> {
-    let op = new_op(ctx, 1, &[ty], operands, &[], 0)?;
-    op_at_front(ctx, op, block)?;
-    result(ctx, op, 0)
+) -> Result<ToyValue, BenchErr> {
+    let op = operation::new(ctx, 1, &[ty], operands, &[], 0)?;
+    operation::insert_at_front(op, block, ctx)?;
+    Ok(operation::get_result(op, ctx, 0)?)
 }
 
 // Makes so many at the front of a block, each of which uses the result of the one behind it.
@@ -90,7 +88,7 @@ fn chain_to_front(
     block: ToyBlock,
     first: ToyValue,
     count: usize,
-) -> Result<(), CheckedErr> {
+) -> Result<(), BenchErr> {
     let mut last = first;
     for _i in 0..count {
         let operands = [last];
@@ -105,7 +103,7 @@ pub(crate) fn sweep_front<C: CpuClock>(
     ctx: &mut ToyContext,
     ty: TypeHandle,
     count: usize,
-) -> Result<Outcome, CheckedErr> {
+) -> Result<Outcome, BenchErr> {
     let (block, first) = first_of_chain(ctx, ty)?;
     chain_to_back(ctx, ty, block, first, count.saturating_sub(1))?;
     swept(watch, ctx, block, count)
@@ -117,7 +115,7 @@ pub(crate) fn sweep_back<C: CpuClock>(
     ctx: &mut ToyContext,
     ty: TypeHandle,
     count: usize,
-) -> Result<Outcome, CheckedErr> {
+) -> Result<Outcome, BenchErr> {
     let (block, first) = first_of_chain(ctx, ty)?;
     chain_to_front(ctx, ty, block, first, count.saturating_sub(1))?;
     swept(watch, ctx, block, count)
@@ -129,7 +127,7 @@ pub(crate) fn sweep_none<C: CpuClock>(
     ctx: &mut ToyContext,
     ty: TypeHandle,
     count: usize,
-) -> Result<Outcome, CheckedErr> {
+) -> Result<Outcome, BenchErr> {
     let (block, first) = first_of_chain(ctx, ty)?;
     let last = chain_to_back(ctx, ty, block, first, count.saturating_sub(1))?;
     add_op(ctx, block, 4, &[], &[last], 0)?;
@@ -143,7 +141,7 @@ fn users_to_back(
     block: ToyBlock,
     value: ToyValue,
     count: usize,
-) -> Result<(), CheckedErr> {
+) -> Result<(), BenchErr> {
     let types = [ty];
     let operands = [value];
     for _i in 0..count {
@@ -157,9 +155,9 @@ fn result_to_back(
     ctx: &mut ToyContext,
     block: ToyBlock,
     types: &[TypeHandle],
-) -> Result<ToyValue, CheckedErr> {
+) -> Result<ToyValue, BenchErr> {
     let op = add_op(ctx, block, 1, types, &[], 0)?;
-    result(ctx, op, 0)
+    Ok(operation::get_result(op, ctx, 0)?)
 }
 
 // Makes so many pure operations at the back of a block that use nothing, and puts their results behind the others.
@@ -169,7 +167,7 @@ fn results_to_back(
     block: ToyBlock,
     count: usize,
     made: &mut Vec<ToyValue>,
-) -> Result<(), CheckedErr> {
+) -> Result<(), BenchErr> {
     let types = [ty];
     for _i in 0..count {
         let value = result_to_back(ctx, block, &types)?;
@@ -184,7 +182,7 @@ fn pair_to_front(
     ty: TypeHandle,
     block: ToyBlock,
     last: ToyValue,
-) -> Result<ToyValue, CheckedErr> {
+) -> Result<ToyValue, BenchErr> {
     let tooth = put_in_front(ctx, ty, block, &[])?;
     put_in_front(ctx, ty, block, &[last, tooth])
 }
@@ -196,7 +194,7 @@ fn comb_to_front(
     block: ToyBlock,
     first: ToyValue,
     count: usize,
-) -> Result<(), CheckedErr> {
+) -> Result<(), BenchErr> {
     let mut last = first;
     for _i in 0..count {
         last = pair_to_front(ctx, ty, block, last)?;
@@ -210,7 +208,7 @@ pub(crate) fn sweep_fan_out<C: CpuClock>(
     ctx: &mut ToyContext,
     ty: TypeHandle,
     count: usize,
-) -> Result<Outcome, CheckedErr> {
+) -> Result<Outcome, BenchErr> {
     let (block, first) = first_of_chain(ctx, ty)?;
     users_to_back(ctx, ty, block, first, count.saturating_sub(1))?;
     swept(watch, ctx, block, count)
@@ -223,8 +221,8 @@ pub(crate) fn sweep_fan_in<C: CpuClock>(
     ty: TypeHandle,
     count: usize,
     results: &mut Vec<ToyValue>,
-) -> Result<Outcome, CheckedErr> {
-    let block = new_block(ctx, None, &[])?;
+) -> Result<Outcome, BenchErr> {
+    let block = basic_block::new(ctx, None, &[])?;
     reserve(results, count)?;
     results_to_back(ctx, ty, block, count.saturating_sub(1), results)?;
     add_op(ctx, block, 1, &[ty], results.as_slice(), 0)?;
@@ -237,7 +235,7 @@ pub(crate) fn sweep_comb<C: CpuClock>(
     ctx: &mut ToyContext,
     ty: TypeHandle,
     count: usize,
-) -> Result<Outcome, CheckedErr> {
+) -> Result<Outcome, BenchErr> {
     let (block, first) = first_of_chain(ctx, ty)?;
     comb_to_front(ctx, ty, block, first, count.saturating_sub(1) / 2)?;
     swept(watch, ctx, block, count)

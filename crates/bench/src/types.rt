@@ -1,11 +1,11 @@
 //! Types that are asked for by their keys.
 
 use crate::building::{ToyContext, reserve};
-use crate::outcome::outcome;
+use crate::outcome::{BenchErr, outcome};
 use bench_clock::{Outcome, Stopwatch, mix};
 use ir_base::context::CoreError;
 use ir_base::types::TypeHandle;
-use ir_checked::{CheckedErr, TypeQueries};
+use ir_core::prelude::*;
 use ir_run::toy::ToyType;
 use std::alloc::Global;
 use std::collections::HashSet;
@@ -53,7 +53,7 @@ fn width_added(ctx: &ToyContext, ty: TypeHandle, sum: u64) -> u64 {
 }
 
 // The width of each type, and how many types there are.
-fn types_sum(ctx: &ToyContext, types: &[TypeHandle]) -> Result<u64, CheckedErr> {
+fn types_sum(ctx: &ToyContext, types: &[TypeHandle]) -> Result<u64, BenchErr> {
     let mut sum = 0u64;
     for ty in types {
         sum = width_added(ctx, *ty, sum);
@@ -67,7 +67,7 @@ pub(crate) fn interning<C: CpuClock>(
     ctx: &mut ToyContext,
     count: usize,
     made: &mut Vec<TypeHandle>,
-) -> Result<Outcome, CheckedErr> {
+) -> Result<Outcome, BenchErr> {
     reserve(made, count)?;
     watch.start();
     timed_interning(ctx, count / 10, count, made)?;

@@ -1,20 +1,16 @@
 //! Uses of values: all of one value's come to name another, and many values with one use each.
 
 use crate::building::{ToyBlock, ToyContext, ToyOp, ToyValue, add_op, copies, used_value, wide};
-use crate::outcome::{block_sum, operand_sum, outcome, uses_of};
+use crate::outcome::{BenchErr, block_sum, operand_sum, outcome, uses_of};
 use bench_clock::{Outcome, Stopwatch, mix};
 use ir_base::types::TypeHandle;
-use ir_checked::{CheckedErr, argument, new_block, replace_all_uses};
+use ir_checked::{basic_block, value};
 use std::time::CpuClock;
 
 // Lets all that names a value name another one.
 #[inline(never)]
-fn timed_replacing(
-    ctx: &mut ToyContext,
-    value: ToyValue,
-    other: ToyValue,
-) -> Result<(), CheckedErr> {
-    replace_all_uses(ctx, value, other)
+fn timed_replacing(ctx: &mut ToyContext, value: ToyValue, other: ToyValue) -> Result<(), BenchErr> {
+    Ok(value::replace_all_uses_with(value, ctx, other)?)
 }
 
 /// How many uses two values have, in one number.
@@ -22,7 +18,7 @@ pub(crate) fn both_uses(
     ctx: &ToyContext,
     value: ToyValue,
     other: ToyValue,
-) -> Result<u64, CheckedErr> {
+) -> Result<u64, BenchErr> {
     let others = uses_of(ctx, other)?;
     Ok(others.wrapping_mul(3).wrapping_add(uses_of(ctx, value)?))
 }
@@ -33,7 +29,7 @@ fn there_and_back<C: CpuClock>(
     ctx: &mut ToyContext,
     value: ToyValue,
     other: ToyValue,
-) -> Result<u64, CheckedErr> {
+) -> Result<u64, BenchErr> {
     watch.start();
     timed_replacing(ctx, value, other)?;
     watch.stop();
@@ -51,7 +47,7 @@ pub(crate) fn returned_sum(
     value: ToyValue,
     other: ToyValue,
     between: u64,
-) -> Result<u64, CheckedErr> {
+) -> Result<u64, BenchErr> {
     let sum = mix(operand_sum(ctx, ops, value)?, between);
     Ok(mix(sum, both_uses(ctx, value, other)?))
 }
@@ -63,7 +59,7 @@ pub(crate) fn replacing<C: CpuClock>(
     ty: TypeHandle,
     count: usize,
     users: &mut Vec<ToyOp>,
-) -> Result<Outcome, CheckedErr> {
+) -> Result<Outcome, BenchErr> {
     let (_block, value, other) = used_value(ctx, ty, count, users)?;
     let between = there_and_back(watch, ctx, value, other)?;
     let checksum = returned_sum(ctx, users.as_slice(), value, other, between);
@@ -76,7 +72,7 @@ pub(crate) fn replacing_in_one<C: CpuClock>(
     ctx: &mut ToyContext,
     ty: TypeHandle,
     count: usize,
-) -> Result<Outcome, CheckedErr> {
+) -> Result<Outcome, BenchErr> {
     let (op, value, other) = wide(ctx, ty, count)?;
     there_and_back(watch, ctx, value, other)?;
     outcome(count.wrapping_mul(2), operand_sum(ctx, &[op], value))
@@ -88,9 +84,9 @@ fn timed_argument_users(
     ctx: &mut ToyContext,
     block: ToyBlock,
     count: usize,
-) -> Result<(), CheckedErr> {
+) -> Result<(), BenchErr> {
     for index in 0..count {
-        let value = argument(ctx, block, index)?;
+        let value = basic_block::get_argument(block, ctx, index)?;
         let operands = [value];
         add_op(ctx, block, 4, &[], &operands, 0)?;
     }
@@ -102,9 +98,9 @@ pub(crate) fn wide_block(
     ctx: &mut ToyContext,
     ty: TypeHandle,
     count: usize,
-) -> Result<ToyBlock, CheckedErr> {
+) -> Result<ToyBlock, BenchErr> {
     let types = copies(ctx.alloc(), ty, count)?;
-    new_block(ctx, None, types.as_slice())
+    Ok(basic_block::new(ctx, None, types.as_slice())?)
 }
 
 /// Over a block of N arguments, an operation for each that uses it. The block's making isn't timed.
@@ -113,7 +109,7 @@ pub(crate) fn argument_users<C: CpuClock>(
     ctx: &mut ToyContext,
     ty: TypeHandle,
     count: usize,
-) -> Result<Outcome, CheckedErr> {
+) -> Result<Outcome, BenchErr> {
     let block = wide_block(ctx, ty, count)?;
     watch.start();
     timed_argument_users(ctx, block, count)?;

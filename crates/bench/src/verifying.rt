@@ -2,10 +2,10 @@
 
 use crate::building::{ToyBlock, ToyContext, ToyOp, add_op, build};
 use crate::nests::{add_function, module_outcome, nest_from_above, nest_outcome, with_block};
-use crate::outcome::well;
+use crate::outcome::{BenchErr, well};
 use bench_clock::{Outcome, Stopwatch};
 use ir_base::types::TypeHandle;
-use ir_checked::{CheckedErr, OperationPtr};
+use ir_core::prelude::*;
 use ir_run::toy::ToyVerifiers;
 use ir_verify::verify::verify_operation;
 use std::time::CpuClock;
@@ -15,7 +15,7 @@ fn add_ended_function(
     ctx: &mut ToyContext,
     ty: TypeHandle,
     outer: ToyBlock,
-) -> Result<(), CheckedErr> {
+) -> Result<(), BenchErr> {
     let block = add_function(ctx, ty, outer)?;
     build(ctx, ty, block, 4)?;
     add_op(ctx, block, 2, &[], &[], 0)?;
@@ -23,11 +23,7 @@ fn add_ended_function(
 }
 
 // Makes a module of so many functions, each with a block of four operations and a terminator.
-fn ended_module(
-    ctx: &mut ToyContext,
-    ty: TypeHandle,
-    functions: usize,
-) -> Result<ToyOp, CheckedErr> {
+fn ended_module(ctx: &mut ToyContext, ty: TypeHandle, functions: usize) -> Result<ToyOp, BenchErr> {
     let (root, outer) = with_block(ctx, 5)?;
     for _i in 0..functions {
         add_ended_function(ctx, ty, outer)?;
@@ -50,7 +46,7 @@ pub(crate) fn verifying<C: CpuClock>(
     ctx: &mut ToyContext,
     ty: TypeHandle,
     count: usize,
-) -> Result<Outcome, CheckedErr> {
+) -> Result<Outcome, BenchErr> {
     let root = ended_module(ctx, ty, count / 8)?;
     watch.start();
     well(Ok(timed_verifying(ctx, root)))?;
@@ -63,7 +59,7 @@ pub(crate) fn verifying_deep<C: CpuClock>(
     watch: &mut Stopwatch<'_, C>,
     ctx: &mut ToyContext,
     count: usize,
-) -> Result<Outcome, CheckedErr> {
+) -> Result<Outcome, BenchErr> {
     let (outer, _inner) = nest_from_above(ctx, count / 3)?;
     watch.start();
     well(Ok(timed_verifying(ctx, outer)))?;

@@ -9,6 +9,7 @@ use crate::operands::{
     push_and_remove, pushes_and_removals, replaced_back, replaced_front, replaced_random,
     replacements,
 };
+use crate::outcome::BenchErr;
 use crate::settled::unlinked;
 use crate::sweeps::{sweep_back, sweep_comb, sweep_fan_in, sweep_fan_out, sweep_front, sweep_none};
 use crate::types::interning;
@@ -18,7 +19,8 @@ use crate::{settled_building, settled_chains, settled_lists, settled_nests, sett
 use anyhow::Context as _;
 use bench_clock::{Outcome, Stopwatch};
 use ir_base::types::TypeHandle;
-use ir_checked::{CheckedErr, Context, end, new_type};
+use ir_checked::context;
+use ir_core::context::Context;
 use ir_run::toy::ToyType;
 use std::alloc::Global;
 use std::time::CpuClock;
@@ -183,8 +185,8 @@ impl Workload {
         ctx: &mut ToyContext,
         count: usize,
         lists: &mut Lists,
-    ) -> Result<Outcome, CheckedErr> {
-        let ty = new_type(ctx, ToyType::Int { width: 32 })?;
+    ) -> Result<Outcome, BenchErr> {
+        let ty = ctx.instantiate_key(ToyType::Int { width: 32 })?;
         self.carry_out(watch, ctx, ty, count, lists)
     }
 
@@ -196,7 +198,7 @@ impl Workload {
         ty: TypeHandle,
         count: usize,
         lists: &mut Lists,
-    ) -> Result<Outcome, CheckedErr> {
+    ) -> Result<Outcome, BenchErr> {
         let Lists {
             ops,
             values,
@@ -270,11 +272,11 @@ impl Workload {
         watch: &mut Stopwatch<'_, C>,
         alloc: Global,
         count: usize,
-    ) -> Result<Outcome, CheckedErr> {
+    ) -> Result<Outcome, BenchErr> {
         let mut ctx = Context::new(alloc);
         let mut lists = Lists::new(alloc);
         let outcome = self.run_in(watch, &mut ctx, count, &mut lists);
-        end(ctx, outcome)
+        context::end(ctx, outcome)
     }
 
     /// Runs the workload on a new context. Gives the nanoseconds of the timed part, and what came out.

@@ -1,1 +1,2 @@
 pub mod Calc
+pub mod CalcChecks

@@ -1,12 +1,16 @@
-//! A dialect of one's own: what a compiler of small sums brings to the core.
+//! A dialect of one's own, to be copied: what a compiler of small sums brings to the core.
 //!
 //! `Calc` has numbers and truths, constants, and the question whether one number is less than another. Kinds are numbers, and each table of `Dialects` is a function of them, which its ghost member says again in the words of contracts. A kind that isn't named here implements nothing.
+//!
+//! One more kind of attributes or types is one more line in each table by kinds, and an impl of its own in `calc_attributes` or `calc_types`.
 
-ghost use Rattle.std.specs.Prelude.{◌≡◌, ◌==◌, ◌&&◌, ◌||◌, None, Some, codes, false, refl, true};
+ghost use Rattle.std.specs.Prelude.{◌≡◌, ◌==◌, ◌&&◌, ◌||◌, None, codes, false, refl, true};
 ghost use Rattle.std.proofs.Common.{rules};
-ghost use Rattle.example.specs.Calc.{op_name, type_name};
+ghost use Rattle.example.specs.Calc.{attr_name, op_name, type_name};
 
-use ir_base::attribute::{AttrId, AttrName, Attribute};
+use crate::calc_attributes::{Literal, Remark};
+use crate::calc_types::{Number, Truth};
+use ir_base::attribute::{AttrId, AttrName};
 use ir_base::context::{CoreError, Dialects};
 use ir_base::identifier::Identifier;
 use ir_base::op::{DialectName, OpId, OpName, PURE_OPERATION};
@@ -17,16 +21,16 @@ use std::alloc::Global;
 #[derive(Drop)]
 pub struct Calc;
 
+/// The dialect's own interface of types, which numbers implement. Those of a dialect begin at 16.
+pub const SIZED: u32 = 16;
+
 /// A type of the dialect.
 #[derive(Debug, Drop, PartialEq, Eq, Hash)]
 pub enum CalcType {
     /// Numbers of so many bits: kind 0.
-    Number {
-        /// How many bits.
-        bits: u32,
-    },
+    Number(Number),
     /// Yes or no: kind 1.
-    Truth,
+    Truth(Truth),
 }
 
 /// An attribute of the dialect.
@@ -34,13 +38,8 @@ pub enum CalcType {
 pub enum CalcAttr {
     /// A number as it was written: kind 0.
     Literal(Literal),
-}
-
-/// A number as it was written.
-#[derive(Debug, Drop, PartialEq, Eq, Hash)]
-pub struct Literal {
-    /// The number.
-    pub value: u64,
+    /// What an author remarked: kind 1.
+    Remark(Remark),
 }
 
 // The name of a kind of operations.
@@ -50,6 +49,17 @@ fn op_name(kind: u32) -> Identifier
     match kind {
         0 => Identifier::new("constant"),
         1 => Identifier::new("less"),
+        _ => Identifier::new("unknown"),
+    }
+}
+
+// The name of a kind of attributes.
+fn attr_name(kind: u32) -> Identifier
+    ensures { result ≡ attr_name kind }
+{
+    match kind {
+        0 => Identifier::new("literal"),
+        1 => Identifier::new("remark"),
         _ => Identifier::new("unknown"),
     }
 }
@@ -66,6 +76,7 @@ fn type_name(kind: u32) -> Identifier
 }
 
 impl Dialects for Calc {
+    ghost use Rattle.example.specs.declared.calc.CalcAttr.TheVariants as attr;
     ghost use Rattle.example.specs.declared.calc.CalcType.TheVariants as ty;
 
     type Attr = CalcAttr;
@@ -86,13 +97,13 @@ impl Dialects for Calc {
 
     ghost op_impls_of = { λ kind interface. ((kind == 0) || (kind == 1)) && (interface == 6) };
 
-    ghost attr_kind_of = { λ _. 0 };
+    ghost attr_kind_of = { elim [ attr.Literal _ ↦ 0 | attr.Remark _ ↦ 1 ] };
 
     ghost attr_impls_of = { λ _ _. false };
 
-    ghost type_kind_of = { elim [ ty.Number _ ↦ 0 | ty.Truth ↦ 1 ] };
+    ghost type_kind_of = { elim [ ty.Number _ ↦ 0 | ty.Truth _ ↦ 1 ] };
 
-    ghost type_impls_of = { λ _ _. false };
+    ghost type_impls_of = { λ kind interface. (kind == 0) && (interface == 16) };
 
     ghost saved_kind_of = { λ _. 0 };
 
@@ -104,7 +115,7 @@ impl Dialects for Calc {
 
     ghost op_id_of = { λ kind. record { dialect = codes "calc"; name = op_name kind } };
 
-    ghost attr_id_of = { λ _. record { dialect = codes "calc"; name = codes "literal" } };
+    ghost attr_id_of = { λ kind. record { dialect = codes "calc"; name = attr_name kind } };
 
     ghost type_id_of = { λ kind. record { dialect = codes "calc"; name = type_name kind } };
 
@@ -115,8 +126,11 @@ impl Dialects for Calc {
         }
     }
 
-    fn attr_kind(_attr: &CalcAttr) -> u32 {
-        0
+    fn attr_kind(attr: &CalcAttr) -> u32 {
+        match attr {
+            CalcAttr::Literal(_) => 0,
+            CalcAttr::Remark(_) => 1,
+        }
     }
 
     fn attr_impls(_kind: u32, _interface: u32) -> bool {
@@ -125,13 +139,13 @@ impl Dialects for Calc {
 
     fn type_kind(key: &CalcType) -> u32 {
         match key {
-            CalcType::Number { .. } => 0,
-            CalcType::Truth => 1,
+            CalcType::Number(_) => 0,
+            CalcType::Truth(_) => 1,
         }
     }
 
-    fn type_impls(_kind: u32, _interface: u32) -> bool {
-        false
+    fn type_impls(kind: u32, interface: u32) -> bool {
+        kind == 0 && interface == SIZED
     }
 
     fn saved_kind(_saved: &u64) -> u32 {
@@ -155,6 +169,9 @@ impl Dialects for Calc {
             CalcAttr::Literal(number) => CalcAttr::Literal(Literal {
                 value: number.value,
             }),
+            CalcAttr::Remark(remark) => CalcAttr::Remark(Remark {
+                text: remark.text.clone()?,
+            }),
         })
     }
 
@@ -165,10 +182,10 @@ impl Dialects for Calc {
         })
     }
 
-    fn attr_id(_alloc: Global, _kind: u32) -> Result<AttrId, CoreError> {
+    fn attr_id(_alloc: Global, kind: u32) -> Result<AttrId, CoreError> {
         Ok(AttrId {
             dialect: DialectName::from(Identifier::new("calc")),
-            name: AttrName::from(Identifier::new("literal")),
+            name: AttrName::from(attr_name(kind)),
         })
     }
 
@@ -183,51 +200,11 @@ impl Dialects for Calc {
 
     ghost default_body = { λ b d. d };
 
-    ghost attr_kinds = { λ a b e. refl };
+    ghost attr_kinds = { Prim.search rules };
 
     ghost type_kinds = { Prim.search rules };
 
     ghost saved_kinds = { λ a b e. refl };
 
-    ghost typed = { λ a. refl };
-}
-
-impl Attribute<Calc> for Literal {
-    ghost use Rattle.example.specs.declared.calc.CalcAttr.TheVariants as attr;
-
-    ghost KIND = { 0 };
-
-    const KIND: u32 = 0;
-
-    ghost attr_of = { attr.Literal };
-
-    ghost value_of = { elim [ attr.Literal number ↦ Some number ] };
-
-    ghost with_value = { λ _. attr.Literal };
-
-    fn into_attr(self) -> CalcAttr {
-        CalcAttr::Literal(self)
-    }
-
-    fn of_attr(attr: &CalcAttr) -> Option<&Literal> {
-        match attr {
-            CalcAttr::Literal(number) => Some(number),
-        }
-    }
-
-    fn of_attr_mut(attr: &mut CalcAttr) -> Option<&mut Literal> {
-        match attr {
-            CalcAttr::Literal(number) => Some(number),
-        }
-    }
-
-    ghost given_back = { λ a. refl };
-
-    ghost of_kind = { elim [ attr.Literal _ ↦ refl ] };
-
-    ghost equal_attrs = { λ a b. refl };
-
-    ghost written = { elim [ attr.Literal _ ↦ λ a e. refl ] };
-
-    ghost keeps_kind = { λ x a. refl };
+    ghost typed = { Prim.search rules };
 }

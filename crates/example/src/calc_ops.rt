@@ -10,7 +10,9 @@ ghost use Rattle.example.specs.Calc.{number_of};
 ghost use Rattle.ir_core.specs.Context.Calls.{StayLive};
 ghost use Rattle.ir_core.specs.Context.State.{forest_of, types_of};
 
-use crate::calc::{Calc, CalcType, Literal};
+use crate::calc::Calc;
+use crate::calc_attributes::Literal;
+use crate::calc_types::{Number, Truth};
 use ir_base::context::{CoreError, Ptr};
 use ir_base::identifier::Identifier;
 use ir_base::types::TypeHandle;
@@ -112,8 +114,8 @@ impl Less {
     ) -> Result<Less, CoreError>
         ensures { IfOk result (λ less. IsLive (forest_of ctx.new) (an_op less.op.index)) }
     {
-        let number = ctx.instantiate_key(CalcType::Number { bits })?;
-        let truth = ctx.instantiate_key(CalcType::Truth)?;
+        let number = ctx.instantiate_key(Number { bits }.to_key())?;
+        let truth = ctx.instantiate_key(Truth.to_key())?;
         let left = Constant::make(ctx, number, left)?;
         let right = Constant::make(ctx, number, right)?;
         let op = Operation::new(ctx, Self::KIND, &[truth], &[left, right], &[], 0)?;

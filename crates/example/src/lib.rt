@@ -1,10 +1,13 @@
-//! How a crate of one's own stands on the core: a function that builds a chain of operations, generic in the dialect; and a dialect, `Calc`, with operations under types of their own.
+//! How a crate of one's own stands on the core: a function that builds a chain of operations, generic in the dialect; and a dialect to be copied, `Calc`, whose attributes, types and operations each have a type of their own, with its checks.
 //!
 //! Each call of the core settles the condition of the next: a type that was made is known, what a live operation gives is live, and an index below the number of results that were asked for is in range. So the chain tests nothing.
 #![tactic(auto)]
 
 mod calc;
+mod calc_attributes;
+mod calc_checks;
 mod calc_ops;
+mod calc_types;
 
 ghost use Rattle.std.specs.Prelude.{IfOk};
 ghost use Rattle.ir_base.specs.Model.Forest.{a_value};
@@ -12,8 +15,11 @@ ghost use Rattle.ir_base.specs.Model.Nesting.{IsLiveNamed};
 ghost use Rattle.ir_core.specs.Records.Meaning.{value_of};
 ghost use Rattle.ir_core.specs.Context.State.{forest_of};
 
-pub use calc::{Calc, CalcAttr, CalcType, Literal};
+pub use calc::{Calc, CalcAttr, CalcType, SIZED};
+pub use calc_attributes::{Literal, Remark};
+pub use calc_checks::{CalcChecks, NO_BITS, SIDES};
 pub use calc_ops::{Constant, Less};
+pub use calc_types::{Number, SizedInterface, Truth};
 use ir_base::context::{CoreError, Dialects};
 use ir_core::context::Context;
 use ir_core::operation::Operation;

@@ -6,7 +6,7 @@ use generic_dialect::{
 };
 use ir_base_dialects::{Identifier, TypeHandle};
 use ir_core_queries::Context;
-use ir_text_outline::{has_escapes, unescaped};
+use ir_text_strings::{has_escapes, unescaped};
 use std::alloc::Global;
 use std::collections::HashMap;
 

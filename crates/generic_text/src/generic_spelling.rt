@@ -108,8 +108,8 @@ fn argument_place(ids: &[Option<TextId>], index: usize) -> Option<TextId>
     }
 }
 
-// The saved text that a location is, if it is one.
-fn place_of(loc: &GenericLoc, of: Located) -> Option<TextId>
+/// The saved text that a location is, of an operation or of an argument, if it is one.
+pub fn place_of(loc: &GenericLoc, of: Located) -> Option<TextId>
     ensures { result ≡ place_of loc.now of }
 {
     match loc {

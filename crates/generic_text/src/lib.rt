@@ -3,4 +3,4 @@
 
 mod generic_spelling;
 
-pub use generic_spelling::GenericSpelling;
+pub use generic_spelling::{GenericSpelling, place_of};

@@ -11,7 +11,7 @@ ghost use Rattle.ir_model.specs.Nesting.{IsLive, definitions_of};
 ghost use Rattle.ir_model.specs.Sessions.{LacksNumbers};
 
 use crate::asked::{is_unused_argument, is_unused_last_argument};
-use crate::error::{Call, CheckedErr, Condition, Unmet, fault};
+use crate::error::{Call, CheckedErr, Condition, fault};
 use ir_base_dialects::{Dialects, Ptr, TypeHandle};
 use ir_core_queries::{ArgumentEdits, BasicBlock, BlockPtr, Context, TypeQueries};
 

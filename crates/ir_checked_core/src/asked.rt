@@ -1,7 +1,6 @@
 //! Tests of conditions for which the crates below have no test of their own.
 
 ghost use Rattle.std.specs.Prelude.{All, IsTrue, length, ◌<◌, ◌↔◌, ◌≡◌};
-ghost use Rattle.ir_checked_core.specs.Dead.{dead_entity};
 ghost use Rattle.ir_core_context.specs.Definitions.{ClosedAt, UnusedAt, last_place};
 ghost use Rattle.ir_core_context.specs.State.{forest_of, types_of};
 ghost use Rattle.ir_core_queries.specs.Entities.{meant};
@@ -12,7 +11,6 @@ ghost use Rattle.ir_model.specs.Forest.{a_block, a_value, an_op, of_block, of_op
 ghost use Rattle.ir_model.specs.Nesting.{IsLinked, IsLive, IsLiveNamed, definitions_of, regions_of};
 ghost use Rattle.ir_model.specs.Uses.{IsUse};
 
-use crate::error::Condition;
 use ir_base_dialects::{ArenaIndex, Dialects, Ptr, TypeHandle};
 use ir_core_queries::{
     BasicBlock, BlockPlace, BlockPtr, BlockUseQueries, Context, Entity, Operation, OperationPlace,
@@ -210,16 +208,5 @@ pub(crate) fn is_live<D: Dialects>(ctx: &Context<D>, entity: Entity<D>) -> bool
         Entity::Op(op) => op.is_live(ctx),
         Entity::Block(block) => block.is_live(ctx),
         Entity::Region(region) => region.is_live(ctx),
-    }
-}
-
-// What is told of an entity that isn't live.
-pub(crate) fn dead<D: Dialects>(entity: Entity<D>) -> Condition
-    ensures { result ≡ dead_entity entity }
-{
-    match entity {
-        Entity::Op(_) => Condition::DeadOperation,
-        Entity::Block(_) => Condition::DeadBlock,
-        Entity::Region(_) => Condition::DeadRegion,
     }
 }

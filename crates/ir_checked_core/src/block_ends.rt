@@ -9,7 +9,7 @@ ghost use Rattle.ir_model.specs.Changes.{DropsUses, Removes};
 ghost use Rattle.ir_model.specs.Forest.{a_block};
 ghost use Rattle.ir_model.specs.Nesting.{IsClosed, IsLive};
 
-use crate::error::{Call, CheckedErr, Condition, Unmet, fault};
+use crate::error::{Call, CheckedErr, Condition, fault};
 use ir_base_dialects::{Dialects, Ptr};
 use ir_core_queries::{BasicBlock, BlockPtr, Context, DropUses, Entity, Erase, can_erase};
 

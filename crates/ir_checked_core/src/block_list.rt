@@ -12,7 +12,7 @@ ghost use Rattle.ir_model.specs.Forest.{a_block, a_region};
 ghost use Rattle.ir_model.specs.Nesting.{Inside, IsLinked, IsLive};
 
 use crate::asked::block_may_go_beside;
-use crate::error::{Call, CheckedErr, Condition, Unmet, fault};
+use crate::error::{Call, CheckedErr, Condition, fault};
 use ir_base_dialects::{Dialects, Ptr};
 use ir_core_queries::{
     BasicBlock, BlockList, BlockPlace, BlockPtr, Context, Entity, Region, RegionPtr, is_inside,

@@ -10,7 +10,7 @@ ghost use Rattle.ir_model.specs.Forest.{a_block, a_region, an_op};
 ghost use Rattle.ir_model.specs.Nesting.{IsLive, ops_of};
 ghost use Rattle.ir_model.specs.Parent.{IsNext, IsParent, IsPrevious, first_of, last_of};
 
-use crate::error::{Call, CheckedErr, Condition, Unmet, fault};
+use crate::error::{Call, CheckedErr, Condition, fault};
 use ir_base_dialects::{Dialects, Iter, Ptr};
 use ir_core_queries::{BasicBlock, BlockPlace, BlockPtr, Context, Operation, Region};
 

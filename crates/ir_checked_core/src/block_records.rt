@@ -17,7 +17,7 @@ ghost use Rattle.ir_model.specs.Nesting.{IsLive, IsLiveNamed, definitions_of};
 ghost use Rattle.ir_model.specs.Sessions.{LacksNumbers};
 
 use crate::asked::are_known;
-use crate::error::{Call, CheckedErr, Condition, Unmet, fault};
+use crate::error::{Call, CheckedErr, Condition, fault};
 use ir_base_dialects::{Dialects, Identifier, Ptr, TypeHandle};
 use ir_core_queries::{
     BasicBlock, BasicBlockMut, BlockPtr, BlockPtrMut, Context, Named, NewBlock, Value,

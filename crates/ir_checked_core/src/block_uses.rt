@@ -19,7 +19,7 @@ ghost use Rattle.ir_model.specs.Redirect.{retarget_uses};
 ghost use Rattle.ir_model.specs.Uses.{AreUses, IsUse, Use as PlainUse};
 
 use crate::asked::is_use_of_block;
-use crate::error::{Call, CheckedErr, Condition, Unmet, fault};
+use crate::error::{Call, CheckedErr, Condition, fault};
 use ir_base_dialects::{Dialects, Ptr};
 use ir_core_context::{Shown, ShownBlock};
 use ir_core_queries::{

@@ -6,13 +6,15 @@ ghost use Rattle.ir_core_context.specs.Calls.{nothing_beside};
 ghost use Rattle.ir_core_context.specs.State.{bare};
 ghost use Rattle.ir_model.specs.Sessions.{IsNewSession};
 
-use crate::error::{Call, CheckedErr, Condition, Unmet, fault};
+use crate::error::{Call, CheckedErr, Condition, fault};
 use ir_base_dialects::{Dialects, Limits};
 use ir_core_queries::Context;
 use std::alloc::Global;
 
 /// Lets go of a context, and gives back how what was done with it ended. That all in a context is let go of is proved here, once and for any dialect.
-pub fn end<D: Dialects, O>(_ctx: Context<D>, outcome: O) -> O {
+pub fn end<D: Dialects, O>(_ctx: Context<D>, outcome: O) -> O
+    ensures { result ≡ outcome }
+{
     outcome
 }
 

@@ -7,8 +7,8 @@ ghost use Rattle.ir_core_context.specs.State.{forest_of};
 ghost use Rattle.ir_core_queries.specs.Entities.{meant};
 ghost use Rattle.ir_model.specs.Nesting.{IsClosed, IsLive};
 
-use crate::asked::{dead, is_live};
-use crate::error::{Call, CheckedErr, Unmet};
+use crate::asked::is_live;
+use crate::error::{Call, CheckedErr, Condition, Unmet};
 use ir_base_dialects::Dialects;
 use ir_core_queries::{Context, Entity};
 
@@ -23,7 +23,7 @@ pub fn can_erase<D: Dialects>(ctx: &Context<D>, entity: Entity<D>) -> Result<boo
     if !is_live(ctx, entity) {
         return Err(CheckedErr::Unmet(Unmet {
             call: Call::EntityCanErase,
-            condition: dead(entity),
+            condition: Condition::dead(entity),
         }));
     }
     Ok(ir_core_queries::can_erase(ctx, entity))

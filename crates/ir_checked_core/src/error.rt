@@ -1,6 +1,10 @@
 //! Why a call isn't made: which call, and which of its conditions doesn't hold.
 
-use ir_base_dialects::CoreError;
+ghost use Rattle.std.specs.Prelude.{◌≡◌};
+ghost use Rattle.ir_checked_core.specs.Dead.{dead_entity};
+
+use ir_base_dialects::{CoreError, Dialects};
+use ir_core_queries::Entity;
 use std::alloc::{AllocError, AllocFailed};
 use std::fmt;
 use std::fmt::{Display, Write};
@@ -239,6 +243,88 @@ pub enum Call {
     ContextWithLimits,
     /// `uniqued_any::get`.
     UniquedAnyGet,
+    /// `uniqued::get`.
+    UniquedGet,
+    /// `identifier::new`.
+    IdentifierNew,
+    /// `basic_block::is_pred`.
+    BlockIsPred,
+    /// `basic_block::preds`.
+    BlockPreds,
+    /// `basic_block::get_pred`.
+    BlockGetPred,
+    /// `basic_block::is_succ_of`.
+    BlockIsSuccOf,
+    /// `basic_block::get_terminator`.
+    BlockGetTerminator,
+    /// `basic_block::succs`.
+    BlockSuccs,
+    /// `basic_block::has_succ`.
+    BlockHasSucc,
+    /// `basic_block::is_succ`.
+    BlockIsSucc,
+    /// `basic_block::num_succ`.
+    BlockNumSucc,
+    /// `basic_block::get_succ`.
+    BlockGetSucc,
+    /// `operation::operand_types`.
+    OperationOperandTypes,
+    /// `operation::get_op_dyn`.
+    OperationGetOpDyn,
+    /// `operation::get_op`.
+    OperationGetOp,
+    /// `operation::is_op`.
+    OperationIsOp,
+    /// `operation::get_opid`.
+    OperationGetOpid,
+    /// `op::loc`.
+    OpLoc,
+    /// `types::get_type`.
+    TypesGetType,
+    /// `typed_handle::from_handle`.
+    TypedHandleFromHandle,
+    /// `typed_handle::deref`.
+    TypedHandleDeref,
+    /// `type_interface_handle::from_handle`.
+    InterfaceHandleFromHandle,
+    /// `type_interface_handle::deref`.
+    InterfaceHandleDeref,
+    /// `walk::inside`.
+    WalkInside,
+    /// `walk::inside_preorder`.
+    WalkInsidePreorder,
+    /// `walk::ops_inside`.
+    WalkOpsInside,
+    /// `walk::ops_inside_preorder`.
+    WalkOpsInsidePreorder,
+    /// `walk::ops_of`.
+    WalkOpsOf,
+    /// `walk::blocks_of`.
+    WalkBlocksOf,
+    /// `walk::all_inside`.
+    WalkAllInside,
+    /// `verify::verify_operation`.
+    VerifyOperation,
+    /// `verify::verify_op`.
+    VerifyOp,
+    /// `operation::verify`.
+    OperationVerify,
+    /// `basic_block::verify`.
+    BlockVerify,
+    /// `region::verify`.
+    RegionVerify,
+    /// `value::verify`.
+    ValueVerify,
+    /// `types::verify`.
+    TypesVerify,
+    /// `typed_handle::verify`.
+    TypedHandleVerify,
+    /// `type_interface_handle::verify`.
+    InterfaceHandleVerify,
+    /// `dead::sweep`.
+    DeadSweep,
+    /// `passes::sweep_inside`.
+    PassesSweepInside,
 }
 
 impl Call {
@@ -360,6 +446,47 @@ impl Call {
             Call::EntityCanErase => "entity::can_erase",
             Call::ContextWithLimits => "context::with_limits",
             Call::UniquedAnyGet => "uniqued_any::get",
+            Call::UniquedGet => "uniqued::get",
+            Call::IdentifierNew => "identifier::new",
+            Call::BlockIsPred => "basic_block::is_pred",
+            Call::BlockPreds => "basic_block::preds",
+            Call::BlockGetPred => "basic_block::get_pred",
+            Call::BlockIsSuccOf => "basic_block::is_succ_of",
+            Call::BlockGetTerminator => "basic_block::get_terminator",
+            Call::BlockSuccs => "basic_block::succs",
+            Call::BlockHasSucc => "basic_block::has_succ",
+            Call::BlockIsSucc => "basic_block::is_succ",
+            Call::BlockNumSucc => "basic_block::num_succ",
+            Call::BlockGetSucc => "basic_block::get_succ",
+            Call::OperationOperandTypes => "operation::operand_types",
+            Call::OperationGetOpDyn => "operation::get_op_dyn",
+            Call::OperationGetOp => "operation::get_op",
+            Call::OperationIsOp => "operation::is_op",
+            Call::OperationGetOpid => "operation::get_opid",
+            Call::OpLoc => "op::loc",
+            Call::TypesGetType => "types::get_type",
+            Call::TypedHandleFromHandle => "typed_handle::from_handle",
+            Call::TypedHandleDeref => "typed_handle::deref",
+            Call::InterfaceHandleFromHandle => "type_interface_handle::from_handle",
+            Call::InterfaceHandleDeref => "type_interface_handle::deref",
+            Call::WalkInside => "walk::inside",
+            Call::WalkInsidePreorder => "walk::inside_preorder",
+            Call::WalkOpsInside => "walk::ops_inside",
+            Call::WalkOpsInsidePreorder => "walk::ops_inside_preorder",
+            Call::WalkOpsOf => "walk::ops_of",
+            Call::WalkBlocksOf => "walk::blocks_of",
+            Call::WalkAllInside => "walk::all_inside",
+            Call::VerifyOperation => "verify::verify_operation",
+            Call::VerifyOp => "verify::verify_op",
+            Call::OperationVerify => "operation::verify",
+            Call::BlockVerify => "basic_block::verify",
+            Call::RegionVerify => "region::verify",
+            Call::ValueVerify => "value::verify",
+            Call::TypesVerify => "types::verify",
+            Call::TypedHandleVerify => "typed_handle::verify",
+            Call::InterfaceHandleVerify => "type_interface_handle::verify",
+            Call::DeadSweep => "dead::sweep",
+            Call::PassesSweepInside => "passes::sweep_inside",
         }
     }
 }
@@ -422,6 +549,25 @@ pub enum Condition {
     /// Something outside names what is defined inside.
     #[error("something outside names what is defined inside")]
     NotClosed,
+    /// The block has no terminator.
+    #[error("the block has no terminator")]
+    NoTerminator,
+    /// The text is no identifier.
+    #[error("the text is no identifier")]
+    NoIdentifier,
+}
+
+impl Condition {
+    /// What is told of an entity that isn't live, by which of the three it is.
+    pub fn dead<D: Dialects>(entity: Entity<D>) -> Condition
+        ensures { result ≡ dead_entity entity }
+    {
+        match entity {
+            Entity::Op(_) => Condition::DeadOperation,
+            Entity::Block(_) => Condition::DeadBlock,
+            Entity::Region(_) => Condition::DeadRegion,
+        }
+    }
 }
 
 /// A condition that doesn't hold, and the call that has it.
@@ -478,12 +624,13 @@ impl<T: Drop> From<AllocFailed<T>> for CheckedErr {
     }
 }
 
-// That this condition of this call doesn't hold.
+/// That this condition of this call doesn't hold: for crates that have checked calls.
+#[macro_export]
 macro_rules! fault {
     ($call:ident, $condition:ident) => {
-        CheckedErr::Unmet(Unmet {
-            call: Call::$call,
-            condition: Condition::$condition,
+        $crate::CheckedErr::Unmet($crate::Unmet {
+            call: $crate::Call::$call,
+            condition: $crate::Condition::$condition,
         })
     };
 }

@@ -14,6 +14,7 @@ mod block_uses;
 pub mod context;
 pub mod entity;
 mod error;
+pub mod identifier;
 mod operand_edits;
 pub mod operand_use;
 pub mod operation;
@@ -26,6 +27,7 @@ mod result_edits;
 mod successor_edits;
 pub mod successor_use;
 pub mod types;
+pub mod uniqued;
 pub mod uniqued_any;
 pub mod value;
 mod value_edits;
@@ -40,7 +42,7 @@ pub mod prelude {
         BasicBlock, BasicBlockMut, Context, DefiningEntity, Entity, Operation, OperationMut,
         OperationUses, Region, Use, Value, is_inside,
     };
-    pub use ir_core_uniqued::UniquedKey;
+    pub use ir_core_uniqued::{Uniqued, UniquedKey};
 }
 
 pub use error::{Call, CheckedErr, Condition, Unmet};

@@ -14,7 +14,7 @@ ghost use Rattle.ir_model.specs.Forest.{a_value, an_op};
 ghost use Rattle.ir_model.specs.Nesting.{IsLive, IsLiveNamed, operands_of};
 ghost use Rattle.ir_model.specs.Sessions.{LacksNumbers};
 
-use crate::error::{Call, CheckedErr, Condition, Unmet, fault};
+use crate::error::{Call, CheckedErr, Condition, fault};
 use ir_base_dialects::{Dialects, Ptr};
 use ir_core_queries::{Context, OperandEdits, Operation, OperationPtr, Value, ValueQueries};
 

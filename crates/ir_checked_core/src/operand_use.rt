@@ -11,7 +11,7 @@ ghost use Rattle.ir_model.specs.Forest.{Value as PlainValue, a_value};
 ghost use Rattle.ir_model.specs.Nesting.{IsLiveNamed};
 ghost use Rattle.ir_model.specs.Uses.{IsOperandAt, IsUse};
 
-use crate::error::{Call, CheckedErr, Condition, Unmet, fault};
+use crate::error::{Call, CheckedErr, Condition, fault};
 use ir_base_dialects::{Dialects, TypeHandle};
 use ir_core_queries::{Context, Use, UseQueries, Value};
 

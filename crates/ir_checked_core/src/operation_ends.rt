@@ -12,7 +12,7 @@ ghost use Rattle.ir_model.specs.Forest.{a_region, an_op};
 ghost use Rattle.ir_model.specs.Nesting.{IsClosed, IsLive, regions_of};
 
 use crate::asked::is_closed_region;
-use crate::error::{Call, CheckedErr, Condition, Unmet, fault};
+use crate::error::{Call, CheckedErr, Condition, fault};
 use ir_base_dialects::{Dialects, Ptr};
 use ir_core_queries::{
     Context, DropUses, Entity, Erase, EraseRegion, Operation, OperationPtr, can_erase,

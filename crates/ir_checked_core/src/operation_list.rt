@@ -12,7 +12,7 @@ ghost use Rattle.ir_model.specs.Forest.{a_block, an_op};
 ghost use Rattle.ir_model.specs.Nesting.{Inside, IsLinked, IsLive, ops_of};
 
 use crate::asked::{may_join, op_may_go_beside};
-use crate::error::{Call, CheckedErr, Condition, Unmet, fault};
+use crate::error::{Call, CheckedErr, Condition, fault};
 use ir_base_dialects::{Dialects, Ptr};
 use ir_core_queries::{
     BasicBlock, BlockPtr, Context, Entity, Operation, OperationContainer, OperationList,

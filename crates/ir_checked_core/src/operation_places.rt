@@ -12,7 +12,7 @@ ghost use Rattle.ir_model.specs.Nesting.{IsLive};
 ghost use Rattle.ir_model.specs.Parent.{IsNext, IsParent, IsPrevious};
 ghost use Rattle.ir_model.specs.Uses.{Use as PlainUse};
 
-use crate::error::{Call, CheckedErr, Condition, Unmet, fault};
+use crate::error::{Call, CheckedErr, Condition, fault};
 use ir_base_dialects::{Dialects, Ptr};
 use ir_core_queries::{
     BasicBlock, Context, Operation, OperationPlace, OperationPtr, OperationUses, Region, ResultUses,

@@ -16,7 +16,7 @@ ghost use Rattle.ir_model.specs.Nesting.{IsLive, IsLiveNamed, definitions_of, op
 ghost use Rattle.ir_model.specs.Sessions.{LacksNumbers, LacksSlots};
 
 use crate::asked::{are_known, are_live, are_live_blocks};
-use crate::error::{Call, CheckedErr, Condition, Unmet, fault};
+use crate::error::{Call, CheckedErr, Condition, fault};
 use ir_base_dialects::{Dialects, Ptr, TypeHandle};
 use ir_core_queries::{
     AddRegion, BasicBlock, Context, NewOperation, Operation, OperationMut, OperationPtr,

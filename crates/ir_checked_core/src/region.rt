@@ -17,7 +17,7 @@ ghost use Rattle.ir_model.specs.Nesting.{In, Inside, IsLive, blocks_of, regions_
 ghost use Rattle.ir_model.specs.Parent.{IsIndex, IsParent, first_of, last_of};
 
 use crate::asked::may_join;
-use crate::error::{Call, CheckedErr, Condition, Unmet, fault};
+use crate::error::{Call, CheckedErr, Condition, fault};
 use ir_base_dialects::{Dialects, Iter, Ptr};
 use ir_core_queries::{
     BasicBlock, BlockContainer, Context, DropUses, Entity, Operation, OperationPtr, Region,

@@ -13,7 +13,7 @@ ghost use Rattle.ir_model.specs.Forest.{a_block, an_op};
 ghost use Rattle.ir_model.specs.Nesting.{IsLive, successors_of};
 ghost use Rattle.ir_model.specs.Sessions.{LacksNumbers};
 
-use crate::error::{Call, CheckedErr, Condition, Unmet, fault};
+use crate::error::{Call, CheckedErr, Condition, fault};
 use ir_base_dialects::{Dialects, Ptr};
 use ir_core_queries::{BasicBlock, BlockPtr, Context, Operation, OperationPtr, SuccessorEdits};
 

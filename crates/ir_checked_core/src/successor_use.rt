@@ -9,7 +9,7 @@ ghost use Rattle.ir_model.specs.Forest.{the_block};
 ghost use Rattle.ir_model.specs.Nesting.{IsLiveNamed};
 ghost use Rattle.ir_model.specs.Uses.{IsSuccessorAt, IsUse};
 
-use crate::error::{Call, CheckedErr, Condition, Unmet, fault};
+use crate::error::{Call, CheckedErr, Condition, fault};
 use ir_base_dialects::{Dialects, Ptr};
 use ir_core_queries::{BasicBlock, BlockUseQueries, Context, Use};
 

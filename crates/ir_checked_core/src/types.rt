@@ -7,7 +7,7 @@ ghost use Rattle.ir_core_context.specs.Calls.{SameButTypes};
 ghost use Rattle.ir_core_context.specs.State.{bare, types_of};
 ghost use Rattle.ir_model.specs.Saved.{set_body as with_body};
 
-use crate::error::{Call, CheckedErr, Condition, Unmet, fault};
+use crate::error::{Call, CheckedErr, Condition, fault};
 use ir_base_dialects::{Dialects, TypeHandle};
 use ir_core_queries::{Context, TypeQueries};
 

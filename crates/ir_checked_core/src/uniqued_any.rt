@@ -6,7 +6,7 @@ ghost use Rattle.ir_core_context.specs.State.{bare};
 ghost use Rattle.ir_core_records.specs.DialectAnswers.{kinds_of};
 ghost use Rattle.ir_model.specs.Saved.{IsSavedKind};
 
-use crate::error::{Call, CheckedErr, Condition, Unmet, fault};
+use crate::error::{Call, CheckedErr, Condition, fault};
 use ir_base_dialects::{Dialects, SavedValue};
 use ir_core_queries::Context;
 use ir_core_uniqued::UniquedKey;

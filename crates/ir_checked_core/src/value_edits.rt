@@ -18,7 +18,7 @@ ghost use Rattle.ir_model.specs.Redirect.{redirect_uses};
 ghost use Rattle.ir_model.specs.Uses.{IsUse};
 
 use crate::asked::is_use_of_value;
-use crate::error::{Call, CheckedErr, Condition, Unmet, fault};
+use crate::error::{Call, CheckedErr, Condition, fault};
 use ir_base_dialects::{Dialects, Identifier, TypeHandle};
 use ir_core_context::Shown;
 use ir_core_queries::{Context, TypeQueries, Use, UseQueries, Value, ValueEdits, ValueQueries};

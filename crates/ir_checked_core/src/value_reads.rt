@@ -15,7 +15,7 @@ ghost use Rattle.ir_model.specs.Nesting.{IsLive, IsLiveNamed, numbers_of};
 ghost use Rattle.ir_model.specs.Uses.{AreUses, IsUse, Use as PlainUse};
 ghost use Rattle.ir_model.specs.ValueParents.{IsParentBlock, IsParentRegion};
 
-use crate::error::{Call, CheckedErr, Condition, Unmet, fault};
+use crate::error::{Call, CheckedErr, Condition, fault};
 use ir_base_dialects::{Dialects, Identifier, Ptr, TypeHandle};
 use ir_core_queries::{BasicBlock, Context, Named, Region, Use, Value, ValuePlace, ValueQueries};
 

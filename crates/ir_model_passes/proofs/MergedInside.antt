@@ -1,12 +1,15 @@
 -- Mergings in a block where it is in order, and in each block inside an entity, are right.
-use Rattle.std.proofs.Common.{ℕ, List, Option}
+use mathlib.Core.Path.{sym, subst}
+use Rattle.std.proofs.Common.{ℕ, inl, inr, List, Option}
 use Rattle.ir_model.specs.Ids.{Ids}
 use Rattle.ir_model.specs.Forest.{Dialect, Behaviour, Entity, Forest}
 use Rattle.ir_model.specs.Nesting.{WellFormed}
 use Rattle.ir_model.proofs.Loops.{Lawful}
-use Rattle.ir_model_passes.specs.Meaning.{SameAttributes, Interpretation, Respects}
-use Rattle.ir_model_passes.specs.MergingInside.{MergesCommon, in_order, out_of_order, MergesEach, at_end, one_more, MergesInside}
+use Rattle.ir_model_passes.specs.Meaning.{SameAttributes, Interpretation, Respects, KeepsMeaning}
+use Rattle.ir_model_passes.specs.MergingInside.{MergesCommon, in_order, out_of_order, MergesEach, at_end, one_more, MergesInside, MergesInsideBrokenOff}
 use Rattle.ir_model_passes.specs.RightPasses.{IsRight}
+use Rattle.ir_model_passes.proofs.FrontWalk.{broken_off_keeps}
+use Rattle.ir_model_passes.proofs.Preorder.{meaning_then}
 use Rattle.ir_model_passes.proofs.Right.{merges_right, right_then, stays_right}
 
 module _ {N : Ids} {W : Dialect} (L : Lawful N) (B : Behaviour W) (same : SameAttributes W) {V : Type 0} (gives : Interpretation W V) (keys : ℕ) (respects : Respects W V same gives) where
@@ -22,3 +25,17 @@ module _ {N : Ids} {W : Dialect} (L : Lawful N) (B : Behaviour W) (same : SameAt
 
   pub inside_right : (f g : Forest N W) (root : Entity N) (count : ℕ) → WellFormed f keys → MergesInside B same f root g count → IsRight B gives keys f g
   inside_right f g root count w m = each_right f g m.blocks count w m.steps
+
+  pub inside_broken_off_keeps : (f h : Forest N W) (root : Entity N) → WellFormed f keys → MergesInsideBrokenOff B same f root h → WellFormed h keys × KeepsMeaning B gives f h
+  inside_broken_off_keeps f h root w m = elim m.broken_off [
+    | inl e ↦ (subst (λ z. WellFormed z keys) (sym e) right.formed, subst (KeepsMeaning B gives f) (sym e) kept)
+    | inr p ↦ (
+        let last = broken_off_keeps L B same p.0 keys gives respects m.between h right.formed p.2 in
+        (last.0, meaning_then B gives f m.between h kept last.1))
+  ]
+    where
+      right : IsRight B gives keys f m.between
+      right = each_right f m.between m.blocks m.count w m.steps
+
+      kept : KeepsMeaning B gives f m.between
+      kept = record { only_pure = right.only_pure; values = right.values }

@@ -1,10 +1,10 @@
 -- Alike operations merged in one block where it is in order, and in each block inside an entity.
-use Rattle.std.specs.Prelude.{◌↔◌, ℕ, zero, ◌+◌, List, [], ◌∷◌, Option, None, Some}
+use Rattle.std.specs.Prelude.{◌≡◌, ◌↔◌, ◌⊎◌, ℕ, zero, ◌+◌, List, [], ◌∷◌, Option, None, Some}
 use Rattle.ir_model.specs.Ids.{Ids, Distinct}
 use Rattle.ir_model.specs.Forest.{Dialect, Behaviour, Forest, Entity, a_block}
 use Rattle.ir_model.specs.Nesting.{In, Inside}
 use Rattle.ir_model_passes.specs.Meaning.{SameAttributes}
-use Rattle.ir_model_passes.specs.Merging.{Merges}
+use Rattle.ir_model_passes.specs.Merging.{Merges, MergesBrokenOff}
 use Rattle.ir_model_passes.specs.InOrder.{InOrder}
 
 -- so many went, none in a block out of order
@@ -29,3 +29,12 @@ module _ {N : Ids} {W : Dialect} (B : Behaviour W) (same : SameAttributes W) whe
     pub once : Distinct blocks
     pub all : (b : N.Block) → In b blocks ↔ Inside f root (a_block b)
     pub steps : MergesEach f blocks g count
+
+  -- this was done in some blocks inside the root, one after the other, and then mergings may have been broken off in one
+  pub record MergesInsideBrokenOff (f : Forest N W) (root : Entity N) (h : Forest N W) : Type 0 where
+    pub blocks : List N.Block
+    pub between : Forest N W
+    pub count : ℕ
+    pub inside : (b : N.Block) → In b blocks → Inside f root (a_block b)
+    pub steps : MergesEach f blocks between count
+    pub broken_off : (h ≡ between) ⊎ ((last : N.Block) × Inside f root (a_block last) × MergesBrokenOff B same last between h)

@@ -11,7 +11,7 @@ use Rattle.ir_model.specs.Dead.{Sweeps}
 use Rattle.ir_model_passes.specs.Meaning.{Interpretation, SameAttributes, Respects, OnlyPureGo, KeepsMeaning, PureHaveNoRegions, EffectsStay}
 use Rattle.ir_model_passes.specs.SweepInside.{ListsLive, ListsOps, SweepsInside, NoneIsClosedInside, SweepsBlocks, ErasesSome}
 use Rattle.ir_model_passes.specs.Merging.{values_given, redirect_each, redirect_results, Alike, MergesOne, MergesPartly, MergesSome, Merges, MergesBrokenOff, OperandsMoveBack}
-use Rattle.ir_model_passes.specs.MergingInside.{MergesCommon, MergesInside}
+use Rattle.ir_model_passes.specs.MergingInside.{MergesCommon, MergesInside, MergesInsideBrokenOff}
 use Rattle.ir_model_passes.specs.MergeTells.{CommonTells, InsideTells}
 use Rattle.ir_model_passes.specs.InOrder.{InOrder, EachIsSeen, SeesEarlier, LeavesInOrder}
 use Rattle.ir_model_passes.specs.RightPasses.{IsRight}
@@ -71,6 +71,11 @@ module _ (W : Dialect) (V : Type 0) where
   abbrev pub BrokenOffKeepsMeaning : Type 0
   BrokenOffKeepsMeaning = (B : Behaviour W) (same : SameAttributes W) (gives : Interpretation W V) → Respects W V same gives
       → (f g : Forest context_ids W) (keys : ℕ) (b : ArenaIndex) → WellFormed f keys → MergesBrokenOff B same b f g → WellFormed g keys × KeepsMeaning B gives f g
+
+  -- and so does what was broken off in one of the blocks inside a root
+  abbrev pub InsideBrokenOffKeepsMeaning : Type 0
+  InsideBrokenOffKeepsMeaning = (B : Behaviour W) (same : SameAttributes W) (gives : Interpretation W V) → Respects W V same gives
+      → (f g : Forest context_ids W) (keys : ℕ) (root : Entity context_ids) → WellFormed f keys → MergesInsideBrokenOff B same f root g → WellFormed g keys × KeepsMeaning B gives f g
 
   -- ## Unreached blocks
 

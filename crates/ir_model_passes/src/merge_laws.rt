@@ -1,6 +1,6 @@
 //! What a merging of alike operations leaves.
 
-ghost use Rattle.ir_model_passes.specs.PassLaws.{PartKeepsMeaning, BrokenOffKeepsMeaning, MergesAreCounted, MergeCommonTells, MergeInsideTells, MergesLeaveOrder, FrontToBackIsOne, FrontToBackMerges, WalkSteps, ReplacedIsClosed, SeenStaysSeen};
+ghost use Rattle.ir_model_passes.specs.PassLaws.{PartKeepsMeaning, BrokenOffKeepsMeaning, InsideBrokenOffKeepsMeaning, MergesAreCounted, MergeCommonTells, MergeInsideTells, MergesLeaveOrder, FrontToBackIsOne, FrontToBackMerges, WalkSteps, ReplacedIsClosed, SeenStaysSeen};
 
 /// One merging in a block in order leaves it in order, and leaves all that stands before the operation that went as it was. Where operands moved back, each operation still names only what it may see.
 pub fn merges_keep_order<Key, Body, Attr, Saved, Aux, Loc>()
@@ -27,8 +27,9 @@ pub fn walk_merges<Key, Body, Attr, Saved, Aux, Loc>()
     ensures can_go { ReplacedIsClosed (record { Key = Key; Body = Body; Attr = Attr; Saved = Saved; Aux = Aux; Loc = Loc }) }
 {}
 
-/// A merging that is broken off before the operation goes leaves a well-formed forest in which each operation sees the values that it saw, where equal attributes give equal values. So do mergings of which the last one may have been broken off.
+/// A merging that is broken off before the operation goes leaves a well-formed forest in which each operation sees the values that it saw, where equal attributes give equal values. So do mergings of which the last one may have been broken off, in one block and in those inside a root.
 pub fn part_keeps_meaning<Key, Body, Attr, Saved, Aux, Loc, V>()
     ensures one { PartKeepsMeaning (record { Key = Key; Body = Body; Attr = Attr; Saved = Saved; Aux = Aux; Loc = Loc }) V }
     ensures last { BrokenOffKeepsMeaning (record { Key = Key; Body = Body; Attr = Attr; Saved = Saved; Aux = Aux; Loc = Loc }) V }
+    ensures inside { InsideBrokenOffKeepsMeaning (record { Key = Key; Body = Body; Attr = Attr; Saved = Saved; Aux = Aux; Loc = Loc }) V }
 {}

@@ -1,6 +1,7 @@
 //! Why a text isn't printed again.
 
 use generic_building::BuildError;
+use generic_described::DescribedErr;
 use ir_base_dialects::CoreError;
 use ir_text_describe::DescribeErr;
 use std::alloc::{AllocError, AllocFailed};
@@ -41,9 +42,6 @@ pub enum Fault {
     /// The input can't be read.
     #[error("unreadable input")]
     Unreadable,
-    /// The output can't be written.
-    #[error("unwritable output")]
-    Unwritable,
     /// The text is no tree, or too long.
     #[error("{0}")]
     Reading(ir_text_reader::Fault),
@@ -64,6 +62,9 @@ pub enum Fault {
     /// The text that would be printed, or a number in it, passes 4,294,967,295.
     #[error("the output is too long")]
     TooLong,
+    /// What was built isn't what the input says, or what would be printed isn't what was built: a fault of this program, which no input is known to show.
+    #[error("this program has a fault: it read or printed something else than what stands there")]
+    Different,
 }
 
 impl Fault {
@@ -101,6 +102,15 @@ impl From<BuildError> for Fault {
         match error {
             BuildError::Core(CoreError::OutOfMemory) => Fault::OutOfMemory,
             _ => Fault::Building(error),
+        }
+    }
+}
+
+impl From<DescribedErr> for Fault {
+    fn from(error: DescribedErr) -> Fault {
+        match error {
+            DescribedErr::OutOfMemory => Fault::OutOfMemory,
+            DescribedErr::Differs { .. } => Fault::Different,
         }
     }
 }

@@ -1,15 +1,24 @@
 //! A text in MLIR's generic form read into a context, worked on by passes, and printed again: the work of the program `ir_opt`, over any reader and writers.
 #![tactic(auto)]
 
+mod enclosed;
 mod fault;
 mod optimising;
 mod options;
 mod passes;
 mod reading;
+mod run_laws;
 mod running;
+mod saying;
 mod telling;
+mod trees;
 mod verifying;
 
 pub use fault::{Fault, Finding};
 pub use options::{Options, Pass};
 pub use running::run_opt;
+
+/// Laws that lead from what a run does to what it means.
+pub mod laws {
+    pub use crate::run_laws::passes_are_right;
+}

@@ -1,14 +1,30 @@
-//! One text: read, worked on by passes, and described.
+//! One text: read, worked on by passes, and printed.
+//!
+//! What was built of the text is compared with the text, and what would be printed is read again and compared with what stands in the context. So what a run promises rests on these comparisons, and not on how things are built and described.
+ghost use Rattle.std.specs.Prelude.{◌∷◌, [], IfOk, OnOk};
+ghost use Rattle.ir_model.specs.Forest.{an_op};
+ghost use Rattle.ir_model.specs.Nesting.{IsLive};
+ghost use Rattle.ir_core_queries.specs.State.{bare, forest_of};
+ghost use Rattle.ir_core_queries.specs.Calls.{SameButForest};
+ghost use Rattle.ir_core_records.specs.DialectAnswers.{behaviour_of};
+ghost use Rattle.generic_described.specs.GenericWords.{generic_words};
+ghost use Rattle.ir_opt_run.specs.Modules.{Says};
+ghost use Rattle.ir_opt_run.specs.Passes.{PassLeads, PassesLead};
+ghost use Rattle.ir_opt_run.specs.Runs.{Optimises};
 
 use crate::fault::Fault;
 use crate::options::{Options, Pass};
 use crate::passes::run_pass;
-use crate::reading::{Module, read_module};
+use crate::reading::{Module, Op, read_module};
+use crate::saying::check_said;
+use crate::trees::read_tree;
 use crate::verifying::verify;
-use generic_dialect::Generic;
+use generic_dialect::{Generic, GenericType};
 use generic_text::GenericSpelling;
-use ir_core_queries::{Context, OperationPtr};
-use ir_text_describe::{Description, Locations, describe};
+use ir_base_dialects::Dialects;
+use ir_core_queries::Context;
+use ir_text_describe::{Locations, describe};
+use ir_text_spelling::spell;
 use std::alloc::Global;
 use std::io::Write;
 
@@ -38,8 +54,13 @@ fn run_one<F: Write>(
     module: &Module,
     pass: Pass,
     log: &mut F,
-) -> Result<(), Fault> {
-    let gone = run_pass(ctx, module.root, pass);
+) -> Result<(), Fault>
+    requires { IsLive (forest_of ctx.old) (an_op module.now.root.index) }
+    ensures leads { OnOk result (PassLeads (behaviour_of ⟦<Generic as Dialects>⟧ ⟦<GenericType as PartialEq>⟧.eq) module.now.root.index pass (forest_of ctx.old) (forest_of ctx.new)) }
+    ensures rest { OnOk result (SameButForest (bare ctx.old) (bare ctx.new)) }
+    ensures live { OnOk result (IsLive (forest_of ctx.new) (an_op module.now.root.index)) }
+{
+    let gone = run_pass(ctx, module.root, pass)?;
     tell_if(options, pass, gone, log);
     verify_if(ctx, options, module)
 }
@@ -50,24 +71,16 @@ fn run_all<F: Write>(
     options: &Options,
     module: &Module,
     log: &mut F,
-) -> Result<(), Fault> {
-    for pass in options.passes.iter() {
+) -> Result<(), Fault>
+    requires { IsLive (forest_of ctx.old) (an_op module.now.root.index) }
+    ensures lead { OnOk result (PassesLead (behaviour_of ⟦<Generic as Dialects>⟧ ⟦<GenericType as PartialEq>⟧.eq) module.now.root.index options.now.passes.items (forest_of ctx.old) (forest_of ctx.new)) }
+    ensures rest { OnOk result (SameButForest (bare ctx.old) (bare ctx.new)) }
+    ensures live { OnOk result (IsLive (forest_of ctx.new) (an_op module.now.root.index)) }
+{
+    for pass in options.passes.as_slice() {
         run_one(ctx, options, module, *pass, log)?;
     }
     Ok(())
-}
-
-// Reads a text into the context, runs the passes and describes what stands there.
-fn work<F: Write>(
-    ctx: &mut Context<Generic>,
-    options: &Options,
-    text: &[u8],
-    log: &mut F,
-) -> Result<Description, Fault> {
-    let module = read_module(ctx, text)?;
-    verify_if(ctx, options, &module)?;
-    run_all(ctx, options, &module, log)?;
-    describe_module(ctx, options, &module)
 }
 
 // Whether locations are printed.
@@ -79,31 +92,61 @@ fn locations(options: &Options) -> Locations {
     }
 }
 
-// Describes the module.
-fn describe_module(
-    ctx: &Context<Generic>,
-    options: &Options,
-    module: &Module,
-) -> Result<Description, Fault> {
-    if !module.root.is_live(ctx) {
-        return Err(Fault::TooLong);
-    }
-    Ok(describe(
-        ctx.alloc(),
-        ctx,
-        module.root,
-        &GenericSpelling,
-        locations(options),
-    )?)
+// Sees to it that a text that would be printed says what stands in the module.
+fn check_printed(ctx: &Context<Generic>, root: Op, located: bool, text: &[u8]) -> Result<(), Fault>
+    ensures said { OnOk result (Says (forest_of ctx.now) (generic_words ctx.now) located text.now (root.index ∷ [])) }
+{
+    let tree = read_tree(ctx.alloc(), text)?;
+    check_said(ctx, &[root], text, &tree, located)
 }
 
-/// Reads a text, runs the passes, and describes what comes of it. What passes did is told on the log, where it is asked for.
+// The text of a live module.
+fn text_of(ctx: &Context<Generic>, options: &Options, root: Op) -> Result<Vec<u8>, Fault>
+    requires { IsLive (forest_of ctx.now) (an_op root.index) }
+{
+    let alloc = ctx.alloc();
+    let described = describe(alloc, ctx, root, &GenericSpelling, locations(options))?;
+    Ok(spell(alloc, described.text.as_slice(), described.rows.as_slice())?)
+}
+
+// The text of a live module. It is read again and compared with the module.
+fn print_module(ctx: &Context<Generic>, options: &Options, root: Op) -> Result<Vec<u8>, Fault>
+    requires { IsLive (forest_of ctx.now) (an_op root.index) }
+    ensures said { IfOk result (λ out. Says (forest_of ctx.now) (generic_words ctx.now) options.now.prints_locations out.items (root.index ∷ [])) }
+{
+    let text = text_of(ctx, options, root)?;
+    check_printed(ctx, root, options.prints_locations, text.as_slice())?;
+    Ok(text)
+}
+
+// Reads a text into the context, runs the passes, and gives the text of what stands there.
+fn work<F: Write>(
+    ctx: &mut Context<Generic>,
+    options: &Options,
+    text: &[u8],
+    log: &mut F,
+) -> Result<Vec<u8>, Fault>
+    ensures optimised { IfOk result (λ out. Optimises (behaviour_of ⟦<Generic as Dialects>⟧ ⟦<GenericType as PartialEq>⟧.eq) options.now.passes.items options.now.prints_locations text.now out.items) }
+{
+    let module = read_module(ctx, text)?;
+    ctx.recall_well_formed();
+    verify_if(ctx, options, &module)?;
+    run_all(ctx, options, &module, log)?;
+    print_module(ctx, options, module.root)
+}
+
+/// Reads a text, runs the passes, and gives the text of what comes of it. What passes did is told on the log, where it is asked for.
+///
+/// # Errors
+/// The first fault in the text, what verification found, want of memory, numbers or slots; and `Different` where what was built or would be printed isn't what the context has, which would be a fault of this program.
 pub(crate) fn optimise<F: Write>(
     alloc: Global,
     options: &Options,
     text: &[u8],
     log: &mut F,
-) -> Result<Description, Fault> {
+) -> Result<Vec<u8>, Fault>
+    ensures optimised { IfOk result (λ out. Optimises (behaviour_of ⟦<Generic as Dialects>⟧ ⟦<GenericType as PartialEq>⟧.eq) options.now.passes.items options.now.prints_locations text.now out.items) }
+{
     let mut ctx = Context::new(alloc);
     let outcome = work(&mut ctx, options, text, log);
     ir_checked_core::context::end(ctx, outcome)

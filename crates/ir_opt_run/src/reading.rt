@@ -1,12 +1,22 @@
 //! A text read into a context, with the places of its operations.
+ghost use Rattle.std.specs.Prelude.{IfOk, List, OnOk, true};
+ghost use Rattle.generic_described.specs.GenericWords.{block_named, generic_words, value_named};
+ghost use Rattle.ir_model.specs.declared.ids.ArenaIndex.{ArenaIndex};
+ghost use Rattle.ir_model.specs.Forest.{an_op};
+ghost use Rattle.ir_model.specs.Nesting.{IsLive};
+ghost use Rattle.ir_core_queries.specs.State.{forest_of};
+ghost use Rattle.ir_opt_run.specs.Modules.{Encloses, IsReadAs, Says};
 
+use crate::enclosed::listed;
 use crate::fault::Fault;
+use crate::saying::check_said;
+use crate::trees::{NamedTree, read_tree};
 use generic_building::{BuildError, Built, build, enclose};
 use generic_dialect::Generic;
 use ir_base_dialects::Ptr;
-use ir_core_queries::{BasicBlock, Context, Operation};
-use ir_text_names::{Wrong, resolve};
-use ir_text_reader::{Row, parse};
+use ir_core_queries::{BasicBlock, Context, Operation, OperationPtr};
+use ir_text_names::Wrong;
+use ir_text_reader::Row;
 use std::alloc::{AllocError, Global};
 
 /// An operation of the dialect.
@@ -43,15 +53,23 @@ fn places(alloc: Global, rows: &[Row], ops: &[(Op, u32)]) -> Result<Vec<(Op, u32
     Ok(places)
 }
 
-// Builds the rows of a text, and notes where its operations stand.
-fn place_all(ctx: &mut Context<Generic>, rows: &[Row], built: Built) -> Result<Module, Fault> {
-    let root = enclose(ctx, built.tops.as_slice())?;
-    let places = places(ctx.alloc(), rows, built.ops.as_slice())?;
-    Ok(Module {
-        root,
-        places,
-        blocks: built.blocks,
-    })
+// Sees to it that the tree of the text describes what stands in this module, or the module itself where that is all that the text has.
+fn check_read(
+    ctx: &Context<Generic>,
+    root: Op,
+    is_alone: bool,
+    text: &[u8],
+    tree: &NamedTree,
+) -> Result<(), Fault>
+    requires live { IsLive (forest_of ctx.now) (an_op root.index) }
+    requires read { IsReadAs text.now tree.now.rows.items (block_named tree.now.names) (value_named tree.now.names) }
+    ensures said { OnOk result ((operations : List ArenaIndex) × Says (forest_of ctx.now) (generic_words ctx.now) true text.now operations × Encloses (forest_of ctx.now) (generic_words ctx.now) root.index operations) }
+{
+    if is_alone {
+        return check_said(ctx, &[root], text, tree, true);
+    }
+    let operations = listed(ctx, root)?;
+    check_said(ctx, operations.as_slice(), text, tree, true)
 }
 
 // Why nothing was built, by its place in the text.
@@ -65,14 +83,49 @@ fn build_fault(rows: &[Row], error: BuildError) -> Fault {
     }
 }
 
-/// Reads a text into a context.
-pub(crate) fn read_module(ctx: &mut Context<Generic>, text: &[u8]) -> Result<Module, Fault> {
-    let alloc = ctx.alloc();
-    let tree = parse(alloc, text)?;
+// Builds a tree.
+fn build_tree(ctx: &mut Context<Generic>, text: &[u8], tree: &NamedTree) -> Result<Built, Fault> {
     let rows = tree.rows.as_slice();
-    let names = resolve(alloc, text, rows)?;
-    match build(ctx, text, rows, &names) {
-        Ok(built) => place_all(ctx, rows, built),
+    match build(ctx, text, rows, &tree.names) {
+        Ok(built) => Ok(built),
         Err(error) => Err(build_fault(rows, error)),
     }
+}
+
+// Whether an operation is all that these are.
+fn is_alone(root: Op, tops: &[Op]) -> bool {
+    match tops {
+        [only] => *only == root,
+        _ => false,
+    }
+}
+
+/// Reads a text into a context. What was built is compared with the text.
+///
+/// # Errors
+/// The first fault in the text; want of memory, numbers or slots; and `Different` where what was built isn't what the text says, which would be a fault of this program.
+pub(crate) fn read_module(ctx: &mut Context<Generic>, text: &[u8]) -> Result<Module, Fault>
+    ensures live { IfOk result (λ m. IsLive (forest_of ctx.new) (an_op m.root.index)) }
+    ensures said { IfOk result (λ m. (operations : List ArenaIndex) × Says (forest_of ctx.new) (generic_words ctx.new) true text.now operations × Encloses (forest_of ctx.new) (generic_words ctx.new) m.root.index operations) }
+{
+    let alloc = ctx.alloc();
+    let tree = read_tree(alloc, text)?;
+    let built = build_tree(ctx, text, &tree)?;
+    let root = enclose(ctx, built.tops.as_slice())?;
+    if !root.is_live(ctx) {
+        return Err(Fault::Different);
+    }
+    check_read(
+        ctx,
+        root,
+        is_alone(root, built.tops.as_slice()),
+        text,
+        &tree,
+    )?;
+    let places = places(alloc, tree.rows.as_slice(), built.ops.as_slice())?;
+    Ok(Module {
+        root,
+        places,
+        blocks: built.blocks,
+    })
 }

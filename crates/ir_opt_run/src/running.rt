@@ -1,13 +1,18 @@
 //! The work of the program `ir_opt`.
-ghost use Rattle.std.specs.Prelude.{◌≡◌, ◌⊎◌};
+ghost use Rattle.std.specs.Prelude.{◌≡◌, ◌⊎◌, ◌++◌, ℕ, List, IfOk, IfSome, true};
+ghost use Rattle.ir_core_records.specs.DialectAnswers.{behaviour_of};
+ghost use Rattle.ir_text_spelling.specs.Writings.{AppendsFront};
+ghost use Rattle.std.specs.Io.KnownBytes.{Appends};
+ghost use Rattle.ir_opt_run.specs.Runs.{Makes, Optimises, OptimisesParts, Prints, PrintsFront};
 
 use crate::fault::Fault;
 use crate::optimising::optimise;
 use crate::options::Options;
-use crate::telling::{Told, fail};
-use ir_text_describe::Description;
+use crate::telling::{Told, tell};
+use generic_dialect::{Generic, GenericType};
+use ir_base_dialects::Dialects;
 use ir_text_run::first_part;
-use ir_text_spelling::spell_to;
+use ir_text_spelling::write_bytes;
 use std::alloc::Global;
 use std::io;
 use std::io::{ErrorKind, Read, Write};
@@ -16,7 +21,9 @@ use std::io::{ErrorKind, Read, Write};
 const MARKER: &[u8] = b"// -----\n";
 
 // The whole input.
-fn read_input<R: Read>(alloc: Global, input: &mut R) -> Result<Vec<u8>, Fault> {
+fn read_input<R: Read>(alloc: Global, input: &mut R) -> Result<Vec<u8>, Fault>
+    ensures whole { IfOk result (λ text. IfSome (R.remaining input.old) (λ bytes. text.items ≡ bytes)) }
+{
     let mut text = Vec::new(alloc);
     match input.read_to_end(&mut text) {
         Ok(_) => Ok(text),
@@ -32,11 +39,13 @@ fn input_fault(error: io::Error) -> Fault {
     }
 }
 
-// Writes a description, through to where the writer sends it; the status.
-fn write_out<W: Write>(description: &Description, output: &mut W) -> u8
+// Writes a text, through to where the writer sends it; the status.
+fn write_out<W: Write>(text: &[u8], output: &mut W) -> u8
     ensures status { (result ≡ 0) ⊎ (result ≡ 3) }
+    ensures whole { result ≡ 0 → Appends (W.contents output.old) (W.contents output.new) text.now }
+    ensures front { result ≡ 3 → AppendsFront (W.contents output.old) (W.contents output.new) text.now }
 {
-    if spell_to(&description.text, &description.rows, output).is_err() {
+    if write_bytes(output, text).is_err() {
         return 3;
     }
     match output.flush() {
@@ -45,155 +54,101 @@ fn write_out<W: Write>(description: &Description, output: &mut W) -> u8
     }
 }
 
-// Works on one text; the status.
-fn run_text<W: Write, F: Write>(
+// Tells of a fault of one text, before which so many lines of the input stand.
+fn tell_of<F: Write>(options: &Options, text: &[u8], lines: u64, error: Fault, log: &mut F) {
+    let told = Told {
+        name: options.name,
+        text,
+        lines,
+    };
+    tell(told, error, log);
+}
+
+// What comes of a text, if it has no fault; a fault is told.
+fn text_made<F: Write>(
     alloc: Global,
     options: &Options,
     text: &[u8],
-    output: &mut W,
+    lines: u64,
     log: &mut F,
-) -> u8
-    ensures status { (result ≡ 0) ⊎ ((result ≡ 1) ⊎ (result ≡ 3)) }
-    ensures nothing_written { result ≡ 1 → output.new ≡ output.old }
+) -> Option<Vec<u8>>
+    ensures made { IfSome result (λ out. Optimises (behaviour_of ⟦<Generic as Dialects>⟧ ⟦<GenericType as PartialEq>⟧.eq) options.now.passes.items options.now.prints_locations text.now out.items) }
 {
     match optimise(alloc, options, text, log) {
-        Ok(description) => write_out(&description, output),
+        Ok(out) => Some(out),
         Err(error) => {
-            let told = Told {
-                name: options.name,
-                text,
-                lines: 0,
-            };
-            fail(told, error, log);
-            1
+            tell_of(options, text, lines, error, log);
+            None
         }
     }
 }
 
-// Works on one part, and puts what comes of it behind what came of the others; whether it has no fault.
-fn run_part<F: Write>(
+// Puts what comes of a part behind what came of those before; whether it has no fault. A fault is told.
+fn add_part<F: Write>(
     alloc: Global,
     options: &Options,
     part: &[u8],
     lines: u64,
     printed: &mut Vec<u8>,
     log: &mut F,
-) -> bool {
-    match optimise_part(alloc, options, part, printed, log) {
-        Ok(()) => true,
-        Err(error) => {
-            let told = Told {
-                name: options.name,
-                text: part,
-                lines,
-            };
-            fail(told, error, log);
-            false
+) -> Result<bool, Fault>
+    ensures made { IfOk result (λ is_well. is_well ≡ true → (out : List ℕ) × Optimises (behaviour_of ⟦<Generic as Dialects>⟧ ⟦<GenericType as PartialEq>⟧.eq) options.now.passes.items options.now.prints_locations part.now out × (printed.new.items ≡ printed.old.items ++ out)) }
+{
+    match text_made(alloc, options, part, lines, log) {
+        Some(out) => {
+            printed.extend_from_slice(&out)?;
+            Ok(true)
         }
+        None => Ok(false),
     }
 }
 
-// Works on one part, and puts what comes of it behind what came of the others.
-fn optimise_part<F: Write>(
-    alloc: Global,
-    options: &Options,
-    part: &[u8],
-    printed: &mut Vec<u8>,
-    log: &mut F,
-) -> Result<(), Fault> {
-    let description = optimise(alloc, options, part, log)?;
-    match spell_to(&description.text, &description.rows, printed) {
-        Ok(()) => Ok(()),
-        Err(_) => Err(Fault::OutOfMemory),
-    }
+// What is printed, where nothing has a fault.
+fn if_well(is_well: bool, printed: Vec<u8>) -> Option<Vec<u8>>
+    ensures { IfSome result (λ out. (is_well ≡ true) × (out.items ≡ printed.items)) }
+{
+    if is_well { Some(printed) } else { None }
 }
 
-// Works on each part; whether none has a fault.
-fn run_all_parts<F: Write>(
+// What comes of each part, with the line between two, if none has a fault; each part's fault is told.
+fn parts_made<F: Write>(
     alloc: Global,
     options: &Options,
     text: &[u8],
-    printed: &mut Vec<u8>,
     log: &mut F,
-) -> Result<bool, Fault> {
+) -> Result<Option<Vec<u8>>, Fault>
+    ensures made { IfOk result (λ made. IfSome made (λ out. OptimisesParts (behaviour_of ⟦<Generic as Dialects>⟧ ⟦<GenericType as PartialEq>⟧.eq) options.now.passes.items options.now.prints_locations text.now out.items)) }
+{
+    let mut printed = Vec::new(alloc);
     let mut is_well = true;
     let mut lines = 0u64;
     let mut rest = text;
-    for _ in 0..u64::MAX {
+    loop {
         let front = first_part(rest);
-        if !run_part(alloc, options, front.part, lines, printed, log) {
-            is_well = false;
-        }
+        let is_part_well = add_part(alloc, options, front.part, lines, &mut printed, log)?;
+        is_well = is_well && is_part_well;
         let Some(behind) = front.rest else {
-            break;
+            return Ok(if_well(is_well, printed));
         };
         printed.extend_from_slice(MARKER)?;
         lines = lines.saturating_add(front.lines);
         rest = behind;
     }
-    Ok(is_well)
 }
 
-// Writes what came of all parts; the status.
-fn write_parts<W: Write>(printed: &[u8], output: &mut W) -> u8
-    ensures status { (result ≡ 0) ⊎ (result ≡ 3) }
+// What comes of the input, if it has no fault; a fault is told.
+fn made<F: Write>(alloc: Global, options: &Options, text: &[u8], log: &mut F) -> Option<Vec<u8>>
+    ensures made { IfSome result (λ out. Makes (behaviour_of ⟦<Generic as Dialects>⟧ ⟦<GenericType as PartialEq>⟧.eq) options.now.passes.items options.now.prints_locations options.now.splits_input text.now out.items) }
 {
-    if output.write_all(printed).is_err() {
-        return 3;
+    if !options.splits_input {
+        return text_made(alloc, options, text, 0, log);
     }
-    match output.flush() {
-        Ok(()) => 0,
-        Err(_) => 3,
-    }
-}
-
-// Works on the parts of an input; the status.
-fn run_parts<W: Write, F: Write>(
-    alloc: Global,
-    options: &Options,
-    text: &[u8],
-    output: &mut W,
-    log: &mut F,
-) -> u8
-    ensures status { (result ≡ 0) ⊎ ((result ≡ 1) ⊎ (result ≡ 3)) }
-    ensures nothing_written { result ≡ 1 → output.new ≡ output.old }
-{
-    let mut printed = Vec::new(alloc);
-    match run_all_parts(alloc, options, text, &mut printed, log) {
-        Ok(true) => write_parts(&printed, output),
-        Ok(false) => 1,
-        Err(error) => fail_whole(options, error, log),
-    }
-}
-
-// Tells a fault of the whole input; the status.
-fn fail_whole<F: Write>(options: &Options, error: Fault, log: &mut F) -> u8
-    ensures status { result ≡ 1 }
-{
-    let told = Told {
-        name: options.name,
-        text: &[],
-        lines: 0,
-    };
-    fail(told, error, log);
-    1
-}
-
-// Works on the whole input; the status.
-fn run_input<W: Write, F: Write>(
-    alloc: Global,
-    options: &Options,
-    text: &[u8],
-    output: &mut W,
-    log: &mut F,
-) -> u8
-    ensures status { (result ≡ 0) ⊎ ((result ≡ 1) ⊎ (result ≡ 3)) }
-    ensures nothing_written { result ≡ 1 → output.new ≡ output.old }
-{
-    if options.splits_input {
-        run_parts(alloc, options, text, output, log)
-    } else {
-        run_text(alloc, options, text, output, log)
+    match parts_made(alloc, options, text, log) {
+        Ok(out) => out,
+        Err(error) => {
+            tell_of(options, &[], 0, error, log);
+            None
+        }
     }
 }
 
@@ -209,11 +164,21 @@ pub fn run_opt<R: Read, W: Write, F: Write>(
 ) -> u8
     // No other status comes.
     ensures status { (result ≡ 0) ⊎ ((result ≡ 1) ⊎ (result ≡ 3)) }
+    // Under 0 the input says what stands in a forest, the named passes lead from it to another, and the output got a text that says what stands there.
+    ensures made { result ≡ 0 → IfSome (R.remaining input.old) (λ text. Prints (behaviour_of ⟦<Generic as Dialects>⟧ ⟦<GenericType as PartialEq>⟧.eq) options.now.passes.items options.now.prints_locations options.now.splits_input text (W.contents output.old) (W.contents output.new)) }
     // Under 1 nothing was written.
     ensures nothing_written { result ≡ 1 → output.new ≡ output.old }
+    // Under 3 the output got a front part of such a text.
+    ensures front { result ≡ 3 → IfSome (R.remaining input.old) (λ text. PrintsFront (behaviour_of ⟦<Generic as Dialects>⟧ ⟦<GenericType as PartialEq>⟧.eq) options.now.passes.items options.now.prints_locations options.now.splits_input text (W.contents output.old) (W.contents output.new)) }
 {
     match read_input(alloc, input) {
-        Ok(text) => run_input(alloc, options, &text, output, log),
-        Err(error) => fail_whole(options, error, log),
+        Ok(text) => match made(alloc, options, text.as_slice(), log) {
+            Some(out) => write_out(out.as_slice(), output),
+            None => 1,
+        },
+        Err(error) => {
+            tell_of(options, &[], 0, error, log);
+            1
+        }
     }
 }

@@ -1,5 +1,4 @@
-//! What is said of a fault, and the status that it makes.
-ghost use Rattle.std.specs.Prelude.{◌≡◌, ◌⊎◌};
+//! What is said of a fault.
 
 use crate::fault::Fault;
 use ir_text_reader::line_and_column;
@@ -17,18 +16,8 @@ pub(crate) struct Told<'a> {
     pub(crate) lines: u64,
 }
 
-/// The status that a fault makes.
-pub(crate) fn status_of(error: Fault) -> u8
-    ensures status { (result ≡ 1) ⊎ (result ≡ 3) }
-{
-    match error {
-        Fault::Unwritable => 3,
-        _ => 1,
-    }
-}
-
 // Says which fault a text has, as `NAME:LINE:COLUMN: error: TEXT`; without line and column where it stands nowhere in the text.
-fn tell<F: Write>(told: Told, error: Fault, log: &mut F) -> io::Result<()> {
+fn write_fault<F: Write>(told: Told, error: Fault, log: &mut F) -> io::Result<()> {
     let name = told.name;
     match error.at() {
         Some(at) if (at as usize) <= told.text.len() => {
@@ -40,14 +29,7 @@ fn tell<F: Write>(told: Told, error: Fault, log: &mut F) -> io::Result<()> {
     }
 }
 
-/// The status for a fault, which is told, but for output that can't be written.
-pub(crate) fn fail<F: Write>(told: Told, error: Fault, log: &mut F) -> u8
-    ensures status { (result ≡ 1) ⊎ (result ≡ 3) }
-{
-    let status = status_of(error);
-    if status == 1 {
-        // Where the fault can't be told, the status alone tells it.
-        let _ = tell(told, error, log);
-    }
-    status
+/// Tells of a fault. Where that can't be told, nothing else changes: the status alone tells it.
+pub(crate) fn tell<F: Write>(told: Told, error: Fault, log: &mut F) {
+    let _ = write_fault(told, error, log);
 }

@@ -5,3 +5,12 @@ mod Counted
 mod Purity
 mod Rest
 mod Gone
+pub mod AlikeHashes
+pub mod AlikeParts
+pub mod Chains
+pub mod EachBlock
+pub mod KeptWalk
+pub mod MetSoFar
+pub mod Places
+pub mod Replacing
+pub mod Unmet

@@ -17,8 +17,8 @@ use ir_core_queries::{Context, Operation};
 use ir_model_passes::{steps_sweep_inside, sweep_inside_is_one};
 use ir_run_sweep::sweep;
 
-// How many operations are live.
-fn live_ops<D: Dialects>(ctx: &Context<D>) -> usize
+/// How many operations are live.
+pub(crate) fn live_ops<D: Dialects>(ctx: &Context<D>) -> usize
     ensures { result ≡ arena_len ctx.now.records.ops }
 {
     ctx.records().ops.len()

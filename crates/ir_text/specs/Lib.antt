@@ -4,4 +4,3 @@ pub use Rattle.ir_text_tree.specs as Tree
 pub use Rattle.ir_text_reader.specs as Reader
 pub use Rattle.ir_text_spelling.specs as Spelling
 pub use Rattle.ir_text_names.specs as Names
-pub use Rattle.ir_text_nest.specs as Nest

@@ -17,7 +17,7 @@ pub mod spelling {
 /// What the names in a tree mean, and the first that means nothing or is given twice.
 pub mod names {
     pub use ir_text_names::{
-        Fault, Names, Wrong, blocks, keys, operand_types, resolve, result_types, values,
+        Fault, Names, RowTable, Wrong, blocks, keys, operand_types, resolve, result_types, values,
     };
 }
 
@@ -31,15 +31,9 @@ pub mod place {
     pub use ir_text_tokens::line_and_column;
 }
 
-/// How operations, regions and blocks stand in one another, without the rest of a text.
-pub mod nest {
-    pub use ir_text_nest::{Fault, Link, Part, nest};
-}
-
 /// Laws about the definitions that the contracts cite.
 pub mod laws {
     pub use ir_text_names::laws::{names_one_block, names_one_value};
-    pub use ir_text_nest::laws::{linked_is_nest, nest_is_linked};
     pub use ir_text_spelling::laws::tree_text_spells_again;
     pub use ir_text_tokens::laws::{
         covering_goes_forward, covering_is_read, read_has_spelling, reading_covers, scanning_reads,

@@ -5,6 +5,7 @@ mod GivenNames
 mod NamedBlocks
 mod KeyFaults
 mod Tallies
+mod Numbering
 mod ValuesBefore
 mod ValuesBehind
 mod ValueFaults
@@ -15,4 +16,8 @@ mod Amounts
 mod ResultNumbers
 mod Indices
 mod PlacedRows
+mod SortedRows
 mod TypeFaults
+mod Spots
+mod Entries
+mod Gates

@@ -1,5 +1,5 @@
 -- The blocks that rows name, from one row to the next.
-use Rattle.std.proofs.Common.{◌≡◌, ◌↔◌, ◌⊎◌, ℕ, ◌+◌, ◌<◌, ◌≤◌, Bool, true, false, cond, List, [], ◌∷◌, ◌++◌, length, get_or, Option, Some, None, IsSome, refl, sym, ap, subst, subst₂, ◌∙◌, inl, inr, ⊎_elim, arith}
+use Rattle.std.proofs.Common.{◌≡◌, ◌↔◌, ◌⊎◌, ℕ, ◌+◌, ◌<◌, ◌≤◌, Bool, true, false, cond, List, [], ◌∷◌, ◌++◌, length, get_or, Option, Some, None, IsSome, IfSome, refl, sym, ap, subst, subst₂, ◌∙◌, inl, inr, ⊎_elim, arith}
 use Rattle.std.proofs.lemmas.Bool.{cases_lt, false≢true}
 use Rattle.std.proofs.lemmas.List.{get_or_past, get_or_push, get_or_append_left, length_push}
 use Rattle.ir_text_tree.specs.declared.row.Part.{Part}
@@ -8,7 +8,7 @@ use Rattle.ir_text_tree.specs.declared.row.Row.{Row}
 use Rattle.ir_text_names.specs.declared.fault.Wrong.{Wrong}
 use Rattle.ir_text_names.specs.declared.fault.Wrong.TheVariants as wrongs
 use Rattle.ir_text_names.specs.Rows.{no_row, part_of, text_of, row_regions, region_of}
-use Rattle.ir_text_names.specs.Given.{AreGiven}
+use Rattle.ir_text_names.specs.Given.{AreGiven, anywhere}
 use Rattle.ir_text_names.specs.Firsts.{IsFirst, IsFirstWrong, told, sooner}
 use Rattle.ir_text_names.proofs.FirstRows.{told_first, sooner_first, first_wrong_as}
 use Rattle.ir_text_names.specs.Blocks.{IsBlockNamed, AreBlocksNamed, misses, NamesNoBlock, IsBlockAgain, IsBlockWrong}
@@ -25,18 +25,23 @@ nothing_known : (o : Option ℕ) → o ≡ None → IsSome o → ⊥
 nothing_known None e s = false≢true s
 nothing_known (Some i) e s = cc
 
-block_known : (text : List ℕ) (rows : List Row) (n : ℕ) (known : ℕ → List ℕ → Option ℕ) (o : Option ℕ) → AreGiven parts.Label text rows (row_regions rows) (length rows) known → part_of rows n ≡ parts.Successor → known (region_of rows n) (text_of text rows n) ≡ o → IsBlockNamed text rows n o
+block_known : (text : List ℕ) (rows : List Row) (n : ℕ) (known : ℕ → List ℕ → Option ℕ) (o : Option ℕ) → AreGiven parts.Label text rows (row_regions rows) anywhere (length rows) known → part_of rows n ≡ parts.Successor → known (region_of rows n) (text_of text rows n) ≡ o → IsBlockNamed text rows n o
 block_known text rows n known None h is e =
     λ l b.
     let g = b.1 in
-    nothing_known (known (region_of rows n) (text_of text rows n)) e (subst₂ (λ (s : ℕ) (m : List ℕ). IsSome (known s m)) g.1 g.2 (h.all l (part_within rows l parts.Label g.0 result_is_no_label) g.0))
+    nothing_known (known (region_of rows n) (text_of text rows n)) e (subst₂ (λ (s : ℕ) (m : List ℕ). IsSome (known s m)) g.1 g.2 (h.all l (part_within rows l parts.Label g.0 result_is_no_label) g.0 refl))
 block_known text rows n known (Some l) h is e = (is, (h.only (region_of rows n) (text_of text rows n) l e).1)
 
 -- what row n names
-pub block_is : (text : List ℕ) (rows : List Row) (n : ℕ) (known : ℕ → List ℕ → Option ℕ) (b : Bool) (o : Option ℕ) → AreGiven parts.Label text rows (row_regions rows) (length rows) known → ((b ≡ true) ↔ (part_of rows n ≡ parts.Successor))
+pub block_is : (text : List ℕ) (rows : List Row) (n : ℕ) (known : ℕ → List ℕ → Option ℕ) (b : Bool) (o : Option ℕ) → AreGiven parts.Label text rows (row_regions rows) anywhere (length rows) known → ((b ≡ true) ↔ (part_of rows n ≡ parts.Successor))
     → o ≡ cond b (known (region_of rows n) (text_of text rows n)) None → IsBlockNamed text rows n o
 block_is text rows n known true o h is e = block_known text rows n known o h (is.0 refl) (sym e)
 block_is text rows n known false o h is e = subst (IsBlockNamed text rows n) (sym e) (λ l b. false≢true (is.1 b.0))
+
+-- what it names is one of few rows
+pub block_few : (text : List ℕ) (rows : List Row) (n m : ℕ) (o : Option ℕ) → length rows < m → IsBlockNamed text rows n o → IfSome o (λ d. d < m)
+block_few text rows n m None few h = tt
+block_few text rows n m (Some l) few h = let within = part_within rows l parts.Label h.1.0 result_is_no_label in omega (arith, within, few)
 
 pub table_more : (text : List ℕ) (rows : List Row) (n : ℕ) (o : Option ℕ) (table out : List (Option ℕ)) → IsBlockNamed text rows n o → out ≡ table ++ o ∷ [] → AreBlocksNamed text rows n table → AreBlocksNamed text rows (n + 1) out
 table_more text rows n o table out named pushed h = (

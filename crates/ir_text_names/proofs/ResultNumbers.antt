@@ -9,6 +9,7 @@ use Rattle.ir_text_names.specs.declared.fault.Wrong.{Wrong}
 use Rattle.ir_text_names.specs.declared.fault.Wrong.TheVariants as wrongs
 use Rattle.ir_text_names.specs.Rows.{no_row, part_of, text_of}
 use Rattle.ir_text_names.specs.Counts.{how_many}
+use Rattle.ir_text_names.specs.Operations.{number_of, IsOperation}
 use Rattle.ir_text_names.specs.Firsts.{IsFirst, IsFirstWrong, told, sooner}
 use Rattle.ir_text_names.specs.Numbers.{number_in, is_count, values_under, width, results_on, results_before, IsNoCount, HasOtherResults, IsResultWrong}
 use Rattle.ir_text_names.proofs.FirstRows.{told_first, sooner_first, first_as, first_wrong_as}
@@ -34,11 +35,12 @@ unfolding results_before
 results_more text rows n = let next : suc n ≡ n + 1 = omega arith in ap (results_before text rows) next
 
 -- the numbers are those of the result types
-pub other_results : (text : List ℕ) (rows : List Row) (types : List ℕ) (o : Option ℕ) → ((k : ℕ) → k ≤ length rows → get_or types k 0 ≡ how_many counted.ResultTypes rows k)
-    → IsFirst (λ i. (part_of rows i ≡ parts.Name) × (results_before text rows i ≢ get_or types (i + 1) 0)) (length rows) o → IsFirst (HasOtherResults text rows) (length rows) o
+pub other_results : (text : List ℕ) (rows : List Row) (types : List ℕ) (o : Option ℕ) → ((k : ℕ) → IsOperation rows k → k ≤ length rows → get_or types (number_of rows k) 0 ≡ how_many counted.ResultTypes rows k)
+    → IsFirst (λ i. (part_of rows i ≡ parts.Name) × (results_before text rows i ≢ get_or types (number_of rows (i + 1)) 0)) (length rows) o → IsFirst (HasOtherResults text rows) (length rows) o
 other_results text rows types o a h =
-    first_as (λ i. (part_of rows i ≡ parts.Name) × (results_before text rows i ≢ get_or types (i + 1) 0)) (HasOtherResults text rows) (length rows) o
-    (λ i lt p. let le : i + 1 ≤ length rows = omega arith in (p.0, λ e. p.1 (e ∙ sym (a (i + 1) le)))) (λ i lt p. let le : i + 1 ≤ length rows = omega arith in (p.0, λ e. p.1 (e ∙ a (i + 1) le))) h
+    first_as (λ i. (part_of rows i ≡ parts.Name) × (results_before text rows i ≢ get_or types (number_of rows (i + 1)) 0)) (HasOtherResults text rows) (length rows) o
+    (λ i lt p. let le : i + 1 ≤ length rows = omega arith in let is : IsOperation rows (i + 1) = inr (i, refl, p.0) in (p.0, λ e. p.1 (e ∙ sym (a (i + 1) is le))))
+    (λ i lt p. let le : i + 1 ≤ length rows = omega arith in let is : IsOperation rows (i + 1) = inr (i, refl, p.0) in (p.0, λ e. p.1 (e ∙ a (i + 1) is le))) h
 
 wrong_to : (text : List ℕ) (rows : List Row) (v : Wrong) (i : ℕ) → ((v ≡ wrongs.ResultCount) × IsNoCount text rows i) ⊎ ((v ≡ wrongs.ResultTypes) × HasOtherResults text rows i) → IsResultWrong text rows v i
 wrong_to text rows v i h =

@@ -1,15 +1,17 @@
 -- What operands name, and the first fault of values' names.
-use Rattle.std.proofs.Common.{◌≡◌, ◌⊎◌, ℕ, ◌<◌, ◌≤◌, Bool, true, false, cond, leb, List, length, get_or, Option, Some, None, refl, sym, ap, subst, ◌∙◌, inl, inr, ⊎_elim, leb-true, leb-false, arith}
+use Rattle.std.proofs.Common.{◌≡◌, ◌⊎◌, ◌↔◌, ℕ, ◌+◌, ◌<◌, ◌≤◌, Bool, true, false, cond, leb, List, length, get_or, Option, Some, None, refl, sym, ap, subst, ◌∙◌, inl, inr, ⊎_elim, leb-true, leb-false, arith}
 use Rattle.std.proofs.lemmas.Bool.{cases_order, false≢true}
 use Rattle.ir_text_tree.specs.declared.row.Part.{Part}
 use Rattle.ir_text_tree.specs.declared.row.Part.TheVariants as parts
 use Rattle.ir_text_tree.specs.declared.row.Row.{Row}
 use Rattle.ir_text_names.specs.declared.fault.Wrong.{Wrong}
 use Rattle.ir_text_names.specs.declared.fault.Wrong.TheVariants as wrongs
-use Rattle.ir_text_names.specs.Rows.{part_of}
+use Rattle.ir_text_names.specs.Blocks.{misses}
+use Rattle.ir_text_names.specs.Rows.{part_of, text_of, row_regions}
 use Rattle.ir_text_names.specs.Firsts.{IsFirst, IsFirstWrong, told, sooner}
-use Rattle.ir_text_names.proofs.FirstRows.{first_as}
-use Rattle.ir_text_names.specs.Values.{defines, NamesValue, IsValueNamed, AreValuesNamed, NamesNoValue, IsValueAgain, IsValueWrong, either, IsClear, IsNamedBefore, IsNamedBehind, IsNamedUnlessAgain, AreNamedBefore, AreNamedBehind, AreEither, IsMissing}
+use Rattle.ir_text_names.proofs.Tables.{misses_is, misses_told}
+use Rattle.ir_text_names.proofs.ValuesBehind.{AreWidest, named_behind_is}
+use Rattle.ir_text_names.specs.Values.{defines, NamesValue, IsValueNamed, AreValuesNamed, NamesNoValue, IsValueAgain, IsValueWrong, reached, either, IsClear, IsNamedBefore, IsNamedBehind, IsNamedUnlessAgain, IsMissing}
 
 -- an operand defines nothing
 operand_defines : (p : Part) → p ≡ parts.Operand → defines p ≡ true → ⊥
@@ -23,11 +25,24 @@ either_is text rows u None None h g =
     ⊎_elim (λ (e : d ≡ u). operand_defines (part_of rows u) names.0 (subst (λ (k : ℕ). defines (part_of rows k) ≡ true) e names.1.1))
     (λ (o : (d < u) ⊎ (u < d)). ⊎_elim (λ (lt : d < u). h clear d lt names) (λ (lt : u < d). g d lt names) o) (cases_order d u)
 
--- what is found in the tables
-pub found_is : (text : List ℕ) (rows : List Row) (n : ℕ) (before behind table : List (Option ℕ)) → AreNamedBefore text rows n before → AreNamedBehind text rows n behind → AreEither before behind n table → (u : ℕ) → u < n
+-- what is found behind the row, where nothing is found before it
+pub completed : (text : List ℕ) (rows : List Row) (n : ℕ) (known : List ℕ → Option ℕ) (uses lacks : Bool) (old reach : Option ℕ) → AreWidest text rows (n + 1) known → ((uses ≡ true) ↔ (part_of rows n ≡ parts.Operand)) → lacks ≡ misses uses old
+    → (lacks ≡ true → reach ≡ reached (row_regions rows) n (known (text_of text rows n))) → IsNamedBefore text rows n old → IsNamedUnlessAgain text rows n (cond lacks reach old)
+completed text rows n known uses true old reach widest is e found h =
+    let both = misses_is uses old (sym e) in
+    either_is text rows n None reach (subst (IsNamedBefore text rows n) both.1 h)
+    (named_behind_is text rows n known uses reach widest is (found refl ∙ sym (ap (λ (b : Bool). cond b (reached (row_regions rows) n (known (text_of text rows n))) None) both.0)))
+completed text rows n known uses false (Some d) reach widest is e found h = h
+completed text rows n known uses false None reach widest is e found h = λ clear d names. false≢true (e ∙ misses_told uses None (is.1 names.0) refl)
+
+entry_full : (text : List ℕ) (rows : List Row) (u : ℕ) (o : Option ℕ) → IsNamedBefore text rows u o → ((part_of rows u ≡ parts.Operand) × (o ≡ None) → ⊥) → IsNamedUnlessAgain text rows u o
+entry_full text rows u (Some d) h full = h
+entry_full text rows u None h full = λ clear d names. full (names.0, refl)
+
+-- where each operand names something before it
+pub none_missing : (text : List ℕ) (rows : List Row) (table : List (Option ℕ)) → IsFirst (IsMissing rows table) (length rows) None → ((u : ℕ) → u < length rows → IsNamedBefore text rows u (get_or table u None)) → (u : ℕ) → u < length rows
     → IsNamedUnlessAgain text rows u (get_or table u None)
-found_is text rows n before behind table h g e u lt =
-    subst (IsNamedUnlessAgain text rows u) (sym (e.1 u lt)) (either_is text rows u (get_or before u None) (get_or behind u None) (h.1 u lt) (g.1 u lt))
+none_missing text rows table full h u lt = entry_full text rows u (get_or table u None) (h u lt) (full u lt)
 
 unless_none : (text : List ℕ) (rows : List Row) (u : ℕ) (o : Option ℕ) → IsNamedUnlessAgain text rows u o → o ≡ None → IsClear text rows u → (d : ℕ) → NamesValue text rows u d → ⊥
 unless_none text rows u o h e = subst (λ (x : Option ℕ). IsNamedUnlessAgain text rows u x → IsClear text rows u → (d : ℕ) → NamesValue text rows u d → ⊥) (sym e) (λ h. h) h
@@ -97,32 +112,3 @@ pub all_named : (text : List ℕ) (rows : List Row) (table : List (Option ℕ)) 
     → AreValuesNamed text rows (length rows) table
 all_named text rows table long h well =
     (long, λ u lt. entry_is text rows u (get_or table u None) (λ k l. well k (omega (arith, lt, l)) wrongs.ValueTwice) (h u lt))
-
--- what is missing is what the table has none of
-pub missing_as : (rows : List Row) (n : ℕ) (before behind table : List (Option ℕ)) (o : Option ℕ) → AreEither before behind n table → IsFirst (IsMissing rows before behind) n o → IsFirst (λ u. (part_of rows u ≡ parts.Operand) × (get_or table u None ≡ None)) n o
-missing_as rows n before behind table o e h =
-    first_as (IsMissing rows before behind) (λ u. (part_of rows u ≡ parts.Operand) × (get_or table u None ≡ None)) n o (λ u lt m. (m.0, e.1 u lt ∙ m.1)) (λ u lt m. (m.0, sym (e.1 u lt) ∙ m.1)) h
-
--- the first fault, from the two tables
-pub table_wrong : (text : List ℕ) (rows : List Row) (before behind scope_before scope_behind table : List (Option ℕ)) (a m : Option ℕ) → before ≡ scope_before → behind ≡ scope_behind → AreNamedBefore text rows (length rows) before → AreNamedBehind text rows (length rows) behind
-    → AreEither scope_before scope_behind (length rows) table → IsFirst (IsValueAgain text rows) (length rows) a → IsFirst (IsMissing rows scope_before scope_behind) (length rows) m
-    → IsFirstWrong (IsValueWrong text rows) (length rows) (sooner (told a wrongs.ValueTwice) (told m wrongs.UnknownValue))
-table_wrong text rows before behind scope_before scope_behind table a m e f h g i j k =
-    let fore : AreNamedBefore text rows (length rows) scope_before = subst (λ (t : List (Option ℕ)). AreNamedBefore text rows (length rows) t) e h in
-    let aft : AreNamedBehind text rows (length rows) scope_behind = subst (λ (t : List (Option ℕ)). AreNamedBehind text rows (length rows) t) f g in
-    value_wrong text rows (length rows) (λ u. get_or table u None) a m (found_is text rows (length rows) scope_before scope_behind table fore aft i) j (missing_as rows (length rows) scope_before scope_behind table m i k)
-
-pub table_named : (text : List ℕ) (rows : List Row) (before behind scope_before scope_behind table : List (Option ℕ)) → before ≡ scope_before → behind ≡ scope_behind → AreNamedBefore text rows (length rows) before → AreNamedBehind text rows (length rows) behind
-    → AreEither scope_before scope_behind (length rows) table → ((k : ℕ) → k < length rows → (v : Wrong) → IsValueWrong text rows v k → ⊥) → AreValuesNamed text rows (length rows) table
-table_named text rows before behind scope_before scope_behind table e f h g i well =
-    let fore : AreNamedBefore text rows (length rows) scope_before = subst (λ (t : List (Option ℕ)). AreNamedBefore text rows (length rows) t) e h in
-    let aft : AreNamedBehind text rows (length rows) scope_behind = subst (λ (t : List (Option ℕ)). AreNamedBehind text rows (length rows) t) f g in
-    all_named text rows table i.0 (found_is text rows (length rows) scope_before scope_behind table fore aft i) well
-
--- what the tables say of each row
-pub table_entries : (text : List ℕ) (rows : List Row) (before behind scope_before scope_behind table : List (Option ℕ)) → before ≡ scope_before → behind ≡ scope_behind → AreNamedBefore text rows (length rows) before → AreNamedBehind text rows (length rows) behind
-    → AreEither scope_before scope_behind (length rows) table → (u : ℕ) → u < length rows → IsNamedUnlessAgain text rows u (get_or table u None)
-table_entries text rows before behind scope_before scope_behind table e f h g i =
-    let fore : AreNamedBefore text rows (length rows) scope_before = subst (λ (t : List (Option ℕ)). AreNamedBefore text rows (length rows) t) e h in
-    let aft : AreNamedBehind text rows (length rows) scope_behind = subst (λ (t : List (Option ℕ)). AreNamedBehind text rows (length rows) t) f g in
-    found_is text rows (length rows) scope_before scope_behind table fore aft i

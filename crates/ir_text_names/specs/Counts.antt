@@ -20,6 +20,7 @@ is_counted counted.Operands parts.Operand = true
 is_counted counted.OperandTypes parts.OperandType = true
 is_counted counted.ResultTypes parts.ResultType = true
 is_counted counted.ResultTypes parts.OnlyResultType = true
+is_counted counted.Keys parts.Key = true
 is_counted _ _ = false
 
 -- row i is of that sort, and is a part of that operation

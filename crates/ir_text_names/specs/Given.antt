@@ -1,5 +1,5 @@
 -- Names that rows give, and names that are given again.
-use Rattle.std.specs.Prelude.{◌≡◌, ℕ, ◌-◌, ◌<◌, ◌&&◌, Bool, false, cond, nat_eq, List, [], ◌∷◌, length, Option, Some, IsSome, slice_index_or, slice_range}
+use Rattle.std.specs.Prelude.{◌≡◌, ℕ, ◌-◌, ◌<◌, ◌&&◌, Bool, true, false, cond, nat_eq, nat_lt, List, [], ◌∷◌, length, Option, Some, IsSome, slice_index_or, slice_range}
 use Rattle.std.specs.List.{flat_map}
 use Rattle.ir_text_tree.specs.declared.row.Part.{Part}
 use Rattle.ir_text_tree.specs.declared.row.Part.TheVariants as parts
@@ -71,7 +71,20 @@ IsGiven part text rows scopes i scope name = (part_of rows i ≡ part) × (slice
 abbrev pub IsAgain : Part → List ℕ → List Row → List ℕ → ℕ → Type 0
 IsAgain part text rows scopes i = (part_of rows i ≡ part) × ((j : ℕ) × (j < i) × IsGiven part text rows scopes j (slice_index_or scopes i 0) (given_name part text rows i))
 
--- What is known of the names that the rows below n give: each is known, and what is known was given.
-pub record AreGiven (part : Part) (text : List ℕ) (rows : List Row) (scopes : List ℕ) (n : ℕ) (known : ℕ → List ℕ → Option ℕ) : Type 0 where
-  pub all : (i : ℕ) → i < n → part_of rows i ≡ part → IsSome (known (slice_index_or scopes i 0) (given_name part text rows i))
+-- Names in that scope may be the same: of keys more than one stands there.
+abbrev pub is_asked : NameKind → List ℕ → ℕ → Bool
+is_asked kinds.Block counts scope = true
+is_asked kinds.Key counts scope = nat_lt 1 (slice_index_or counts scope 0)
+
+-- any scope
+abbrev pub anywhere : ℕ → Bool
+anywhere scope = true
+
+-- Where two rows give such names in one scope, names in it may be the same.
+abbrev pub AreAsked : Part → List Row → List ℕ → (ℕ → Bool) → Type 0
+AreAsked part rows scopes asked = (i j : ℕ) → i < j → j < length rows → part_of rows i ≡ part → part_of rows j ≡ part → slice_index_or scopes i 0 ≡ slice_index_or scopes j 0 → asked (slice_index_or scopes j 0) ≡ true
+
+-- What is known of the names that the rows below n give: each is known where names may be the same, and what is known was given.
+pub record AreGiven (part : Part) (text : List ℕ) (rows : List Row) (scopes : List ℕ) (asked : ℕ → Bool) (n : ℕ) (known : ℕ → List ℕ → Option ℕ) : Type 0 where
+  pub all : (i : ℕ) → i < n → part_of rows i ≡ part → asked (slice_index_or scopes i 0) ≡ true → IsSome (known (slice_index_or scopes i 0) (given_name part text rows i))
   pub only : (scope : ℕ) (name : List ℕ) (i : ℕ) → known scope name ≡ Some i → (i < n) × IsGiven part text rows scopes i scope name

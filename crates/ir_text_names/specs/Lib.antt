@@ -1,10 +1,13 @@
 pub mod Rows
+pub mod Entries
+pub mod NamedRows
 pub mod Places
 pub mod Firsts
 pub mod Given
 pub mod Blocks
 pub mod Keys
 pub mod Counts
+pub mod Operations
 pub mod Values
 pub mod Types
 pub mod TypeTables

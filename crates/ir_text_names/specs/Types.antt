@@ -1,6 +1,5 @@
 -- The types of operands and of the values that they name.
-use Rattle.std.specs.Prelude.{◌≡◌, ◌≢◌, ℕ, suc, ◌+◌, ◌<◌, ◌^◌, Bool, true, false, cond, ◌&&◌, nat_eq, List, [], ◌∷◌, length, drop, Option, Some, None, slice_index_or}
-use Rattle.std.specs.HashMap.{HashMap, get_by}
+use Rattle.std.specs.Prelude.{◌≡◌, ◌≢◌, ℕ, suc, ◌+◌, ◌<◌, ◌^◌, true, cond, List, [], ◌∷◌, length, drop, Option, Some, None, slice_index_or}
 use Rattle.ir_text_tree.specs.declared.row.Part.{Part}
 use Rattle.ir_text_tree.specs.declared.row.Part.TheVariants as parts
 use Rattle.ir_text_tree.specs.declared.row.Row.{Row}
@@ -10,6 +9,7 @@ use Rattle.ir_text_names.specs.declared.fault.Wrong.{Wrong}
 use Rattle.ir_text_names.specs.declared.fault.Wrong.TheVariants as wrongs
 use Rattle.ir_text_names.specs.Rows.{part_of, text_of, row_operations}
 use Rattle.ir_text_names.specs.Counts.{tally, is_counted, belongs}
+use Rattle.ir_text_names.specs.Operations.{is_name}
 use Rattle.ir_text_names.specs.Numbers.{results_before}
 use Rattle.ir_text_names.specs.Values.{NamesValue, IsClear}
 use Rattle.ir_text_names.specs.Indices.{which}
@@ -31,10 +31,6 @@ abbrev pub IsOperandType : List Row → ℕ → ℕ → Type 0
 IsOperandType rows u t = IsAt counted.OperandTypes rows (operation_of rows u) (place_of counted.Operands rows u) t
 
 -- the index behind the first of these rows that is the name of an operation, where the first of them has that index; 0 where none is
-abbrev pub is_name : Part → Bool
-is_name parts.Name = true
-is_name _ = false
-
 abbrev pub name_or : Part → ℕ → ℕ → ℕ
 name_or p behind next = cond (is_name p) behind next
 
@@ -83,16 +79,3 @@ IsEntryOther text rows table u = (d : ℕ) × (slice_index_or table u None ≡ S
 abbrev pub IsTypeWrong : List ℕ → List Row → Wrong → ℕ → Type 0
 IsTypeWrong text rows wrongs.TypeOther u = IsTypeOther text rows u
 IsTypeWrong text rows _ u = ⊥
-
--- the key is that operation and that place
-abbrev pub is_spot : ℕ → ℕ → ℕ × ℕ → Bool
-is_spot operation place key = nat_eq operation key.0 && nat_eq place key.1
-
--- the row that was put last at that place of that operation
-abbrev pub row_in : {S : Type 0} → HashMap (ℕ × ℕ) ℕ S → ℕ → ℕ → Option ℕ
-row_in spots operation place = get_by (is_spot operation place) spots
-
--- What is known of the rows of a sort below n: each is known at its operation and place, and no other row is.
-pub record ArePlaced (sort : Counted) (rows : List Row) (n : ℕ) (known : ℕ → ℕ → Option ℕ) : Type 0 where
-  pub all : (i : ℕ) → i < n → is_counted sort (part_of rows i) ≡ true → known (operation_of rows i) (place_of sort rows i) ≡ Some i
-  pub only : (operation place i : ℕ) → known operation place ≡ Some i → (i < n) × IsAt sort rows operation place i

@@ -106,13 +106,9 @@ IsNamedUnlessAgain text rows u (Some d) = NamesValue text rows u d
 abbrev pub AreNamedBefore : List ℕ → List Row → ℕ → List (Option ℕ) → Type 0
 AreNamedBefore text rows n table = (length table ≡ n) × ((u : ℕ) → u < n → IsNamedBefore text rows u (slice_index_or table u None))
 
-abbrev pub AreNamedBehind : List ℕ → List Row → ℕ → List (Option ℕ) → Type 0
-AreNamedBehind text rows n table = (length table ≡ n) × ((u : ℕ) → u < n → IsNamedBehind text rows u (slice_index_or table u None))
+abbrev pub AreNamedUnlessAgain : List ℕ → List Row → List (Option ℕ) → Type 0
+AreNamedUnlessAgain text rows table = (length table ≡ length rows) × ((u : ℕ) → u < length rows → IsNamedUnlessAgain text rows u (slice_index_or table u None))
 
--- of each of the first n rows what is found in either table
-abbrev pub AreEither : List (Option ℕ) → List (Option ℕ) → ℕ → List (Option ℕ) → Type 0
-AreEither before behind n table = (length table ≡ n) × ((u : ℕ) → u < n → slice_index_or table u None ≡ either (slice_index_or before u None) (slice_index_or behind u None))
-
--- the row is an operand, and nothing is found in either table
-abbrev pub IsMissing : List Row → List (Option ℕ) → List (Option ℕ) → ℕ → Type 0
-IsMissing rows before behind u = (part_of rows u ≡ parts.Operand) × (either (slice_index_or before u None) (slice_index_or behind u None) ≡ None)
+-- the row is an operand, and the table has none for it
+abbrev pub IsMissing : List Row → List (Option ℕ) → ℕ → Type 0
+IsMissing rows table u = (part_of rows u ≡ parts.Operand) × (slice_index_or table u None ≡ None)

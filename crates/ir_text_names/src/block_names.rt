@@ -1,9 +1,9 @@
 //! Blocks' names: which block a successor names.
-ghost use Rattle.std.specs.Prelude.{◌≡◌, length, IfOk, IsTrue, ◌↔◌};
+ghost use Rattle.std.specs.Prelude.{◌≡◌, ◌<◌, length, IfOk, IsTrue, ◌↔◌};
 ghost use Rattle.ir_text_tree.specs.declared.row.Part.TheVariants as parts;
 ghost use Rattle.ir_text_names.specs.Blocks.{AreBlocksNamed, IsBlockWrong, NamesNoBlock, misses};
 ghost use Rattle.ir_text_names.specs.Firsts.{IsChecked, IsFirst, IsFirstWrong};
-ghost use Rattle.ir_text_names.specs.Given.{AreGiven};
+ghost use Rattle.ir_text_names.specs.Given.{AreGiven, anywhere};
 ghost use Rattle.ir_text_names.specs.Places.{row_at};
 ghost use Rattle.ir_text_names.specs.Rows.{row_regions};
 
@@ -11,7 +11,8 @@ use crate::fault::{Fault, Wrong};
 use crate::firsts::{Found, fault_of, noted, sooner, told};
 use crate::given::{NameKind, given};
 use crate::places::find_if;
-use crate::rows::{piece, regions};
+use crate::row_table::RowTable;
+use crate::rows::{are_few, piece, regions};
 use ir_text_tree::{Part, Row};
 use std::alloc::{AllocError, Global};
 use std::collections::HashMap;
@@ -20,7 +21,7 @@ use std::collections::HashMap;
 #[derive(Drop)]
 struct NamedBlocks {
     // For each row the row of the block that it names, if it names one.
-    table: Vec<Option<usize>>,
+    table: RowTable,
     // The first successor that names none.
     unknown: Option<usize>,
 }
@@ -50,20 +51,21 @@ fn named(
     alloc: Global,
     text: &[u8],
     rows: &[Row],
-    regions: &[usize],
+    regions: &[u32],
     places: &HashMap<(usize, &[u8]), usize>,
 ) -> Result<NamedBlocks, AllocError>
+    requires few { length rows.now < 4294967295 }
     requires regions { regions.now ≡ row_regions rows.now }
     requires counted { length regions.now ≡ length rows.now }
-    requires places { AreGiven parts.Label text.now rows.now regions.now (length rows.now) (row_at places.now) }
-    ensures table { IfOk result (λ n. AreBlocksNamed text.now rows.now (length rows.now) n.table.items) }
+    requires places { AreGiven parts.Label text.now rows.now regions.now anywhere (length rows.now) (row_at places.now) }
+    ensures table { IfOk result (λ n. AreBlocksNamed text.now rows.now (length rows.now) n.table) }
     ensures unknown { IfOk result (λ n. IsFirst (NamesNoBlock text.now rows.now) (length rows.now) n.unknown) }
 {
-    let mut table = Vec::new(alloc);
+    let mut table = RowTable::with_room(alloc, rows.len())?;
     let mut unknown = None;
     for (at, row) in rows.iter().enumerate() {
         let is = is_successor(row.part);
-        let block = find_if(places, is, regions[at], piece(text, row.span));
+        let block = find_if(places, is, regions[at] as usize, piece(text, row.span));
         unknown = noted(unknown, at, misses(is, block));
         table.push(block)?;
     }
@@ -74,7 +76,7 @@ fn named(
 #[derive(Drop)]
 pub(crate) struct BlockTable {
     /// For each row the row of the block that it names.
-    pub(crate) table: Vec<Option<usize>>,
+    pub(crate) table: RowTable,
     /// The first fault.
     pub(crate) found: Option<Found>,
 }
@@ -85,11 +87,20 @@ pub(crate) fn block_table(
     text: &[u8],
     rows: &[Row],
 ) -> Result<BlockTable, AllocError>
-    ensures table { IfOk result (λ b. AreBlocksNamed text.now rows.now (length rows.now) b.table.items) }
+    requires few { length rows.now < 4294967295 }
+    ensures table { IfOk result (λ b. AreBlocksNamed text.now rows.now (length rows.now) b.table) }
     ensures found { IfOk result (λ b. IsFirstWrong (IsBlockWrong text.now rows.now) (length rows.now) b.found) }
 {
     let regions = regions(alloc, rows)?;
-    let given = given(alloc, NameKind::Block, text, &text[..0], rows, &regions)?;
+    let given = given(
+        alloc,
+        NameKind::Block,
+        text,
+        &text[..0],
+        rows,
+        &regions,
+        &[],
+    )?;
     let named = named(alloc, text, rows, &regions, &given.places)?;
     let twice = told(given.again, Wrong::BlockTwice);
     let unknown = told(named.unknown, Wrong::UnknownBlock);
@@ -103,13 +114,14 @@ pub(crate) fn block_table(
 /// For each row of a tree of that text the row of the block that it names: for a successor the label with its name in the region that the successor stands in.
 ///
 /// # Errors
-/// `OutOfMemory`, and else the first row that is a label given twice in its region, or a successor that names no block of its region.
-pub fn blocks(alloc: Global, text: &[u8], rows: &[Row]) -> Result<Vec<Option<usize>>, Fault>
+/// `OutOfMemory`, also of more than 4,294,967,294 rows, and else the first row that is a label given twice in its region, or a successor that names no block of its region.
+pub fn blocks(alloc: Global, text: &[u8], rows: &[Row]) -> Result<RowTable, Fault>
     // A successor means the block of its name in its own region, and no other row means a block.
-    ensures named { IfOk result (λ v. AreBlocksNamed text.now rows.now (length rows.now) v.items) }
+    ensures named { IfOk result (λ v. AreBlocksNamed text.now rows.now (length rows.now) v) }
     // All is well, or the first fault is told.
     ensures checked { IsChecked (IsBlockWrong text.now rows.now) rows.now result }
 {
+    are_few(rows)?;
     let blocks = block_table(alloc, text, rows)?;
     match fault_of(rows, blocks.found) {
         Some(fault) => Err(fault),

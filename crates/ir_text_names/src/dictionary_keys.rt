@@ -2,11 +2,13 @@
 ghost use Rattle.ir_text_names.specs.Firsts.{IsChecked, IsFirstWrong};
 ghost use Rattle.std.specs.Prelude.{length, IfOk};
 ghost use Rattle.ir_text_names.specs.Keys.{IsKeyWrong};
+ghost use Rattle.ir_text_names.specs.Operations.{AreOperations};
 
+use crate::counting::{Counted, counts};
 use crate::fault::{Fault, Wrong};
 use crate::firsts::{Found, fault_of, told};
 use crate::given::{NameKind, escaped_names, given};
-use crate::rows::operations;
+use crate::rows::{NumberedOperations, are_few, operations};
 use ir_text_tree::Row;
 use std::alloc::{AllocError, Global};
 
@@ -15,12 +17,15 @@ pub(crate) fn key_fault(
     alloc: Global,
     text: &[u8],
     rows: &[Row],
+    operations: &NumberedOperations,
 ) -> Result<Option<Found>, AllocError>
+    requires { AreOperations rows.now operations.now }
     ensures { IfOk result (λ f. IsFirstWrong (IsKeyWrong text.now rows.now) (length rows.now) f) }
 {
-    let operations = operations(alloc, rows)?;
+    let counts = counts(alloc, Counted::Keys, rows, operations)?;
     let escaped = escaped_names(alloc, NameKind::Key, text, rows)?;
-    let given = given(alloc, NameKind::Key, text, &escaped, rows, &operations)?;
+    let numbers = operations.numbers.as_slice();
+    let given = given(alloc, NameKind::Key, text, &escaped, rows, numbers, &counts)?;
     let found = told(given.again, Wrong::KeyTwice);
     Ok(found)
 }
@@ -28,11 +33,13 @@ pub(crate) fn key_fault(
 /// Whether the keys of each dictionary of a tree of that text differ.
 ///
 /// # Errors
-/// `OutOfMemory`, and else the first key that is the same as one before it in its dictionary. A key in quotes is the bytes that it stands for, with each escape read: `"a\62"`, `"ab"` and `ab` are one key.
+/// `OutOfMemory`, also of more than 4,294,967,294 rows, and else the first key that is the same as one before it in its dictionary. A key in quotes is the bytes that it stands for, with each escape read: `"a\62"`, `"ab"` and `ab` are one key.
 pub fn keys(alloc: Global, text: &[u8], rows: &[Row]) -> Result<(), Fault>
     ensures { IsChecked (IsKeyWrong text.now rows.now) rows.now result }
 {
-    let found = key_fault(alloc, text, rows)?;
+    are_few(rows)?;
+    let operations = operations(alloc, rows)?;
+    let found = key_fault(alloc, text, rows, &operations)?;
     match fault_of(rows, found) {
         Some(fault) => Err(fault),
         None => Ok(()),

@@ -1,7 +1,7 @@
 //! Names that rows give: where each was given last, and the first that was given before.
-ghost use Rattle.std.specs.Prelude.{◌≡◌, length, IfOk, IsTrue, ◌↔◌, ◌++◌, drop};
+ghost use Rattle.std.specs.Prelude.{◌≡◌, ◌&&◌, length, IfOk, IsTrue, ◌↔◌, ◌++◌, drop};
 ghost use Rattle.ir_text_names.specs.Firsts.{IsFirst};
-ghost use Rattle.ir_text_names.specs.Given.{giver, is_quoted, between_quotes, plain_name, is_escaped, escaped_name, escaped_names, name_of, IsAgain, AreGiven};
+ghost use Rattle.ir_text_names.specs.Given.{giver, is_quoted, between_quotes, plain_name, is_escaped, escaped_name, escaped_names, name_of, is_asked, IsAgain, AreAsked, AreGiven};
 ghost use Rattle.ir_text_names.specs.Places.{row_at};
 
 use crate::firsts::noted;
@@ -137,18 +137,40 @@ fn next_name<'a>(kind: NameKind, part: Part, text: &'a [u8], escaped: &'a [u8]) 
     }
 }
 
-/// The names that rows give in the scopes in which they stand; `escaped` has those with escapes.
+// Whether names in that scope may be the same: of keys more than one stands there.
+fn is_asked(kind: NameKind, counts: &[u32], scope: usize) -> bool
+    ensures { result ≡ is_asked kind counts.now scope }
+{
+    match kind {
+        NameKind::Block => true,
+        NameKind::Key => match counts.get(scope) {
+            Some(count) => *count > 1,
+            None => false,
+        },
+    }
+}
+
+// Whether both hold.
+fn both(one: bool, other: bool) -> bool
+    ensures { result ≡ (one && other) }
+{
+    one && other
+}
+
+/// The names that rows give in the scopes in which they stand, as far as they may be the same; `escaped` has those with escapes, and `counts` tells of each scope how many keys stand there.
 pub(crate) fn given<'a>(
     alloc: Global,
     kind: NameKind,
     text: &'a [u8],
     escaped: &'a [u8],
     rows: &[Row],
-    scopes: &[usize],
+    scopes: &[u32],
+    counts: &[u32],
 ) -> Result<GivenNames<'a>, AllocError>
     requires counted { length scopes.now ≡ length rows.now }
     requires escaped { escaped.now ≡ escaped_names kind text.now rows.now }
-    ensures places { IfOk result (λ g. AreGiven (giver kind) text.now rows.now scopes.now (length rows.now) (row_at g.places)) }
+    requires asked { AreAsked (giver kind) rows.now scopes.now (is_asked kind counts.now) }
+    ensures places { IfOk result (λ g. AreGiven (giver kind) text.now rows.now scopes.now (is_asked kind counts.now) (length rows.now) (row_at g.places)) }
     ensures again { IfOk result (λ g. IsFirst (IsAgain (giver kind) text.now rows.now scopes.now) (length rows.now) g.again) }
 {
     let mut places = HashMap::new(alloc);
@@ -158,7 +180,9 @@ pub(crate) fn given<'a>(
         let is = gives(kind, row.part);
         let next = next_name(kind, row.part, piece(text, row.span), behind);
         behind = next.escaped;
-        let twice = put_if(&mut places, is, scopes[at], next.name, at)?;
+        let scope = scopes[at] as usize;
+        let asked = both(is, is_asked(kind, counts, scope));
+        let twice = put_if(&mut places, asked, scope, next.name, at)?;
         again = noted(again, at, twice);
     }
     Ok(GivenNames { places, again })

@@ -5,7 +5,7 @@ ghost use Rattle.ir_text_names.specs.Numbers.{amount_of, is_digit, number_in};
 
 /// A number that a text is, as far as it can be held.
 #[derive(Clone, Copy, Debug, PartialEq, Eq)]
-pub(crate) enum Amount {
+pub enum Amount {
     /// No number.
     Nothing,
     /// A number that can be held.
@@ -14,8 +14,8 @@ pub(crate) enum Amount {
     Large,
 }
 
-// Whether the byte is a digit.
-fn is_digit(byte: u8) -> bool
+/// Whether the byte is a digit.
+pub(crate) fn is_digit(byte: u8) -> bool
     ensures { result ≡ is_digit byte }
 {
     if byte < b'0' { false } else { byte <= b'9' }

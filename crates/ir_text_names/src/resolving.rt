@@ -11,36 +11,40 @@ use crate::dictionary_keys::key_fault;
 use crate::fault::Fault;
 use crate::firsts::{fault_of, sooner};
 use crate::result_numbers::result_fault;
+use crate::row_table::RowTable;
+use crate::rows::{are_few, operations};
 use crate::value_names::value_table;
 use ir_text_tree::Row;
 use std::alloc::Global;
 
 /// What the names of a tree mean.
-#[derive(Debug, Drop)]
+#[derive(Drop)]
 pub struct Names {
     /// For each row the row of the block that it names, if it is a successor.
-    pub blocks: Vec<Option<usize>>,
+    pub blocks: RowTable,
     /// For each row the row of the definition that it names, if it is an operand.
-    pub values: Vec<Option<usize>>,
+    pub values: RowTable,
 }
 
 /// What the names of a tree of that text mean.
 ///
 /// # Errors
-/// `OutOfMemory`, and else the first fault in the text.
+/// `OutOfMemory`, also of more than 4,294,967,294 rows, and else the first fault in the text.
 pub fn resolve(alloc: Global, text: &[u8], rows: &[Row]) -> Result<Names, Fault>
     // A successor means the block of its name in its own region.
-    ensures blocks { IfOk result (λ n. AreBlocksNamed text.now rows.now (length rows.now) n.blocks.items) }
+    ensures blocks { IfOk result (λ n. AreBlocksNamed text.now rows.now (length rows.now) n.blocks) }
     // An operand means the definition of its name in its own region or in one around that.
-    ensures values { IfOk result (λ n. AreValuesNamed text.now rows.now (length rows.now) n.values.items) }
+    ensures values { IfOk result (λ n. AreValuesNamed text.now rows.now (length rows.now) n.values) }
     // All is well, or the first fault is told.
     ensures checked { IsChecked (IsWrong text.now rows.now) rows.now result }
 {
+    are_few(rows)?;
+    let operations = operations(alloc, rows)?;
+    let keys = key_fault(alloc, text, rows, &operations)?;
+    let types = type_fault(alloc, rows, &operations)?;
+    let results = result_fault(alloc, text, rows, &operations)?;
+    let values = value_table(alloc, text, rows, operations)?;
     let blocks = block_table(alloc, text, rows)?;
-    let keys = key_fault(alloc, text, rows)?;
-    let types = type_fault(alloc, rows)?;
-    let results = result_fault(alloc, text, rows)?;
-    let values = value_table(alloc, text, rows)?;
     let places = sooner(blocks.found, keys);
     let counts = sooner(types, results);
     let uses = sooner(counts, values.found);

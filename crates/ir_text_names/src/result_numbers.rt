@@ -4,13 +4,14 @@ ghost use Rattle.std.specs.Option.{unwrap_or};
 ghost use Rattle.ir_text_tree.specs.declared.row.Part.TheVariants as parts;
 ghost use Rattle.ir_text_names.specs.Firsts.{IsChecked, IsFirst, IsFirstWrong};
 ghost use Rattle.ir_text_names.specs.Numbers.{amount_of, number_in, is_count, width, results_on, results_before, IsNoCount, IsResultWrong};
+ghost use Rattle.ir_text_names.specs.Operations.{AreOperations, number_of};
 ghost use Rattle.ir_text_names.specs.Rows.{part_of};
 
 use crate::counting::{Counted, counts};
 use crate::fault::{Fault, Wrong};
 use crate::firsts::{Found, fault_of, noted, sooner, told};
 use crate::numbers::{Amount, is_number, is_zero, number_in, or_zero, sum_of};
-use crate::rows::{operations, piece};
+use crate::rows::{NumberedOperations, are_few, next_number, operations, piece};
 use ir_text_tree::{Part, Row};
 use std::alloc::{AllocError, Global};
 
@@ -25,7 +26,7 @@ fn is_count(part: Part) -> bool
 }
 
 /// How many values stand under the name that the row gives.
-pub(crate) fn width(text: &[u8], rows: &[Row], row: usize) -> Amount
+pub fn width(text: &[u8], rows: &[Row], row: usize) -> Amount
     requires { row < length rows.now }
     ensures { result ≡ amount_of (Some (width text.now rows.now row)) }
 {
@@ -83,15 +84,22 @@ fn first_bad_count(text: &[u8], rows: &[Row]) -> Option<usize>
     first
 }
 
-// The first operation that has not as many results as these numbers say, each behind the operation's name.
-fn first_other_results(text: &[u8], rows: &[Row], types: &[usize]) -> Option<usize>
-    requires { length types.now ≡ length rows.now + 1 }
-    ensures { IsFirst (λ i. (part_of rows.now i ≡ parts.Name) × (results_before text.now rows.now i ≢ slice_index_or types.now (i + 1) 0)) (length rows.now) result }
+// The first operation that has not as many results as these numbers say, of which each stands at the operation's number.
+fn first_other_results(text: &[u8], rows: &[Row], types: &[u32]) -> Option<usize>
+    requires few { length rows.now < 4294967295 }
+    requires types { length types.now ≡ number_of rows.now (length rows.now) + 1 }
+    ensures { IsFirst (λ i. (part_of rows.now i ≡ parts.Name) × (results_before text.now rows.now i ≢ slice_index_or types.now (number_of rows.now (i + 1)) 0)) (length rows.now) result }
 {
     let mut first = None;
     let mut results = Amount::Small(0);
+    let mut number = 0;
     for (at, row) in rows.iter().enumerate() {
-        first = noted(first, at, is_other(row.part, results, types[at + 1]));
+        number = next_number(row.part, number);
+        first = noted(
+            first,
+            at,
+            is_other(row.part, results, types[number] as usize),
+        );
         let more = width(text, rows, at);
         results = results_on(row.part, more, results);
     }
@@ -103,11 +111,12 @@ pub(crate) fn result_fault(
     alloc: Global,
     text: &[u8],
     rows: &[Row],
+    operations: &NumberedOperations,
 ) -> Result<Option<Found>, AllocError>
+    requires { AreOperations rows.now operations.now }
     ensures { IfOk result (λ f. IsFirstWrong (IsResultWrong text.now rows.now) (length rows.now) f) }
 {
-    let operations = operations(alloc, rows)?;
-    let types = counts(alloc, Counted::ResultTypes, rows, &operations)?;
+    let types = counts(alloc, Counted::ResultTypes, rows, operations)?;
     let uneven = told(first_other_results(text, rows, &types), Wrong::ResultTypes);
     let unread = told(first_bad_count(text, rows), Wrong::ResultCount);
     let found = sooner(unread, uneven);
@@ -117,11 +126,13 @@ pub(crate) fn result_fault(
 /// Whether each operation of a tree of that text has as many result types as results, where `%x:2` stands for two.
 ///
 /// # Errors
-/// `OutOfMemory`, and else the first number of results that is no decimal number, or 0, or the name of the first operation that has more or fewer result types.
+/// `OutOfMemory`, also of more than 4,294,967,294 rows, and else the first number of results that is no decimal number, or 0, or the name of the first operation that has more or fewer result types.
 pub fn result_types(alloc: Global, text: &[u8], rows: &[Row]) -> Result<(), Fault>
     ensures { IsChecked (IsResultWrong text.now rows.now) rows.now result }
 {
-    let found = result_fault(alloc, text, rows)?;
+    are_few(rows)?;
+    let operations = operations(alloc, rows)?;
+    let found = result_fault(alloc, text, rows, &operations)?;
     match fault_of(rows, found) {
         Some(fault) => Err(fault),
         None => Ok(()),

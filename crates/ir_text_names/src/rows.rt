@@ -1,12 +1,27 @@
 //! What the rows of a tree say of each row: its name, its region and its operation.
-ghost use Rattle.std.specs.Prelude.{◌≡◌, ◌<◌, ◌+◌, reverse, IfOk, OnOk};
-ghost use Rattle.ir_text_names.specs.Rows.{piece, row_regions, regions_behind, row_operations, operations_behind, top};
+ghost use Rattle.std.specs.Prelude.{◌≡◌, ◌<◌, ◌+◌, ◌^◌, length, reverse, vec_len, slice_index_or, IfOk, OnOk};
+ghost use Rattle.ir_text_names.specs.Operations.{AreOperations, number_on};
+ghost use Rattle.ir_text_names.specs.Rows.{piece, row_regions, regions_behind, operations_behind, top};
 
 use ir_text_tree::{Part, Row, Span};
 use std::alloc::{AllocError, Global};
 
+// Rows are counted in 32 bits, where 0 may stand for none.
+const LIMIT: usize = 4294967295;
+
+/// Whether there are so few rows that each has a number of 32 bits.
+pub(crate) fn are_few(rows: &[Row]) -> Result<(), AllocError>
+    ensures { OnOk result (length rows.now < 4294967295) }
+{
+    if rows.len() < LIMIT {
+        Ok(())
+    } else {
+        Err(AllocError)
+    }
+}
+
 /// The piece of a text, as far as it lies in the text.
-pub(crate) fn piece<'a>(text: &'a [u8], span: Span) -> &'a [u8]
+pub fn piece<'a>(text: &'a [u8], span: Span) -> &'a [u8]
     ensures { result.now ≡ piece text.now span }
 {
     let end = text.len().min(span.end as usize);
@@ -15,7 +30,7 @@ pub(crate) fn piece<'a>(text: &'a [u8], span: Span) -> &'a [u8]
 }
 
 // The last of these, or 0.
-fn top(around: &Vec<usize>) -> usize
+fn top(around: &Vec<u32>) -> u32
     ensures { result ≡ top (reverse around.now.items) }
 {
     match around.last() {
@@ -25,7 +40,7 @@ fn top(around: &Vec<usize>) -> usize
 }
 
 // Opens a region whose first row has that index, or ends the last.
-fn nest(around: &mut Vec<usize>, part: Part, behind: usize) -> Result<(), AllocError>
+fn nest(around: &mut Vec<u32>, part: Part, behind: u32) -> Result<(), AllocError>
     ensures { OnOk result (reverse around.new.items ≡ regions_behind part behind (reverse around.old.items)) }
 {
     match part {
@@ -39,21 +54,22 @@ fn nest(around: &mut Vec<usize>, part: Part, behind: usize) -> Result<(), AllocE
 }
 
 /// For each row the region that it stands in, by the index of the region's first row; 0 outside all regions.
-pub(crate) fn regions(alloc: Global, rows: &[Row]) -> Result<Vec<usize>, AllocError>
+pub(crate) fn regions(alloc: Global, rows: &[Row]) -> Result<Vec<u32>, AllocError>
+    requires { length rows.now < 4294967295 }
     ensures { IfOk result (λ v. v.items ≡ row_regions rows.now) }
 {
-    let mut regions = Vec::new(alloc);
+    let mut regions = Vec::with_capacity(alloc, rows.len())?;
     let mut around = Vec::new(alloc);
     for (at, row) in rows.iter().enumerate() {
         regions.push(top(&around))?;
-        nest(&mut around, row.part, at + 1)?;
+        nest(&mut around, row.part, (at + 1) as u32)?;
     }
     Ok(regions)
 }
 
-// Goes into a region or out of it, or on to an operation whose name ends at that index.
-fn follow(around: &mut Vec<usize>, part: Part, behind: usize) -> Result<(), AllocError>
-    ensures { OnOk result (reverse around.new.items ≡ operations_behind part behind (reverse around.old.items)) }
+// Goes into a region or out of it, or on to the operation with that number.
+fn follow(around: &mut Vec<u32>, part: Part, number: u32) -> Result<(), AllocError>
+    ensures { OnOk result (reverse around.new.items ≡ operations_behind part number (reverse around.old.items)) }
 {
     match part {
         Part::Open => around.push(0)?,
@@ -62,22 +78,53 @@ fn follow(around: &mut Vec<usize>, part: Part, behind: usize) -> Result<(), Allo
         }
         Part::Name => {
             around.pop();
-            around.push(behind)?;
+            around.push(number)?;
         }
         _ => {}
     }
     Ok(())
 }
 
-/// For each row the operation whose name stands last before it in its region, by the index behind that name; 0 where none does.
-pub(crate) fn operations(alloc: Global, rows: &[Row]) -> Result<Vec<usize>, AllocError>
-    ensures { IfOk result (λ v. v.items ≡ row_operations rows.now) }
+/// How many operations' names there are, where there were so many before the part.
+pub(crate) fn next_number(part: Part, number: usize) -> usize
+    requires { number + 1 < 2 ^ 64 }
+    ensures { result ≡ number_on part number }
 {
-    let mut operations = Vec::new(alloc);
-    let mut around = Vec::new(alloc);
-    for (at, row) in rows.iter().enumerate() {
-        operations.push(top(&around))?;
-        follow(&mut around, row.part, at + 1)?;
+    match part {
+        Part::Name => number + 1,
+        _ => number,
     }
-    Ok(operations)
+}
+
+/// The operations of a tree, numbered from 1 in the order of their names.
+#[derive(Drop)]
+pub(crate) struct NumberedOperations {
+    /// How many there are.
+    pub(crate) count: usize,
+    /// For each row the number of the operation whose name stands last before it in its region; 0 where none does.
+    pub(crate) numbers: Vec<u32>,
+}
+
+/// The operations of a tree.
+pub(crate) fn operations(alloc: Global, rows: &[Row]) -> Result<NumberedOperations, AllocError>
+    requires { length rows.now < 4294967295 }
+    ensures { IfOk result (AreOperations rows.now) }
+{
+    let mut numbers = Vec::with_capacity(alloc, rows.len())?;
+    let mut around = Vec::new(alloc);
+    let mut count = 0;
+    for (_at, row) in rows.iter().enumerate() {
+        numbers.push(top(&around))?;
+        count = next_number(row.part, count);
+        follow(&mut around, row.part, count as u32)?;
+    }
+    Ok(NumberedOperations { count, numbers })
+}
+
+/// The number that stands there.
+pub(crate) fn number_at(numbers: &Vec<u32>, at: usize) -> usize
+    requires { at < vec_len numbers.now }
+    ensures { result ≡ slice_index_or numbers.now.items at 0 }
+{
+    numbers[at] as usize
 }

@@ -7,6 +7,7 @@ ghost use Rattle.ir_text_names.specs.Numbers.{amount_of};
 use crate::firsts::noted;
 use crate::numbers::{Amount, number_in};
 use crate::result_numbers::width;
+use crate::row_table::RowTable;
 use crate::rows::piece;
 use ir_text_tree::{Part, Row};
 
@@ -20,15 +21,15 @@ fn is_index(part: Part) -> bool
     }
 }
 
-// All but the first byte.
-fn behind_mark<'a>(text: &'a [u8]) -> &'a [u8]
+/// All but the first byte.
+pub(crate) fn behind_mark<'a>(text: &'a [u8]) -> &'a [u8]
     ensures { result.now ≡ drop 1 text.now }
 {
     if text.is_empty() { text } else { &text[1..] }
 }
 
 /// Which of the values under its name the operand is.
-pub(crate) fn which(text: &[u8], rows: &[Row], row: usize) -> Amount
+pub fn which(text: &[u8], rows: &[Row], row: usize) -> Amount
     requires { row < length rows.now }
     ensures { result ≡ amount_of (which text.now rows.now row) }
 {
@@ -75,13 +76,13 @@ fn is_beyond(text: &[u8], rows: &[Row], row: usize, entry: Option<usize>) -> boo
 }
 
 /// The first operand whose number is none of the values of the definition that it names.
-pub(crate) fn first_beyond(text: &[u8], rows: &[Row], table: &[Option<usize>]) -> Option<usize>
+pub(crate) fn first_beyond(text: &[u8], rows: &[Row], table: &RowTable) -> Option<usize>
     requires { length table.now ≡ length rows.now }
     ensures { IsFirst (IsEntryBeyond text.now rows.now table.now) (length rows.now) result }
 {
     let mut first = None;
-    for (at, entry) in table.iter().enumerate() {
-        first = noted(first, at, is_beyond(text, rows, at, *entry));
+    for (at, _) in rows.iter().enumerate() {
+        first = noted(first, at, is_beyond(text, rows, at, table.get(at)));
     }
     first
 }

@@ -1,6 +1,7 @@
 //! Operands' types against those of the values that they name.
 ghost use Rattle.std.specs.Prelude.{◌≡◌, ◌≢◌, ℕ, ◌<◌, Some, None, length, slice_index_or, IfOk, IsTrue, ◌↔◌};
 ghost use Rattle.ir_text_names.specs.Firsts.{IsFirst};
+ghost use Rattle.ir_text_names.specs.Operations.{AreOperations};
 ghost use Rattle.ir_text_names.specs.Rows.{text_of};
 ghost use Rattle.ir_text_names.specs.Types.{HasOtherType, HasOtherTypeAt, IsEntryOther, IsTypeOther, IsOperandType, IsResultType, IsArgumentType, IsValueType};
 ghost use Rattle.ir_text_tree.specs.declared.row.Part.TheVariants as parts;
@@ -9,13 +10,15 @@ ghost use Rattle.ir_text_names.specs.Values.{IsNamedUnlessAgain, IsValueAgain};
 
 use crate::counting::Counted;
 use crate::firsts::noted;
-use crate::numbers::{Amount, sum_of};
-use crate::rows::{operations, piece};
-use crate::type_places::{amount_at, find_spot, next_operations, number_at, placed, results_table};
+use crate::numbers::Amount;
+use crate::row_table::RowTable;
+use crate::rows::{NumberedOperations, number_at, piece};
+use crate::type_places::{
+    PlacedRows, find_spot, next_operations, own_types, placed, results_table,
+};
 use crate::value_numbers::which;
 use ir_text_tree::{Part, Row};
 use std::alloc::{AllocError, Global};
-use std::collections::HashMap;
 
 /// What is known of the types of a tree.
 #[derive(Drop)]
@@ -24,18 +27,14 @@ pub(crate) struct TypeTables<'a> {
     text: &'a [u8],
     // The rows.
     rows: &'a [Row],
-    // For each row its operation.
-    operations: Vec<usize>,
-    // For each operand its place among those of its operation.
-    places: Vec<usize>,
-    // Operands' types by their operation and place.
-    types: HashMap<(usize, usize), usize>,
+    // For each operand its type.
+    own: RowTable,
     // Results' types by their operation and place.
-    results: HashMap<(usize, usize), usize>,
+    results: PlacedRows,
     // For each row the operation that comes next.
-    next: Vec<usize>,
+    next: Vec<u32>,
     // For each row how many results stand in front of it.
-    before: Vec<Amount>,
+    before: Vec<u32>,
 }
 
 /// What is known of the types of that tree.
@@ -43,27 +42,23 @@ pub(crate) fn type_tables<'a>(
     alloc: Global,
     text: &'a [u8],
     rows: &'a [Row],
+    operations: NumberedOperations,
 ) -> Result<TypeTables<'a>, AllocError>
+    requires { AreOperations rows.now operations }
     ensures tables { IfOk result AreTypeTables }
     ensures text { IfOk result (λ t. t.text.now ≡ text.now) }
     ensures rows { IfOk result (λ t. t.rows.now ≡ rows.now) }
 {
-    let operations = operations(alloc, rows)?;
-    let operands = placed(alloc, Counted::Operands, rows, &operations)?;
-    drop(operands.spots);
-    let types = placed(alloc, Counted::OperandTypes, rows, &operations)?;
-    drop(types.places);
+    let count = operations.count;
     let results = placed(alloc, Counted::ResultTypes, rows, &operations)?;
-    drop(results.places);
-    let next = next_operations(alloc, rows)?;
+    let own = own_types(alloc, rows, operations)?;
+    let next = next_operations(alloc, rows, count)?;
     let before = results_table(alloc, text, rows)?;
     Ok(TypeTables {
         text,
         rows,
-        operations,
-        places: operands.places,
-        types: types.spots,
-        results: results.spots,
+        own,
+        results,
         next,
         before,
     })
@@ -75,9 +70,7 @@ fn operand_type(tables: &TypeTables, operand: usize) -> Option<usize>
     requires within { operand < length tables.now.rows.now }
     ensures { (t : ℕ) → (result ≡ Some t) ↔ IsOperandType tables.now.rows.now operand t }
 {
-    let operation = number_at(&tables.operations, operand);
-    let place = number_at(&tables.places, operand);
-    find_spot(&tables.types, operation, place)
+    tables.own.get(operand)
 }
 
 // The type of the result with that number under the name that a row gives.
@@ -86,11 +79,11 @@ fn result_type(tables: &TypeTables, definition: usize, number: usize) -> Option<
     requires within { definition < length tables.now.rows.now }
     ensures { (s : ℕ) → (result ≡ Some s) ↔ IsResultType tables.now.text.now tables.now.rows.now definition number s }
 {
-    let before = amount_at(&tables.before, definition);
+    let before = number_at(&tables.before, definition);
     let operation = number_at(&tables.next, definition);
-    match sum_of(before, Amount::Small(number)) {
-        Amount::Small(place) => find_spot(&tables.results, operation, place),
-        _ => None,
+    match before.checked_add(number) {
+        Some(place) => find_spot(&tables.results, operation, place),
+        None => None,
     }
 }
 
@@ -186,14 +179,14 @@ fn is_entry_other(tables: &TypeTables, operand: usize, entry: Option<usize>) -> 
 }
 
 // The first operand that has another type than the value that it names.
-fn first_other_type(tables: &TypeTables, table: &[Option<usize>]) -> Option<usize>
+fn first_other_type(tables: &TypeTables, table: &RowTable) -> Option<usize>
     requires tables { AreTypeTables tables.now }
     requires room { length table.now ≡ length tables.now.rows.now }
     ensures { IsFirst (IsEntryOther tables.now.text.now tables.now.rows.now table.now) (length tables.now.rows.now) result }
 {
     let mut first = None;
-    for (at, entry) in table.iter().enumerate() {
-        first = noted(first, at, is_entry_other(tables, at, *entry));
+    for (at, _) in tables.rows.iter().enumerate() {
+        first = noted(first, at, is_entry_other(tables, at, table.get(at)));
     }
     first
 }
@@ -202,7 +195,7 @@ fn first_other_type(tables: &TypeTables, table: &[Option<usize>]) -> Option<usiz
 pub(crate) fn other_type(
     tables: &TypeTables,
     again: Option<usize>,
-    table: &[Option<usize>],
+    table: &RowTable,
 ) -> Option<usize>
     requires tables { AreTypeTables tables.now }
     requires again { IsFirst (IsValueAgain tables.now.text.now tables.now.rows.now) (length tables.now.rows.now) again }

@@ -1,12 +1,10 @@
 //! Which rows of a flat tree belong together: the operations, each behind all that stands inside it, the blocks and the regions; and what a row says by its text and its names.
 #![tactic(auto)]
 
-mod escapes;
 mod narrowing;
 mod outlining;
 mod source;
 
-pub use escapes::{has_escapes, unescaped};
 pub use ir_text_names::Names;
 pub use ir_text_tree::{Part, Row};
 pub use narrowing::narrow;

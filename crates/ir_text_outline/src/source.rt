@@ -11,14 +11,6 @@ pub struct Source<'a> {
     pub names: &'a Names,
 }
 
-// The row that another one names.
-fn named(table: &Vec<Option<usize>>, at: usize) -> Option<usize> {
-    match table.get(at) {
-        Some(row) => *row,
-        None => None,
-    }
-}
-
 impl<'a> Source<'a> {
     /// What the row is; past the end the end of a region.
     pub fn part(self, at: usize) -> Part {
@@ -46,12 +38,12 @@ impl<'a> Source<'a> {
 
     /// The row of the definition that an operand names.
     pub fn definition(self, at: usize) -> Option<usize> {
-        named(&self.names.values, at)
+        self.names.values.get(at)
     }
 
     /// The row of the block that a successor names.
     pub fn block(self, at: usize) -> Option<usize> {
-        named(&self.names.blocks, at)
+        self.names.blocks.get(at)
     }
 
     /// Which of the values under its name an operand is.

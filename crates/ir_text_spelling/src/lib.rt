@@ -7,6 +7,7 @@ mod spelling_laws;
 mod writing;
 
 pub use spelling::{spell, spell_to};
+pub use writing::write_bytes;
 
 /// Laws of trees spelled again.
 pub mod laws {

@@ -6,11 +6,11 @@ ghost use Rattle.ir_text_spelling.specs.Writings.{Writes};
 use std::io;
 use std::io::{ErrorKind, Write};
 
-/// Writes all of these bytes.
+/// Writes all of these bytes. The writer isn't flushed.
 ///
 /// # Errors
-/// What the writer answers that can't take them, unless it was interrupted.
-pub(crate) fn write_bytes<W: Write>(output: &mut W, bytes: &[u8]) -> io::Result<()>
+/// What the writer answers that can't take them, unless it was interrupted; a front part of them was written then.
+pub fn write_bytes<W: Write>(output: &mut W, bytes: &[u8]) -> io::Result<()>
     ensures { Writes (W.contents output.old) (W.contents output.new) bytes.now result }
 {
     let mut rest = bytes;

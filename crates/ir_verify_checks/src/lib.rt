@@ -8,11 +8,13 @@ mod checks;
 mod error;
 mod inside;
 mod operation_faults;
+mod own_checks;
 mod type_handles;
 mod verifiers;
 mod verify;
 
 pub use error::{BasicBlockVerifyErr, CheckErr, DefUseVerifyErr, VerifierErr, VerifyErr};
 pub use ir_view_parts::{Context, OpObj, OperationPtr};
+pub use own_checks::OwnChecks;
 pub use verifiers::Verifiers;
 pub use verify::{Verify, verify_attr, verify_op, verify_operation, verify_type};

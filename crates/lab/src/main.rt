@@ -21,6 +21,7 @@ fn answer(lab: &mut Lab, line: &str) -> Result<(), TextError> {
     };
     match group {
         "edit" => testkit_lab::answer_edit(lab, word, rest),
+        "checked" => testkit_lab_checked::answer(lab, word, rest),
         "op" | "block" | "region" | "value" | "use" | "list" | "nest" => {
             testkit_lab_queries::answer(lab, word, rest)
         }

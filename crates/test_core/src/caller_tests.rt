@@ -9,12 +9,11 @@ ghost use Rattle.ir_view_parts.specs.State.{forest_of, types_of};
 use crate::contexts::expect_same;
 use example::chain;
 use ir_base_dialects::{CoreError, Dialects, Limits, Ptr};
-use ir_checked::{
-    BasicBlock, BlockPtr, Context, Operation, OperationPtr, Region, RegionPtr, TypeQueries,
-    UseQueries, ValueQueries, end, new_block, new_op, new_type, num_uses, region, result,
-    with_limits,
+use ir_checked_core::{basic_block, context, operation, value};
+use ir_view_parts::{
+    ArenaObj, BasicBlock, BlockPtr, Context, NewOperation, Operation, OperationPtr, Region,
+    RegionPtr, ResultUses, TypeQueries, UseQueries, ValueQueries,
 };
-use ir_view_parts::{ArenaObj, NewOperation, ResultUses};
 use std::panic::Expect;
 use std::process::Abort;
 use toy_dialect::{Toy, ToyType};
@@ -125,9 +124,9 @@ fn out_of_arena<D: Dialects>(ctx: &Context<D>, op: Ptr<Operation<D>>) -> &Operat
 
 // Makes a block and an operation with two regions, and goes from each handle to its record and back.
 fn make_and_go_back(rt: &impl Abort, ctx: &mut Context<Toy>) {
-    let block = new_block(ctx, None, &[]).expect(rt, "the block");
-    let op = new_op(ctx, 5, &[], &[], &[], 2).expect(rt, "the operation");
-    let second = region(ctx, op, 1).expect(rt, "its second region");
+    let block = basic_block::new(ctx, None, &[]).expect(rt, "the block");
+    let op = operation::new(ctx, 5, &[], &[], &[], 2).expect(rt, "the operation");
+    let second = operation::get_region(op, ctx, 1).expect(rt, "its second region");
     assert!(rt; op.is_live(ctx) && block.is_live(ctx) && second.is_live(ctx));
     let kind = out_of_arena(ctx, op).kind();
     let back = (
@@ -142,15 +141,15 @@ fn make_and_go_back(rt: &impl Abort, ctx: &mut Context<Toy>) {
 fn records_know_their_handles(rt: HostRuntime) {
     let mut ctx: Context<Toy> = Context::new(rt.alloc());
     make_and_go_back(&rt, &mut ctx);
-    end(ctx, ());
+    context::end(ctx, ());
 }
 
 // Makes an operation that uses a value twice, and walks from there.
 fn make_and_walk<D: Dialects>(rt: &impl Abort, ctx: &mut Context<D>, key: D::TypeKey) {
-    let ty = new_type(ctx, key).expect(rt, "the type");
-    let maker = new_op(ctx, 0, &[ty], &[], &[], 0).expect(rt, "the first");
-    let value = result(ctx, maker, 0).expect(rt, "its result");
-    let user = new_op(ctx, 5, &[ty], &[value, value], &[], 2).expect(rt, "the second");
+    let ty = ctx.instantiate_key(key).expect(rt, "the type");
+    let maker = operation::new(ctx, 0, &[ty], &[], &[], 0).expect(rt, "the first");
+    let value = operation::get_result(maker, ctx, 0).expect(rt, "its result");
+    let user = operation::new(ctx, 5, &[ty], &[value, value], &[], 2).expect(rt, "the second");
     let record = user.try_deref(ctx).expect(rt, "its record");
     expect_same(rt, walk(ctx, record), 2, "how often its operand is used");
 }
@@ -159,7 +158,7 @@ fn make_and_walk<D: Dialects>(rt: &impl Abort, ctx: &mut Context<D>, key: D::Typ
 fn what_live_operations_give_is_live(rt: HostRuntime) {
     let mut ctx: Context<Toy> = Context::new(rt.alloc());
     make_and_walk(&rt, &mut ctx, ToyType::Int { width: 32 });
-    end(ctx, ());
+    context::end(ctx, ());
 }
 
 // Makes an operation, which is live then, and asks it. One dialect is all that this caller has.
@@ -180,13 +179,13 @@ fn make_and_ask(rt: &impl Abort, ctx: &mut Context<Toy>) {
 fn calls_over_one_dialect(rt: HostRuntime) {
     let mut ctx: Context<Toy> = Context::new(rt.alloc());
     make_and_ask(&rt, &mut ctx);
-    end(ctx, ());
+    context::end(ctx, ());
 }
 
 // A chain of ten operations names each of its values but the last.
 fn tell_chain<D: Dialects>(rt: &impl Abort, ctx: &mut Context<D>, key: D::TypeKey) {
     let last = chain(ctx, key, 10).expect(rt, "the chain");
-    expect_same(rt, num_uses(ctx, last), Ok(0), "its last value");
+    expect_same(rt, value::num_uses(last, ctx), Ok(0), "its last value");
     expect_same(rt, ctx.room().uses, u64::MAX - 10, "the room");
 }
 
@@ -194,7 +193,7 @@ fn tell_chain<D: Dialects>(rt: &impl Abort, ctx: &mut Context<D>, key: D::TypeKe
 fn the_last_of_a_chain_has_no_use(rt: HostRuntime) {
     let mut ctx: Context<Toy> = Context::new(rt.alloc());
     tell_chain(&rt, &mut ctx, ToyType::Int { width: 32 });
-    end(ctx, ());
+    context::end(ctx, ());
 }
 
 // A test of the limits that `with_limits` lets through.
@@ -204,7 +203,7 @@ fn limits_are_tested(rt: HostRuntime) {
         slots: 0,
         ..Limits::default()
     };
-    let ctx: Context<Toy> = with_limits(rt.alloc(), limits).expect(&rt, "the limits");
+    let ctx: Context<Toy> = context::with_limits(rt.alloc(), limits).expect(&rt, "the limits");
     expect_same(&rt, ctx.room().ops, 0, "the room");
-    end(ctx, ());
+    context::end(ctx, ());
 }

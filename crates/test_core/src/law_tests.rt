@@ -1,6 +1,6 @@
 //! What holds of every context, and of every type of saved values: each law can be called.
 
-use ir_checked::end;
+use ir_checked_core::context;
 use ir_core_context::{Context, Dialects};
 use ir_core_uniqued::{SavedValue, equal_keys_for_equal_values, kinds_are_never_equal};
 use std::test::Fail;
@@ -28,6 +28,6 @@ fn laws_can_be_called(rt: HostRuntime) -> Result<(), Fail> {
     let ctx: Context<Toy> = Context::new(rt.alloc());
     call_laws(&ctx);
     call_saved_laws::<Toy, String, u64>();
-    end(ctx, ());
+    context::end(ctx, ());
     Ok(())
 }

@@ -22,4 +22,5 @@ pub fn of_view<
     I: TypeInterfaceMarker,
     T: TypeImplsInterface<I, D> + Typed<D> + Verify<D>,
     V: Verifiers<D>,
+    C: OwnChecks<D>,
 >() {}

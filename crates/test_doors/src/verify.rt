@@ -8,14 +8,20 @@ use ir_core::operation::Operation;
 use ir_core::region::Region;
 use ir_core::value::Value;
 use ir_verify::verify::{
-    BasicBlockVerifyErr, CheckErr, DefUseVerifyErr, VerifierErr, Verifiers, Verify, VerifyErr,
-    verify_attr, verify_op, verify_operation, verify_type,
+    BasicBlockVerifyErr, CheckErr, DefUseVerifyErr, OwnChecks, VerifierErr, Verifiers, Verify,
+    VerifyErr, verify_attr, verify_op, verify_operation, verify_type,
 };
 use ir_view::prelude::*;
 use ir_view::types::{TypeInterfaceHandle, TypedHandle};
 
 /// What is verified.
-pub fn verified<D: Dialects, V: Verifiers<D>, T: IrType<D>, I: TypeInterfaceMarker>() {
+pub fn verified<
+    D: Dialects,
+    V: Verifiers<D>,
+    C: OwnChecks<D>,
+    T: IrType<D>,
+    I: TypeInterfaceMarker,
+>() {
     let _ = <Ptr<Operation<D>> as Verify<D>>::verify::<V>;
     let _ = <Ptr<BasicBlock<D>> as Verify<D>>::verify::<V>;
     let _ = <Ptr<Region> as Verify<D>>::verify::<V>;
@@ -27,6 +33,7 @@ pub fn verified<D: Dialects, V: Verifiers<D>, T: IrType<D>, I: TypeInterfaceMark
     let _ = verify_operation::<D, V>;
     let _ = verify_attr::<D, V>;
     let _ = verify_type::<D, V>;
+    let _ = verify_type::<D, C>;
 }
 
 /// What is told, and what a check answers.

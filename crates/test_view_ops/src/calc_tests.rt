@@ -1,11 +1,19 @@
-//! The example's dialect: what it makes, how it is named, and what is read back.
+//! The example's dialect: what it makes, how it is named, what is read back, and what its checks find.
 
-use example::{Calc, CalcType, Constant, Less};
+use example::{
+    Calc, CalcChecks, CalcType, Constant, Less, Literal, NO_BITS, Number, Remark, SIDES,
+    SizedInterface, Truth,
+};
+use ir_base_dialects::attribute::AttributeDict;
 use ir_base_dialects::interfaces::PureOpInterface;
-use ir_base_dialects::{Dialects, Ptr};
-use ir_checked::{Context, Operation, OperationPtr, Value, ValueQueries, end};
-use ir_core_queries::Named;
-use ir_view_parts::{Op, OperationKind, op_impls_static};
+use ir_base_dialects::{Dialects, Identifier, Ptr};
+use ir_checked_core::{context, operation};
+use ir_core_queries::{Named, TypeQueries};
+use ir_verify_checks::{VerifierErr, VerifyErr, verify_operation, verify_type};
+use ir_view_parts::{
+    Context, Op, Operation, OperationKind, OperationPtr, Value, ValueQueries, op_impls_static,
+};
+use ir_view_types::{IrType, TypeInterfaceHandle, TypedHandle};
 use std::alloc::Global;
 use std::fmt::Debug;
 use std::process::Abort;
@@ -19,21 +27,19 @@ fn done<T, E: Debug>(rt: &impl Abort, answer: Result<T, E>) -> T {
 fn ids(rt: &impl Abort, alloc: Global) -> String {
     let constant = done(rt, <Constant as Op<Calc>>::get_opid_static(alloc));
     let less = done(rt, <Less as Op<Calc>>::get_opid_static(alloc));
-    let number = done(
-        rt,
-        Calc::type_id(alloc, Calc::type_kind(&CalcType::Number { bits: 8 })),
-    );
-    let truth = done(rt, Calc::type_id(alloc, Calc::type_kind(&CalcType::Truth)));
-    let attribute = done(rt, Calc::attr_id(alloc, 0));
+    let number = done(rt, Number { bits: 8 }.get_type_id(alloc));
+    let truth = done(rt, Truth.get_type_id(alloc));
+    let literal = done(rt, Calc::attr_id(alloc, 0));
+    let remark = done(rt, Calc::attr_id(alloc, 1));
     done(
         rt,
-        format!(in alloc; "{constant} {less} {number} {truth} {attribute}"),
+        format!(in alloc; "{constant} {less} {number} {truth} {literal} {remark}"),
     )
 }
 
 #[test]
 fn names_of_kinds(rt: HostRuntime) {
-    let text = "calc.constant calc.less calc.number calc.truth calc.literal";
+    let text = "calc.constant calc.less calc.number calc.truth calc.literal calc.remark";
     assert!(rt; ids(&rt, rt.alloc()).as_str() == text);
     assert!(rt; op_impls_static::<Less, PureOpInterface, Calc>());
 }
@@ -75,5 +81,92 @@ fn comparison(rt: &impl Abort, ctx: &mut Context<Calc>) {
 fn comparison_made_named_and_read_back(rt: HostRuntime) {
     let mut ctx: Context<Calc> = Context::new(rt.alloc());
     comparison(&rt, &mut ctx);
-    end(ctx, ());
+    context::end(ctx, ());
+}
+
+// The number at the key `value`, where there is a literal.
+fn number_in(dict: &AttributeDict<Calc>) -> Option<u64> {
+    match dict.get::<Literal>(&Identifier::new("value")) {
+        Some(literal) => Some(literal.value),
+        None => None,
+    }
+}
+
+// Whether there is a remark with this text at the key.
+fn has_remark(dict: &AttributeDict<Calc>, key: &Identifier, text: &str) -> bool {
+    match dict.get::<Remark>(key) {
+        Some(remark) => remark.text.as_str() == text,
+        None => false,
+    }
+}
+
+// Asserts the attributes of a dictionary: a literal and a remark.
+fn expect_attributes(rt: &impl Abort, dict: &AttributeDict<Calc>) {
+    assert!(rt; number_in(dict) == Some(8));
+    assert!(rt; has_remark(dict, &Identifier::new("note"), "by hand"));
+    assert!(rt; !has_remark(dict, &Identifier::new("value"), "by hand"));
+}
+
+#[test]
+fn attributes_written_read_and_copied(rt: HostRuntime) {
+    let mut dict: AttributeDict<Calc> = AttributeDict::new(rt.alloc());
+    let text = done(&rt, format!(in rt.alloc(); "by hand"));
+    done(
+        &rt,
+        dict.set(Identifier::new("value"), Literal { value: 7 }),
+    );
+    done(&rt, dict.set(Identifier::new("note"), Remark { text }));
+    if let Some(literal) = dict.get_mut::<Literal>(&Identifier::new("value")) {
+        literal.value = 8;
+    }
+    expect_attributes(&rt, &dict);
+    let copy = done(&rt, dict.clone());
+    expect_attributes(&rt, &copy);
+}
+
+// Numbers are sized, and no truth is a number.
+fn types_of_one_kind(rt: &impl Abort, ctx: &mut Context<Calc>) {
+    let number = done(rt, Number { bits: 8 }.instantiate(ctx));
+    assert!(rt; number.is_known(ctx));
+    assert!(rt; number.deref(ctx).bits == 8);
+    let sized: TypeInterfaceHandle<SizedInterface, Calc> = TypeInterfaceHandle::from(number);
+    assert!(rt; sized.is_known(ctx));
+    let truth = done(rt, Truth.instantiate(ctx)).to_handle();
+    assert!(rt; truth.is_known(ctx));
+    assert!(rt; TypedHandle::<Number, Calc>::from_handle(truth, ctx).is_err());
+}
+
+#[test]
+fn typed_handles(rt: HostRuntime) {
+    let mut ctx: Context<Calc> = Context::new(rt.alloc());
+    types_of_one_kind(&rt, &mut ctx);
+    context::end(ctx, ());
+}
+
+// What the checks find at a live operation.
+fn found(rt: &impl Abort, ctx: &Context<Calc>, op: Ptr<Operation<Calc>>) -> Result<(), VerifyErr> {
+    assert!(rt; op.is_live(ctx));
+    verify_operation(op, ctx, &CalcChecks)
+}
+
+// A fault with this code.
+fn fault(code: u32) -> Result<(), VerifyErr> {
+    Err(VerifyErr::VerifierErr(VerifierErr { code }))
+}
+
+// A comparison without sides is found, and so is a type without bits.
+fn checks(rt: &impl Abort, ctx: &mut Context<Calc>) {
+    let less = done(rt, Less::compare(ctx, 16, 3, 5));
+    assert!(rt; found(rt, ctx, less.op) == Ok(()));
+    let bare = done(rt, operation::new(ctx, Less::KIND, &[], &[], &[], 0));
+    assert!(rt; found(rt, ctx, bare) == fault(SIDES));
+    let empty = CalcType::Number(Number { bits: 0 });
+    assert!(rt; verify_type(&empty, ctx, &CalcChecks) == fault(NO_BITS));
+}
+
+#[test]
+fn checks_of_the_dialect(rt: HostRuntime) {
+    let mut ctx: Context<Calc> = Context::new(rt.alloc());
+    checks(&rt, &mut ctx);
+    context::end(ctx, ());
 }

@@ -1,8 +1,9 @@
 //! Results, arguments and regions, by direct calls of a context.
 
 use crate::entering::Made;
-use crate::finding::{both, entry};
-use ir_checked::{CheckedErr, Context};
+use crate::finding::{Unmade, both, entry};
+use ir_checked_core::{basic_block, operation};
+use ir_view_parts::Context;
 use testkit_dumps::Tables;
 use toy_dialect::Toy;
 
@@ -12,10 +13,10 @@ pub(crate) fn push_result(
     tables: &Tables,
     op: usize,
     ty: usize,
-) -> Result<Made, CheckedErr> {
+) -> Result<Made, Unmade> {
     let (op, ty) = both(&tables.ops, op, &tables.types, ty)?;
-    let at = ir_checked::push_result(ctx, op, ty)?;
-    Ok(Made::Value(ir_checked::result(ctx, op, at)?))
+    let at = operation::push_result(op, ctx, ty)?;
+    Ok(Made::Value(operation::get_result(op, ctx, at)?))
 }
 
 /// `insert_result` of the entries with these numbers.
@@ -25,10 +26,10 @@ pub(crate) fn insert_result(
     op: usize,
     at: usize,
     ty: usize,
-) -> Result<Made, CheckedErr> {
+) -> Result<Made, Unmade> {
     let (op, ty) = both(&tables.ops, op, &tables.types, ty)?;
-    ir_checked::insert_result(ctx, op, at, ty)?;
-    Ok(Made::Value(ir_checked::result(ctx, op, at)?))
+    operation::insert_result(op, ctx, at, ty)?;
+    Ok(Made::Value(operation::get_result(op, ctx, at)?))
 }
 
 /// `remove_result` of the entries with these numbers.
@@ -37,9 +38,9 @@ pub(crate) fn remove_result(
     tables: &Tables,
     op: usize,
     at: usize,
-) -> Result<Made, CheckedErr> {
+) -> Result<Made, Unmade> {
     let op = entry(&tables.ops, op)?;
-    ir_checked::remove_result(ctx, op, at)?;
+    operation::remove_result(op, ctx, at)?;
     Ok(Made::Nothing)
 }
 
@@ -49,10 +50,10 @@ pub(crate) fn push_argument(
     tables: &Tables,
     block: usize,
     ty: usize,
-) -> Result<Made, CheckedErr> {
+) -> Result<Made, Unmade> {
     let (block, ty) = both(&tables.blocks, block, &tables.types, ty)?;
-    let at = ir_checked::push_argument(ctx, block, ty)?;
-    Ok(Made::Value(ir_checked::argument(ctx, block, at)?))
+    let at = basic_block::push_argument(block, ctx, ty)?;
+    Ok(Made::Value(basic_block::get_argument(block, ctx, at)?))
 }
 
 /// `insert_argument` of the entries with these numbers.
@@ -62,10 +63,10 @@ pub(crate) fn insert_argument(
     block: usize,
     at: usize,
     ty: usize,
-) -> Result<Made, CheckedErr> {
+) -> Result<Made, Unmade> {
     let (block, ty) = both(&tables.blocks, block, &tables.types, ty)?;
-    ir_checked::insert_argument(ctx, block, at, ty)?;
-    Ok(Made::Value(ir_checked::argument(ctx, block, at)?))
+    basic_block::insert_argument(block, ctx, at, ty)?;
+    Ok(Made::Value(basic_block::get_argument(block, ctx, at)?))
 }
 
 /// `remove_argument` of the entries with these numbers.
@@ -74,9 +75,9 @@ pub(crate) fn remove_argument(
     tables: &Tables,
     block: usize,
     at: usize,
-) -> Result<Made, CheckedErr> {
+) -> Result<Made, Unmade> {
     let block = entry(&tables.blocks, block)?;
-    ir_checked::remove_argument(ctx, block, at)?;
+    basic_block::remove_argument(block, ctx, at)?;
     Ok(Made::Nothing)
 }
 
@@ -85,7 +86,7 @@ pub(crate) fn add_region(
     ctx: &mut Context<Toy>,
     tables: &Tables,
     op: usize,
-) -> Result<Made, CheckedErr> {
+) -> Result<Made, Unmade> {
     let op = entry(&tables.ops, op)?;
-    Ok(Made::Region(ir_checked::add_region(ctx, op)?))
+    Ok(Made::Region(operation::add_region(op, ctx)?))
 }

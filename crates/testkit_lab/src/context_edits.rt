@@ -1,14 +1,15 @@
 //! Edits carried out by direct calls of a context.
 
 use crate::entering::{Made, enter};
-use crate::finding::picked;
+use crate::finding::{Unmade, picked};
 use crate::{context_definitions as definitions, context_lists as lists, context_uses as uses};
 use ir_base_dialects::{Answer, CoreError, Identifier, Refused};
-use ir_checked::{CheckedErr, Context};
+use ir_checked_core::{CheckedErr, basic_block, operation};
 use ir_run_sessions::Edit;
+use ir_view_parts::Context;
 use testkit_dumps::Tables;
 use testkit_edit_texts::TextError;
-use toy_dialect::Toy;
+use toy_dialect::{Toy, ToyType};
 
 /// Carries an edit out, and answers it as a session does.
 ///
@@ -21,24 +22,33 @@ pub(crate) fn carry_out(
 ) -> Result<Answer, TextError> {
     match step(ctx, tables, edit) {
         Ok(made) => Ok(enter(ctx, tables, made)?),
-        Err(error) => Ok(Answer::Refused(refused(error))),
+        Err(Unmade::NoEntry) => Ok(Answer::Refused(Refused::Condition)),
+        Err(Unmade::Checked(error)) => Ok(Answer::Refused(refused(error))),
     }
 }
 
 /// Why a direct call was refused, as a session says it.
 pub(crate) fn refused(error: CheckedErr) -> Refused {
     match error {
-        CheckedErr::Condition => Refused::Condition,
+        CheckedErr::Unmet(_) => Refused::Condition,
         CheckedErr::Core(CoreError::OutOfMemory) => Refused::Memory,
         CheckedErr::Core(CoreError::CounterSpent) => Refused::Counter,
         CheckedErr::Core(CoreError::SlotsSpent) => Refused::Slots,
     }
 }
 
+// The type with this key.
+fn new_type(ctx: &mut Context<Toy>, key: ToyType) -> Result<Made, Unmade> {
+    match ctx.instantiate_key(key) {
+        Ok(ty) => Ok(Made::Type(ty)),
+        Err(error) => Err(Unmade::Checked(CheckedErr::Core(error))),
+    }
+}
+
 // Carries an edit out.
-fn step(ctx: &mut Context<Toy>, tables: &Tables, edit: Edit<Toy>) -> Result<Made, CheckedErr> {
+fn step(ctx: &mut Context<Toy>, tables: &Tables, edit: Edit<Toy>) -> Result<Made, Unmade> {
     match edit {
-        Edit::NewType(key) => Ok(Made::Type(ir_checked::new_type(ctx, key)?)),
+        Edit::NewType(key) => new_type(ctx, key),
         Edit::NewOp {
             kind,
             types,
@@ -99,13 +109,13 @@ fn new_op(
     kind: u32,
     parts: [&[usize]; 3],
     regions: usize,
-) -> Result<Made, CheckedErr> {
+) -> Result<Made, Unmade> {
     let alloc = ctx.alloc();
     let [types, operands, successors] = parts;
     let types = picked(alloc, &tables.types, types)?;
     let operands = picked(alloc, &tables.values, operands)?;
     let successors = picked(alloc, &tables.blocks, successors)?;
-    let op = ir_checked::new_op(ctx, kind, &types, &operands, &successors, regions)?;
+    let op = operation::new(ctx, kind, &types, &operands, &successors, regions)?;
     Ok(Made::Op(op))
 }
 
@@ -115,8 +125,8 @@ fn new_block(
     tables: &Tables,
     label: Option<Identifier>,
     types: &[usize],
-) -> Result<Made, CheckedErr> {
+) -> Result<Made, Unmade> {
     let types = picked(ctx.alloc(), &tables.types, types)?;
-    let block = ir_checked::new_block(ctx, label, &types)?;
+    let block = basic_block::new(ctx, label, &types)?;
     Ok(Made::Block(block))
 }

@@ -1,8 +1,9 @@
 //! Lists, regions that move, uses that are dropped, and erasing, by direct calls of a context.
 
 use crate::entering::Made;
-use crate::finding::{both, entry};
-use ir_checked::{CheckedErr, Context};
+use crate::finding::{Unmade, both, entry};
+use ir_checked_core::{basic_block, operation, region};
+use ir_view_parts::Context;
 use testkit_dumps::Tables;
 use toy_dialect::Toy;
 
@@ -12,9 +13,9 @@ pub(crate) fn op_at_front(
     tables: &Tables,
     op: usize,
     block: usize,
-) -> Result<Made, CheckedErr> {
+) -> Result<Made, Unmade> {
     let (op, block) = both(&tables.ops, op, &tables.blocks, block)?;
-    ir_checked::op_at_front(ctx, op, block)?;
+    operation::insert_at_front(op, block, ctx)?;
     Ok(Made::Nothing)
 }
 
@@ -24,9 +25,9 @@ pub(crate) fn op_at_back(
     tables: &Tables,
     op: usize,
     block: usize,
-) -> Result<Made, CheckedErr> {
+) -> Result<Made, Unmade> {
     let (op, block) = both(&tables.ops, op, &tables.blocks, block)?;
-    ir_checked::op_at_back(ctx, op, block)?;
+    operation::insert_at_back(op, block, ctx)?;
     Ok(Made::Nothing)
 }
 
@@ -36,9 +37,9 @@ pub(crate) fn op_before(
     tables: &Tables,
     op: usize,
     mark: usize,
-) -> Result<Made, CheckedErr> {
+) -> Result<Made, Unmade> {
     let (op, mark) = both(&tables.ops, op, &tables.ops, mark)?;
-    ir_checked::op_before(ctx, op, mark)?;
+    operation::insert_before(op, ctx, mark)?;
     Ok(Made::Nothing)
 }
 
@@ -48,9 +49,9 @@ pub(crate) fn op_after(
     tables: &Tables,
     op: usize,
     mark: usize,
-) -> Result<Made, CheckedErr> {
+) -> Result<Made, Unmade> {
     let (op, mark) = both(&tables.ops, op, &tables.ops, mark)?;
-    ir_checked::op_after(ctx, op, mark)?;
+    operation::insert_after(op, ctx, mark)?;
     Ok(Made::Nothing)
 }
 
@@ -59,9 +60,9 @@ pub(crate) fn unlink_op(
     ctx: &mut Context<Toy>,
     tables: &Tables,
     op: usize,
-) -> Result<Made, CheckedErr> {
+) -> Result<Made, Unmade> {
     let op = entry(&tables.ops, op)?;
-    ir_checked::unlink_op(ctx, op)?;
+    operation::unlink(op, ctx)?;
     Ok(Made::Nothing)
 }
 
@@ -71,9 +72,9 @@ pub(crate) fn block_at_front(
     tables: &Tables,
     block: usize,
     region: usize,
-) -> Result<Made, CheckedErr> {
+) -> Result<Made, Unmade> {
     let (block, region) = both(&tables.blocks, block, &tables.regions, region)?;
-    ir_checked::block_at_front(ctx, block, region)?;
+    basic_block::insert_at_front(block, region, ctx)?;
     Ok(Made::Nothing)
 }
 
@@ -83,9 +84,9 @@ pub(crate) fn block_at_back(
     tables: &Tables,
     block: usize,
     region: usize,
-) -> Result<Made, CheckedErr> {
+) -> Result<Made, Unmade> {
     let (block, region) = both(&tables.blocks, block, &tables.regions, region)?;
-    ir_checked::block_at_back(ctx, block, region)?;
+    basic_block::insert_at_back(block, region, ctx)?;
     Ok(Made::Nothing)
 }
 
@@ -95,9 +96,9 @@ pub(crate) fn block_before(
     tables: &Tables,
     block: usize,
     mark: usize,
-) -> Result<Made, CheckedErr> {
+) -> Result<Made, Unmade> {
     let (block, mark) = both(&tables.blocks, block, &tables.blocks, mark)?;
-    ir_checked::block_before(ctx, block, mark)?;
+    basic_block::insert_before(block, ctx, mark)?;
     Ok(Made::Nothing)
 }
 
@@ -107,9 +108,9 @@ pub(crate) fn block_after(
     tables: &Tables,
     block: usize,
     mark: usize,
-) -> Result<Made, CheckedErr> {
+) -> Result<Made, Unmade> {
     let (block, mark) = both(&tables.blocks, block, &tables.blocks, mark)?;
-    ir_checked::block_after(ctx, block, mark)?;
+    basic_block::insert_after(block, ctx, mark)?;
     Ok(Made::Nothing)
 }
 
@@ -118,9 +119,9 @@ pub(crate) fn unlink_block(
     ctx: &mut Context<Toy>,
     tables: &Tables,
     block: usize,
-) -> Result<Made, CheckedErr> {
+) -> Result<Made, Unmade> {
     let block = entry(&tables.blocks, block)?;
-    ir_checked::unlink_block(ctx, block)?;
+    basic_block::unlink(block, ctx)?;
     Ok(Made::Nothing)
 }
 
@@ -130,9 +131,9 @@ pub(crate) fn append_ops(
     tables: &Tables,
     donee: usize,
     donor: usize,
-) -> Result<Made, CheckedErr> {
+) -> Result<Made, Unmade> {
     let (donee, donor) = both(&tables.blocks, donee, &tables.blocks, donor)?;
-    ir_checked::append_ops(ctx, donee, donor)?;
+    basic_block::append_linked_list(donee, ctx, donor)?;
     Ok(Made::Nothing)
 }
 
@@ -142,9 +143,9 @@ pub(crate) fn append_blocks(
     tables: &Tables,
     donee: usize,
     donor: usize,
-) -> Result<Made, CheckedErr> {
+) -> Result<Made, Unmade> {
     let (donee, donor) = both(&tables.regions, donee, &tables.regions, donor)?;
-    ir_checked::append_blocks(ctx, donee, donor)?;
+    region::append_linked_list(donee, ctx, donor)?;
     Ok(Made::Nothing)
 }
 
@@ -154,9 +155,9 @@ pub(crate) fn move_region(
     tables: &Tables,
     region: usize,
     op: usize,
-) -> Result<Made, CheckedErr> {
+) -> Result<Made, Unmade> {
     let (region, op) = both(&tables.regions, region, &tables.ops, op)?;
-    ir_checked::move_region(ctx, region, op)?;
+    region::move_to_op(region, op, ctx)?;
     Ok(Made::Nothing)
 }
 
@@ -165,9 +166,9 @@ pub(crate) fn drop_op_uses(
     ctx: &mut Context<Toy>,
     tables: &Tables,
     op: usize,
-) -> Result<Made, CheckedErr> {
+) -> Result<Made, Unmade> {
     let op = entry(&tables.ops, op)?;
-    ir_checked::drop_op_uses(ctx, op)?;
+    operation::drop_all_uses(op, ctx)?;
     Ok(Made::Nothing)
 }
 
@@ -176,9 +177,9 @@ pub(crate) fn drop_block_uses(
     ctx: &mut Context<Toy>,
     tables: &Tables,
     block: usize,
-) -> Result<Made, CheckedErr> {
+) -> Result<Made, Unmade> {
     let block = entry(&tables.blocks, block)?;
-    ir_checked::drop_block_uses(ctx, block)?;
+    basic_block::drop_all_uses(block, ctx)?;
     Ok(Made::Nothing)
 }
 
@@ -187,20 +188,16 @@ pub(crate) fn drop_region_uses(
     ctx: &mut Context<Toy>,
     tables: &Tables,
     region: usize,
-) -> Result<Made, CheckedErr> {
+) -> Result<Made, Unmade> {
     let region = entry(&tables.regions, region)?;
-    ir_checked::drop_region_uses(ctx, region)?;
+    region::drop_all_uses(region, ctx)?;
     Ok(Made::Nothing)
 }
 
 /// `erase_op` of the entries with these numbers.
-pub(crate) fn erase_op(
-    ctx: &mut Context<Toy>,
-    tables: &Tables,
-    op: usize,
-) -> Result<Made, CheckedErr> {
+pub(crate) fn erase_op(ctx: &mut Context<Toy>, tables: &Tables, op: usize) -> Result<Made, Unmade> {
     let op = entry(&tables.ops, op)?;
-    ir_checked::erase_op(ctx, op)?;
+    operation::erase(op, ctx)?;
     Ok(Made::Nothing)
 }
 
@@ -209,9 +206,9 @@ pub(crate) fn erase_block(
     ctx: &mut Context<Toy>,
     tables: &Tables,
     block: usize,
-) -> Result<Made, CheckedErr> {
+) -> Result<Made, Unmade> {
     let block = entry(&tables.blocks, block)?;
-    ir_checked::erase_block(ctx, block)?;
+    basic_block::erase(block, ctx)?;
     Ok(Made::Nothing)
 }
 
@@ -221,8 +218,8 @@ pub(crate) fn erase_region(
     tables: &Tables,
     op: usize,
     at: usize,
-) -> Result<Made, CheckedErr> {
+) -> Result<Made, Unmade> {
     let op = entry(&tables.ops, op)?;
-    ir_checked::erase_region(ctx, op, at)?;
+    operation::erase_region(op, ctx, at)?;
     Ok(Made::Nothing)
 }

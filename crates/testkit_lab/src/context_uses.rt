@@ -1,8 +1,9 @@
 //! Operands and successors, by direct calls of a context.
 
 use crate::entering::Made;
-use crate::finding::{both, entry};
-use ir_checked::{CheckedErr, Context};
+use crate::finding::{Unmade, both, entry};
+use ir_checked_core::{basic_block, operation, value};
+use ir_view_parts::Context;
 use testkit_dumps::Tables;
 use toy_dialect::Toy;
 
@@ -12,9 +13,9 @@ pub(crate) fn push_operand(
     tables: &Tables,
     op: usize,
     value: usize,
-) -> Result<Made, CheckedErr> {
+) -> Result<Made, Unmade> {
     let (op, value) = both(&tables.ops, op, &tables.values, value)?;
-    ir_checked::push_operand(ctx, op, value)?;
+    operation::push_operand(op, ctx, value)?;
     Ok(Made::Nothing)
 }
 
@@ -25,9 +26,9 @@ pub(crate) fn insert_operand(
     op: usize,
     at: usize,
     value: usize,
-) -> Result<Made, CheckedErr> {
+) -> Result<Made, Unmade> {
     let (op, value) = both(&tables.ops, op, &tables.values, value)?;
-    ir_checked::insert_operand(ctx, op, at, value)?;
+    operation::insert_operand(op, ctx, at, value)?;
     Ok(Made::Nothing)
 }
 
@@ -37,9 +38,9 @@ pub(crate) fn remove_operand(
     tables: &Tables,
     op: usize,
     at: usize,
-) -> Result<Made, CheckedErr> {
+) -> Result<Made, Unmade> {
     let op = entry(&tables.ops, op)?;
-    ir_checked::remove_operand(ctx, op, at)?;
+    operation::remove_operand(op, ctx, at)?;
     Ok(Made::Nothing)
 }
 
@@ -50,9 +51,9 @@ pub(crate) fn replace_operand(
     op: usize,
     at: usize,
     value: usize,
-) -> Result<Made, CheckedErr> {
+) -> Result<Made, Unmade> {
     let (op, value) = both(&tables.ops, op, &tables.values, value)?;
-    ir_checked::replace_operand(ctx, op, at, value)?;
+    operation::replace_operand(op, ctx, at, value)?;
     Ok(Made::Nothing)
 }
 
@@ -62,9 +63,9 @@ pub(crate) fn push_successor(
     tables: &Tables,
     op: usize,
     block: usize,
-) -> Result<Made, CheckedErr> {
+) -> Result<Made, Unmade> {
     let (op, block) = both(&tables.ops, op, &tables.blocks, block)?;
-    ir_checked::push_successor(ctx, op, block)?;
+    operation::push_successor(op, ctx, block)?;
     Ok(Made::Nothing)
 }
 
@@ -75,9 +76,9 @@ pub(crate) fn insert_successor(
     op: usize,
     at: usize,
     block: usize,
-) -> Result<Made, CheckedErr> {
+) -> Result<Made, Unmade> {
     let (op, block) = both(&tables.ops, op, &tables.blocks, block)?;
-    ir_checked::insert_successor(ctx, op, at, block)?;
+    operation::insert_successor(op, ctx, at, block)?;
     Ok(Made::Nothing)
 }
 
@@ -87,9 +88,9 @@ pub(crate) fn remove_successor(
     tables: &Tables,
     op: usize,
     at: usize,
-) -> Result<Made, CheckedErr> {
+) -> Result<Made, Unmade> {
     let op = entry(&tables.ops, op)?;
-    ir_checked::remove_successor(ctx, op, at)?;
+    operation::remove_successor(op, ctx, at)?;
     Ok(Made::Nothing)
 }
 
@@ -100,9 +101,9 @@ pub(crate) fn replace_successor(
     op: usize,
     at: usize,
     block: usize,
-) -> Result<Made, CheckedErr> {
+) -> Result<Made, Unmade> {
     let (op, block) = both(&tables.ops, op, &tables.blocks, block)?;
-    ir_checked::replace_successor(ctx, op, at, block)?;
+    operation::replace_successor(op, ctx, at, block)?;
     Ok(Made::Nothing)
 }
 
@@ -112,9 +113,9 @@ pub(crate) fn replace_all_uses(
     tables: &Tables,
     old: usize,
     new: usize,
-) -> Result<Made, CheckedErr> {
+) -> Result<Made, Unmade> {
     let (old, new) = both(&tables.values, old, &tables.values, new)?;
-    ir_checked::replace_all_uses(ctx, old, new)?;
+    value::replace_all_uses_with(old, ctx, new)?;
     Ok(Made::Nothing)
 }
 
@@ -124,8 +125,8 @@ pub(crate) fn retarget_all(
     tables: &Tables,
     old: usize,
     new: usize,
-) -> Result<Made, CheckedErr> {
+) -> Result<Made, Unmade> {
     let (old, new) = both(&tables.blocks, old, &tables.blocks, new)?;
-    ir_checked::retarget_all(ctx, old, new)?;
+    basic_block::retarget_all_preds_to(old, ctx, new)?;
     Ok(Made::Nothing)
 }

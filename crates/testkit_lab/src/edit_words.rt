@@ -4,9 +4,8 @@ use crate::fields::{count, one, two};
 use crate::lab::{Lab, Mode};
 use crate::telling::{tell_done, tell_name, tell_number};
 use crate::{redirecting, setting};
-use ir_checked::CheckedErr;
-use ir_run_sweep::sweep;
-use ir_view_parts::BlockPtr;
+use ir_checked_core::{basic_block, operation};
+use ir_checked_view::dead::sweep;
 use testkit_edit_texts::TextError;
 
 /// Answers a line in a context: a word of the group `edit`, and its fields.
@@ -52,28 +51,28 @@ fn edit(lab: &mut Lab, word: &str, rest: &str) -> Result<(), TextError> {
 // `OP`: its last result goes.
 fn pop_result(lab: &mut Lab, rest: &str) -> Result<(), TextError> {
     let op = lab.op(one(rest)?)?;
-    let answer = ir_checked::pop_result(&mut lab.context, op);
+    let answer = operation::pop_result(op, &mut lab.context);
     tell_done(lab, answer)
 }
 
 // `BLOCK`: its last argument goes.
 fn pop_argument(lab: &mut Lab, rest: &str) -> Result<(), TextError> {
     let block = lab.block(one(rest)?)?;
-    let answer = ir_checked::pop_argument(&mut lab.context, block);
+    let answer = basic_block::pop_argument(block, &mut lab.context);
     tell_done(lab, answer)
 }
 
 // `OP`: its last operand goes. It answers the value that this named.
 fn pop_operand(lab: &mut Lab, rest: &str) -> Result<(), TextError> {
     let op = lab.op(one(rest)?)?;
-    let answer = ir_checked::pop_operand(&mut lab.context, op);
+    let answer = operation::pop_operand(op, &mut lab.context);
     tell_name(lab, answer)
 }
 
 // `OP`: its last successor goes. It answers the block that this named.
 fn pop_successor(lab: &mut Lab, rest: &str) -> Result<(), TextError> {
     let op = lab.op(one(rest)?)?;
-    let answer = ir_checked::pop_successor(&mut lab.context, op);
+    let answer = operation::pop_successor(op, &mut lab.context);
     tell_name(lab, answer)
 }
 
@@ -81,7 +80,7 @@ fn pop_successor(lab: &mut Lab, rest: &str) -> Result<(), TextError> {
 fn push_operand(lab: &mut Lab, rest: &str) -> Result<(), TextError> {
     let (op, value) = two(rest)?;
     let (op, value) = (lab.op(op)?, lab.value(value)?);
-    let answer = ir_checked::push_operand(&mut lab.context, op, value);
+    let answer = operation::push_operand(op, &mut lab.context, value);
     tell_number(lab, answer)
 }
 
@@ -89,7 +88,7 @@ fn push_operand(lab: &mut Lab, rest: &str) -> Result<(), TextError> {
 fn push_successor(lab: &mut Lab, rest: &str) -> Result<(), TextError> {
     let (op, block) = two(rest)?;
     let (op, block) = (lab.op(op)?, lab.block(block)?);
-    let answer = ir_checked::push_successor(&mut lab.context, op, block);
+    let answer = operation::push_successor(op, &mut lab.context, block);
     tell_number(lab, answer)
 }
 
@@ -97,7 +96,7 @@ fn push_successor(lab: &mut Lab, rest: &str) -> Result<(), TextError> {
 fn remove_operand(lab: &mut Lab, rest: &str) -> Result<(), TextError> {
     let (op, index) = two(rest)?;
     let (op, index) = (lab.op(op)?, count(index)?);
-    let answer = ir_checked::remove_operand(&mut lab.context, op, index);
+    let answer = operation::remove_operand(op, &mut lab.context, index);
     tell_name(lab, answer)
 }
 
@@ -105,16 +104,13 @@ fn remove_operand(lab: &mut Lab, rest: &str) -> Result<(), TextError> {
 fn remove_successor(lab: &mut Lab, rest: &str) -> Result<(), TextError> {
     let (op, index) = two(rest)?;
     let (op, index) = (lab.op(op)?, count(index)?);
-    let answer = ir_checked::remove_successor(&mut lab.context, op, index);
+    let answer = operation::remove_successor(op, &mut lab.context, index);
     tell_name(lab, answer)
 }
 
 // `BLOCK`: its dead operations go. It answers how many these were.
 fn sweep_block(lab: &mut Lab, rest: &str) -> Result<(), TextError> {
     let block = lab.block(one(rest)?)?;
-    if !block.is_live(&lab.context) {
-        return tell_done(lab, Err(CheckedErr::Condition));
-    }
-    let swept = sweep(block, &mut lab.context);
-    tell_number(lab, Ok(swept))
+    let answer = sweep(block, &mut lab.context);
+    tell_number(lab, answer)
 }

@@ -1,17 +1,36 @@
-//! Entries of tables by their numbers.
+//! Entries of tables by their numbers, and why an edit isn't made.
 
 use ir_base_dialects::CoreError;
-use ir_checked::CheckedErr;
+use ir_checked_core::CheckedErr;
 use std::alloc::Global;
+
+/// Why an edit isn't made.
+#[derive(Clone, Copy, Debug, Drop)]
+pub(crate) enum Unmade {
+    /// A number is that of no entry.
+    NoEntry,
+    /// A condition of the call doesn't hold, or it was refused.
+    Checked(CheckedErr),
+}
+
+impl From<CheckedErr> for Unmade {
+    ghost use Rattle.std.specs.Prelude.{⊤};
+
+    ghost from_gives = { λ _ _. ⊤ };
+
+    fn from(error: CheckedErr) -> Unmade {
+        Unmade::Checked(error)
+    }
+}
 
 /// The entry with this number.
 ///
 /// # Errors
-/// `Condition` where there is none, as with those below.
-pub(crate) fn entry<T: Copy + Drop>(table: &[T], number: usize) -> Result<T, CheckedErr> {
+/// `NoEntry` where there is none, as with those below.
+pub(crate) fn entry<T: Copy + Drop>(table: &[T], number: usize) -> Result<T, Unmade> {
     match table.get(number) {
         Some(entry) => Ok(*entry),
-        None => Err(CheckedErr::Condition),
+        None => Err(Unmade::NoEntry),
     }
 }
 
@@ -21,10 +40,10 @@ pub(crate) fn both<T: Copy + Drop, S: Copy + Drop>(
     number: usize,
     other_table: &[S],
     other: usize,
-) -> Result<(T, S), CheckedErr> {
+) -> Result<(T, S), Unmade> {
     match (table.get(number), other_table.get(other)) {
         (Some(entry), Some(other)) => Ok((*entry, *other)),
-        _ => Err(CheckedErr::Condition),
+        _ => Err(Unmade::NoEntry),
     }
 }
 
@@ -33,11 +52,11 @@ pub(crate) fn picked<T: Copy + Drop>(
     alloc: Global,
     table: &[T],
     numbers: &[usize],
-) -> Result<Vec<T>, CheckedErr> {
+) -> Result<Vec<T>, Unmade> {
     let mut entries = Vec::new(alloc);
     for number in numbers {
         if entries.push(entry(table, *number)?).is_err() {
-            return Err(CheckedErr::Core(CoreError::OutOfMemory));
+            return Err(Unmade::Checked(CheckedErr::Core(CoreError::OutOfMemory)));
         }
     }
     Ok(entries)

@@ -7,7 +7,7 @@ use crate::entering::read_session;
 use ir_base_dialects::{Limits, Ptr, TypeHandle};
 use ir_core_context::AuxDataIndex;
 use ir_run_sessions::Session;
-use ir_view_parts::{BasicBlock, Context, Operation, Region, Use, Value};
+use ir_view_parts::{BasicBlock, Context, Entity, Operation, Region, Use, Value};
 use std::alloc::{AllocError, Global};
 use testkit_dumps::Tables;
 use testkit_edit_texts::{TextError, number};
@@ -138,6 +138,15 @@ impl Lab {
     /// The region with this name.
     pub fn region(&self, name: &str) -> Result<Ptr<Region>, TextError> {
         named('r', &self.tables.regions, name)
+    }
+
+    /// The operation, the block or the region with this name.
+    pub fn entity(&self, name: &str) -> Result<Entity<Toy>, TextError> {
+        match name.chars().next() {
+            Some('o') => Ok(Entity::Op(self.op(name)?)),
+            Some('b') => Ok(Entity::Block(self.block(name)?)),
+            _ => Ok(Entity::Region(self.region(name)?)),
+        }
     }
 
     /// The value with this name.

@@ -28,6 +28,7 @@ mod redirecting;
 mod runs;
 mod setting;
 mod telling;
+mod toy_ops;
 mod words;
 
 pub use beside::{Beside, Saved};
@@ -35,7 +36,8 @@ pub use edit_words::answer_edit;
 pub use fields::{count, one, three, two};
 pub use lab::{Lab, Mode, asked};
 pub use naming::{Line, Name, Named, Placed, name_of};
-pub use telling::{tell_done, tell_name, tell_number, tell_refused};
+pub use telling::{tell_condition, tell_done, tell_name, tell_number, tell_refused};
 pub use testkit_dumps::{NOWHERE, number_in};
 pub use testkit_edit_texts::{TextError, number, take_field};
+pub use toy_ops::{Constant, Return};
 pub use words::answer;

@@ -4,19 +4,38 @@ use crate::fields::{count, three, two};
 use crate::lab::Lab;
 use crate::telling::tell_done;
 use ir_base_dialects::Ptr;
-use ir_checked::{CheckedErr, Context};
+use ir_checked_core::{CheckedErr, basic_block, operand_use, successor_use, value};
 use ir_view_parts::{
-    BasicBlock, BlockPlace, BlockPtr, BlockUses, Retarget, Use, UseQueries, Value, ValueEdits,
-    ValueQueries,
+    BasicBlock, BlockPtr, BlockUses, Context, Use, UseQueries, Value, ValueQueries,
 };
 use testkit_edit_texts::{TextError, take_field};
 use toy_dialect::Toy;
+
+// Lets the operand of a use name the other value, in the place of the one that it names.
+fn replace_use(
+    ctx: &mut Context<Toy>,
+    used: Use<Value<Toy>>,
+    other: Value<Toy>,
+) -> Result<(), CheckedErr> {
+    let named = operand_use::get_def(used, ctx)?;
+    value::replace_use_with(named, ctx, used, other)
+}
+
+// Lets the successor of a use name the other block, in the place of the one that it names.
+fn retarget_use(
+    ctx: &mut Context<Toy>,
+    used: Use<Ptr<BasicBlock<Toy>>>,
+    other: Ptr<BasicBlock<Toy>>,
+) -> Result<(), CheckedErr> {
+    let named = successor_use::get_def(used, ctx)?;
+    basic_block::retarget_pred_to(named, ctx, used, other)
+}
 
 /// `USE VALUE`: the operand comes to name the value.
 pub(crate) fn replace_use_with(lab: &mut Lab, rest: &str) -> Result<(), TextError> {
     let (used, value) = two(rest)?;
     let (used, value) = (lab.value_use(used)?, lab.value(value)?);
-    let answer = ir_checked::replace_use(&mut lab.context, used, value);
+    let answer = replace_use(&mut lab.context, used, value);
     tell_done(lab, answer)
 }
 
@@ -24,7 +43,7 @@ pub(crate) fn replace_use_with(lab: &mut Lab, rest: &str) -> Result<(), TextErro
 pub(crate) fn retarget_pred_to(lab: &mut Lab, rest: &str) -> Result<(), TextError> {
     let (used, block) = two(rest)?;
     let (used, block) = (lab.block_use(used)?, lab.block(block)?);
-    let answer = ir_checked::retarget_pred(&mut lab.context, used, block);
+    let answer = retarget_use(&mut lab.context, used, block);
     tell_done(lab, answer)
 }
 
@@ -73,16 +92,12 @@ fn replace_chosen(
     chosen: Chosen,
     other: Value<Toy>,
 ) -> Result<(), CheckedErr> {
-    let value = chosen.value;
-    if !value.is_live(ctx) || !other.is_live(ctx) {
-        return Err(CheckedErr::Condition);
-    }
-    value.replace_some_uses_with(
+    value::replace_some_uses_with(
+        chosen.value,
         ctx,
         |shown: &Context<Toy>, used: Use<Value<Toy>>| is_chosen(shown, chosen, used),
         other,
-    )?;
-    Ok(())
+    )
 }
 
 // Whether a block is the one that is meant or, where none is, whether something names it, as the context that is handed in shows it.
@@ -120,13 +135,10 @@ fn retarget_meant(
     meant: Option<Ptr<BasicBlock<Toy>>>,
     other: Ptr<BasicBlock<Toy>>,
 ) -> Result<(), CheckedErr> {
-    if !block.is_live(ctx) || !other.is_live(ctx) || !block.preds_are_linked(ctx) {
-        return Err(CheckedErr::Condition);
-    }
-    block.retarget_some_preds_to(
+    basic_block::retarget_some_preds_to(
+        block,
         ctx,
         |shown: &Context<Toy>, pred: Ptr<BasicBlock<Toy>>| is_meant(shown, meant, pred),
         other,
-    )?;
-    Ok(())
+    )
 }

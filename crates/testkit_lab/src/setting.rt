@@ -5,10 +5,8 @@ use crate::lab::Lab;
 use crate::naming::Line;
 use crate::telling::tell_done;
 use ir_base_dialects::{Identifier, Ptr};
-use ir_checked::{BlockPtr, CheckedErr, OperationPtr};
-use ir_view_parts::{
-    BasicBlock, BlockPtrMut, Operation, OperationPtrMut, Value, ValueEdits, ValueQueries,
-};
+use ir_checked_core::{basic_block, operation, value};
+use ir_view_parts::{BasicBlock, BlockPtrMut, OperationPtrMut, Value};
 use std::alloc::Global;
 use testkit_edit_texts::TextError;
 use toy_dialect::{Toy, ToyLoc};
@@ -17,7 +15,7 @@ use toy_dialect::{Toy, ToyLoc};
 pub(crate) fn set_type(lab: &mut Lab, rest: &str) -> Result<(), TextError> {
     let (value, ty) = two(rest)?;
     let (value, ty) = (lab.value(value)?, lab.ty(ty)?);
-    let answer = ir_checked::set_type(&mut lab.context, value, ty);
+    let answer = value::set_type(value, &mut lab.context, ty);
     tell_done(lab, answer)
 }
 
@@ -52,11 +50,8 @@ fn name_value(
     value: Value<Toy>,
     name: Option<Box<Identifier>>,
 ) -> Result<(), TextError> {
-    if !value.is_live(&lab.context) {
-        return tell_done(lab, Err(CheckedErr::Condition));
-    }
-    value.set_name(&mut lab.context, name);
-    tell_done(lab, Ok(()))
+    let answer = value::set_name(value, &mut lab.context, name);
+    tell_done(lab, answer)
 }
 
 /// `BLOCK LABEL`: the block gets the label.
@@ -78,10 +73,10 @@ fn label_block(
     block: Ptr<BasicBlock<Toy>>,
     label: Option<Identifier>,
 ) -> Result<(), TextError> {
-    if !block.is_live(&lab.context) {
-        return tell_done(lab, Err(CheckedErr::Condition));
+    match basic_block::deref_mut(&mut lab.context, block) {
+        Ok(rest) => rest.set_label(label),
+        Err(error) => return tell_done(lab, Err(error)),
     }
-    Ptr::<BasicBlock<Toy>>::deref_mut(&mut lab.context, block).set_label(label);
     tell_done(lab, Ok(()))
 }
 
@@ -100,10 +95,10 @@ fn location(field: &str) -> Result<ToyLoc, TextError> {
 pub(crate) fn set_op_loc(lab: &mut Lab, rest: &str) -> Result<(), TextError> {
     let (op, line) = two(rest)?;
     let (op, loc) = (lab.op(op)?, location(line)?);
-    if !op.is_live(&lab.context) {
-        return tell_done(lab, Err(CheckedErr::Condition));
+    match operation::deref_mut(&mut lab.context, op) {
+        Ok(rest) => rest.set_loc(loc),
+        Err(error) => return tell_done(lab, Err(error)),
     }
-    Ptr::<Operation<Toy>>::deref_mut(&mut lab.context, op).set_loc(loc);
     tell_done(lab, Ok(()))
 }
 
@@ -111,10 +106,10 @@ pub(crate) fn set_op_loc(lab: &mut Lab, rest: &str) -> Result<(), TextError> {
 pub(crate) fn set_block_loc(lab: &mut Lab, rest: &str) -> Result<(), TextError> {
     let (block, line) = two(rest)?;
     let (block, loc) = (lab.block(block)?, location(line)?);
-    if !block.is_live(&lab.context) {
-        return tell_done(lab, Err(CheckedErr::Condition));
+    match basic_block::deref_mut(&mut lab.context, block) {
+        Ok(rest) => rest.set_loc(loc),
+        Err(error) => return tell_done(lab, Err(error)),
     }
-    Ptr::<BasicBlock<Toy>>::deref_mut(&mut lab.context, block).set_loc(loc);
     tell_done(lab, Ok(()))
 }
 

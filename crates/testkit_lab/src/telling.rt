@@ -3,8 +3,8 @@
 use crate::context_edits::refused;
 use crate::lab::Lab;
 use crate::naming::Named;
-use ir_base_dialects::Answer;
-use ir_checked::CheckedErr;
+use ir_base_dialects::{Answer, Refused};
+use ir_checked_core::CheckedErr;
 use testkit_edit_texts::{TextError, write_answer};
 
 /// Writes why a call was refused.
@@ -13,6 +13,11 @@ use testkit_edit_texts::{TextError, write_answer};
 /// `OutOfMemory`, as with those below.
 pub fn tell_refused(text: &mut String, error: CheckedErr) -> Result<(), TextError> {
     Ok(write_answer(text, '-', Answer::Refused(refused(error)))?)
+}
+
+/// Writes that a condition doesn't hold.
+pub fn tell_condition(text: &mut String) -> Result<(), TextError> {
+    Ok(write_answer(text, '-', Answer::Refused(Refused::Condition))?)
 }
 
 /// Writes whether a call was made.

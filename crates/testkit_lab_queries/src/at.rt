@@ -1,11 +1,11 @@
 //! What an operation or a block has at an index.
 
 use ir_base_dialects::Ptr;
-use ir_checked::{
-    BasicBlock, BlockPlace, BlockPtr, Context, Operation, OperationPtr, argument, operand, region,
-    result, successor,
+use ir_checked_core::{basic_block, operation};
+use ir_view_parts::{
+    BasicBlock, BlockPlace, BlockPredecessors, BlockPtr, BlockSuccessors, BlockUses, Context,
+    Operation, OperationPtr,
 };
-use ir_view_parts::{BlockPredecessors, BlockSuccessors, BlockUses};
 use testkit_lab::{Lab, Name, Named, Placed, TextError, count, name_of, two};
 use toy_dialect::Toy;
 
@@ -29,8 +29,8 @@ fn write_values(
     op: Ptr<Operation<Toy>>,
     index: usize,
 ) -> Result<(), TextError> {
-    let result = name_of(lab, result(lab.ctx(), op, index).ok());
-    let operand = name_of(lab, operand(lab.ctx(), op, index).ok());
+    let result = name_of(lab, operation::get_result(op, lab.ctx(), index).ok());
+    let operand = name_of(lab, operation::get_operand(op, lab.ctx(), index).ok());
     Ok(write!(text, "result {result} operand {operand}")?)
 }
 
@@ -40,8 +40,8 @@ fn write_others(
     op: Ptr<Operation<Toy>>,
     index: usize,
 ) -> Result<(), TextError> {
-    let successor = name_of(lab, successor(lab.ctx(), op, index).ok());
-    let region = name_of(lab, region(lab.ctx(), op, index).ok());
+    let successor = name_of(lab, operation::get_successor(op, lab.ctx(), index).ok());
+    let region = name_of(lab, operation::get_region(op, lab.ctx(), index).ok());
     Ok(write!(text, " successor {successor} region {region}")?)
 }
 
@@ -89,7 +89,7 @@ fn successor_at(lab: &Lab, op: &Operation<Toy>, index: usize) -> Name {
 pub(crate) fn block(text: &mut String, lab: &Lab, rest: &str) -> Result<(), TextError> {
     let (block, index) = two(rest)?;
     let (block, index) = (lab.block(block)?, count(index)?);
-    let argument = name_of(lab, argument(lab.ctx(), block, index).ok());
+    let argument = name_of(lab, basic_block::get_argument(block, lab.ctx(), index).ok());
     let succ = name_of(lab, succ_at(lab.ctx(), block, index));
     let pred = name_of(lab, pred_at(lab.ctx(), block, index));
     Ok(write!(text, "argument {argument} succ {succ} pred {pred}")?)

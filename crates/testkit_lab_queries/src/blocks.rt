@@ -1,9 +1,9 @@
 //! What is read of a block.
 
 use ir_base_dialects::Ptr;
-use ir_checked::{BasicBlock, BlockPlace, BlockPtr, CheckedErr, Context, next_block};
-use ir_view_parts::{BlockSuccessors, BlockUses};
-use testkit_lab::{Lab, Line, TextError, name_of, one, tell_refused};
+use ir_checked_core::basic_block;
+use ir_view_parts::{BasicBlock, BlockPlace, BlockPtr, BlockSuccessors, BlockUses, Context};
+use testkit_lab::{Lab, Line, TextError, name_of, one, tell_condition};
 use toy_dialect::Toy;
 
 /// `BLOCK`: its label, how many arguments it has, how many successors name it and it has itself, its terminator, its location and how many attributes it has.
@@ -39,7 +39,7 @@ fn write_preds(
     block: Ptr<BasicBlock<Toy>>,
 ) -> Result<(), TextError> {
     if !block.is_live(ctx) {
-        return tell_refused(text, CheckedErr::Condition);
+        return tell_condition(text);
     }
     let (has, count) = (block.has_pred(ctx), block.num_preds(ctx));
     let linked = block.preds_are_linked(ctx);
@@ -52,7 +52,7 @@ fn write_preds(
 fn write_succs(text: &mut String, lab: &Lab, block: Ptr<BasicBlock<Toy>>) -> Result<(), TextError> {
     let ctx = lab.ctx();
     if !block.is_live(ctx) {
-        return tell_refused(text, CheckedErr::Condition);
+        return tell_condition(text);
     }
     let (has, count) = (block.has_succ(ctx), block.num_succ(ctx));
     let terminator = name_of(lab, block.get_terminator(ctx));
@@ -66,7 +66,7 @@ fn write_succs(text: &mut String, lab: &Lab, block: Ptr<BasicBlock<Toy>>) -> Res
 pub(crate) fn place(text: &mut String, lab: &Lab, rest: &str) -> Result<(), TextError> {
     let block = lab.block(one(rest)?)?;
     if !block.is_live(lab.ctx()) {
-        return tell_refused(text, CheckedErr::Condition);
+        return tell_condition(text);
     }
     write_parents(text, lab, block)?;
     write_neighbours(text, lab, block)
@@ -98,6 +98,6 @@ fn write_neighbours(
     }
     let linked = block.is_linked(ctx);
     let previous = name_of(lab, block.get_prev(ctx));
-    let next = name_of(lab, next_block(ctx, block).unwrap_or(None));
+    let next = name_of(lab, basic_block::get_next(block, ctx).unwrap_or(None));
     Ok(write!(text, " linked {linked} prev {previous} next {next}")?)
 }

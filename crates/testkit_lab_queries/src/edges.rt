@@ -1,9 +1,9 @@
 //! Edges between blocks.
 
 use ir_base_dialects::Ptr;
-use ir_checked::{BasicBlock, BlockPlace, BlockPtr, CheckedErr};
-use ir_view_parts::{BlockPredecessors, BlockSuccessors};
-use testkit_lab::{Lab, Named, TextError, one, tell_refused, two};
+use ir_checked_core::CheckedErr;
+use ir_view_parts::{BasicBlock, BlockPlace, BlockPredecessors, BlockPtr, BlockSuccessors};
+use testkit_lab::{Lab, Named, TextError, one, tell_condition, tell_refused, two};
 use toy_dialect::Toy;
 
 /// `BLOCK OTHER`: whether the other is a successor of the one, whether it is a predecessor of it, and whether the one is a successor of the other as its last operation tells.
@@ -12,7 +12,7 @@ pub(crate) fn between(text: &mut String, lab: &Lab, rest: &str) -> Result<(), Te
     let (block, other) = (lab.block(block)?, lab.block(other)?);
     let ctx = lab.ctx();
     if !block.is_live(ctx) || !other.is_live(ctx) {
-        return tell_refused(text, CheckedErr::Condition);
+        return tell_condition(text);
     }
     let (succ, pred) = (block.is_succ(ctx, other), block.is_pred(ctx, other));
     let succ_of = block.is_succ_of(ctx, other);
@@ -24,7 +24,7 @@ pub(crate) fn succs(text: &mut String, lab: &Lab, rest: &str) -> Result<(), Text
     let block = lab.block(one(rest)?)?;
     let ctx = lab.ctx();
     if !block.is_live(ctx) {
-        return tell_refused(text, CheckedErr::Condition);
+        return tell_condition(text);
     }
     match block.succs(ctx) {
         Ok(blocks) => write_blocks(text, lab, &blocks),
@@ -37,7 +37,7 @@ pub(crate) fn preds(text: &mut String, lab: &Lab, rest: &str) -> Result<(), Text
     let block = lab.block(one(rest)?)?;
     let ctx = lab.ctx();
     if !block.is_live(ctx) || !block.preds_are_linked(ctx) {
-        return tell_refused(text, CheckedErr::Condition);
+        return tell_condition(text);
     }
     match block.preds(ctx) {
         Ok(blocks) => write_blocks(text, lab, &blocks),

@@ -2,11 +2,9 @@
 
 use ir_base_dialects::linked_list::LinkedList;
 use ir_base_dialects::{Iter, Ptr};
-use ir_checked::{
-    BasicBlock, BlockPlace, BlockPtr, CheckedErr, Operation, Region, RegionPlace, RegionPtr,
-    block_head, block_tail, region_head, region_tail,
-};
-use testkit_lab::{Lab, Named, TextError, name_of, one, tell_refused};
+use ir_checked_core::{basic_block, region};
+use ir_view_parts::{BasicBlock, BlockPlace, BlockPtr, Operation, Region, RegionPlace, RegionPtr};
+use testkit_lab::{Lab, Named, TextError, name_of, one, tell_condition};
 use toy_dialect::Toy;
 
 /// `BLOCK` or `REGION`: the ends of its list as its calls tell them and as its record has them, and the walks over the list: forward, backward, and by turns from both ends.
@@ -22,10 +20,10 @@ pub(crate) fn read(text: &mut String, lab: &Lab, rest: &str) -> Result<(), TextE
 fn write_block(text: &mut String, lab: &Lab, block: Ptr<BasicBlock<Toy>>) -> Result<(), TextError> {
     let ctx = lab.ctx();
     if !block.is_live(ctx) {
-        return tell_refused(text, CheckedErr::Condition);
+        return tell_condition(text);
     }
-    let head = block_head(ctx, block).unwrap_or(None);
-    let tail = block_tail(ctx, block).unwrap_or(None);
+    let head = basic_block::get_head(block, ctx).unwrap_or(None);
+    let tail = basic_block::get_tail(block, ctx).unwrap_or(None);
     let kept = block.deref(ctx).ops_list;
     let first: Option<Ptr<Operation<Toy>>> = kept.first.get().map(Ptr::from_index);
     let last: Option<Ptr<Operation<Toy>>> = kept.last.get().map(Ptr::from_index);
@@ -36,10 +34,10 @@ fn write_block(text: &mut String, lab: &Lab, block: Ptr<BasicBlock<Toy>>) -> Res
 fn write_region(text: &mut String, lab: &Lab, region: Ptr<Region>) -> Result<(), TextError> {
     let ctx = lab.ctx();
     if !region.is_live(ctx) {
-        return tell_refused(text, CheckedErr::Condition);
+        return tell_condition(text);
     }
-    let head = region_head(ctx, region).unwrap_or(None);
-    let tail = region_tail(ctx, region).unwrap_or(None);
+    let head = region::get_head(region, ctx).unwrap_or(None);
+    let tail = region::get_tail(region, ctx).unwrap_or(None);
     let kept = RegionPtr::<Toy>::deref(region, ctx);
     let first: Option<Ptr<BasicBlock<Toy>>> = kept.first.get().map(Ptr::from_index);
     let last: Option<Ptr<BasicBlock<Toy>>> = kept.last.get().map(Ptr::from_index);

@@ -1,19 +1,21 @@
 //! Handles, regions, what stands in what, and the context as a whole.
 
 use ir_base_dialects::{Ptr, TypeHandle};
-use ir_checked::{
-    BasicBlock, BlockPtr, CheckedErr, Context, Entity, Operation, OperationPtr, Region,
-    RegionPlace, RegionPtr, TypeQueries, is_inside,
+use ir_checked_core::entity;
+use ir_view_parts::{
+    ArenaObj, BasicBlock, BlockPtr, Context, Entity, Operation, OperationPtr, Region, RegionPlace,
+    RegionPtr, TypeQueries, is_inside,
 };
-use ir_view_parts::ArenaObj;
-use testkit_lab::{Lab, Name, Named, TextError, count, name_of, one, tell_refused, two};
+use testkit_lab::{
+    Lab, Name, Named, TextError, count, name_of, one, tell_condition, tell_refused, two,
+};
 use toy_dialect::Toy;
 
 /// `REGION`: its operation and its index there, what it stands in, its entry block, and whether definitions dominate uses there.
 pub(crate) fn region(text: &mut String, lab: &Lab, rest: &str) -> Result<(), TextError> {
     let region = lab.region(one(rest)?)?;
     if !RegionPtr::<Toy>::is_live(region, lab.ctx()) {
-        return tell_refused(text, CheckedErr::Condition);
+        return tell_condition(text);
     }
     write_parents(text, lab, region)?;
     write_order(text, lab, region)
@@ -44,27 +46,18 @@ fn write_order(text: &mut String, lab: &Lab, region: Ptr<Region>) -> Result<(), 
     )?)
 }
 
-/// The entity with this name.
-pub(crate) fn entity(lab: &Lab, name: &str) -> Result<Entity<Toy>, TextError> {
-    match name.chars().next() {
-        Some('o') => Ok(Entity::Op(lab.op(name)?)),
-        Some('b') => Ok(Entity::Block(lab.block(name)?)),
-        _ => Ok(Entity::Region(lab.region(name)?)),
-    }
-}
-
 /// `ENTITY OTHER`: whether the one is the other or stands in it.
 pub(crate) fn inside(text: &mut String, lab: &Lab, rest: &str) -> Result<(), TextError> {
     let (inner, outer) = two(rest)?;
-    let (inner, outer) = (entity(lab, inner)?, entity(lab, outer)?);
+    let (inner, outer) = (lab.entity(inner)?, lab.entity(outer)?);
     let inside = is_inside(lab.ctx(), inner, outer);
     Ok(write!(text, "{inside}")?)
 }
 
 /// `ENTITY`: whether it can be erased.
 pub(crate) fn erasable(text: &mut String, lab: &Lab, rest: &str) -> Result<(), TextError> {
-    let entity = entity(lab, one(rest)?)?;
-    match ir_checked::can_erase(lab.ctx(), entity) {
+    let entity = lab.entity(one(rest)?)?;
+    match entity::can_erase(lab.ctx(), entity) {
         Ok(answer) => Ok(write!(text, "{answer}")?),
         Err(error) => tell_refused(text, error),
     }
@@ -72,7 +65,7 @@ pub(crate) fn erasable(text: &mut String, lab: &Lab, rest: &str) -> Result<(), T
 
 /// `ENTITY`: whether its handle is live and its arena has it, its slot and version, and the handle that its record knows.
 pub(crate) fn handle(text: &mut String, lab: &Lab, rest: &str) -> Result<(), TextError> {
-    match entity(lab, one(rest)?)? {
+    match lab.entity(one(rest)?)? {
         Entity::Op(op) => write_op(text, lab, op),
         Entity::Block(block) => write_block(text, lab, block),
         Entity::Region(region) => write_region(text, lab, region),

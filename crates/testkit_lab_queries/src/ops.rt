@@ -1,11 +1,9 @@
 //! What is read of an operation.
 
 use ir_base_dialects::Ptr;
-use ir_checked::{
-    CheckedErr, Context, Operation, OperationPlace, OperationPtr, next_op, parent_block,
-};
-use ir_view_parts::ResultUses;
-use testkit_lab::{Lab, Line, TextError, name_of, one, tell_refused};
+use ir_checked_core::operation;
+use ir_view_parts::{Context, Operation, OperationPlace, OperationPtr, ResultUses};
+use testkit_lab::{Lab, Line, TextError, name_of, one, tell_condition};
 use toy_dialect::Toy;
 
 /// `OP`: its kind, how many parts it has, how its results are used, its location and how many attributes it has.
@@ -37,7 +35,7 @@ fn write_rest(
     op: Ptr<Operation<Toy>>,
 ) -> Result<(), TextError> {
     if !op.is_live(ctx) {
-        return tell_refused(text, CheckedErr::Condition);
+        return tell_condition(text);
     }
     let (has_use, num_uses) = (op.has_use(ctx), op.num_uses(ctx));
     let record = op.deref(ctx);
@@ -53,7 +51,7 @@ fn write_rest(
 pub(crate) fn place(text: &mut String, lab: &Lab, rest: &str) -> Result<(), TextError> {
     let op = lab.op(one(rest)?)?;
     if !op.is_live(lab.ctx()) {
-        return tell_refused(text, CheckedErr::Condition);
+        return tell_condition(text);
     }
     write_parents(text, lab, op)?;
     write_neighbours(text, lab, op)
@@ -64,7 +62,7 @@ fn write_parents(text: &mut String, lab: &Lab, op: Ptr<Operation<Toy>>) -> Resul
     if !op.is_live(ctx) {
         return Ok(());
     }
-    let block = name_of(lab, parent_block(ctx, op).unwrap_or(None));
+    let block = name_of(lab, operation::get_parent_block(op, ctx).unwrap_or(None));
     let region = name_of(lab, op.get_parent_region(ctx));
     let parent = name_of(lab, op.get_parent_op(ctx));
     Ok(write!(text, "block {block} region {region} op {parent}")?)
@@ -81,6 +79,6 @@ fn write_neighbours(
     }
     let linked = op.is_linked(ctx);
     let previous = name_of(lab, op.get_prev(ctx));
-    let next = name_of(lab, next_op(ctx, op).unwrap_or(None));
+    let next = name_of(lab, operation::get_next(op, ctx).unwrap_or(None));
     Ok(write!(text, " linked {linked} prev {previous} next {next}")?)
 }

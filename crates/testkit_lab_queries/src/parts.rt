@@ -1,7 +1,8 @@
 //! Parts in order, walked from both ends.
 
-use ir_checked::{BasicBlock, BlockPtr, Operation, OperationPtr};
-use ir_view_parts::{BlockParts, HasParts, OperationParts, Parts};
+use ir_view_parts::{
+    BasicBlock, BlockParts, BlockPtr, HasParts, Operation, OperationParts, OperationPtr, Parts,
+};
 use testkit_lab::{Lab, Named, TextError, one, two};
 use toy_dialect::Toy;
 

@@ -1,7 +1,7 @@
 //! Uses that are entered into the tables of a lab.
 
 use ir_base_dialects::Ptr;
-use ir_checked::{BasicBlock, Context, Operation, OperationPtr, Use, Value};
+use ir_view_parts::{BasicBlock, Context, Operation, OperationPtr, Use, Value};
 use std::alloc::AllocError;
 use testkit_lab::{Lab, NOWHERE, TextError, number_in, one};
 use toy_dialect::Toy;

@@ -1,11 +1,12 @@
 //! Lists of uses, by their places in the order of the table of operations.
 
 use ir_base_dialects::Ptr;
-use ir_checked::{
-    BasicBlock, BlockPtr, CheckedErr, Context, Operation, OperationPtr, Use, Value, ValueQueries,
+use ir_checked_core::CheckedErr;
+use ir_view_parts::{
+    BasicBlock, BlockPtr, BlockUses, Context, Operation, OperationParts, OperationPtr, ResultUses,
+    Use, Value, ValueQueries,
 };
-use ir_view_parts::{BlockUses, OperationParts, ResultUses};
-use testkit_lab::{Lab, Placed, TextError, one, tell_refused};
+use testkit_lab::{Lab, Placed, TextError, one, tell_condition, tell_refused};
 use toy_dialect::Toy;
 
 /// `VALUE`: how many uses it has, and their places.
@@ -13,7 +14,7 @@ pub(crate) fn of_value(text: &mut String, lab: &Lab, rest: &str) -> Result<(), T
     let value = lab.value(one(rest)?)?;
     let ctx = lab.ctx();
     if !value.is_live(ctx) {
-        return tell_refused(text, CheckedErr::Condition);
+        return tell_condition(text);
     }
     match value.uses(ctx) {
         Ok(uses) => write_operands(text, lab, &uses),
@@ -57,7 +58,7 @@ pub(crate) fn of_block(text: &mut String, lab: &Lab, rest: &str) -> Result<(), T
     let block = lab.block(one(rest)?)?;
     let ctx = lab.ctx();
     if !block.is_live(ctx) {
-        return tell_refused(text, CheckedErr::Condition);
+        return tell_condition(text);
     }
     match block.uses(ctx) {
         Ok(uses) => write_successors(text, lab, &uses),
@@ -99,7 +100,7 @@ fn write_successors_of(
 pub(crate) fn of_op(text: &mut String, lab: &Lab, rest: &str) -> Result<(), TextError> {
     let op = lab.op(one(rest)?)?;
     let Some(count) = walked(lab.ctx(), op) else {
-        return tell_refused(text, CheckedErr::Condition);
+        return tell_condition(text);
     };
     write!(text, "len {count}")?;
     for user in &lab.tables.ops {

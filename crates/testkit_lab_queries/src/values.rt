@@ -1,8 +1,10 @@
 //! What is read of values and of uses.
 
 use ir_base_dialects::Ptr;
-use ir_checked::{BasicBlock, Use, UseQueries, Value, ValueQueries, num_uses};
-use ir_view_parts::{BlockUseQueries, DefiningEntity, ValuePlace};
+use ir_checked_core::value;
+use ir_view_parts::{
+    BasicBlock, BlockUseQueries, DefiningEntity, Use, UseQueries, Value, ValuePlace, ValueQueries,
+};
 use testkit_lab::{Lab, Line, Name, Named, TextError, name_of, one};
 use toy_dialect::Toy;
 
@@ -37,7 +39,7 @@ fn write_type(text: &mut String, lab: &Lab, value: Value<Toy>) -> Result<(), Tex
     }
     let found = value.find_index(ctx);
     let ty = value.get_type(ctx).name(lab);
-    let count = num_uses(ctx, value).unwrap_or(usize::MAX);
+    let count = value::num_uses(value, ctx).unwrap_or(usize::MAX);
     let used = value.is_used(ctx);
     Ok(write!(
         text,

@@ -1,20 +1,20 @@
 //! Walks over all that stands inside an entity, and the lists that may be kept.
 
-use crate::nesting::entity;
 use ir_base_dialects::Ptr;
-use ir_checked::{BasicBlock, BlockPtr, CheckedErr, Entity, Region, RegionPtr};
+use ir_checked_core::CheckedErr;
+use ir_view_parts::{BasicBlock, BlockPtr, Entity, Region, RegionPtr};
 use ir_view_walks::{
     all_inside, blocks_of, inside, inside_preorder, is_live, ops_inside, ops_inside_preorder,
     ops_of,
 };
-use testkit_lab::{Lab, Name, Named, TextError, one, tell_refused};
+use testkit_lab::{Lab, Name, Named, TextError, one, tell_condition, tell_refused};
 use toy_dialect::Toy;
 
 /// `ENTITY`: all that stands inside it, in post-order and in preorder, and the operations of these.
 pub(crate) fn read(text: &mut String, lab: &Lab, rest: &str) -> Result<(), TextError> {
-    let root = entity(lab, one(rest)?)?;
+    let root = lab.entity(one(rest)?)?;
     if !is_live(lab.ctx(), root) {
-        return tell_refused(text, CheckedErr::Condition);
+        return tell_condition(text);
     }
     write_entities(text, lab, root)?;
     write_ops(text, lab, root)
@@ -70,10 +70,10 @@ fn entity_name(lab: &Lab, entity: Entity<Toy>) -> Name {
 
 /// `ENTITY`: how many stand inside it, by each of the two walks, how many operations, and the first and the last of the two walks.
 pub(crate) fn counted(text: &mut String, lab: &Lab, rest: &str) -> Result<(), TextError> {
-    let root = entity(lab, one(rest)?)?;
+    let root = lab.entity(one(rest)?)?;
     let ctx = lab.ctx();
     if !is_live(ctx, root) {
-        return tell_refused(text, CheckedErr::Condition);
+        return tell_condition(text);
     }
     let mut entities = 0u64;
     for _found in inside(ctx, root) {
@@ -92,9 +92,9 @@ pub(crate) fn counted(text: &mut String, lab: &Lab, rest: &str) -> Result<(), Te
 
 /// `ENTITY`: all that stands inside it as a list, and before that the list of a block's operations or of a region's blocks.
 pub(crate) fn listed(text: &mut String, lab: &Lab, rest: &str) -> Result<(), TextError> {
-    let root = entity(lab, one(rest)?)?;
+    let root = lab.entity(one(rest)?)?;
     if !is_live(lab.ctx(), root) {
-        return tell_refused(text, CheckedErr::Condition);
+        return tell_condition(text);
     }
     match root {
         Entity::Op(_op) => write_all(text, lab, root),

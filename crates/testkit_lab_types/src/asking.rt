@@ -1,4 +1,4 @@
-//! Checks that ask for memory, for any dialect.
+//! Checks that ask for memory, for both dialects of the lab. An impl for any dialect would meet the one that own checks have.
 
 ghost use Rattle.std.specs.Prelude.{◌≡◌, IfErr};
 ghost use Rattle.testkit_lab_types.specs.Asking.{asking};
@@ -6,6 +6,8 @@ ghost use Rattle.testkit_lab_types.specs.Asking.{asking};
 use ir_base_dialects::Dialects;
 use ir_verify_checks::{CheckErr, Context, OpObj, Verifiers};
 use std::alloc::Global;
+use testkit_small_dialect::Small;
+use toy_dialect::Toy;
 
 /// Checks that find nothing. Each asks for memory, and answers where it is refused.
 #[derive(Clone, Copy, Debug, Drop)]
@@ -21,7 +23,7 @@ fn ask(alloc: Global) -> Result<(), CheckErr>
     }
 }
 
-impl<D: Dialects> Verifiers<D> for Asking {
+impl Verifiers<Toy> for Asking {
     ghost handed_in = { λ _. asking };
 
     fn op_verifiers(&self, _kind: u32) -> &[u32] {
@@ -42,8 +44,8 @@ impl<D: Dialects> Verifiers<D> for Asking {
     fn check_op_interface(
         &self,
         _number: u32,
-        _op: &OpObj<D>,
-        ctx: &Context<D>,
+        _op: &OpObj<Toy>,
+        ctx: &Context<Toy>,
     ) -> Result<(), CheckErr> {
         ask(ctx.alloc())
     }
@@ -51,8 +53,8 @@ impl<D: Dialects> Verifiers<D> for Asking {
     fn check_attr_interface(
         &self,
         _number: u32,
-        _attr: &D::Attr,
-        ctx: &Context<D>,
+        _attr: &<Toy as Dialects>::Attr,
+        ctx: &Context<Toy>,
     ) -> Result<(), CheckErr> {
         ask(ctx.alloc())
     }
@@ -60,21 +62,95 @@ impl<D: Dialects> Verifiers<D> for Asking {
     fn check_type_interface(
         &self,
         _number: u32,
-        _ty: &D::TypeKey,
-        ctx: &Context<D>,
+        _ty: &<Toy as Dialects>::TypeKey,
+        ctx: &Context<Toy>,
     ) -> Result<(), CheckErr> {
         ask(ctx.alloc())
     }
 
-    fn check_op(&self, _op: &OpObj<D>, ctx: &Context<D>) -> Result<(), CheckErr> {
+    fn check_op(&self, _op: &OpObj<Toy>, ctx: &Context<Toy>) -> Result<(), CheckErr> {
         ask(ctx.alloc())
     }
 
-    fn check_attr(&self, _attr: &D::Attr, ctx: &Context<D>) -> Result<(), CheckErr> {
+    fn check_attr(
+        &self,
+        _attr: &<Toy as Dialects>::Attr,
+        ctx: &Context<Toy>,
+    ) -> Result<(), CheckErr> {
         ask(ctx.alloc())
     }
 
-    fn check_type(&self, _ty: &D::TypeKey, ctx: &Context<D>) -> Result<(), CheckErr> {
+    fn check_type(
+        &self,
+        _ty: &<Toy as Dialects>::TypeKey,
+        ctx: &Context<Toy>,
+    ) -> Result<(), CheckErr> {
+        ask(ctx.alloc())
+    }
+}
+
+impl Verifiers<Small> for Asking {
+    ghost handed_in = { λ _. asking };
+
+    fn op_verifiers(&self, _kind: u32) -> &[u32] {
+        // One check is listed for each kind of operations.
+        &[1]
+    }
+
+    fn attr_verifiers(&self, _kind: u32) -> &[u32] {
+        // One check is listed for each kind of attributes.
+        &[1]
+    }
+
+    fn type_verifiers(&self, _kind: u32) -> &[u32] {
+        // One check is listed for each kind of types.
+        &[1]
+    }
+
+    fn check_op_interface(
+        &self,
+        _number: u32,
+        _op: &OpObj<Small>,
+        ctx: &Context<Small>,
+    ) -> Result<(), CheckErr> {
+        ask(ctx.alloc())
+    }
+
+    fn check_attr_interface(
+        &self,
+        _number: u32,
+        _attr: &<Small as Dialects>::Attr,
+        ctx: &Context<Small>,
+    ) -> Result<(), CheckErr> {
+        ask(ctx.alloc())
+    }
+
+    fn check_type_interface(
+        &self,
+        _number: u32,
+        _ty: &<Small as Dialects>::TypeKey,
+        ctx: &Context<Small>,
+    ) -> Result<(), CheckErr> {
+        ask(ctx.alloc())
+    }
+
+    fn check_op(&self, _op: &OpObj<Small>, ctx: &Context<Small>) -> Result<(), CheckErr> {
+        ask(ctx.alloc())
+    }
+
+    fn check_attr(
+        &self,
+        _attr: &<Small as Dialects>::Attr,
+        ctx: &Context<Small>,
+    ) -> Result<(), CheckErr> {
+        ask(ctx.alloc())
+    }
+
+    fn check_type(
+        &self,
+        _ty: &<Small as Dialects>::TypeKey,
+        ctx: &Context<Small>,
+    ) -> Result<(), CheckErr> {
         ask(ctx.alloc())
     }
 }

@@ -9,16 +9,17 @@
 
 use crate::attr_calls::{Change, make, set_of, tell_attribute, write_of};
 use crate::known_names::identifier;
-use crate::telling::{Maybe, tell_condition, tell_refusal};
+use crate::telling::{Maybe, tell_refusal};
 use crate::type_words::{hash_of, place_of};
 use ir_base_dialects::attribute::{
     AttributeDict, attr_impls, attr_impls_static, attr_should_outline, attr_type,
 };
 use ir_base_dialects::interfaces::{OutlinedAttr, TypedAttrInterface};
 use ir_base_dialects::{CoreError, Identifier, Ptr};
-use ir_checked::{BasicBlock, BlockPtr, Context, Operation, OperationPtr};
-use ir_view_parts::{BlockPtrMut, OperationPtrMut};
-use testkit_lab::{Lab, TextError, asked, one, take_field, two};
+use ir_view_parts::{
+    BasicBlock, BlockPtr, BlockPtrMut, Context, Operation, OperationPtr, OperationPtrMut,
+};
+use testkit_lab::{Lab, TextError, asked, one, take_field, tell_condition, two};
 use toy_dialect::{Toy, ToyInt, ToyOutlined, ToyText};
 
 /// Answers a word.

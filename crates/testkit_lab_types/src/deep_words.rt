@@ -3,13 +3,10 @@
 //! - `above o0 COUNT`, `below o0 COUNT`: so many operations of kind 5, each in a block of the region of the one before it, from `o0` inward or outward, whose last is entered.
 //! - `read o0 o1`: whether the second stands inside the first and the first inside the second, whether the first stands in no block, and whether the second is the first of its block.
 
-use crate::telling::{tell_condition, tell_refusal};
 use ir_base_dialects::{Dialects, Ptr};
-use ir_checked::{
-    CheckedErr, Context, Entity, Operation, block_at_back, block_head, is_inside, new_block,
-    new_op, op_at_back, parent_block, region,
-};
-use testkit_lab::{Lab, TextError, count, one, two};
+use ir_checked_core::{CheckedErr, basic_block, operation};
+use ir_view_parts::{Context, Entity, Operation, is_inside};
+use testkit_lab::{Lab, TextError, count, one, tell_refused, two};
 
 /// Answers a word.
 pub(crate) fn answer(lab: &mut Lab, call: &str, rest: &str) -> Result<(), TextError> {
@@ -35,16 +32,16 @@ fn put_inside<D: Dialects>(
     outer: Ptr<Operation<D>>,
     inner: Ptr<Operation<D>>,
 ) -> Result<(), CheckedErr> {
-    let block = new_block(ctx, None, &[])?;
-    let inside = region(ctx, outer, 0)?;
+    let block = basic_block::new(ctx, None, &[])?;
+    let inside = operation::get_region(outer, ctx, 0)?;
     match way {
         Way::Inward => {
-            block_at_back(ctx, block, inside)?;
-            op_at_back(ctx, inner, block)
+            basic_block::insert_at_back(block, inside, ctx)?;
+            operation::insert_at_back(inner, block, ctx)
         }
         Way::Outward => {
-            op_at_back(ctx, inner, block)?;
-            block_at_back(ctx, block, inside)
+            operation::insert_at_back(inner, block, ctx)?;
+            basic_block::insert_at_back(block, inside, ctx)
         }
     }
 }
@@ -55,7 +52,7 @@ fn grow<D: Dialects>(
     way: Way,
     last: Ptr<Operation<D>>,
 ) -> Result<Ptr<Operation<D>>, CheckedErr> {
-    let next = new_op(ctx, 5, &[], &[], &[], 1)?;
+    let next = operation::new(ctx, 5, &[], &[], &[], 1)?;
     match way {
         Way::Inward => put_inside(ctx, way, last, next)?,
         Way::Outward => put_inside(ctx, way, next, last)?,
@@ -86,8 +83,7 @@ fn nest(lab: &mut Lab, way: Way, rest: &str) -> Result<(), TextError> {
             lab.tables.ops.push(last)?;
             Ok(write!(lab.text, "made o{number}")?)
         }
-        Err(CheckedErr::Condition) => tell_condition(&mut lab.text),
-        Err(CheckedErr::Core(error)) => tell_refusal(&mut lab.text, error),
+        Err(error) => tell_refused(&mut lab.text, error),
     }
 }
 
@@ -98,15 +94,15 @@ fn read(lab: &mut Lab, rest: &str) -> Result<(), TextError> {
     let ctx = lab.ctx();
     let down = is_inside(ctx, Entity::Op(inner), Entity::Op(outer));
     let up = is_inside(ctx, Entity::Op(outer), Entity::Op(inner));
-    let alone = parent_block(ctx, outer) == Ok(None);
+    let alone = operation::get_parent_block(outer, ctx) == Ok(None);
     let first = is_first(ctx, inner);
     Ok(write!(lab.text, "inside {down} {up} alone {alone} first {first}")?)
 }
 
 // Whether the operation is the first of a block.
 fn is_first<D: Dialects>(ctx: &Context<D>, op: Ptr<Operation<D>>) -> bool {
-    match parent_block(ctx, op) {
-        Ok(Some(block)) => block_head(ctx, block) == Ok(Some(op)),
+    match operation::get_parent_block(op, ctx) {
+        Ok(Some(block)) => basic_block::get_head(block, ctx) == Ok(Some(op)),
         _ => false,
     }
 }

@@ -8,14 +8,13 @@
 
 use crate::asking::Asking;
 use crate::small_words::type_at;
-use crate::telling::{tell, tell_condition, tell_done, tell_refusal};
+use crate::telling::{tell, tell_done, tell_refusal};
 use crate::verify_words::tell_found;
 use ir_base_dialects::attribute::Attribute;
 use ir_base_dialects::{CoreError, Ptr};
-use ir_checked::{Context, Operation, OperationPtr};
 use ir_verify_checks::{VerifierErr, Verifiers, VerifyErr, verify_attr};
-use ir_view_parts::{Op, OperationKind};
-use testkit_lab::{Lab, TextError, one, three};
+use ir_view_parts::{Context, Op, Operation, OperationKind, OperationPtr};
+use testkit_lab::{Lab, TextError, one, tell_condition, three};
 use testkit_small_dialect::{
     InnerOp, Judge, JudgedRoot, LabErr, MarkedAttr, MarkedForest, PlainAttr, Small, SmallAttr,
     judged_found, make_marked, type_found,

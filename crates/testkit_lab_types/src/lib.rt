@@ -26,7 +26,6 @@ mod saved_words;
 mod small_handles;
 mod small_words;
 mod telling;
-mod toy_ops;
 mod type_words;
 mod verify_words;
 mod words;

@@ -5,11 +5,11 @@
 
 ghost use Rattle.ir_view_parts.specs.State.{forest_of};
 
-use crate::telling::{Maybe, tell, tell_condition};
+use crate::telling::{Maybe, tell};
 use ir_base_dialects::{CoreError, Dialects, Identifier, Ptr};
-use ir_checked::{BasicBlock, BlockPtr, Context, Value, ValueQueries};
 use ir_core_queries::Named;
-use testkit_lab::{Lab, TextError, one};
+use ir_view_parts::{BasicBlock, BlockPtr, Context, Value, ValueQueries};
+use testkit_lab::{Lab, TextError, one, tell_condition};
 use toy_dialect::Toy;
 
 /// Answers a word.

@@ -6,8 +6,8 @@
 
 use crate::telling::{tell, tell_refusal};
 use ir_base_dialects::{CoreError, SavedValue};
-use ir_checked::Context;
 use ir_core_uniqued::{Uniqued, UniquedKey, get, save};
+use ir_view_parts::Context;
 use std::alloc::Global;
 use std::fmt::Display;
 use testkit_lab::{Lab, Saved, TextError, asked, one, two};

@@ -7,15 +7,15 @@
 //! - `keep sized|listed PLACE`, `kept sized|listed`: the handle is kept, also when another context begins, and asked.
 
 use crate::small_words::type_at;
-use crate::telling::{tell_condition, tell_done, tell_refusal};
+use crate::telling::{tell_done, tell_refusal};
 use crate::type_words::hash_of;
 use ir_base_dialects::interfaces::TypeInterfaceMarker;
 use ir_base_dialects::{CoreError, TypeHandle};
-use ir_checked::{Context, TypeQueries};
+use ir_view_parts::{Context, TypeQueries};
 use ir_view_types::{IrType, TypeImplsInterface, TypeInterfaceHandle, TypedHandle};
 use std::fmt::Debug;
 use std::hash::Hash;
-use testkit_lab::{Lab, TextError, one, three, two};
+use testkit_lab::{Lab, TextError, one, tell_condition, three, two};
 use testkit_small_dialect::{
     CompoundInterface, ListedType, PairType, SizedInterface, SizedType, Small,
 };

@@ -10,13 +10,13 @@
 //! - the words of `small_handles`.
 
 use crate::small_handles as handles;
-use crate::telling::{tell, tell_condition, tell_done, tell_refusal};
+use crate::telling::{tell, tell_done, tell_refusal};
 use crate::type_words::place_of;
 use ir_base_dialects::{CoreError, TypeHandle, TypeId};
-use ir_checked::{Context, TypeQueries};
+use ir_view_parts::{Context, TypeQueries};
 use ir_view_types::{IrType, type_impls, type_impls_static};
 use std::alloc::Global;
-use testkit_lab::{Lab, TextError, count, one, two};
+use testkit_lab::{Lab, TextError, count, one, tell_condition, two};
 use testkit_small_dialect::{
     CompoundInterface, ListedType, PairType, SizedInterface, SizedType, Small, SmallType,
 };

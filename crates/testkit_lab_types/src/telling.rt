@@ -1,7 +1,7 @@
 //! Parts of answers.
 
 use ir_base_dialects::CoreError;
-use ir_checked::CheckedErr;
+use ir_checked_core::CheckedErr;
 use std::fmt;
 use std::fmt::{Display, Formatter, Write};
 use testkit_lab::{TextError, tell_refused};
@@ -17,11 +17,6 @@ impl<T: Display> Display for Maybe<T> {
             None => f.write_str("-"),
         }
     }
-}
-
-/// Writes that a condition doesn't hold.
-pub(crate) fn tell_condition(text: &mut String) -> Result<(), TextError> {
-    tell_refused(text, CheckedErr::Condition)
 }
 
 /// Writes that something is done.

@@ -6,13 +6,13 @@
 //! - `of_value v0`, `of_owned v0`, `of_operand o0 AT`, `of_type t0`: the type of what has one, and of what lends or owns it.
 //! - `clone_signature PLACES PLACES`: whether a copy of the signature with these arguments and results is equal to it, hashes equally, and differs from the signature with both exchanged.
 
-use crate::telling::{Maybe, tell, tell_condition, tell_done, tell_refusal};
+use crate::telling::{Maybe, tell, tell_done, tell_refusal};
 use ir_base_dialects::{CoreError, Dialects, TypeHandle};
-use ir_checked::{Context, OperationPtr, TypeQueries, Use, UseQueries, Value, ValueQueries};
+use ir_view_parts::{Context, OperationPtr, TypeQueries, Use, UseQueries, Value, ValueQueries};
 use ir_view_types::{TypeSig, Typed};
 use std::alloc::Global;
 use std::hash::{DefaultHasher, Hash, Hasher};
-use testkit_lab::{Lab, TextError, asked, count, one, two};
+use testkit_lab::{Lab, TextError, asked, count, one, tell_condition, two};
 use toy_dialect::{Toy, ToyType};
 
 /// Answers a word.

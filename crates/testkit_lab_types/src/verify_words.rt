@@ -6,9 +6,8 @@
 //! In the group `verify` the checks are those of Toy, as in `well`, where nothing may be wrong, so that nothing is asked for. In `asking` each check asks for memory.
 
 use crate::attr_calls::attribute_of;
-use crate::telling::tell_condition;
 use ir_verify_checks::{Verifiers, VerifyErr, verify_attr};
-use testkit_lab::{Lab, TextError, one};
+use testkit_lab::{Lab, TextError, one, tell_condition};
 use testkit_small_dialect::{
     block_found, op_found, op_found_by_call, op_found_with_kind, region_found, type_found,
     type_found_by_call, value_found,

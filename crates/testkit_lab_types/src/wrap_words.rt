@@ -7,14 +7,14 @@
 //! - `loc o0`: its location, by a constant.
 //! - `get_opid o0`, `constant_id o0`, `return_id o0`, `static_id`: ids, by the handle, by each type, and of constants.
 
-use crate::telling::{Maybe, tell, tell_condition};
-use crate::toy_ops::{Constant, Return};
+use crate::telling::{Maybe, tell};
 use crate::type_words::hash_of;
 use ir_base_dialects::Ptr;
 use ir_base_dialects::interfaces::{IsTerminatorInterface, PureOpInterface};
-use ir_checked::{Context, Operation, OperationPtr};
-use ir_view_parts::{Op, OpObj, OperationKind, op_impls, op_impls_static};
-use testkit_lab::{Lab, Line, TextError, asked, one, two};
+use ir_view_parts::{
+    Context, Op, OpObj, Operation, OperationKind, OperationPtr, op_impls, op_impls_static,
+};
+use testkit_lab::{Constant, Lab, Line, Return, TextError, asked, one, tell_condition, two};
 use toy_dialect::Toy;
 
 /// Answers a word.

@@ -2,7 +2,7 @@
 
 use ir_base_dialects::interfaces::TypeInterfaceMarker;
 use ir_base_dialects::{Dialects, Ptr, TypeHandle};
-use ir_checked::end;
+use ir_checked_core::context;
 use ir_verify_checks::{
     Verifiers, Verify, VerifyErr, verify_attr, verify_op, verify_operation, verify_type,
 };
@@ -156,5 +156,5 @@ pub fn found_of_attribute<D: Dialects, V: Verifiers<D>>(
 ) -> Result<(), VerifyErr> {
     let ctx: Context<D> = Context::new(alloc);
     let found = verify_attr(attr, &ctx, verifiers);
-    end(ctx, found)
+    context::end(ctx, found)
 }

@@ -1,8 +1,8 @@
 //! The own checks of the dialect Toy: an integer type has a width, and an addition has two operands.
 
-ghost use Rattle.toy_checks.specs.ToyVerifiers.{toy_verifiers};
+ghost use Rattle.toy_checks.specs.ToyVerifiers.{toy_checks};
 
-use ir_verify_checks::{CheckErr, Context, OpObj, OperationPtr, Verifiers};
+use ir_verify_checks::{CheckErr, Context, OpObj, OperationPtr, OwnChecks};
 use toy_dialect::{Toy, ToyAttr, ToyType};
 
 /// The code of an integer type whose width is 0.
@@ -18,53 +18,8 @@ const ADDITION: u32 = 1;
 #[derive(Clone, Copy, Debug, Default, Drop, PartialEq, Eq)]
 pub struct ToyVerifiers;
 
-impl Verifiers<Toy> for ToyVerifiers {
-    ghost handed_in = { λ _. toy_verifiers };
-
-    fn op_verifiers(&self, _kind: u32) -> &[u32] {
-        // No checks of operations are listed.
-        &[]
-    }
-
-    fn attr_verifiers(&self, _kind: u32) -> &[u32] {
-        // No checks of attributes are listed.
-        &[]
-    }
-
-    fn type_verifiers(&self, _kind: u32) -> &[u32] {
-        // No checks of types are listed.
-        &[]
-    }
-
-    fn check_op_interface(
-        &self,
-        _number: u32,
-        _op: &OpObj<Toy>,
-        _ctx: &Context<Toy>,
-    ) -> Result<(), CheckErr> {
-        // No check of an operation has a number.
-        Ok(())
-    }
-
-    fn check_attr_interface(
-        &self,
-        _number: u32,
-        _attr: &ToyAttr,
-        _ctx: &Context<Toy>,
-    ) -> Result<(), CheckErr> {
-        // No check of an attribute has a number.
-        Ok(())
-    }
-
-    fn check_type_interface(
-        &self,
-        _number: u32,
-        _ty: &ToyType,
-        _ctx: &Context<Toy>,
-    ) -> Result<(), CheckErr> {
-        // No check of a type has a number.
-        Ok(())
-    }
+impl OwnChecks<Toy> for ToyVerifiers {
+    ghost found = { λ _. toy_checks };
 
     fn check_op(&self, op: &OpObj<Toy>, ctx: &Context<Toy>) -> Result<(), CheckErr> {
         let operands = op.get_operation().deref(ctx).get_num_operands();

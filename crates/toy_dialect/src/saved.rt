@@ -1,13 +1,13 @@
 //! Texts and numbers as saved data of the dialect Toy.
 
 ghost use Rattle.std.specs.Prelude.{Some, None};
-ghost use Rattle.std.proofs.Common.{refl};
+ghost use Rattle.std.proofs.Common.{refl, rules};
 
 use crate::toy::{Toy, ToySaved};
 use ir_base_dialects::SavedValue;
 
 impl SavedValue<Toy> for String {
-    ghost use Rattle.toy_dialect.specs.declared.toy.ToySaved.TheVariants.{Text, U64, I64};
+    ghost use Rattle.toy_dialect.specs.declared.toy.ToySaved.TheVariants.{Text};
 
     ghost KIND = { 0 };
 
@@ -15,7 +15,7 @@ impl SavedValue<Toy> for String {
 
     ghost saved_of = { Text };
 
-    ghost value_of = { elim [ Text t ↦ Some t | U64 _ ↦ None | I64 _ ↦ None ] };
+    ghost value_of = { elim [ Text t ↦ Some t | _ ↦ None ] };
 
     fn to_saved(self) -> ToySaved {
         ToySaved::Text(self)
@@ -24,20 +24,19 @@ impl SavedValue<Toy> for String {
     fn of_saved(saved: &ToySaved) -> Option<&String> {
         match saved {
             ToySaved::Text(text) => Some(text),
-            ToySaved::U64(_) => None,
-            ToySaved::I64(_) => None,
+            _ => None,
         }
     }
 
     ghost given_back = { λ a. refl };
 
-    ghost of_kind = { elim [ Text _ ↦ refl | U64 _ ↦ refl | I64 _ ↦ refl ] };
+    ghost of_kind = { Prim.search rules };
 
     ghost equal_saved = { λ a b. refl };
 }
 
 impl SavedValue<Toy> for u64 {
-    ghost use Rattle.toy_dialect.specs.declared.toy.ToySaved.TheVariants.{Text, U64, I64};
+    ghost use Rattle.toy_dialect.specs.declared.toy.ToySaved.TheVariants.{U64};
 
     ghost KIND = { 1 };
 
@@ -45,7 +44,7 @@ impl SavedValue<Toy> for u64 {
 
     ghost saved_of = { U64 };
 
-    ghost value_of = { elim [ Text _ ↦ None | U64 n ↦ Some n | I64 _ ↦ None ] };
+    ghost value_of = { elim [ U64 n ↦ Some n | _ ↦ None ] };
 
     fn to_saved(self) -> ToySaved {
         ToySaved::U64(self)
@@ -53,21 +52,20 @@ impl SavedValue<Toy> for u64 {
 
     fn of_saved(saved: &ToySaved) -> Option<&u64> {
         match saved {
-            ToySaved::Text(_) => None,
             ToySaved::U64(number) => Some(number),
-            ToySaved::I64(_) => None,
+            _ => None,
         }
     }
 
     ghost given_back = { λ a. refl };
 
-    ghost of_kind = { elim [ Text _ ↦ refl | U64 _ ↦ refl | I64 _ ↦ refl ] };
+    ghost of_kind = { Prim.search rules };
 
     ghost equal_saved = { λ a b. refl };
 }
 
 impl SavedValue<Toy> for i64 {
-    ghost use Rattle.toy_dialect.specs.declared.toy.ToySaved.TheVariants.{Text, U64, I64};
+    ghost use Rattle.toy_dialect.specs.declared.toy.ToySaved.TheVariants.{I64};
 
     ghost KIND = { 2 };
 
@@ -75,7 +73,7 @@ impl SavedValue<Toy> for i64 {
 
     ghost saved_of = { I64 };
 
-    ghost value_of = { elim [ Text _ ↦ None | U64 _ ↦ None | I64 n ↦ Some n ] };
+    ghost value_of = { elim [ I64 n ↦ Some n | _ ↦ None ] };
 
     fn to_saved(self) -> ToySaved {
         ToySaved::I64(self)
@@ -83,15 +81,14 @@ impl SavedValue<Toy> for i64 {
 
     fn of_saved(saved: &ToySaved) -> Option<&i64> {
         match saved {
-            ToySaved::Text(_) => None,
-            ToySaved::U64(_) => None,
             ToySaved::I64(number) => Some(number),
+            _ => None,
         }
     }
 
     ghost given_back = { λ a. refl };
 
-    ghost of_kind = { elim [ Text _ ↦ refl | U64 _ ↦ refl | I64 _ ↦ refl ] };
+    ghost of_kind = { Prim.search rules };
 
     ghost equal_saved = { λ a b. refl };
 }

@@ -142,9 +142,9 @@ impl Dialects for Toy {
 
     ghost region_ssa_dominance_of = { is_ssa };
 
-    ghost attr_outline_of = { elim [ attr.Int _ ↦ false | attr.Text _ ↦ false | attr.Outlined _ ↦ true ] };
+    ghost attr_outline_of = { elim [ attr.Outlined _ ↦ true | _ ↦ false ] };
 
-    ghost attr_type_of = { elim [ attr.Int number ↦ Some number.ty | attr.Text _ ↦ None | attr.Outlined _ ↦ None ] };
+    ghost attr_type_of = { elim [ attr.Int number ↦ Some number.ty | _ ↦ None ] };
 
     ghost op_id_of = { λ kind. record { dialect = codes "toy"; name = op_name kind } };
 
@@ -203,17 +203,15 @@ impl Dialects for Toy {
 
     fn attr_outline(attr: &ToyAttr) -> bool {
         match attr {
-            ToyAttr::Int(_) => false,
-            ToyAttr::Text(_) => false,
             ToyAttr::Outlined(_) => true,
+            _ => false,
         }
     }
 
     fn attr_type(attr: &ToyAttr) -> Option<TypeHandle> {
         match attr {
             ToyAttr::Int(number) => Some(number.ty),
-            ToyAttr::Text(_) => None,
-            ToyAttr::Outlined(_) => None,
+            _ => None,
         }
     }
 
@@ -259,5 +257,5 @@ impl Dialects for Toy {
 
     ghost saved_kinds = { Prim.search rules };
 
-    ghost typed = { elim [ attr.Int _ ↦ refl | attr.Text _ ↦ refl | attr.Outlined _ ↦ refl ] };
+    ghost typed = { Prim.search rules };
 }

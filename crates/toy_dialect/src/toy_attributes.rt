@@ -1,6 +1,6 @@
 //! The attributes of the dialect Toy, each a type of its own, so that dictionaries take and lend it.
 ghost use Rattle.std.specs.Prelude.{None, Some, refl};
-ghost use Rattle.std.proofs.Common.{sym, true≢false};
+ghost use Rattle.std.proofs.Common.{rules};
 
 use crate::toy::{Toy, ToyAttr};
 use ir_base_dialects::TypeHandle;
@@ -32,9 +32,9 @@ impl Attribute<Toy> for ToyInt {
 
     ghost attr_of = { attr.Int };
 
-    ghost value_of = { elim [ attr.Int x ↦ Some x | attr.Text _ ↦ None | attr.Outlined _ ↦ None ] };
+    ghost value_of = { elim [ attr.Int x ↦ Some x | _ ↦ None ] };
 
-    ghost with_value = { λ attribute a. elim attribute [ attr.Int _ ↦ attr.Int a | attr.Text x ↦ attr.Text x | attr.Outlined x ↦ attr.Outlined x ] };
+    ghost with_value = { λ attribute a. elim attribute [ attr.Int _ ↦ attr.Int a | x ↦ x ] };
 
     fn into_attr(self) -> ToyAttr {
         ToyAttr::Int(self)
@@ -43,28 +43,26 @@ impl Attribute<Toy> for ToyInt {
     fn of_attr(attr: &ToyAttr) -> Option<&ToyInt> {
         match attr {
             ToyAttr::Int(value) => Some(value),
-            ToyAttr::Text(_) => None,
-            ToyAttr::Outlined(_) => None,
+            _ => None,
         }
     }
 
     fn of_attr_mut(attr: &mut ToyAttr) -> Option<&mut ToyInt> {
         match attr {
             ToyAttr::Int(value) => Some(value),
-            ToyAttr::Text(_) => None,
-            ToyAttr::Outlined(_) => None,
+            _ => None,
         }
     }
 
     ghost given_back = { λ a. refl };
 
-    ghost of_kind = { elim [ attr.Int _ ↦ refl | attr.Text _ ↦ refl | attr.Outlined _ ↦ refl ] };
+    ghost of_kind = { Prim.search rules };
 
     ghost equal_attrs = { λ a b. refl };
 
-    ghost written = { elim [ attr.Int _ ↦ λ a e. refl | attr.Text _ ↦ λ a e. absurd (true≢false (sym e)) | attr.Outlined _ ↦ λ a e. absurd (true≢false (sym e)) ] };
+    ghost written = { Prim.search rules };
 
-    ghost keeps_kind = { elim [ attr.Int _ ↦ λ a. refl | attr.Text _ ↦ λ a. refl | attr.Outlined _ ↦ λ a. refl ] };
+    ghost keeps_kind = { Prim.search rules };
 }
 
 impl Attribute<Toy> for ToyText {
@@ -76,9 +74,9 @@ impl Attribute<Toy> for ToyText {
 
     ghost attr_of = { attr.Text };
 
-    ghost value_of = { elim [ attr.Int _ ↦ None | attr.Text x ↦ Some x | attr.Outlined _ ↦ None ] };
+    ghost value_of = { elim [ attr.Text x ↦ Some x | _ ↦ None ] };
 
-    ghost with_value = { λ attribute a. elim attribute [ attr.Int x ↦ attr.Int x | attr.Text _ ↦ attr.Text a | attr.Outlined x ↦ attr.Outlined x ] };
+    ghost with_value = { λ attribute a. elim attribute [ attr.Text _ ↦ attr.Text a | x ↦ x ] };
 
     fn into_attr(self) -> ToyAttr {
         ToyAttr::Text(self)
@@ -86,29 +84,27 @@ impl Attribute<Toy> for ToyText {
 
     fn of_attr(attr: &ToyAttr) -> Option<&ToyText> {
         match attr {
-            ToyAttr::Int(_) => None,
             ToyAttr::Text(value) => Some(value),
-            ToyAttr::Outlined(_) => None,
+            _ => None,
         }
     }
 
     fn of_attr_mut(attr: &mut ToyAttr) -> Option<&mut ToyText> {
         match attr {
-            ToyAttr::Int(_) => None,
             ToyAttr::Text(value) => Some(value),
-            ToyAttr::Outlined(_) => None,
+            _ => None,
         }
     }
 
     ghost given_back = { λ a. refl };
 
-    ghost of_kind = { elim [ attr.Int _ ↦ refl | attr.Text _ ↦ refl | attr.Outlined _ ↦ refl ] };
+    ghost of_kind = { Prim.search rules };
 
     ghost equal_attrs = { λ a b. refl };
 
-    ghost written = { elim [ attr.Int _ ↦ λ a e. absurd (true≢false (sym e)) | attr.Text _ ↦ λ a e. refl | attr.Outlined _ ↦ λ a e. absurd (true≢false (sym e)) ] };
+    ghost written = { Prim.search rules };
 
-    ghost keeps_kind = { elim [ attr.Int _ ↦ λ a. refl | attr.Text _ ↦ λ a. refl | attr.Outlined _ ↦ λ a. refl ] };
+    ghost keeps_kind = { Prim.search rules };
 }
 
 impl Attribute<Toy> for ToyOutlined {
@@ -120,9 +116,9 @@ impl Attribute<Toy> for ToyOutlined {
 
     ghost attr_of = { attr.Outlined };
 
-    ghost value_of = { elim [ attr.Int _ ↦ None | attr.Text _ ↦ None | attr.Outlined x ↦ Some x ] };
+    ghost value_of = { elim [ attr.Outlined x ↦ Some x | _ ↦ None ] };
 
-    ghost with_value = { λ attribute a. elim attribute [ attr.Int x ↦ attr.Int x | attr.Text x ↦ attr.Text x | attr.Outlined _ ↦ attr.Outlined a ] };
+    ghost with_value = { λ attribute a. elim attribute [ attr.Outlined _ ↦ attr.Outlined a | x ↦ x ] };
 
     fn into_attr(self) -> ToyAttr {
         ToyAttr::Outlined(self)
@@ -130,27 +126,25 @@ impl Attribute<Toy> for ToyOutlined {
 
     fn of_attr(attr: &ToyAttr) -> Option<&ToyOutlined> {
         match attr {
-            ToyAttr::Int(_) => None,
-            ToyAttr::Text(_) => None,
             ToyAttr::Outlined(value) => Some(value),
+            _ => None,
         }
     }
 
     fn of_attr_mut(attr: &mut ToyAttr) -> Option<&mut ToyOutlined> {
         match attr {
-            ToyAttr::Int(_) => None,
-            ToyAttr::Text(_) => None,
             ToyAttr::Outlined(value) => Some(value),
+            _ => None,
         }
     }
 
     ghost given_back = { λ a. refl };
 
-    ghost of_kind = { elim [ attr.Int _ ↦ refl | attr.Text _ ↦ refl | attr.Outlined _ ↦ refl ] };
+    ghost of_kind = { Prim.search rules };
 
     ghost equal_attrs = { λ a b. refl };
 
-    ghost written = { elim [ attr.Int _ ↦ λ a e. absurd (true≢false (sym e)) | attr.Text _ ↦ λ a e. absurd (true≢false (sym e)) | attr.Outlined _ ↦ λ a e. refl ] };
+    ghost written = { Prim.search rules };
 
-    ghost keeps_kind = { elim [ attr.Int _ ↦ λ a. refl | attr.Text _ ↦ λ a. refl | attr.Outlined _ ↦ λ a. refl ] };
+    ghost keeps_kind = { Prim.search rules };
 }

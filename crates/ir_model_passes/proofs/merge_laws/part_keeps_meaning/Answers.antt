@@ -1,6 +1,7 @@
 use Rattle.ir_model.proofs.TwoRuns.{lawful}
 use Rattle.ir_model_passes.proofs.Merged.{partly_formed, partly_keeps}
 use Rattle.ir_model_passes.proofs.FrontWalk.{broken_off_keeps}
+use Rattle.ir_model_passes.proofs.MergedInside.{inside_broken_off_keeps}
 use Rattle.ir_model_passes.proofs.merge_laws.part_keeps_meaning.Goals as goal
 
 pub returns-clause-one : goal.returns-clause-one
@@ -8,3 +9,6 @@ returns-clause-one g c = λ behaviour same gives respects f h keys b w m. (partl
 
 pub returns-clause-last : goal.returns-clause-last
 returns-clause-last g c = λ behaviour same gives respects f h keys b w m. broken_off_keeps lawful behaviour same b keys gives respects f h w m
+
+pub returns-clause-inside : goal.returns-clause-inside
+returns-clause-inside g c = λ behaviour same gives respects f h keys root w m. inside_broken_off_keeps lawful behaviour same gives keys respects f h root w m

@@ -4,6 +4,6 @@ use Rattle.ir_text_names.proofs.block_names.named.Given as goal
 
 abbrev pub invariant-loop-at : goal.invariant-loop-at
 invariant-loop-at l = record {
-  table : AreBlocksNamed l.text l.rows l.at l.table.items;
+  table : AreBlocksNamed l.text l.rows l.at l.table;
   unknown : IsFirst (NamesNoBlock l.text l.rows) l.at l.unknown;
 }

@@ -6,5 +6,5 @@ use Rattle.ir_text_names.proofs.result_numbers.result_types.Goals as goal
 pub returns-in-Some : goal.returns-in-Some
 returns-in-Some c = first_fault (IsResultWrong c.args.text.now c.args.rows.now) c.args.rows.now c.in-Some.fault c.in_ok-found.found (sym c.in-Some.ensures) c.in_ok-found.ensures
 
-pub returns-in-None : goal.returns-in-None
-returns-in-None c = all_well (IsResultWrong c.args.text.now c.args.rows.now) c.args.rows.now c.in_ok-found.found (sym c.in-None.ensures) c.in_ok-found.ensures
+pub returns : goal.returns
+returns c = all_well (IsResultWrong c.args.text.now c.args.rows.now) c.args.rows.now c.in_ok-found.found (sym c.in-None.ensures) c.in_ok-found.ensures

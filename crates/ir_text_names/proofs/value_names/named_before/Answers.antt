@@ -1,31 +1,70 @@
-use Rattle.std.proofs.Common.{rules, ◌≡◌, ◌+◌, ◌<◌, ◌≤◌, ◌&&◌, ◌++◌, ◌∷◌, ℕ, cond, nat_eq, bytes_eq, List, [], length, get_or, Option, Some, None, sym, ap, subst, ◌∙◌, arith}
-use Rattle.std.specs.HashMap.{get}
+use Rattle.std.proofs.Common.{rules, ◌≡◌, ◌+◌, ◌<◌, ◌≤◌, ◌&&◌, ◌||◌, ◌++◌, ◌∷◌, ℕ, cond, nat_eq, bytes_eq, List, [], length, get_or, Option, Some, None, IfSome, refl, sym, ap, subst, ◌∙◌, arith}
+use Rattle.std.proofs.lemmas.List.{length-replicate}
 use Rattle.ir_text_names.specs.Firsts.{IsFirst}
-use Rattle.ir_text_names.specs.Places.{row_at}
+use Rattle.ir_text_names.specs.NamedRows.{named_row}
 use Rattle.ir_text_names.specs.Rows.{text_of, row_regions, region_of, regions_behind}
 use Rattle.ir_text_names.specs.Values.{still_open, clashes, IsNamedBefore, IsValueAgain}
-use Rattle.ir_text_names.proofs.FirstRows.{first_more_clear}
-use Rattle.ir_text_names.proofs.Scopes.{length-scopes_from}
+use Rattle.ir_text_names.proofs.FirstRows.{first_none, first_more_clear}
+use Rattle.ir_text_names.proofs.Entries.{none_there}
+use Rattle.ir_text_names.proofs.Gates.{asked_is, clash_gated, use_gated, gated_within, open_within}
+use Rattle.ir_text_names.proofs.Scopes.{length-scopes_from, region_at_most}
 use Rattle.ir_text_names.proofs.Tables.{entries_more}
-use Rattle.ir_text_names.proofs.ValuesBefore.{last_more, ends_more, known_within, named_before_is, clash_is, clash_told}
+use Rattle.ir_text_names.proofs.ValuesBefore.{last_none, last_more, ends_none, ends_more, known_within, named_before_is, clash_is, clash_told}
 use Rattle.ir_text_names.proofs.value_names.named_before.Goals as goal
+
+long_regions : (rows : _) (regions : List ℕ) → regions ≡ row_regions rows → length regions ≡ length rows
+long_regions rows regions e = ap length e ∙ length-scopes_from regions_behind [] 0 rows
+
+pub loop-at-init : goal.loop-at-init
+loop-at-init c =
+    let text = c.args.text.now in
+    let rows = c.args.rows.now in
+    record {
+      limit = omega (arith, c.new-last.ensures.limit, c.requires.few);
+      last = last_none text rows (named_row c.new-last.result) c.new-last.ensures.none;
+      long = ap length c.in_ok-ends.ensures ∙ length-replicate (length rows) None;
+      ends = ends_none rows (λ (s : ℕ). get_or c.in_ok-ends.ends s None) (λ s. ap (λ (t : List (Option ℕ)). get_or t s None) c.in_ok-ends.ensures ∙ none_there (length rows) s);
+      table = (ap length c.in_ok-table.ensures, λ u lt. absurd (omega (arith, lt)));
+      again = first_none (IsValueAgain text rows);
+    }
 
 pub still_open-around-requires : goal.still_open-around-requires
 still_open-around-requires c =
     let l = c.loop-at in
-    let long : length c.args.regions.now ≡ length c.args.rows.now = ap length c.requires ∙ length-scopes_from regions_behind [] 0 c.args.rows.now in
-    let le : l.at ≤ length c.args.regions.now = omega (arith, long, c.loop-at-test.true) in
-    known_within c.args.text.now c.args.rows.now l.at (length c.args.regions.now) (row_at l.last 0) c.piece-name.result.now c.find_if-before.result l.invariant.last c.find_if-before.ensures le
+    let m = length c.args.regions.now in
+    let known = named_row l.last in
+    let name = c.piece-name.result.now in
+    let long = long_regions c.args.rows.now c.args.regions.now c.requires.regions in
+    let le : l.at ≤ m = omega (arith, long, c.loop-at-test.true) in
+    gated_within (c.defines-is.result || c.is_operand-uses.result) (known name) c.find_if-before.result m (asked_is c.defines-is.result c.is_operand-uses.result c.any.result (known name) c.find_if-before.result c.any.ensures c.find_if-before.ensures) (known_within c.args.text.now c.args.rows.now l.at m known name (known name) l.invariant.last refl le)
 
 pub bounds-regions-at : goal.bounds-regions-at
-bounds-regions-at c =
-    let long : length c.args.regions.now ≡ length c.args.rows.now = ap length c.requires ∙ length-scopes_from regions_behind [] 0 c.args.rows.now in
-    omega (arith, long, c.loop-at-test.true)
+bounds-regions-at c = let long = long_regions c.args.rows.now c.args.regions.now c.requires.regions in omega (arith, long, c.loop-at-test.true)
 
 pub bounds-regions-at-in-loop-at : goal.bounds-regions-at-in-loop-at
-bounds-regions-at-in-loop-at c =
-    let long : length c.args.regions.now ≡ length c.args.rows.now = ap length c.requires ∙ length-scopes_from regions_behind [] 0 c.args.rows.now in
-    omega (arith, long, c.loop-at-test.true)
+bounds-regions-at-in-loop-at c = let long = long_regions c.args.rows.now c.args.regions.now c.requires.regions in omega (arith, long, c.loop-at-test.true)
+
+pub push-requires : goal.push-requires
+push-requires c =
+    let l = c.loop-at in
+    let m : ℕ = 4294967295 in
+    let known = named_row l.last in
+    let name = c.piece-name.result.now in
+    let uses = c.is_operand-uses.result in
+    let before = c.find_if-before.result in
+    let around = c.still_open-around.result in
+    let le : l.at ≤ m = omega (arith, c.requires.few, c.loop-at-test.true) in
+    let few : IfSome before (λ d. d < m) = gated_within (c.defines-is.result || uses) (known name) before m (asked_is c.defines-is.result uses c.any.result (known name) c.find_if-before.result c.any.ensures c.find_if-before.ensures) (known_within c.args.text.now c.args.rows.now l.at m known name (known name) l.invariant.last refl le) in
+    let opened : IfSome around (λ d. d < m) =
+    subst (λ (o : Option ℕ). IfSome o (λ d. d < m)) (sym c.still_open-around.ensures) (open_within (λ (s : ℕ). get_or l.ends s None) c.args.regions.now before m few) in
+    gated_within uses around c.only_if.result m c.only_if.ensures opened
+
+pub end_if-requires-clause-within : goal.end_if-requires-clause-within
+end_if-requires-clause-within c =
+    let l = c.loop-at in
+    let same : get_or c.args.regions.now l.at 0 ≡ region_of c.args.rows.now l.at = ap (λ (r : List ℕ). get_or r l.at 0) c.requires.regions in
+    let le = region_at_most c.args.rows.now l.at in
+    omega (arith, same, le, l.invariant.long, c.loop-at-test.true)
 
 pub returns-clause-again : goal.returns-clause-again
 returns-clause-again c =
@@ -38,29 +77,35 @@ loop-at-preserved c =
     let l = c.loop-at in
     let text = c.args.text.now in
     let rows = c.args.rows.now in
-    let known = row_at l.last 0 in
-    let ends = get nat_eq l.ends in
+    let known = named_row l.last in
+    let ends : ℕ → Option ℕ = λ s. get_or l.ends s None in
     let holds = c.defines-is.result in
+    let uses = c.is_operand-uses.result in
     let before = c.find_if-before.result in
     let around = c.still_open-around.result in
     let name = c.piece-name.ensures in
-    let before_is : before ≡ known (text_of text rows l.at) = c.find_if-before.ensures ∙ ap known name in
-    let around_is : around ≡ still_open ends (row_regions rows) (known (text_of text rows l.at)) =
-    c.still_open-around.ensures ∙ ap (λ (r : List ℕ). still_open ends r before) c.requires ∙ ap (still_open ends (row_regions rows)) before_is in
-    let clash : c.clashes.result ≡ clashes holds (known (text_of text rows l.at)) (still_open ends (row_regions rows) (known (text_of text rows l.at))) (region_of rows l.at) =
+    let k = known (text_of text rows l.at) in
+    let asked : Option ℕ = cond (holds || uses) k None in
+    let still : Option ℕ → Option ℕ = still_open ends (row_regions rows) in
+    let before_is : before ≡ asked = asked_is holds uses c.any.result (known c.piece-name.result.now) before c.any.ensures c.find_if-before.ensures ∙ ap (λ (t : List ℕ). cond (holds || uses) (known t) None) name in
+    let around_is : around ≡ still asked = c.still_open-around.ensures ∙ ap (λ (r : List ℕ). still_open ends r before) c.requires.regions ∙ ap still before_is in
+    let clash : c.clashes.result ≡ clashes holds k (still k) (region_of rows l.at) =
     c.clashes.ensures ∙ ap (λ (o : Option ℕ). clashes holds o around (get_or c.args.regions.now l.at 0)) before_is
-    ∙ ap (λ (o : Option ℕ). clashes holds (known (text_of text rows l.at)) o (get_or c.args.regions.now l.at 0)) around_is
-    ∙ ap (λ (r : List ℕ). clashes holds (known (text_of text rows l.at)) (still_open ends (row_regions rows) (known (text_of text rows l.at))) (get_or r l.at 0)) c.requires in
+    ∙ ap (λ (o : Option ℕ). clashes holds asked o (get_or c.args.regions.now l.at 0)) around_is
+    ∙ ap (λ (r : List ℕ). clashes holds asked (still asked) (get_or r l.at 0)) c.requires.regions
+    ∙ clash_gated holds uses k still (region_of rows l.at) in
     let within : l.at < length rows = c.loop-at-test.true in
     let named : IsNamedBefore text rows l.at c.only_if.result =
-    named_before_is text rows l.at known ends c.is_operand.result c.only_if.result l.invariant.last l.invariant.ends c.is_operand.ensures (c.only_if.ensures ∙ ap (λ (o : Option ℕ). cond c.is_operand.result o None) around_is) in
-    let pushed : c.push.new.self.items ≡ l.table.items ++ c.only_if.result ∷ [] = search rules in
+    named_before_is text rows l.at known ends uses c.only_if.result l.invariant.last l.invariant.ends c.is_operand-uses.ensures (c.only_if.ensures ∙ ap (λ (o : Option ℕ). cond uses o None) around_is ∙ use_gated holds uses k still) in
+    let pushed : c.push.new.self ≡ l.table ++ c.only_if.result ∷ [] = search rules in
     record {
-      last = last_more text rows l.at holds known (row_at c.put_if.new.places 0) within c.defines-is.ensures
-          (λ m. c.in_ok-put_if.ensures.puts 0 m ∙ ap (λ (t : List ℕ). cond (holds && bytes_eq t m) (Some l.at) (known m)) name) l.invariant.last;
-      ends = ends_more rows l.at c.is_close.result ends (get nat_eq c.end_if.new.ends) c.is_close.ensures
-          (λ s. c.in_ok-end_if.ensures s ∙ ap (λ (r : List ℕ). cond (c.is_close.result && nat_eq (get_or r l.at 0) s) (Some l.at) (ends s)) c.requires) l.invariant.ends;
-      table = entries_more (IsNamedBefore text rows) l.at c.only_if.result l.table.items c.push.new.self.items named pushed l.invariant.table;
+      limit = omega (arith, c.in_ok-put_if.ensures.limit, l.invariant.limit);
+      last = last_more text rows l.at holds known (named_row c.put_if.new.self) within c.defines-is.ensures
+          (λ m. c.in_ok-put_if.ensures.puts m ∙ ap (λ (t : List ℕ). cond (holds && bytes_eq t m) (Some l.at) (known m)) name) l.invariant.last;
+      long = c.end_if.ensures.long ∙ l.invariant.long;
+      ends = ends_more rows l.at c.is_close.result ends (λ (s : ℕ). get_or c.end_if.new.ends s None) c.is_close.ensures
+          (λ s. c.end_if.ensures.ends s ∙ ap (λ (r : List ℕ). cond (c.is_close.result && nat_eq (get_or r l.at 0) s) (Some l.at) (ends s)) c.requires.regions) l.invariant.ends;
+      table = entries_more (IsNamedBefore text rows) l.at c.only_if.result l.table c.push.new.self named pushed l.invariant.table;
       again = subst (λ (o : Option ℕ). IsFirst (IsValueAgain text rows) (l.at + 1) o) (sym c.noted-again.ensures)
           (first_more_clear (IsValueAgain text rows) l.at l.again c.clashes.result (λ e. clash_is text rows l.at known ends holds within l.invariant.last l.invariant.ends c.defines-is.ensures (sym clash ∙ e))
           (λ clear again. clash ∙ clash_told text rows l.at known ends holds l.invariant.last l.invariant.ends c.defines-is.ensures clear again) l.invariant.again);

@@ -1,15 +1,16 @@
-use Rattle.std.proofs.Common.{nat_eq}
-use Rattle.std.specs.HashMap.{get}
+use Rattle.std.proofs.Common.{◌≡◌, ℕ, ◌≤◌, length, get_or, None}
 use Rattle.ir_text_names.specs.Firsts.{IsFirst}
-use Rattle.ir_text_names.specs.Places.{row_at}
+use Rattle.ir_text_names.specs.NamedRows.{named_row}
 use Rattle.ir_text_names.specs.Values.{IsValueAgain, AreNamedBefore}
 use Rattle.ir_text_names.proofs.ValuesBefore.{AreLast, AreEnds}
 use Rattle.ir_text_names.proofs.value_names.named_before.Given as goal
 
 abbrev pub invariant-loop-at : goal.invariant-loop-at
 invariant-loop-at l = record {
-  last : AreLast l.text l.rows l.at (row_at l.last 0);
-  ends : AreEnds l.rows l.at (get nat_eq l.ends);
-  table : AreNamedBefore l.text l.rows l.at l.table.items;
+  limit : l.last.limit ≤ 4294967295;
+  last : AreLast l.text l.rows l.at (named_row l.last);
+  long : length l.ends ≡ length l.rows;
+  ends : AreEnds l.rows l.at (λ (s : ℕ). get_or l.ends s None);
+  table : AreNamedBefore l.text l.rows l.at l.table;
   again : IsFirst (IsValueAgain l.text l.rows) l.at l.again;
 }

@@ -7,24 +7,14 @@ use Rattle.ir_text_names.specs.Values.{IsValueWrong, IsValueAgain, IsNamedUnless
 use Rattle.ir_text_tree.specs.declared.row.Row.{Row}
 use Rattle.ir_text_names.proofs.Indices.{use_wrong}
 use Rattle.ir_text_names.proofs.TypeFaults.{all_uses}
-use Rattle.ir_text_names.proofs.ValueFaults.{table_wrong, table_named, table_entries}
+use Rattle.ir_text_names.proofs.ValueFaults.{value_wrong, all_named}
 use Rattle.ir_text_names.proofs.value_names.value_table.Goals as goal
 
-pub found_in-requires-clause-before : goal.found_in-requires-clause-before
-found_in-requires-clause-before c = ap length c.deref-3.ensures.value ∙ c.in_ok-before.ensures.table.0
-
-pub found_in-requires-clause-behind : goal.found_in-requires-clause-behind
-found_in-requires-clause-behind c = ap length c.deref-4.ensures.value ∙ c.in_ok-behind.ensures.0
-
 pub beyond-past-requires-clause-room : goal.beyond-past-requires-clause-room
-beyond-past-requires-clause-room c = ap length c.deref-5.ensures.value ∙ c.in_ok-either.ensures.table.0
+beyond-past-requires-clause-room c = c.in_ok-table.ensures.0
 
 pub beyond-past-requires-clause-named : goal.beyond-past-requires-clause-named
-beyond-past-requires-clause-named c =
-    λ u lt.
-    subst (λ (t : List (Option ℕ)). IsNamedUnlessAgain c.args.text.now c.args.rows.now u (get_or t u None)) (sym c.deref-5.ensures.value)
-    (table_entries c.args.text.now c.args.rows.now c.in_ok-before.before.table.items c.in_ok-behind.behind.items c.deref-3.result.now c.deref-4.result.now c.in_ok-either.either.table.items (sym c.deref-3.ensures.value) (sym c.deref-4.ensures.value)
-    c.in_ok-before.ensures.table c.in_ok-behind.ensures c.in_ok-either.ensures.table u lt)
+beyond-past-requires-clause-named c = c.in_ok-table.ensures.1
 
 pub other_type-odd-requires-clause-tables : goal.other_type-odd-requires-clause-tables
 other_type-odd-requires-clause-tables c = c.in_ok-tables.ensures.tables
@@ -34,17 +24,11 @@ other_type-odd-requires-clause-again c =
     subst₂ (λ (t : List ℕ) (r : List Row). IsFirst (IsValueAgain t r) (length r) c.in_ok-before.before.again) (sym c.in_ok-tables.ensures.text) (sym c.in_ok-tables.ensures.rows) c.in_ok-before.ensures.again
 
 pub other_type-odd-requires-clause-room : goal.other_type-odd-requires-clause-room
-other_type-odd-requires-clause-room c = ap length c.deref-6.ensures.value ∙ c.in_ok-either.ensures.table.0 ∙ ap length (sym c.in_ok-tables.ensures.rows)
+other_type-odd-requires-clause-room c = c.in_ok-table.ensures.0 ∙ ap length (sym c.in_ok-tables.ensures.rows)
 
 pub other_type-odd-requires-clause-named : goal.other_type-odd-requires-clause-named
 other_type-odd-requires-clause-named c =
-    let text = c.args.text.now in
-    let rows = c.args.rows.now in
-    subst₂ (λ (t : List ℕ) (r : List Row). (u : ℕ) → u < length r → IsNamedUnlessAgain t r u (get_or c.deref-6.result.now u None)) (sym c.in_ok-tables.ensures.text) (sym c.in_ok-tables.ensures.rows)
-    (λ u lt.
-    subst (λ (t : List (Option ℕ)). IsNamedUnlessAgain text rows u (get_or t u None)) (sym c.deref-6.ensures.value)
-    (table_entries text rows c.in_ok-before.before.table.items c.in_ok-behind.behind.items c.deref-3.result.now c.deref-4.result.now c.in_ok-either.either.table.items (sym c.deref-3.ensures.value) (sym c.deref-4.ensures.value) c.in_ok-before.ensures.table
-    c.in_ok-behind.ensures c.in_ok-either.ensures.table u lt))
+    subst₂ (λ (t : List ℕ) (r : List Row). (u : ℕ) → u < length r → IsNamedUnlessAgain t r u (get_or c.in_ok-table.table u None)) (sym c.in_ok-tables.ensures.text) (sym c.in_ok-tables.ensures.rows) c.in_ok-table.ensures.1
 
 first_of_both : (found a b : Option Found) (again unknown : Option ℕ) → found ≡ sooner a b → a ≡ told again wrongs.ValueTwice → b ≡ told unknown wrongs.UnknownValue → sooner (told again wrongs.ValueTwice) (told unknown wrongs.UnknownValue) ≡ found
 first_of_both found a b again unknown e f g = sym (e ∙ ap (λ (x : Option Found). sooner x b) f ∙ ap (sooner (told again wrongs.ValueTwice)) g)
@@ -52,20 +36,18 @@ first_of_both found a b again unknown e f g = sym (e ∙ ap (λ (x : Option Foun
 pub returns-clause-table : goal.returns-clause-table
 returns-clause-table c =
     λ well.
-    table_named c.args.text.now c.args.rows.now c.in_ok-before.before.table.items c.in_ok-behind.behind.items c.deref-3.result.now c.deref-4.result.now c.in_ok-either.either.table.items (sym c.deref-3.ensures.value) (sym c.deref-4.ensures.value) c.in_ok-before.ensures.table
-    c.in_ok-behind.ensures c.in_ok-either.ensures.table (λ k lt v w. well k lt v (inl (inl w)))
+    all_named c.args.text.now c.args.rows.now c.in_ok-table.table c.in_ok-table.ensures.0 c.in_ok-table.ensures.1 (λ k lt v w. well k lt v (inl (inl w)))
 
 pub returns-clause-found : goal.returns-clause-found
 returns-clause-found c =
     let text = c.args.text.now in
     let rows = c.args.rows.now in
     let again = c.in_ok-before.before.again in
-    let missing = c.in_ok-either.either.missing in
+    let missing = c.first_missing.result in
     let both = first_of_both c.sooner-named.result c.told-twice.result c.told-unknown.result again missing c.sooner-named.ensures c.told-twice.ensures c.told-unknown.ensures in
     let named : IsFirstWrong (IsValueWrong text rows) (length rows) c.sooner-named.result =
     subst (IsFirstWrong (IsValueWrong text rows) (length rows)) both
-    (table_wrong text rows c.in_ok-before.before.table.items c.in_ok-behind.behind.items c.deref-3.result.now c.deref-4.result.now c.in_ok-either.either.table.items again missing (sym c.deref-3.ensures.value) (sym c.deref-4.ensures.value) c.in_ok-before.ensures.table
-    c.in_ok-behind.ensures c.in_ok-either.ensures.table c.in_ok-before.ensures.again c.in_ok-either.ensures.missing) in
+    (value_wrong text rows (length rows) (λ (u : ℕ). get_or c.in_ok-table.table u None) again missing c.in_ok-table.ensures.1 c.in_ok-before.ensures.again c.first_missing.ensures) in
     let names = use_wrong text rows c.sooner-named.result c.told-numbered.result c.sooner-names.result c.beyond-past.result c.told-numbered.ensures c.sooner-names.ensures named c.beyond-past.ensures in
     let odd : IsFirst (IsTypeOther text rows) (length rows) c.other_type-odd.result =
     subst₂ (λ (t : List ℕ) (r : List Row). IsFirst (IsTypeOther t r) (length r) c.other_type-odd.result) c.in_ok-tables.ensures.text c.in_ok-tables.ensures.rows c.other_type-odd.ensures in

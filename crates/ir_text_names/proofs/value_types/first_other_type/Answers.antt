@@ -1,6 +1,6 @@
-use Rattle.std.proofs.Common.{◌≡◌, ℕ, ◌+◌, length, Option, sym, subst, arith}
+use Rattle.std.proofs.Common.{◌≡◌, ◌↔◌, ℕ, ◌+◌, ◌<◌, true, length, Option, Some, sym, subst, arith}
 use Rattle.ir_text_names.specs.Firsts.{IsFirst}
-use Rattle.ir_text_names.specs.Types.{IsEntryOther}
+use Rattle.ir_text_names.specs.Types.{HasOtherType, IsEntryOther}
 use Rattle.ir_text_names.proofs.FirstRows.{first_more}
 use Rattle.ir_text_names.proofs.value_types.first_other_type.Goals as goal
 
@@ -8,7 +8,9 @@ pub loop-at-preserved : goal.loop-at-preserved
 loop-at-preserved c =
     let l = c.loop-at in
     let P : ℕ → Type 0 = IsEntryOther c.args.tables.now.text.now c.args.tables.now.rows.now c.args.table.now in
-    subst (λ (o : Option ℕ). IsFirst P (l.at + 1) o) (sym c.noted-first.ensures) (first_more P l.at l.first c.is_entry_other.result c.is_entry_other.ensures.0 c.is_entry_other.ensures.1 l.invariant)
+    let is : (c.is_entry_other.result ≡ true) ↔ P l.at =
+    subst (λ (o : Option ℕ). (c.is_entry_other.result ≡ true) ↔ ((d : ℕ) × (o ≡ Some d) × (d < length c.args.tables.now.rows.now) × HasOtherType c.args.tables.now.text.now c.args.tables.now.rows.now l.at d)) c.get.ensures c.is_entry_other.ensures in
+    subst (λ (o : Option ℕ). IsFirst P (l.at + 1) o) (sym c.noted-first.ensures) (first_more P l.at l.first c.is_entry_other.result is.0 is.1 l.invariant)
 
 pub returns : goal.returns
 returns c =

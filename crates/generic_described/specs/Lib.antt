@@ -1,0 +1,3 @@
+pub mod GenericWords
+pub mod Tables
+pub mod Checks

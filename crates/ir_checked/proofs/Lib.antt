@@ -1,2 +1,0 @@
-mod Placing
-mod Unused

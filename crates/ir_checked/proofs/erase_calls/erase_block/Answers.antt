@@ -1,4 +1,0 @@
-use Rattle.ir_checked.proofs.erase_calls.erase_block.Goals as goal
-
-pub erase-requires-clause-closed : goal.erase-requires-clause-closed
-erase-requires-clause-closed g c = c.can_erase.ensures.0 c.if-not-can_erase.false

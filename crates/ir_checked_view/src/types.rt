@@ -1,0 +1,4 @@
+//! The calls of the handle of a type.
+
+pub use crate::typed::get_type;
+pub use crate::verifying::verify_type as verify;

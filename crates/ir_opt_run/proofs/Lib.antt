@@ -1,0 +1,7 @@
+mod PassesRight
+mod Said
+mod RunMade
+mod Behaviour
+mod Enclosing
+mod PassSteps
+mod PartsMade

@@ -1,0 +1,49 @@
+-- What a run makes, by its steps.
+use Rattle.std.proofs.Common.{◌≡◌, ◌∷◌, [], ℕ, Bool, true, List, IfOk, Result, Ok, Err, ap, subst, ◌∙◌}
+use Rattle.ir_model.specs.declared.ids.ArenaIndex.{ArenaIndex}
+use Rattle.ir_model.specs.ContextIds.{context_ids}
+use Rattle.ir_model.specs.Forest.{Dialect, Behaviour, Forest}
+use Rattle.ir_model.specs.Edits.{StoredType}
+use Rattle.ir_model.specs.Nesting.{WellFormed}
+use Rattle.ir_core_queries.specs.Calls.{SameButForest}
+use Rattle.ir_core_queries.specs.State.{ContextState, bare, types_of}
+use Rattle.ir_core_records.specs.Meaning.{closed}
+use Rattle.generic_dialect.specs.declared.generic.GenericLoc.{GenericLoc}
+use Rattle.generic_dialect.specs.declared.generic.GenericSaved.{GenericSaved}
+use Rattle.generic_dialect.specs.declared.generic.GenericType.{GenericType}
+use Rattle.generic_dialect.specs.declared.generic.KeptAttr.{KeptAttr}
+use Rattle.ir_text_described.specs.Words.{Words}
+use Rattle.generic_described.specs.GenericWords.{generic_words, words_of}
+use Rattle.ir_opt_run.specs.declared.options.Pass.{Pass}
+use Rattle.ir_opt_run.specs.Modules.{Encloses, Says}
+use Rattle.ir_opt_run.specs.Passes.{PassesLead}
+use Rattle.ir_opt_run.specs.Runs.{Optimises}
+
+-- where all but the forest stayed, the dialect is written in the same words
+pub words_stay : {D B X : Type 0} (s t : ContextState D KeptAttr GenericType B GenericSaved X GenericLoc) → SameButForest (bare s) (bare t) → generic_words t ≡ generic_words s
+words_stay {B = B} {X = X} s t same =
+    ap (λ (saved : List GenericSaved). words_of {B = B} {X = X} saved (types_of t)) (ap (λ b. b.saved) same.beside)
+    ∙ ap (λ (types : List (StoredType (closed KeptAttr GenericType B GenericSaved X GenericLoc))). words_of (bare s).beside.saved types) same.store
+
+module _ {W : Dialect} (B : Behaviour W) (passes : List Pass) (located : Bool) (text : List ℕ) where
+  one_made : (f g : Forest context_ids W) (words later : Words W) (types : ℕ) (root : ArenaIndex) (out : List ℕ) → ((operations : List ArenaIndex) × Says f words true text operations × Encloses f words root operations)
+      → WellFormed f types → PassesLead B root passes f g → later ≡ words → Says g later located out (root ∷ []) → Optimises B passes located text out
+  one_made f g words later types root out (operations, said, encloses) formed led same printed =
+      record {
+        before = f;
+        after = g;
+        words = words;
+        types = types;
+        operations = operations;
+        root = root;
+        read = said;
+        encloses = encloses;
+        formed = formed;
+        led = led;
+        printed = subst (λ (w : Words W). Says g w located out (root ∷ [])) same printed;
+      }
+
+  pub run_made : {X E : Type 0} (items : X → List ℕ) (f g : Forest context_ids W) (words later : Words W) (types : ℕ) (root : ArenaIndex) (r : Result X E) → ((operations : List ArenaIndex) × Says f words true text operations × Encloses f words root operations)
+      → WellFormed f types → PassesLead B root passes f g → later ≡ words → IfOk r (λ out. Says g later located (items out) (root ∷ [])) → IfOk r (λ out. Optimises B passes located text (items out))
+  run_made items f g words later types root (Ok out) read formed led same printed = one_made f g words later types root (items out) read formed led same printed
+  run_made items f g words later types root (Err e) read formed led same printed = tt

@@ -1,0 +1,4 @@
+pub mod Passes
+pub mod Modules
+pub mod Runs
+pub mod RunLaws

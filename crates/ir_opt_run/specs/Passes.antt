@@ -1,0 +1,18 @@
+-- What the passes of a run make of a forest.
+use Rattle.std.specs.Prelude.{◌≡◌, ℕ, List, [], ◌∷◌}
+use Rattle.ir_model.specs.declared.ids.ArenaIndex.{ArenaIndex}
+use Rattle.ir_model.specs.ContextIds.{context_ids}
+use Rattle.ir_model.specs.Forest.{Dialect, Behaviour, Forest, an_op}
+use Rattle.ir_model_passes.specs.SweepInside.{SweepsInside}
+use Rattle.ir_opt_run.specs.declared.options.Pass.{Pass}
+use Rattle.ir_opt_run.specs.declared.options.Pass.TheVariants as passes
+
+module _ {W : Dialect} (B : Behaviour W) (root : ArenaIndex) where
+  -- what a pass makes of all that stands inside the root
+  abbrev pub PassLeads : Pass → Forest context_ids W → Forest context_ids W → Type 0
+  PassLeads passes.Sweep f g = (count : ℕ) × SweepsInside B f (an_op root) g count
+
+  -- one pass after the other
+  unfoldable pub PassesLead : List Pass → Forest context_ids W → Forest context_ids W → Type 0
+  PassesLead [] f g = f ≡ g
+  PassesLead (p ∷ ps) f g = (h : Forest context_ids W) × PassLeads p f h × PassesLead ps h g

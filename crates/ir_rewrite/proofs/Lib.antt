@@ -1,0 +1,9 @@
+pub mod Lists
+pub mod May
+pub mod Passed
+pub mod Redirects
+pub mod Replaceable
+pub mod Rest
+pub mod Standing
+pub mod Steps
+pub mod TakenOut

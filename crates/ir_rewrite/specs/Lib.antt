@@ -1,0 +1,4 @@
+pub mod Answers
+pub mod Driving
+pub mod Points
+pub mod Replacing

@@ -1,0 +1,11 @@
+//! Items of slices.
+
+ghost use Rattle.std.specs.Prelude.{◌≡◌, ◌<◌, Some, length, slice_get};
+
+// The item at an index below their number.
+pub(crate) fn item_at<T: Copy>(items: &[T], index: usize) -> T
+    requires { index < length items.now }
+    ensures { slice_get items.now index ≡ Some result }
+{
+    items[index]
+}

@@ -1,0 +1,7 @@
+use Rattle.ir_core_queries.specs.State.{forest_of}
+use Rattle.ir_run_passes.proofs.Unmet.{NoneUnmet}
+use Rattle.ir_run_passes.proofs.ordering.names_unmet.Given as goal
+
+-- none of the operands so far names an unmet value
+abbrev pub invariant-loop-index : goal.invariant-loop-index
+invariant-loop-index g l = NoneUnmet (forest_of l.ctx) l.block.index l.met.keys l.fn.user.index l.index

@@ -1,0 +1,10 @@
+pub mod Removals
+pub mod Marking
+pub mod KeptNames
+pub mod Others
+pub mod Parents
+pub mod InsideSteps
+pub mod Slices
+pub mod Rest
+pub mod Places
+pub mod Values

@@ -1,0 +1,4 @@
+pub mod Marks
+pub mod Removals
+pub mod Kept
+pub mod Inside

@@ -1,4 +1,0 @@
-pub mod NestSteps
-pub mod TreesLinked
-pub mod TreesFound
-pub mod NestClauses

@@ -1,3 +1,0 @@
-pub mod NestFaults
-pub mod Nestings
-pub mod NestTrees

@@ -1,0 +1,3 @@
+//! Tests of what texts between quotes stand for.
+
+mod escape_tests;

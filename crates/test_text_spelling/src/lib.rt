@@ -1,5 +1,0 @@
-//! Tests of trees spelled again: the text of each, and that it is read as the same tree.
-#![tactic(auto)]
-
-#[cfg(test)]
-mod spelling_tests;
