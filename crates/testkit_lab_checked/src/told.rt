@@ -1,4 +1,5 @@
 //! What a checked call answers, as text.
+ghost use Rattle.std.specs.Iterator.{IsFinite};
 
 use ir_base_dialects::{Identifier, OpId, Ptr, TypeHandle};
 use ir_checked_core::CheckedErr;
@@ -186,7 +187,10 @@ pub(crate) fn tell_walk<T: Told, W: Iterator<Item = T>>(
     text: &mut String,
     lab: &Lab,
     walk: W,
-) -> Result<(), TextError> {
+) -> Result<(), TextError>
+    requires ready { W.can_next walk }
+    requires ends { IsFinite (W.remaining walk) }
+{
     text.push_str("all")?;
     for item in walk {
         text.push_str(" ")?;
