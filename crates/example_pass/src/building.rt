@@ -1,7 +1,8 @@
 //! The function that is folded.
 
-use ir_checked_core::prelude::{self as ir, Identifier, Ptr, TypeHandle, Value};
-use ir_checked_core::{CheckedErr, basic_block, operation, value};
+use ir_checked::error::CheckedErr;
+use ir_checked::prelude::{self as ir, Identifier, Ptr, TypeHandle, Value};
+use ir_checked::{basic_block, operation, value};
 use ir_run::toy::{Toy, ToyInt, ToyType};
 
 pub type Context = ir::Context<Toy>;

@@ -1,13 +1,13 @@
 //! Constants folded, and what is dead swept, over all that is inside an operation.
 
 use crate::building::{ADD, CONSTANT, Checked, Context, Op, constant};
-use ir_checked_core::prelude::{Entity, Identifier, Value};
-use ir_checked_core::{operation, value};
+use ir_checked::prelude::{Identifier, Value};
+use ir_checked::{operation, value};
 use ir_core::prelude::*;
-use ir_run::dead::sweep;
+use ir_rewrite::{DummyListener, Pattern, Rewriter, rewrite};
+use ir_run::passes::sweep_inside;
 use ir_run::toy::{Toy, ToyInt};
 use ir_view::prelude::*;
-use ir_view::walk::{all_inside, is_live};
 
 /// The number that a value is, where it is the result of a constant.
 fn number(ctx: &Context, value: Value<Toy>) -> Option<i64> {
@@ -24,32 +24,32 @@ fn sum(ctx: &Context, op: Op) -> Option<i64> {
     left.checked_add(number(ctx, operands.next()?)?)
 }
 
-/// Puts a constant in the place of a sum of two, and answers how many sums these are.
-fn fold_op(ctx: &mut Context, op: Op) -> Checked<usize> {
-    let Some(sum) = sum(ctx, op) else {
-        return Ok(0);
-    };
-    let old = operation::get_result(op, ctx, 0)?;
-    let ty = value::get_type(old, ctx)?;
-    let folded = constant(ctx, ty, sum)?;
-    operation::insert_before(folded, ctx, op)?;
-    let new = operation::get_result(folded, ctx, 0)?;
-    value::replace_all_uses_with(old, ctx, new)?;
-    Ok(1)
+/// Puts a constant in the place of a sum of two.
+#[derive(Drop)]
+struct Folding;
+
+impl Pattern<Toy> for Folding {
+    fn rewrite(&self, ctx: &mut Context, rewriter: &mut Rewriter<Toy>, op: &Op) -> Checked<bool> {
+        let Some(sum) = sum(ctx, *op) else {
+            return Ok(false);
+        };
+        let ty = value::get_type(operation::get_result(*op, ctx, 0)?, ctx)?;
+        let folded = constant(ctx, ty, sum)?;
+        rewriter.insert(folded, ctx)?;
+        let number = operation::get_result(folded, ctx, 0)?;
+        rewriter.replace_op(*op, ctx, &[number])?;
+        Ok(true)
+    }
 }
 
-/// Folds all sums inside an operation and then sweeps each block, and answers how many sums and how many operations went.
+/// Folds all sums inside an operation and sweeps what is dead, and answers how many sums and how many operations went.
 pub fn fold(ctx: &mut Context, op: Op) -> Checked<(usize, usize)> {
-    let (mut folded, mut swept) = (0usize, 0usize);
-    if !is_live(ctx, Entity::Op(op)) {
-        return Ok((folded, swept));
+    let (mut folded, mut swept) = (0usize, 0);
+    if op.is_live(ctx) {
+        folded = rewrite(ctx, op, &[Folding], 1000, &mut DummyListener)?.steps;
     }
-    for &entity in &all_inside(ctx, Entity::Op(op))? {
-        match entity {
-            Entity::Op(op) => folded = folded.saturating_add(fold_op(ctx, op)?),
-            Entity::Block(b) if b.is_live(ctx) => swept = swept.saturating_add(sweep(b, ctx)),
-            _ => {}
-        }
+    if op.is_live(ctx) {
+        swept = sweep_inside(op, ctx);
     }
-    Ok((folded, swept))
+    Ok((folded, folded.saturating_add(swept)))
 }

@@ -1,4 +1,4 @@
-//! A pass as its author writes it: a function is built, its constants are folded, what is dead is swept, and it is verified and printed before and after. There is no proof file, no contract and no invariant: each call of `ir_checked_core` tests its conditions, and a walk needs no measure.
+//! A pass as its author writes it: a function is built, its constants are folded, what is dead is swept, and it is verified and printed before and after. There is no proof file, no contract and no invariant: each call of `ir_checked` tests its conditions, and a walk needs no measure.
 #![tactic(auto)]
 
 mod building;
@@ -28,7 +28,7 @@ fn run(ctx: &mut Context, text: &mut String) -> anyhow::Result<()> {
 fn main(rt: HostRuntime) -> anyhow::Result<()> {
     let (mut text, mut ctx) = (String::new(rt.alloc()), Context::new(rt.alloc()));
     let outcome = run(&mut ctx, &mut text);
-    ir_checked_core::context::end(ctx, outcome)?;
+    ir_checked::context::end(ctx, outcome)?;
     print!(rt; "{text}")?;
     Ok(())
 }

@@ -4,7 +4,7 @@ use crate::building::{Block, Context, Op};
 use ir_base::context::Ptr;
 use ir_base::identifier::Identifier;
 use ir_base::types::TypeHandle;
-use ir_checked_core::{basic_block, operation, region, types, value};
+use ir_checked::{basic_block, operation, region, types, value};
 use ir_core::operation::{Operation, OperationPtr};
 use ir_core::region::Region;
 use ir_core::value::Value;

@@ -38,7 +38,18 @@ fn with_files<'a>(alloc: Global, command: Command<'a>) -> Result<Command<'a>, Al
 
 // The switches that are passes.
 fn with_passes<'a>(alloc: Global, command: Command<'a>) -> Result<Command<'a>, AllocError> {
-    command.arg(switch(alloc, "sweep", "Dead operations go"))
+    command
+        .arg(switch(alloc, "sweep", "Dead operations go"))?
+        .arg(switch(
+            alloc,
+            "cse",
+            "Of alike operations of a block the later ones go",
+        ))?
+        .arg(switch(
+            alloc,
+            "unreachable-blocks",
+            "Blocks go that nothing leads to",
+        ))
 }
 
 // The other switches.
@@ -77,24 +88,43 @@ fn file<'a>(matches: &ArgMatches<'a>, id: &str) -> Option<&'a str> {
     if name == "-" { None } else { Some(name) }
 }
 
-// The passes, in the order in which they are named.
-fn passes(alloc: Global, matches: &ArgMatches) -> Result<Vec<Pass>, AllocError> {
+// The pass that a word asks for, if it asks for one.
+fn pass_of(word: &str) -> Option<Pass> {
+    match word {
+        "--sweep" => Some(Pass::Sweep),
+        "--cse" => Some(Pass::Cse),
+        "--unreachable-blocks" => Some(Pass::UnreachableBlocks),
+        _ => None,
+    }
+}
+
+// The passes, in the order in which they are named, each as often as it is. Behind `--` all words are files.
+fn passes(alloc: Global, words: &[String]) -> Result<Vec<Pass>, AllocError> {
     let mut passes = Vec::new(alloc);
-    for _ in 0..matches.get_count("sweep") {
-        passes.push(Pass::Sweep)?;
+    for word in words {
+        if word.as_str() == "--" {
+            break;
+        }
+        if let Some(pass) = pass_of(word.as_str()) {
+            passes.push(pass)?;
+        }
     }
     Ok(passes)
 }
 
 // What the matches ask for.
-fn asked<'a>(alloc: Global, matches: &ArgMatches<'a>) -> Result<Request<'a>, AllocError> {
+fn asked<'a>(
+    alloc: Global,
+    matches: &ArgMatches<'a>,
+    words: &[String],
+) -> Result<Request<'a>, AllocError> {
     let input = file(matches, "FILE");
     Ok(Request {
         input,
         output: file(matches, "output"),
         options: Options {
             name: input.unwrap_or("-"),
-            passes: passes(alloc, matches)?,
+            passes: passes(alloc, words)?,
             splits_input: matches.get_count("split-input-file") > 0,
             verifies_each: matches.get_count("no-verify-each") == 0,
             tells_statistics: matches.get_count("pass-statistics") > 0,
@@ -109,5 +139,5 @@ fn asked<'a>(alloc: Global, matches: &ArgMatches<'a>) -> Result<Request<'a>, All
 /// Help and the version, where they are asked for; words that mean nothing; and want of memory.
 pub fn read_request<'a>(alloc: Global, words: &'a [String]) -> Result<Request<'a>, Error> {
     let matches = command(alloc)?.try_get_matches_from(words)?;
-    Ok(asked(alloc, &matches)?)
+    Ok(asked(alloc, &matches, words)?)
 }

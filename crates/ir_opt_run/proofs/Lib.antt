@@ -1,7 +1,6 @@
 mod PassesRight
 mod Said
 mod RunMade
-mod Behaviour
 mod Enclosing
 mod PassSteps
 mod PartsMade

@@ -14,6 +14,7 @@ use Rattle.generic_dialect.specs.declared.generic.GenericType.{GenericType}
 use Rattle.generic_dialect.specs.declared.generic.KeptAttr.{KeptAttr}
 use Rattle.ir_text_described.specs.Words.{Words}
 use Rattle.generic_described.specs.GenericWords.{generic_words, words_of}
+use Rattle.ir_model_passes.specs.Meaning.{SameAttributes}
 use Rattle.ir_opt_run.specs.declared.options.Pass.{Pass}
 use Rattle.ir_opt_run.specs.Modules.{Encloses, Says}
 use Rattle.ir_opt_run.specs.Passes.{PassesLead}
@@ -25,9 +26,9 @@ words_stay {B = B} {X = X} s t same =
     ap (λ (saved : List GenericSaved). words_of {B = B} {X = X} saved (types_of t)) (ap (λ b. b.saved) same.beside)
     ∙ ap (λ (types : List (StoredType (closed KeptAttr GenericType B GenericSaved X GenericLoc))). words_of (bare s).beside.saved types) same.store
 
-module _ {W : Dialect} (B : Behaviour W) (passes : List Pass) (located : Bool) (text : List ℕ) where
+module _ {W : Dialect} (B : Behaviour W) (same : SameAttributes W) (passes : List Pass) (located : Bool) (text : List ℕ) where
   one_made : (f g : Forest context_ids W) (words later : Words W) (types : ℕ) (root : ArenaIndex) (out : List ℕ) → ((operations : List ArenaIndex) × Says f words true text operations × Encloses f words root operations)
-      → WellFormed f types → PassesLead B root passes f g → later ≡ words → Says g later located out (root ∷ []) → Optimises B passes located text out
+      → WellFormed f types → PassesLead B same root passes f g → later ≡ words → Says g later located out (root ∷ []) → Optimises B same passes located text out
   one_made f g words later types root out (operations, said, encloses) formed led same printed =
       record {
         before = f;
@@ -44,6 +45,6 @@ module _ {W : Dialect} (B : Behaviour W) (passes : List Pass) (located : Bool) (
       }
 
   pub run_made : {X E : Type 0} (items : X → List ℕ) (f g : Forest context_ids W) (words later : Words W) (types : ℕ) (root : ArenaIndex) (r : Result X E) → ((operations : List ArenaIndex) × Says f words true text operations × Encloses f words root operations)
-      → WellFormed f types → PassesLead B root passes f g → later ≡ words → IfOk r (λ out. Says g later located (items out) (root ∷ [])) → IfOk r (λ out. Optimises B passes located text (items out))
+      → WellFormed f types → PassesLead B same root passes f g → later ≡ words → IfOk r (λ out. Says g later located (items out) (root ∷ [])) → IfOk r (λ out. Optimises B same passes located text (items out))
   run_made items f g words later types root (Ok out) read formed led same printed = one_made f g words later types root (items out) read formed led same printed
   run_made items f g words later types root (Err e) read formed led same printed = tt

@@ -1,3 +1,4 @@
+pub mod GenericBehaviour
 pub mod Passes
 pub mod Modules
 pub mod Runs

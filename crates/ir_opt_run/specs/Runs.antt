@@ -5,6 +5,7 @@ use Rattle.ir_model.specs.declared.ids.ArenaIndex.{ArenaIndex}
 use Rattle.ir_model.specs.ContextIds.{context_ids}
 use Rattle.ir_model.specs.Forest.{Dialect, Behaviour, Forest}
 use Rattle.ir_model.specs.Nesting.{WellFormed}
+use Rattle.ir_model_passes.specs.Meaning.{SameAttributes}
 use Rattle.ir_text_described.specs.Words.{Words}
 use Rattle.ir_text_run.specs.Parts.{IsDivided}
 use Rattle.ir_text_spelling.specs.Writings.{AppendsFront}
@@ -13,7 +14,7 @@ use Rattle.ir_opt_run.specs.Passes.{PassesLead}
 use Rattle.ir_opt_run.specs.Modules.{Says, Encloses}
 
 -- The text says what operations of a forest are, which stand alone or in a module; the passes lead from that forest to another; and the output says what the operation around all is there.
-pub record Optimises {W : Dialect} (B : Behaviour W) (passes : List Pass) (located : Bool) (text out : List ℕ) : Type 0 where
+pub record Optimises {W : Dialect} (B : Behaviour W) (same : SameAttributes W) (passes : List Pass) (located : Bool) (text out : List ℕ) : Type 0 where
   pub before : Forest context_ids W
   pub after : Forest context_ids W
   pub words : Words W
@@ -23,23 +24,23 @@ pub record Optimises {W : Dialect} (B : Behaviour W) (passes : List Pass) (locat
   pub read : Says before words true text operations
   pub encloses : Encloses before words root operations
   pub formed : WellFormed before types
-  pub led : PassesLead B root passes before after
+  pub led : PassesLead B same root passes before after
   pub printed : Says after words located out (root ∷ [])
 
 -- Each part of the text, of those that dividing lines part, is optimised, and the output is what comes of them, with the line between each two.
-pub data OptimisesParts {W : Dialect} (B : Behaviour W) (passes : List Pass) (located : Bool) : List ℕ → List ℕ → Type 0 where
-  last : {text out : List ℕ} → Optimises B passes located text out → OptimisesParts B passes located text out
-  divided : {text part rest out others : List ℕ} → IsDivided text part rest → Optimises B passes located part out → OptimisesParts B passes located rest others → OptimisesParts B passes located text (out ++ (codes "// -----\n" ++ others))
+pub data OptimisesParts {W : Dialect} (B : Behaviour W) (same : SameAttributes W) (passes : List Pass) (located : Bool) : List ℕ → List ℕ → Type 0 where
+  last : {text out : List ℕ} → Optimises B same passes located text out → OptimisesParts B same passes located text out
+  divided : {text part rest out others : List ℕ} → IsDivided text part rest → Optimises B same passes located part out → OptimisesParts B same passes located rest others → OptimisesParts B same passes located text (out ++ (codes "// -----\n" ++ others))
 
 -- what a run makes of a text, taken as one or by its parts
-abbrev pub Makes : {W : Dialect} → Behaviour W → List Pass → Bool → Bool → List ℕ → List ℕ → Type 0
-Makes B passes located true text out = OptimisesParts B passes located text out
-Makes B passes located false text out = Optimises B passes located text out
+abbrev pub Makes : {W : Dialect} → Behaviour W → SameAttributes W → List Pass → Bool → Bool → List ℕ → List ℕ → Type 0
+Makes B same passes located true text out = OptimisesParts B same passes located text out
+Makes B same passes located false text out = Optimises B same passes located text out
 
 -- the known bytes grew by what a run makes of the text
-abbrev pub Prints : {W : Dialect} → Behaviour W → List Pass → Bool → Bool → List ℕ → Option (List ℕ) → Option (List ℕ) → Type 0
-Prints B passes located split text old new = (out : List ℕ) × Makes B passes located split text out × Appends old new out
+abbrev pub Prints : {W : Dialect} → Behaviour W → SameAttributes W → List Pass → Bool → Bool → List ℕ → Option (List ℕ) → Option (List ℕ) → Type 0
+Prints B same passes located split text old new = (out : List ℕ) × Makes B same passes located split text out × Appends old new out
 
 -- the known bytes grew by a front part of what a run makes of the text
-abbrev pub PrintsFront : {W : Dialect} → Behaviour W → List Pass → Bool → Bool → List ℕ → Option (List ℕ) → Option (List ℕ) → Type 0
-PrintsFront B passes located split text old new = (out : List ℕ) × Makes B passes located split text out × AppendsFront old new out
+abbrev pub PrintsFront : {W : Dialect} → Behaviour W → SameAttributes W → List Pass → Bool → Bool → List ℕ → Option (List ℕ) → Option (List ℕ) → Type 0
+PrintsFront B same passes located split text old new = (out : List ℕ) × Makes B same passes located split text out × AppendsFront old new out

@@ -62,6 +62,9 @@ pub enum Fault {
     /// The text that would be printed, or a number in it, passes 4,294,967,295.
     #[error("the output is too long")]
     TooLong,
+    /// What an unreachable block defines is named outside of all such blocks, so these can't be removed.
+    #[error("what an unreachable block defines is named outside of unreachable blocks")]
+    NamedOutside,
     /// What was built isn't what the input says, or what would be printed isn't what was built: a fault of this program, which no input is known to show.
     #[error("this program has a fault: it read or printed something else than what stands there")]
     Different,

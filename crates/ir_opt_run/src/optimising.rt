@@ -6,7 +6,7 @@ ghost use Rattle.ir_model.specs.Forest.{an_op};
 ghost use Rattle.ir_model.specs.Nesting.{IsLive};
 ghost use Rattle.ir_core_queries.specs.State.{bare, forest_of};
 ghost use Rattle.ir_core_queries.specs.Calls.{SameButForest};
-ghost use Rattle.ir_core_records.specs.DialectAnswers.{behaviour_of};
+ghost use Rattle.ir_opt_run.specs.GenericBehaviour.{generic_behaviour, generic_same};
 ghost use Rattle.generic_described.specs.GenericWords.{generic_words};
 ghost use Rattle.ir_opt_run.specs.Modules.{Says};
 ghost use Rattle.ir_opt_run.specs.Passes.{PassLeads, PassesLead};
@@ -19,9 +19,8 @@ use crate::reading::{Module, Op, read_module};
 use crate::saying::check_said;
 use crate::trees::read_tree;
 use crate::verifying::verify;
-use generic_dialect::{Generic, GenericType};
+use generic_dialect::Generic;
 use generic_text::GenericSpelling;
-use ir_base_dialects::Dialects;
 use ir_core_queries::Context;
 use ir_text_describe::{Locations, describe};
 use ir_text_spelling::spell;
@@ -56,7 +55,7 @@ fn run_one<F: Write>(
     log: &mut F,
 ) -> Result<(), Fault>
     requires { IsLive (forest_of ctx.old) (an_op module.now.root.index) }
-    ensures leads { OnOk result (PassLeads (behaviour_of ⟦<Generic as Dialects>⟧ ⟦<GenericType as PartialEq>⟧.eq) module.now.root.index pass (forest_of ctx.old) (forest_of ctx.new)) }
+    ensures leads { OnOk result (PassLeads generic_behaviour generic_same module.now.root.index pass (forest_of ctx.old) (forest_of ctx.new)) }
     ensures rest { OnOk result (SameButForest (bare ctx.old) (bare ctx.new)) }
     ensures live { OnOk result (IsLive (forest_of ctx.new) (an_op module.now.root.index)) }
 {
@@ -73,7 +72,7 @@ fn run_all<F: Write>(
     log: &mut F,
 ) -> Result<(), Fault>
     requires { IsLive (forest_of ctx.old) (an_op module.now.root.index) }
-    ensures lead { OnOk result (PassesLead (behaviour_of ⟦<Generic as Dialects>⟧ ⟦<GenericType as PartialEq>⟧.eq) module.now.root.index options.now.passes.items (forest_of ctx.old) (forest_of ctx.new)) }
+    ensures lead { OnOk result (PassesLead generic_behaviour generic_same module.now.root.index options.now.passes.items (forest_of ctx.old) (forest_of ctx.new)) }
     ensures rest { OnOk result (SameButForest (bare ctx.old) (bare ctx.new)) }
     ensures live { OnOk result (IsLive (forest_of ctx.new) (an_op module.now.root.index)) }
 {
@@ -126,7 +125,7 @@ fn work<F: Write>(
     text: &[u8],
     log: &mut F,
 ) -> Result<Vec<u8>, Fault>
-    ensures optimised { IfOk result (λ out. Optimises (behaviour_of ⟦<Generic as Dialects>⟧ ⟦<GenericType as PartialEq>⟧.eq) options.now.passes.items options.now.prints_locations text.now out.items) }
+    ensures optimised { IfOk result (λ out. Optimises generic_behaviour generic_same options.now.passes.items options.now.prints_locations text.now out.items) }
 {
     let module = read_module(ctx, text)?;
     ctx.recall_well_formed();
@@ -145,7 +144,7 @@ pub(crate) fn optimise<F: Write>(
     text: &[u8],
     log: &mut F,
 ) -> Result<Vec<u8>, Fault>
-    ensures optimised { IfOk result (λ out. Optimises (behaviour_of ⟦<Generic as Dialects>⟧ ⟦<GenericType as PartialEq>⟧.eq) options.now.passes.items options.now.prints_locations text.now out.items) }
+    ensures optimised { IfOk result (λ out. Optimises generic_behaviour generic_same options.now.passes.items options.now.prints_locations text.now out.items) }
 {
     let mut ctx = Context::new(alloc);
     let outcome = work(&mut ctx, options, text, log);

@@ -5,6 +5,10 @@
 pub enum Pass {
     /// Dead operations go, anywhere inside.
     Sweep,
+    /// Of alike operations of a block the later ones go, in each block inside that is in order.
+    Cse,
+    /// Blocks go that no way from the first block of their region reaches, in each region inside.
+    UnreachableBlocks,
 }
 
 impl Pass {
@@ -12,6 +16,8 @@ impl Pass {
     pub fn name(self) -> &'static str {
         match self {
             Pass::Sweep => "sweep",
+            Pass::Cse => "cse",
+            Pass::UnreachableBlocks => "unreachable-blocks",
         }
     }
 }

@@ -1,16 +1,27 @@
 //! Why the passes of a run are right together.
 
 ghost use Rattle.ir_core_records.specs.Meaning.{closed};
-ghost use Rattle.ir_opt_run.specs.RunLaws.{PassesAreRight};
+ghost use Rattle.ir_opt_run.specs.RunLaws.{PassesAreRight, PassesKeep};
 
 use ir_base_dialects::Dialects;
 use ir_model_passes::right_passes_follow;
-use ir_run_passes::laws::sweep_inside_is_right;
+use ir_run_passes::laws::{merge_common_inside_is_right, sweep_inside_is_right};
+use ir_run_unreached::laws::inside_removal_tells;
 
-/// The passes of a run are right together, whatever pure operations give: each operation of what a run leads to sees the values that it saw in what was read.
+/// The passes of a run that let effects stay are right together, whatever pure operations give, where they give the same for equal attributes: each operation of what a run leads to sees the values that it saw in what was read.
 pub fn passes_are_right<D: Dialects, V>()
     ensures { PassesAreRight (closed D.Attr D.TypeKey D.TypeBody D.Saved D.Aux D.Loc) V }
 {
     right_passes_follow::<D::TypeKey, D::TypeBody, D::Attr, D::Saved, D::Aux, D::Loc, V>();
-    sweep_inside_is_right::<D, V>()
+    sweep_inside_is_right::<D, V>();
+    merge_common_inside_is_right::<D, V>();
+}
+
+/// What all passes of a run keep together, the removal of unreachable blocks among them, in the same sense: what they lead to is well formed, and each operation of it was there and sees the values that it saw. Effects in unreachable blocks go.
+pub fn passes_keep<D: Dialects, V>()
+    ensures { PassesKeep (closed D.Attr D.TypeKey D.TypeBody D.Saved D.Aux D.Loc) V }
+{
+    sweep_inside_is_right::<D, V>();
+    merge_common_inside_is_right::<D, V>();
+    inside_removal_tells::<D, V>();
 }

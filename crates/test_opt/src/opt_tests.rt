@@ -44,14 +44,18 @@ impl Write for Sink {
     }
 }
 
-// What is asked: how often to sweep, whether the input has parts, whether statistics are told.
-type Asked = (usize, bool, bool);
+// What is asked: which passes, whether the input has parts, whether statistics are told.
+type Asked = (&'static [Pass], bool, bool);
 
-const PLAIN: Asked = (0, false, false);
+const PLAIN: Asked = (&[], false, false);
 
-const SWEEP: Asked = (1, false, false);
+const SWEEP: Asked = (&[Pass::Sweep], false, false);
 
-const PARTS: Asked = (0, true, false);
+const PARTS: Asked = (&[], true, false);
+
+const MERGE: Asked = (&[Pass::Cse], false, true);
+
+const UNREACHABLE: Asked = (&[Pass::UnreachableBlocks], false, true);
 
 // A text, what is asked, the status, what is printed, and what is told.
 type Row = (&'static [u8], Asked, u8, &'static [u8], &'static [u8]);
@@ -92,10 +96,49 @@ const ROWS: &[Row] = &[
     // What passes did is told.
     (
         b"%a = \"arith.constant\"() {value = 1 : i32} : () -> i32 \"t.end\"() : () -> ()",
-        (2, false, true),
+        (&[Pass::Sweep, Pass::Sweep], false, true),
         0,
         b"\"builtin.module\"() ({\n  \"t.end\"() : () -> ()\n}) : () -> ()\n",
         b"in: sweep: 1 operations erased\nin: sweep: 0 operations erased\n",
+    ),
+    // Of alike operations the later goes; one with another attribute stays.
+    (
+        b"%a = \"arith.constant\"() {value = 1 : i32} : () -> i32 %b = \"arith.constant\"() {value = 1 : i32} : () -> i32 %c = \"arith.constant\"() {value = 2 : i32} : () -> i32 \"t.use\"(%b, %a, %c) : (i32, i32, i32) -> ()",
+        MERGE,
+        0,
+        b"\"builtin.module\"() ({\n  %0 = \"arith.constant\"() {value = 1 : i32} : () -> i32\n  %1 = \"arith.constant\"() {value = 2 : i32} : () -> i32\n  \"t.use\"(%0, %0, %1) : (i32, i32, i32) -> ()\n}) : () -> ()\n",
+        b"in: cse: 1 operations erased\n",
+    ),
+    // Passes run in the order in which they are asked for: what was merged is no longer dead.
+    (
+        b"%a = \"arith.constant\"() {value = 1 : i32} : () -> i32 %b = \"arith.constant\"() {value = 1 : i32} : () -> i32 \"t.use\"(%a) : (i32) -> ()",
+        (&[Pass::Cse, Pass::Sweep], false, true),
+        0,
+        b"\"builtin.module\"() ({\n  %0 = \"arith.constant\"() {value = 1 : i32} : () -> i32\n  \"t.use\"(%0) : (i32) -> ()\n}) : () -> ()\n",
+        b"in: cse: 1 operations erased\nin: sweep: 0 operations erased\n",
+    ),
+    (
+        b"%a = \"arith.constant\"() {value = 1 : i32} : () -> i32 %b = \"arith.constant\"() {value = 1 : i32} : () -> i32 \"t.use\"(%a) : (i32) -> ()",
+        (&[Pass::Sweep, Pass::Cse], false, true),
+        0,
+        b"\"builtin.module\"() ({\n  %0 = \"arith.constant\"() {value = 1 : i32} : () -> i32\n  \"t.use\"(%0) : (i32) -> ()\n}) : () -> ()\n",
+        b"in: sweep: 1 operations erased\nin: cse: 0 operations erased\n",
+    ),
+    // A block goes that nothing leads to, with an effect in it.
+    (
+        b"\"t.f\"() ({ \"t.br\"()[^c] : () -> () ^b: \"t.effect\"() : () -> () \"t.br\"()[^c] : () -> () ^c: \"t.end\"() : () -> () }) : () -> ()",
+        UNREACHABLE,
+        0,
+        b"\"builtin.module\"() ({\n  \"t.f\"() ({\n    \"t.br\"()[^bb1] : () -> ()\n  ^bb1:\n    \"t.end\"() : () -> ()\n  }) : () -> ()\n}) : () -> ()\n",
+        b"in: unreachable-blocks: 2 operations erased\n",
+    ),
+    // One that defines what is named outside can't go.
+    (
+        b"\"t.f\"() ({ \"t.use\"(%x) : (i1) -> () \"t.end\"() : () -> () ^b: %x = \"t.def\"() : () -> i1 \"t.end\"() : () -> () }) : () -> ()",
+        UNREACHABLE,
+        1,
+        b"",
+        b"in: error: what an unreachable block defines is named outside of unreachable blocks\n",
     ),
     // A name that means nothing.
     (
@@ -149,14 +192,10 @@ const ROWS: &[Row] = &[
 
 // What is asked, under the name `in`.
 fn options(alloc: Global, asked: Asked) -> Result<Options<'static>, AllocError> {
-    let (sweeps, splits_input, tells_statistics) = asked;
-    let mut passes = Vec::new(alloc);
-    for _ in 0..sweeps {
-        passes.push(Pass::Sweep)?;
-    }
+    let (passes, splits_input, tells_statistics) = asked;
     Ok(Options {
         name: "in",
-        passes,
+        passes: Vec::from_slice(alloc, passes)?,
         splits_input,
         verifies_each: true,
         tells_statistics,

@@ -55,7 +55,7 @@ pub fn unlinked<'a>(kind: u32, uses: &'a [usize], regions: &'a [usize]) -> Row<'
 #[derive(Drop)]
 pub struct Made {
     pub ops: Vec<Ptr<Operation<Toy>>>,
-    blocks: Vec<Ptr<BasicBlock<Toy>>>,
+    pub blocks: Vec<Ptr<BasicBlock<Toy>>>,
 }
 
 // Makes the blocks of a region.

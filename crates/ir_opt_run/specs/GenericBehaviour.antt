@@ -1,5 +1,7 @@
--- What the dialect Generic does, as contracts of this crate say it.
+-- What the dialect Generic does, in words of the model.
 use Rattle.ir_model.specs.Forest.{Behaviour, Dialect}
+use Rattle.ir_model_passes.specs.Meaning.{SameAttributes}
+use Rattle.ir_base_dialects.specs.Attributes.{same_pairs}
 use Rattle.ir_core_records.specs.Meaning.{closed}
 use Rattle.ir_core_records.specs.DialectAnswers.{behaviour_of}
 use Rattle.generic_dialect.specs.declared.generic.GenericLoc.{GenericLoc}
@@ -8,10 +10,16 @@ use Rattle.generic_dialect.specs.declared.generic.GenericType.{GenericType}
 use Rattle.generic_dialect.specs.declared.generic.KeptAttr.{KeptAttr}
 use Rattle.generic_dialect.specs.contracts.generic.GenericDialects.TheImpl.{ghosts}
 use Rattle.generic_dialect.specs.contracts.generic.GenericTypePartialEq.TheImpl.{eq-value}
+use Rattle.generic_dialect.specs.contracts.generic.KeptAttrPartialEq.TheImpl.{eq-value as attr-value}
 
--- the dialect
+-- the dialect as the model has it
 abbrev pub generic : Dialect
 generic = closed KeptAttr GenericType (Unit {0}) GenericSaved (Unit {0}) GenericLoc
 
+-- its tables
 abbrev pub generic_behaviour : Behaviour generic
 generic_behaviour = behaviour_of ghosts eq-value.it
+
+-- whether two dictionaries of attributes are equal
+abbrev pub generic_same : SameAttributes generic
+generic_same = same_pairs attr-value.it
