@@ -70,9 +70,12 @@ pub mod operation {
     };
 }
 
-/// Passes over all that stands inside an operation.
+/// Passes: sweeps and mergings, and removals of unreached blocks.
 pub mod passes {
-    pub use ir_checked_view::passes::sweep_inside;
+    pub use ir_checked_view::passes::{
+        can_remove_unreached, can_remove_unreached_inside, merge_common, merge_common_inside,
+        remove_unreached, remove_unreached_inside, sweep_inside,
+    };
 }
 
 /// The calls of a region, by its handle.

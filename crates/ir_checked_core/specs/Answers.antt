@@ -34,6 +34,10 @@ module _ {T : Type 0} where
   abbrev pub unless : Type 0 → Condition → (Call → Result T CheckedErr → Type 0) → Call → Result T CheckedErr → Type 0
   unless P condition rest call result = ((P → ⊥) × (result ≡ Err (Unmet (record { call = call; condition = condition })))) ⊎ (P × rest call result)
 
+  -- there was no memory to test the next condition, or the rest is said of the answer
+  abbrev pub or_out_of_memory : (Call → Result T CheckedErr → Type 0) → Call → Result T CheckedErr → Type 0
+  or_out_of_memory rest call result = (result ≡ Err out_of_memory) ⊎ rest call result
+
   -- this is said of what the call answers
   abbrev pub Answers : Call → Result T CheckedErr → (Call → Result T CheckedErr → Type 0) → Type 0
   Answers call result said = said call result

@@ -325,6 +325,18 @@ pub enum Call {
     DeadSweep,
     /// `passes::sweep_inside`.
     PassesSweepInside,
+    /// `passes::merge_common`.
+    PassesMergeCommon,
+    /// `passes::merge_common_inside`.
+    PassesMergeCommonInside,
+    /// `passes::can_remove_unreached`.
+    PassesCanRemoveUnreached,
+    /// `passes::can_remove_unreached_inside`.
+    PassesCanRemoveUnreachedInside,
+    /// `passes::remove_unreached`.
+    PassesRemoveUnreached,
+    /// `passes::remove_unreached_inside`.
+    PassesRemoveUnreachedInside,
 }
 
 impl Call {
@@ -487,6 +499,12 @@ impl Call {
             Call::InterfaceHandleVerify => "type_interface_handle::verify",
             Call::DeadSweep => "dead::sweep",
             Call::PassesSweepInside => "passes::sweep_inside",
+            Call::PassesMergeCommon => "passes::merge_common",
+            Call::PassesMergeCommonInside => "passes::merge_common_inside",
+            Call::PassesCanRemoveUnreached => "passes::can_remove_unreached",
+            Call::PassesCanRemoveUnreachedInside => "passes::can_remove_unreached_inside",
+            Call::PassesRemoveUnreached => "passes::remove_unreached",
+            Call::PassesRemoveUnreachedInside => "passes::remove_unreached_inside",
         }
     }
 }

@@ -1,6 +1,6 @@
 //! The words of calls that change a context.
 
-use crate::{block_edits, handles, operation_edits, others, region_calls, value_calls};
+use crate::{block_edits, handles, operation_edits, others, passes, region_calls, value_calls};
 use testkit_lab::{Lab, Mode, TextError};
 
 /// Answers a line in a context: one of these calls, and its fields. It answers nothing where the call is none of them.
@@ -81,7 +81,11 @@ fn edit_other(lab: &mut Lab, call: &str, rest: &str) -> Option<Result<(), TextEr
         "value::replace_use_with" => Some(value_calls::replace_use_with(lab, rest)),
         "types::set_body" => Some(handles::set_body(lab, rest)),
         "dead::sweep" => Some(others::sweep(lab, rest)),
-        "passes::sweep_inside" => Some(others::sweep_inside(lab, rest)),
+        "passes::sweep_inside" => Some(passes::sweep_inside(lab, rest)),
+        "passes::merge_common" => Some(passes::merge_common(lab, rest)),
+        "passes::merge_common_inside" => Some(passes::merge_common_inside(lab, rest)),
+        "passes::remove_unreached" => Some(passes::remove_unreached(lab, rest)),
+        "passes::remove_unreached_inside" => Some(passes::remove_unreached_inside(lab, rest)),
         _ => None,
     }
 }

@@ -13,6 +13,7 @@ mod operands;
 mod operation_asks;
 mod operation_edits;
 mod others;
+mod passes;
 mod region_calls;
 mod successors;
 mod told;

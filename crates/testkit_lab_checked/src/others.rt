@@ -3,7 +3,7 @@
 use crate::told::{tell, tell_edit, tell_error, tell_walk};
 use ir_base_dialects::Limits;
 use ir_checked_core::{CheckedErr, context, identifier, uniqued, uniqued_any};
-use ir_checked_view::{dead, op as wrapped, passes, verify as verification, walk};
+use ir_checked_view::{dead, op as wrapped, verify as verification, walk};
 use ir_view_parts::{Context, Op, OpObj};
 use std::fmt::Display;
 use testkit_lab::{Constant, Lab, Line, Saved, TextError, one, two};
@@ -13,12 +13,6 @@ use toy_dialect::Toy;
 pub(crate) fn sweep(lab: &mut Lab, rest: &str) -> Result<(), TextError> {
     let item = lab.block(one(rest)?)?;
     let answer = dead::sweep(item, &mut lab.context);
-    tell_edit(lab, answer)
-}
-
-pub(crate) fn sweep_inside(lab: &mut Lab, rest: &str) -> Result<(), TextError> {
-    let item = lab.op(one(rest)?)?;
-    let answer = passes::sweep_inside(item, &mut lab.context);
     tell_edit(lab, answer)
 }
 

@@ -1,7 +1,7 @@
 //! The words of calls that ask, and where all words go.
 
 use crate::{
-    block_asks, edits, handles, operands, operation_asks, others, region_calls, successors,
+    block_asks, edits, handles, operands, operation_asks, others, passes, region_calls, successors,
     value_calls,
 };
 use std::mem::replace;
@@ -142,6 +142,10 @@ fn ask_other(text: &mut String, lab: &Lab, call: &str, rest: &str) -> Result<(),
         "type_interface_handle::deref" => handles::interface_deref(text, lab),
         "type_interface_handle::verify" => handles::interface_verify(text, lab),
         "entity::can_erase" => others::can_erase(text, lab, rest),
+        "passes::can_remove_unreached" => passes::can_remove_unreached(text, lab, rest),
+        "passes::can_remove_unreached_inside" => {
+            passes::can_remove_unreached_inside(text, lab, rest)
+        }
         "walk::inside" => others::inside(text, lab, rest),
         "walk::inside_preorder" => others::inside_preorder(text, lab, rest),
         "walk::ops_inside" => others::ops_inside(text, lab, rest),
