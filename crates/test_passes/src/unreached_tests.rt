@@ -1,19 +1,19 @@
 //! Which blocks removals of unreached ones take out of small graphs, and what they leave. The first blocks are those of the one region of an operation that stands in no block.
 
 use crate::plans::{Made, Row, left, make};
-use ir_base_dialects::{CoreError, Ptr};
+use ir_base_dialects::Ptr;
 use ir_checked_core::context::end;
 use ir_checked_core::operation::{get_region, push_successor};
 use ir_checked_core::prelude::{Context, Operation, Region};
-use ir_checked_core::{CheckedErr, basic_block, operation};
-use ir_core_queries::{BlockPtr, OperationPtr, RegionPtr};
+use ir_checked_core::{CheckedErr, Condition, basic_block, operation};
+use ir_checked_view::passes;
+use ir_core_queries::BlockPtr;
 use ir_run_unreached::laws::{inside_removal_tells, unreached_removal_tells};
-use ir_run_unreached::{
-    can_remove_unreached, can_remove_unreached_inside, remove_unreached, remove_unreached_inside,
-};
 use std::alloc::Global;
 use std::process::Abort;
 use toy_dialect::{Toy, ToyType};
+
+type Checked<T> = Result<T, CheckedErr>;
 
 // An operation at the back of a block: the operations whose results it names, the blocks that it names, and how many blocks each of its regions has.
 #[derive(Clone, Copy)]
@@ -51,7 +51,7 @@ struct Outcome {
 }
 
 // Lets operations name blocks. The operation of the first node has the number 1.
-fn add_targets(ctx: &mut Context<Toy>, made: &Made, nodes: &[Node<'_>]) -> Result<(), CheckedErr> {
+fn add_targets(ctx: &mut Context<Toy>, made: &Made, nodes: &[Node<'_>]) -> Checked<()> {
     for (number, node) in nodes.iter().enumerate() {
         for target in node.targets {
             if let (Some(op), Some(block)) = (
@@ -66,7 +66,7 @@ fn add_targets(ctx: &mut Context<Toy>, made: &Made, nodes: &[Node<'_>]) -> Resul
 }
 
 // Makes an operation in no block, whose one region has so many blocks, and the nodes.
-fn build(ctx: &mut Context<Toy>, blocks: usize, nodes: &[Node<'_>]) -> Result<Made, CheckedErr> {
+fn build(ctx: &mut Context<Toy>, blocks: usize, nodes: &[Node<'_>]) -> Checked<Made> {
     let counts = [blocks];
     let mut rows = Vec::new(ctx.alloc());
     rows.push(Row {
@@ -89,7 +89,7 @@ fn build(ctx: &mut Context<Toy>, blocks: usize, nodes: &[Node<'_>]) -> Result<Ma
 }
 
 // The numbers of the blocks that are live.
-fn blocks_left(ctx: &Context<Toy>, made: &Made) -> Result<Vec<usize>, CheckedErr> {
+fn blocks_left(ctx: &Context<Toy>, made: &Made) -> Checked<Vec<usize>> {
     let mut numbers = Vec::new(ctx.alloc());
     for (number, block) in made.blocks.iter().enumerate() {
         if block.is_live(ctx) {
@@ -99,32 +99,24 @@ fn blocks_left(ctx: &Context<Toy>, made: &Made) -> Result<Vec<usize>, CheckedErr
     Ok(numbers)
 }
 
-// Removes the unreached blocks of a region, where it can be done.
-fn remove(ctx: &mut Context<Toy>, region: Ptr<Region>) -> Result<Option<usize>, CoreError> {
-    if !region.is_live(ctx) {
-        return Ok(None);
-    }
-    if can_remove_unreached(region, ctx)? {
-        Ok(Some(remove_unreached(region, ctx)?))
-    } else {
-        Ok(None)
+// What a removal answered, none where something else names what is inside an unreached block.
+fn done<T: Drop>(answer: Checked<T>) -> Checked<Option<T>> {
+    match answer {
+        Ok(told) => Ok(Some(told)),
+        Err(CheckedErr::Unmet(unmet)) if unmet.condition == Condition::NotClosed => Ok(None),
+        Err(error) => Err(error),
     }
 }
 
+// Removes the unreached blocks of a region, where it can be done.
+fn remove(ctx: &mut Context<Toy>, region: Ptr<Region>) -> Checked<Option<usize>> {
+    done(passes::remove_unreached(region, ctx))
+}
+
 // The same for all regions inside an operation; 0 where it was done.
-fn remove_inside(
-    ctx: &mut Context<Toy>,
-    root: Ptr<Operation<Toy>>,
-) -> Result<Option<usize>, CoreError> {
-    if !root.is_live(ctx) {
-        return Ok(None);
-    }
-    if can_remove_unreached_inside(root, ctx)? {
-        remove_unreached_inside(root, ctx)?;
-        Ok(Some(0))
-    } else {
-        Ok(None)
-    }
+fn remove_inside(ctx: &mut Context<Toy>, root: Ptr<Operation<Toy>>) -> Checked<Option<usize>> {
+    let answer = done(passes::remove_unreached_inside(root, ctx))?;
+    Ok(answer.map(|_done| 0))
 }
 
 // Which regions lose their unreached blocks.
@@ -139,7 +131,7 @@ fn removal_of(
     regions: Where,
     blocks: usize,
     nodes: &[Node<'_>],
-) -> Result<Outcome, CheckedErr> {
+) -> Checked<Outcome> {
     let made = build(ctx, blocks, nodes)?;
     let mut removed = None;
     if let Some(root) = made.ops.first() {
@@ -469,7 +461,7 @@ fn inner_regions_lose_theirs_too(rt: HostRuntime) -> anyhow::Result<()> {
 }
 
 // An unreached block with an argument, which an operation names that stands in no block; once it names the argument no more, the block can go.
-fn with_argument(ctx: &mut Context<Toy>) -> Result<(Option<usize>, Option<usize>), CheckedErr> {
+fn with_argument(ctx: &mut Context<Toy>) -> Checked<(Option<usize>, Option<usize>)> {
     let made = build(ctx, 1, &[])?;
     let Some(root) = made.ops.first() else {
         return Ok((None, None));
