@@ -2,10 +2,9 @@
 
 use crate::building::{ADD, CONSTANT, Checked, Context, Op, constant};
 use ir_checked::prelude::{Identifier, Value};
-use ir_checked::{operation, value};
+use ir_checked::{operation, passes, value};
 use ir_core::prelude::*;
 use ir_rewrite::{DummyListener, Pattern, Rewriter, rewrite};
-use ir_run::passes::sweep_inside;
 use ir_run::toy::{Toy, ToyInt};
 use ir_view::prelude::*;
 
@@ -44,12 +43,10 @@ impl Pattern<Toy> for Folding {
 
 /// Folds all sums inside an operation and sweeps what is dead, and answers how many sums and how many operations went.
 pub fn fold(ctx: &mut Context, op: Op) -> Checked<(usize, usize)> {
-    let (mut folded, mut swept) = (0usize, 0);
+    let mut folded = 0usize;
     if op.is_live(ctx) {
         folded = rewrite(ctx, op, &[Folding], 1000, &mut DummyListener)?.steps;
     }
-    if op.is_live(ctx) {
-        swept = sweep_inside(op, ctx);
-    }
+    let swept = passes::sweep_inside(op, ctx)?;
     Ok((folded, folded.saturating_add(swept)))
 }
