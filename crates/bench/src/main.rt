@@ -12,6 +12,7 @@ mod lists;
 mod nests;
 mod operands;
 mod outcome;
+mod passes;
 mod random;
 mod settled;
 mod settled_building;

@@ -51,8 +51,8 @@ fn first_of_chain(ctx: &mut ToyContext, ty: TypeHandle) -> Result<(ToyBlock, Toy
     Ok((block, operation::get_result(op, ctx, 0)?))
 }
 
-// Makes so many pure operations at the back of a block, each of which uses the result of the one before, from this value on, and answers the last result.
-fn chain_to_back(
+/// Makes so many pure operations at the back of a block, each of which uses the result of the one before, from this value on, and answers the last result.
+pub(crate) fn chain_to_back(
     ctx: &mut ToyContext,
     ty: TypeHandle,
     block: ToyBlock,

@@ -10,6 +10,7 @@ use crate::operands::{
     replacements,
 };
 use crate::outcome::BenchErr;
+use crate::passes::{cse, sweeping_inside};
 use crate::settled::unlinked;
 use crate::sweeps::{sweep_back, sweep_comb, sweep_fan_in, sweep_fan_out, sweep_front, sweep_none};
 use crate::types::interning;
@@ -84,6 +85,10 @@ pub enum Workload {
     SweepFanIn,
     /// A dead comb of N operations is swept, each of which is in front of the two that it uses, or uses nothing.
     SweepComb,
+    /// In a module of N/100 functions, each with a block of 100 operations of which each second one is alike the one before, these are merged.
+    Cse,
+    /// A module of N/8 functions, each with eight dead operations over three blocks, is swept.
+    SweepInside,
     /// N operands of one operation are replaced one by one, the first first.
     ReplacedFront,
     /// The same, the last first.
@@ -126,7 +131,7 @@ pub enum Workload {
 
 impl Workload {
     /// All of them, in the order in which they are printed, with their names on the command line.
-    pub(crate) fn all() -> [(Workload, &'static str); 47] {
+    pub(crate) fn all() -> [(Workload, &'static str); 49] {
         [
             (Workload::Unlinked, "unlinked"),
             (Workload::UnlinkedChecked, "unlinked_checked"),
@@ -156,6 +161,8 @@ impl Workload {
             (Workload::SweepFanOut, "sweep_fan_out"),
             (Workload::SweepFanIn, "sweep_fan_in"),
             (Workload::SweepComb, "sweep_comb"),
+            (Workload::Cse, "cse"),
+            (Workload::SweepInside, "sweep_inside"),
             (Workload::ReplacedFront, "replaced_front"),
             (Workload::ReplacedBack, "replaced_back"),
             (Workload::ReplacedRandom, "replaced_random"),
@@ -234,6 +241,8 @@ impl Workload {
             Workload::SweepFanOut => sweep_fan_out(watch, ctx, ty, count),
             Workload::SweepFanIn => sweep_fan_in(watch, ctx, ty, count, values),
             Workload::SweepComb => sweep_comb(watch, ctx, ty, count),
+            Workload::Cse => cse(watch, ctx, ty, count),
+            Workload::SweepInside => sweeping_inside(watch, ctx, ty, count),
             Workload::ReplacedFront => replaced_front(watch, ctx, ty, count),
             Workload::ReplacedBack => replaced_back(watch, ctx, ty, count),
             Workload::ReplacedRandom => replaced_random(watch, ctx, ty, count, order),
