@@ -74,9 +74,9 @@ class Program:
         ran = subprocess.run([self.path, *words], input=text.encode('latin-1'), capture_output=True, timeout=SECONDS)
         return ran.returncode, ran.stdout.decode('latin-1'), ran.stderr.decode('latin-1')
 
-    def parts(self, texts):
+    def parts(self, texts, *words):
         """What is given for each of these texts, as parts of one input, and the status."""
-        status, printed, said = self.run(MARKER.join(texts), '--split-input-file')
+        status, printed, said = self.run(MARKER.join(texts), '--split-input-file', *words)
         return status, parts_given(texts, printed, said)
 
     def alone(self, text):

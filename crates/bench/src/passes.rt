@@ -12,9 +12,6 @@ use ir_core::prelude::*;
 use ir_run::passes::{merge_common_inside, sweep_inside};
 use std::time::CpuClock;
 
-// How many pairs of alike operations a function has.
-const PAIRS: usize = 50;
-
 // Merges the alike operations of each block inside an operation, and answers how many went.
 #[inline(never)]
 fn timed_merging(ctx: &mut ToyContext, root: ToyOp) -> Result<usize, BenchErr> {
@@ -35,8 +32,8 @@ fn timed_sweep_inside(ctx: &mut ToyContext, root: ToyOp) -> Result<usize, BenchE
 
 // What came of a pass over so many operations, of which so many went: that, and how many entities are left, the root among them.
 fn passed(ctx: &ToyContext, root: ToyOp, count: usize, gone: usize) -> Result<Outcome, BenchErr> {
-    let left = walk::all_inside(ctx, Entity::Op(root))?.len();
-    outcome(count, Ok(mix(gone as u64, left as u64)))
+    let left = walk::all_inside(ctx, Entity::Op(root))?;
+    outcome(count, Ok(mix(gone as u64, left.len() as u64)))
 }
 
 // Makes a pure operation at the back of a block that uses two values, and answers its result.
@@ -50,12 +47,12 @@ fn user_of_both(
     Ok(operation::get_result(op, ctx, 0)?)
 }
 
-// Makes pairs of operations at the back of a block with two arguments. The first of a pair uses what the first of the pair before gives, and the second what the second gives; so the two are alike once those before them are merged.
+// Makes fifty pairs of operations at the back of a block with two arguments. The first of a pair uses what the first of the pair before gives, and the second what the second gives; so the two are alike once those before them are merged.
 fn add_pairs(ctx: &mut ToyContext, ty: TypeHandle, block: ToyBlock) -> Result<(), BenchErr> {
     let start = basic_block::get_argument(block, ctx, 0)?;
     let other = basic_block::get_argument(block, ctx, 1)?;
     let (mut first, mut second) = (start, start);
-    for _i in 0..PAIRS {
+    for _i in 0..50 {
         let operands = [first, other];
         first = user_of_both(ctx, ty, block, &operands)?;
         let operands = [second, other];
@@ -121,12 +118,12 @@ pub(crate) fn cse<C: CpuClock>(
     ty: TypeHandle,
     count: usize,
 ) -> Result<Outcome, BenchErr> {
-    let functions = count / (2 * PAIRS);
+    let functions = count / 100;
     let root = module_of_pairs(ctx, ty, functions)?;
     watch.start();
     let gone = timed_merging(ctx, root)?;
     watch.stop();
-    passed(ctx, root, functions.saturating_mul(2 * PAIRS), gone)
+    passed(ctx, root, functions.saturating_mul(100), gone)
 }
 
 /// A module of N/8 functions, each with eight dead operations over three blocks, of which one is around the two others, is swept. Its building isn't timed. The units are the operations that go.
