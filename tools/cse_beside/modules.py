@@ -135,11 +135,12 @@ class Function:
         self.write('}) : (index, index, index) -> ()')
 
     def beside(self, count):
-        """Three blocks: two beside one another, and one behind both."""
+        """Two blocks beside one another, and one behind both; where the shape is `lost`, also two that nothing leads to."""
         self.write('"cf.cond_br"(%arg2)[^bb1, ^bb2] {operand_segment_sizes = array<i32: 1, 0, 0>} : (i1) -> ()')
-        for label in ('^bb1:', '^bb2:'):
-            self.label(label)
-            self.inside(count, '"cf.br"()[^bb3] : () -> ()')
+        lost = [('^lost1', '^lost2'), ('^lost2', '^bb3')] if self.shape == 'lost' else []
+        for label, behind in [('^bb1', '^bb3'), *lost, ('^bb2', '^bb3')]:
+            self.label(f'{label}:')
+            self.inside(count, f'"cf.br"()[{behind}] : () -> ()')
         self.label('^bb3:')
         self.body(count)
 
