@@ -114,7 +114,7 @@ row_wrote a b c text done total d last x rows rest left more e p h q =
       done ++ w,
       Appends-trans a b c done w p q.1,
       sym (append_assoc (done ++ w) (piece text more) behind)
-      ∙ goes_on text front ((done ++ w) ++ piece text more) total d last x rows rest e is (append_assoc done (piece text left) (spelled text d last rows) ∙ h),
+          ∙ goes_on text front ((done ++ w) ++ piece text more) total d last x rows rest e is (append_assoc done (piece text left) (spelled text d last rows) ∙ h),
     )
 
 pub row_broke : (a b c : Option (List ℕ)) (text done total : List ℕ) (d : ℕ) (last : Option Part) (x : Row) (rows rest : List Row) (left : Span) → rows ≡ x ∷ rest → Appends a b done → done ++ (piece text left ++ spelled text d last rows) ≡ total
