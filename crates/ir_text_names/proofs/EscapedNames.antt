@@ -10,7 +10,7 @@ use Rattle.ir_text_tree.specs.declared.row.Part.TheVariants as parts
 use Rattle.ir_text_tree.specs.declared.row.Row.{Row}
 use Rattle.ir_text_names.specs.declared.given.NameKind.{NameKind}
 use Rattle.ir_text_names.specs.declared.given.NameKind.TheVariants as kinds
-use Rattle.ir_text_names.specs.Rows.{no_row, row_of}
+use Rattle.ir_text_names.specs.Rows.{no_row, row_of, piece}
 use Rattle.ir_text_names.specs.Given.{giver, is_quoted, between_quotes, plain_name, is_escaped_key, is_escaped, escaped_name_of, escaped_names, name_of}
 
 quoted_key : (part : Part) (t : List ℕ) → is_escaped_key part t ≡ true → is_quoted t ≡ true
@@ -41,6 +41,18 @@ plain_is kinds.Key t e = key_plain (is_quoted t) (between_quotes t) t e
 -- the name that a text without escapes is
 pub name_plain : (kind : NameKind) (part : Part) (t : List ℕ) → is_escaped kind part t ≡ false → part ≡ giver kind → plain_name kind t ≡ name_of (giver kind) t
 name_plain kind part t e p = plain_is kind t (subst (λ (q : Part). is_escaped kind q t ≡ false) p e)
+
+unescaped_key : (part : Part) (t : List ℕ) → (part ≡ parts.Key → ⊥) → is_escaped_key part t ≡ false
+unescaped_key parts.Key t other = absurd (other refl)
+unescaped_key _ t other = refl
+
+unescaped_part : (kind : NameKind) (part : Part) (t : List ℕ) → (part ≡ giver kind → ⊥) → is_escaped kind part t ≡ false
+unescaped_part kinds.Block part t other = refl
+unescaped_part kinds.Key part t other = unescaped_key part t other
+
+-- a row that gives no such name gives none with escapes
+pub unescaped_other : (kind : NameKind) (text : List ℕ) (r : Row) → (r.part ≡ giver kind → ⊥) → escaped_name_of kind text r ≡ []
+unescaped_other kind text r other = ap (λ (b : Bool). cond b (unescaped (between_quotes (piece text r.span))) []) (unescaped_part kind r.part (piece text r.span) other)
 
 -- what stands in front of a list
 pub front_fits : (front rest all : List ℕ) (n : ℕ) → all ≡ front ++ rest → n ≡ length front → n ≤ length all

@@ -14,6 +14,14 @@ first_more P n None true holds known h = (omega arith, holds refl, h)
 first_more P n None false holds known h = below_more (λ (k : ℕ). P k → ⊥) n h (λ p. false≢true (known p))
 first_more P n (Some i) b holds known h = let lt : i < n = h.0 in (omega arith, h.1, h.2)
 
+noted_not : (o : Option ℕ) (n : ℕ) → noted o n false ≡ o
+noted_not None n = refl
+noted_not (Some i) n = refl
+
+-- of row n it doesn't hold
+pub first_kept : (P : ℕ → Type 0) (n : ℕ) (o : Option ℕ) → (P n → ⊥) → IsFirst P n o → IsFirst P (n + 1) o
+first_kept P n o other h = subst (λ (r : Option ℕ). IsFirst P (n + 1) r) (noted_not o n) (first_more P n o false (λ e. absurd (false≢true e)) (λ p. absurd (other p)) h)
+
 -- the same, where it need be told only of the first
 pub first_more_clear : (P : ℕ → Type 0) (n : ℕ) (o : Option ℕ) (b : Bool) → (b ≡ true → P n) → (((k : ℕ) → k < n → P k → ⊥) → P n → b ≡ true) → IsFirst P n o → IsFirst P (n + 1) (noted o n b)
 first_more_clear P n None b holds known h = first_more P n None b holds (known h) h

@@ -1,5 +1,5 @@
 //! Names that rows give: where each was given last, and the first that was given before.
-ghost use Rattle.std.specs.Prelude.{◌≡◌, ◌&&◌, length, IfOk, IsTrue, ◌↔◌, ◌++◌, drop};
+ghost use Rattle.std.specs.Prelude.{◌≡◌, length, IfOk, IsTrue, ◌↔◌, ◌++◌, drop};
 ghost use Rattle.ir_text_names.specs.Firsts.{IsFirst};
 ghost use Rattle.ir_text_names.specs.Given.{giver, is_quoted, between_quotes, plain_name, is_escaped, escaped_name, escaped_names, name_of, is_asked, IsAgain, AreAsked, AreGiven};
 ghost use Rattle.ir_text_names.specs.Places.{row_at};
@@ -150,13 +150,6 @@ fn is_asked(kind: NameKind, counts: &[u32], scope: usize) -> bool
     }
 }
 
-// Whether both hold.
-fn both(one: bool, other: bool) -> bool
-    ensures { result ≡ (one && other) }
-{
-    one && other
-}
-
 /// The names that rows give in the scopes in which they stand, as far as they may be the same; `escaped` has those with escapes, and `counts` tells of each scope how many keys stand there.
 pub(crate) fn given<'a>(
     alloc: Global,
@@ -177,13 +170,14 @@ pub(crate) fn given<'a>(
     let mut again = None;
     let mut behind = escaped;
     for (at, row) in rows.iter().enumerate() {
-        let is = gives(kind, row.part);
-        let next = next_name(kind, row.part, piece(text, row.span), behind);
-        behind = next.escaped;
-        let scope = scopes[at] as usize;
-        let asked = both(is, is_asked(kind, counts, scope));
-        let twice = put_if(&mut places, asked, scope, next.name, at)?;
-        again = noted(again, at, twice);
+        if gives(kind, row.part) {
+            let next = next_name(kind, row.part, piece(text, row.span), behind);
+            behind = next.escaped;
+            let scope = scopes[at] as usize;
+            let asked = is_asked(kind, counts, scope);
+            let twice = put_if(&mut places, asked, scope, next.name, at)?;
+            again = noted(again, at, twice);
+        }
     }
     Ok(GivenNames { places, again })
 }

@@ -1,6 +1,8 @@
 -- Writes one behind the other: what was written before, and what is still written, are one total.
-use Rattle.std.proofs.Common.{◌≡◌, ◌<◌, ℕ, ◌+◌, ◌-◌, ◌*◌, Bool, false, List, [], ◌∷◌, ◌++◌, length, take, drop, replicate, Option, Some, Result, Ok, Err, sym, ap, subst, ◌∙◌, append_assoc, take-append-drop, arith}
-use Rattle.std.proofs.lemmas.List.{take_rest, replicate-append-replicate}
+use Rattle.std.proofs.Common.{◌≡◌, ◌<◌, ◌≤◌, ℕ, ◌+◌, ◌-◌, ◌*◌, Bool, false, List, [], ◌∷◌, ◌++◌, length, take, drop, replicate, Option, Some, Result, Ok, Err, sym, ap, subst, ◌∙◌, append_assoc, take-append-drop, arith}
+use Rattle.std.proofs.lemmas.List.{take_rest, drop-drop, replicate-append-replicate}
+use Rattle.std.proofs.Math.Seq.{take-add}
+use Rattle.ir_text_tree.specs.declared.row.Span.{Span}
 use Rattle.std.specs.Prelude.{if◌then◌else◌}
 use Rattle.std.specs.Io.KnownBytes.{Appends, WriteAppends}
 use Rattle.std.proofs.KnownBytes.{Appends-trans, Appends-kept}
@@ -93,21 +95,56 @@ ending_wrote a b c o p x y r e g i h k =
 
 -- ---- the loop over the rows
 
-pub row_wrote : (a b c : Option (List ℕ)) (text done total : List ℕ) (d : ℕ) (last : Option Part) (x : Row) (rows rest : List Row) → rows ≡ x ∷ rest → Appends a b done → done ++ spelled text d last rows ≡ total
-    → Appends b c (before d last x.part ++ piece text x.span) → (more : List ℕ) × Appends a c more × (more ++ spelled text (depth_behind x.part d) (Some x.part) rest ≡ total)
-row_wrote a b c text done total d last x rows rest e p h q =
-    let more = before d last x.part ++ piece text x.span in
-    (done ++ more, Appends-trans a b c done more p q, goes_on text done (done ++ more) total d last x rows rest e (sym (append_assoc done (before d last x.part) (piece text x.span))) h)
+-- a piece that is left and a mark were not written whole
+pub left_broke : (a b : Option (List ℕ)) (left mark part : List ℕ) → AppendsFront a b (left ++ mark) → AppendsFront a b (left ++ (mark ++ part))
+left_broke a b left mark part h = subst (λ (l : List ℕ). AppendsFront a b l) (append_assoc left mark part) (front_of a b (left ++ mark) part h)
 
-pub row_broke : (a b c : Option (List ℕ)) (text done total : List ℕ) (d : ℕ) (last : Option Part) (x : Row) (rows rest : List Row) → rows ≡ x ∷ rest → Appends a b done → done ++ spelled text d last rows ≡ total
-    → AppendsFront b c (before d last x.part ++ piece text x.span) → AppendsFront a c total
-row_broke a b c text done total d last x rows rest e p h q =
-    let more = before d last x.part ++ piece text x.span in
-    subst (λ (l : List ℕ). AppendsFront a c l) (goes_on text done (done ++ more) total d last x rows rest e (sym (append_assoc done (before d last x.part) (piece text x.span))) h)
+-- the bytes of a row behind a piece that is left
+row_is : (done left mark part : List ℕ) → done ++ (left ++ (mark ++ part)) ≡ ((done ++ left) ++ mark) ++ part
+row_is done left mark part = sym (append_assoc done left (mark ++ part)) ∙ sym (append_assoc (done ++ left) mark part)
+
+pub row_wrote : (a b c : Option (List ℕ)) (text done total : List ℕ) (d : ℕ) (last : Option Part) (x : Row) (rows rest : List Row) (left more : Span) → rows ≡ x ∷ rest → Appends a b done → done ++ (piece text left ++ spelled text d last rows) ≡ total
+    → (written : List ℕ) × Appends b c written × (written ++ piece text more ≡ piece text left ++ (before d last x.part ++ piece text x.span))
+    → (all : List ℕ) × Appends a c all × (all ++ (piece text more ++ spelled text (depth_behind x.part d) (Some x.part) rest) ≡ total)
+row_wrote a b c text done total d last x rows rest left more e p h q =
+    let w = q.0 in
+    let front = done ++ piece text left in
+    let behind = spelled text (depth_behind x.part d) (Some x.part) rest in
+    let is = append_assoc done w (piece text more) ∙ ap (λ (l : List ℕ). done ++ l) q.2 ∙ row_is done (piece text left) (before d last x.part) (piece text x.span) in (
+      done ++ w,
+      Appends-trans a b c done w p q.1,
+      sym (append_assoc (done ++ w) (piece text more) behind)
+          ∙ goes_on text front ((done ++ w) ++ piece text more) total d last x rows rest e is (append_assoc done (piece text left) (spelled text d last rows) ∙ h),
+    )
+
+pub row_broke : (a b c : Option (List ℕ)) (text done total : List ℕ) (d : ℕ) (last : Option Part) (x : Row) (rows rest : List Row) (left : Span) → rows ≡ x ∷ rest → Appends a b done → done ++ (piece text left ++ spelled text d last rows) ≡ total
+    → AppendsFront b c (piece text left ++ (before d last x.part ++ piece text x.span)) → AppendsFront a c total
+row_broke a b c text done total d last x rows rest left e p h q =
+    let more = piece text left ++ (before d last x.part ++ piece text x.span) in
+    let front = done ++ piece text left in
+    subst (λ (l : List ℕ). AppendsFront a c l)
+    (goes_on text front (done ++ more) total d last x rows rest e (row_is done (piece text left) (before d last x.part) (piece text x.span)) (append_assoc done (piece text left) (spelled text d last rows) ∙ h))
     (front_of a c (done ++ more) (spelled text (depth_behind x.part d) (Some x.part) rest) (front_after a b c done more p q))
 
-pub end_wrote : {X E : Type 0} (a b c : Option (List ℕ)) (text done total : List ℕ) (d : ℕ) (last : Option Part) (rows : List Row) (r : Result X E) → rows ≡ [] → Appends a b done → done ++ spelled text d last rows ≡ total → Writes b c (ending last) r → Writes a c total r
-end_wrote a b c text done total d last rows r e p h q = subst (λ (l : List ℕ). Writes a c l r) (ends text done total d last rows e h) (then_writes a b c done (ending last) r p q)
+pub end_wrote : {X E : Type 0} (a b c : Option (List ℕ)) (text done total : List ℕ) (d : ℕ) (last : Option Part) (rows : List Row) (left : Span) (r : Result X E) → rows ≡ [] → Appends a b done → done ++ (piece text left ++ spelled text d last rows) ≡ total
+    → Writes b c (piece text left ++ ending last) r → Writes a c total r
+end_wrote a b c text done total d last rows left r e p h q =
+    let is = sym (append_assoc done (piece text left) (ending last)) ∙ ends text (done ++ piece text left) total d last rows e (append_assoc done (piece text left) (spelled text d last rows) ∙ h) in
+    subst (λ (l : List ℕ). Writes a c l r) is (then_writes a b c done (piece text left ++ ending last) r p q)
+
+-- two pieces of a text behind each other are one piece
+two_pieces : (text : List ℕ) (a b c : ℕ) → a ≤ b → b ≤ c → take (c - a) (drop a text) ≡ take (b - a) (drop a text) ++ take (c - b) (drop b text)
+two_pieces text a b c ab bc =
+    let sum : c - a ≡ (b - a) + (c - b) = omega (arith, ab, bc) in
+    let place : a + (b - a) ≡ b = omega (arith, ab) in
+    ap (λ (n : ℕ). take n (drop a text)) sum
+    ∙ take-add (b - a) (c - b) (drop a text)
+    ∙ ap (λ (l : List ℕ). take (b - a) (drop a text) ++ take (c - b) l) (drop-drop (b - a) a text ∙ ap (λ (n : ℕ). drop n text) place)
+
+-- pieces of a text behind one another are one piece
+pub pieces_join : (text : List ℕ) (a b c d : ℕ) → a ≤ b → b ≤ c → c ≤ d → take (d - a) (drop a text) ≡ take (b - a) (drop a text) ++ (take (c - b) (drop b text) ++ take (d - c) (drop c text))
+pieces_join text a b c d ab bc cd =
+    two_pieces text a b d ab (omega (arith, bc, cd)) ∙ ap (λ (l : List ℕ). take (b - a) (drop a text) ++ l) (two_pieces text b c d bc cd)
 
 -- all was written into a vector that had nothing
 pub all_written : {X E : Type 0} (old items bytes : List ℕ) (r : Result X E) (x : X) → old ≡ [] → r ≡ Ok x → Writes (Some old) (Some items) bytes r → items ≡ bytes

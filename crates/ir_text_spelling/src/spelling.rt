@@ -1,13 +1,14 @@
 //! From rows to a text, by one loop.
-ghost use Rattle.std.specs.Prelude.{◌≡◌, ◌++◌, IfOk};
+ghost use Rattle.std.specs.Prelude.{◌≡◌, ◌++◌, IfOk, IfSome};
 ghost use Rattle.ir_text_tree.specs.Trees.{Body, IsWholeText, tree_rows};
 ghost use Rattle.ir_text_reader.specs.Texts.{SpellsTree};
 ghost use Rattle.ir_text_spelling.specs.Marks.{opening, levels, blanks, before, between, ending};
 ghost use Rattle.ir_text_spelling.specs.Spellings.{piece, rows_spelled};
 ghost use Rattle.ir_text_spelling.specs.TreeTexts.{tree_text};
 ghost use Rattle.ir_text_spelling.specs.RoundTrips.{SpellsAgain};
-ghost use Rattle.ir_text_spelling.specs.Writings.{Writes};
+ghost use Rattle.ir_text_spelling.specs.Writings.{Leaves, Writes};
 
+use crate::leading::leads_to;
 use crate::mark::{closing, depth_behind, is_joined, joint, levels, opening, to_line_end};
 use crate::spelling_laws::tree_text_spells_again;
 use crate::writing::{write_blanks, write_bytes};
@@ -60,18 +61,61 @@ fn write_before<W: Write>(
     }
 }
 
-// Writes a part behind what leads to it.
+// The piece that is left with a part and what leads to it behind it, where all that goes on in the text as it has to be written.
+fn continued(text: &[u8], left: Span, depth: usize, last: Option<Part>, row: Row) -> Option<Span>
+    ensures { IfSome result (λ more. piece text.now more ≡ piece text.now left ++ (before depth last row.part ++ piece text.now row.span)) }
+{
+    let gap = Span {
+        start: left.end,
+        end: row.span.start,
+    };
+    if left.start <= left.end
+        && gap.start <= gap.end
+        && row.span.start <= row.span.end
+        && leads_to(piece_of(text, gap), depth, last, row.part)
+    {
+        Some(Span {
+            start: left.start,
+            end: row.span.end,
+        })
+    } else {
+        None
+    }
+}
+
+// Writes a piece that is left to be written, and what leads from there to a part.
+fn write_left<W: Write>(
+    output: &mut W,
+    text: &[u8],
+    left: Span,
+    depth: usize,
+    last: Option<Part>,
+    next: Part,
+) -> io::Result<()>
+    ensures { Writes (W.contents output.old) (W.contents output.new) (piece text.now left ++ before depth last next) result }
+{
+    write_bytes(output, piece_of(text, left))?;
+    write_before(output, depth, last, next)
+}
+
+// Writes a piece that is left to be written and a part behind what leads to it, but for a piece that is left of them.
 fn write_row<W: Write>(
     output: &mut W,
     text: &[u8],
+    left: Span,
     depth: usize,
     last: Option<Part>,
     row: Row,
-) -> io::Result<()>
-    ensures { Writes (W.contents output.old) (W.contents output.new) (before depth last row.part ++ piece text.now row.span) result }
+) -> io::Result<Span>
+    ensures { Leaves (W.contents output.old) (W.contents output.new) text.now (piece text.now left ++ (before depth last row.part ++ piece text.now row.span)) result }
 {
-    write_before(output, depth, last, row.part)?;
-    write_bytes(output, piece_of(text, row.span))
+    match continued(text, left, depth, last, row) {
+        Some(more) => Ok(more),
+        None => {
+            write_left(output, text, left, depth, last, row.part)?;
+            Ok(row.span)
+        }
+    }
 }
 
 // Writes what stands behind the last part.
@@ -87,6 +131,19 @@ fn write_end<W: Write>(output: &mut W, last: Option<Part>) -> io::Result<()>
     }
 }
 
+// Writes a piece that is left to be written, and what stands behind the last part.
+fn write_rest<W: Write>(
+    output: &mut W,
+    text: &[u8],
+    left: Span,
+    last: Option<Part>,
+) -> io::Result<()>
+    ensures { Writes (W.contents output.old) (W.contents output.new) (piece text.now left ++ ending last) result }
+{
+    write_bytes(output, piece_of(text, left))?;
+    write_end(output, last)
+}
+
 /// Writes the text of rows whose spans are pieces of this text: each piece as it stands there, a line for each operation, each head of a block and the end of each region. An operation is indented by two blanks for each region that it stands in; a block's head and the end of a region as the operation that has the region. A single type of a result stands in parentheses only where its row says so; braces, and parentheses of a block's head, stand only where something stands in them. The writer isn't flushed.
 ///
 /// # Errors
@@ -99,12 +156,14 @@ pub fn spell_to<W: Write>(text: &[u8], rows: &[Row], output: &mut W) -> io::Resu
 {
     let mut depth = 0;
     let mut last = None;
+    // What is written as it stands in the text is written at once.
+    let mut left = Span { start: 0, end: 0 };
     for row in rows {
-        write_row(output, text, depth, last, *row)?;
+        left = write_row(output, text, left, depth, last, *row)?;
         depth = depth_behind(row.part, depth);
         last = Some(row.part);
     }
-    write_end(output, last)
+    write_rest(output, text, left, last)
 }
 
 /// The text that `spell_to` writes.

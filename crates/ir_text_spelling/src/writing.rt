@@ -31,11 +31,11 @@ pub fn write_bytes<W: Write>(output: &mut W, bytes: &[u8]) -> io::Result<()>
     Err(io::Error::from(ErrorKind::Interrupted))
 }
 
-// How many levels one write indents by at most.
-const MOST: usize = 32;
+/// How many levels one write indents by at most.
+pub(crate) const MOST: usize = 32;
 
-// The blanks of so many levels.
-fn blanks_of(levels: usize) -> &'static [u8]
+/// The blanks of so many levels.
+pub(crate) fn blanks_of(levels: usize) -> &'static [u8]
     requires { levels ≤ 32 }
     ensures { result.now ≡ blanks levels }
 {

@@ -1,10 +1,12 @@
 //! What a byte does to the reader: the table of the tokens.
-ghost use Rattle.std.specs.Prelude.{◌≡◌};
+ghost use Rattle.std.specs.Prelude.{◌≡◌, ◌+◌, ◌<◌, drop, length, slice_index_or};
+ghost use Rattle.ir_text_tokens.specs.ByteClasses.{class_of_byte, class_ahead};
+ghost use Rattle.ir_text_tokens.specs.declared.byte_class.Class.TheVariants as classes;
 ghost use Rattle.ir_text_tokens.specs.declared.reader_step.Step.TheVariants.{Go};
 ghost use Rattle.ir_text_tokens.specs.declared.reader_step.Nesting.TheVariants.{Kept};
 ghost use Rattle.ir_text_tokens.specs.ReaderSteps.{is_hex, goes_on_word, goes_on_name, word_step, number_step, name_step, name_begins, lone_sign, sign_step, begin_step, same_bracket, closing_step, group_step, quote_step, string_step, escape_step, hex_step, comment_step, reader_step, is_digit, is_gap, is_inner, is_plain, start_at, glued_behind, missing_at_end};
 
-use crate::byte_class::Class;
+use crate::byte_class::{Class, class_at, class_of};
 use crate::fault::Problem;
 use crate::token::{Bracket, Kind, Mark, Sign};
 
@@ -165,23 +167,40 @@ fn sign_step(sign: Sign, next: Class) -> Step
     }
 }
 
-// What a byte does outside all tokens.
-fn begin_step(class: Class, next: Class) -> Step
-    ensures { result ≡ begin_step class next }
+// What `/` does outside all tokens.
+fn slash_step(next: Class) -> Step
+    ensures { result ≡ begin_step classes.Slash next }
+{
+    match next {
+        Class::Slash => go(Mode::Comment),
+        _ => Step::Bad(Problem::Character),
+    }
+}
+
+// What `-` does outside all tokens.
+fn dash_step(next: Class) -> Step
+    ensures { result ≡ begin_step classes.Dash next }
+{
+    match next {
+        Class::Greater => go(Mode::Arrow),
+        _ => Step::Emit(Kind::Mark(Mark::Minus)),
+    }
+}
+
+// What a byte of this class does outside all tokens, where that index is the next.
+#[inline(always)]
+fn begin_step(text: &[u8], class: Class, next: usize) -> Step
+    ensures { result ≡ begin_step class (class_ahead (drop next text.now)) }
 {
     match class {
         Class::Newline | Class::Blank => go(Mode::Between),
-        Class::Slash => match next {
-            Class::Slash => go(Mode::Comment),
-            _ => Step::Bad(Problem::Character),
-        },
-        Class::Digit | Class::HexLetter | Class::EscapeLetter | Class::Letter => word_step(next),
-        Class::Sign(sign) => sign_step(sign, next),
+        Class::Slash => slash_step(class_at(text, next)),
+        Class::Digit | Class::HexLetter | Class::EscapeLetter | Class::Letter => {
+            word_step(class_at(text, next))
+        }
+        Class::Sign(sign) => sign_step(sign, class_at(text, next)),
         Class::Quote => go(Mode::Quoted(Around::Nothing)),
-        Class::Dash => match next {
-            Class::Greater => go(Mode::Arrow),
-            _ => Step::Emit(Kind::Mark(Mark::Minus)),
-        },
+        Class::Dash => dash_step(class_at(text, next)),
         Class::Less => go(Mode::Group),
         Class::Equals => Step::Emit(Kind::Mark(Mark::Equals)),
         Class::Open(bracket) => Step::Emit(Kind::Mark(Mark::Open(bracket))),
@@ -298,21 +317,23 @@ fn comment_step(class: Class) -> Step
     }
 }
 
-/// What a byte of this class does where one of the next class follows; `last` is the last bracket that was opened in the group, behind its first.
-pub(crate) fn reader_step(mode: Mode, last: Option<Bracket>, class: Class, next: Class) -> Step
-    ensures { result ≡ reader_step mode last class next }
+/// What the byte at that index does; `last` is the last bracket that was opened in the group, behind its first. Its class and that of the byte behind it are looked up only where they count.
+#[inline(always)]
+pub(crate) fn reader_step(text: &[u8], mode: Mode, last: Option<Bracket>, at: usize) -> Step
+    requires { at < length text.now }
+    ensures { result ≡ reader_step mode last (class_of_byte (slice_index_or text.now at 0)) (class_ahead (drop (at + 1) text.now)) }
 {
     match mode {
-        Mode::Between => begin_step(class, next),
-        Mode::Comment => comment_step(class),
-        Mode::Word => word_step(next),
-        Mode::Number(sign) => number_step(sign, next),
-        Mode::Name(sign) => name_step(sign, next),
+        Mode::Between => begin_step(text, class_of(text[at]), at + 1),
+        Mode::Comment => comment_step(class_of(text[at])),
+        Mode::Word => word_step(class_at(text, at + 1)),
+        Mode::Number(sign) => number_step(sign, class_at(text, at + 1)),
+        Mode::Name(sign) => name_step(sign, class_at(text, at + 1)),
         Mode::Arrow => Step::Emit(Kind::Arrow),
-        Mode::Quoted(around) => string_step(around, class),
-        Mode::Escape(around) => escape_step(around, class),
-        Mode::Hex(around) => hex_step(around, class),
-        Mode::Group => group_step(last, class, next),
+        Mode::Quoted(around) => string_step(around, class_of(text[at])),
+        Mode::Escape(around) => escape_step(around, class_of(text[at])),
+        Mode::Hex(around) => hex_step(around, class_of(text[at])),
+        Mode::Group => group_step(last, class_of(text[at]), class_at(text, at + 1)),
         Mode::GroupArrow => go(Mode::Group),
     }
 }

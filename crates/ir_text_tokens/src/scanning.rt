@@ -109,9 +109,8 @@ pub fn next_token(
     let mut glued = is_glued(behind, start, at);
     while index < text.len() {
         let place = index as u32;
-        let next = class_at(text, index + 1);
         let last = innermost(brackets);
-        match reader_step(mode, last, class_of(text[index]), next) {
+        match reader_step(text, mode, last, index) {
             Step::Go(to, nesting) => {
                 renest(brackets, nesting)?;
                 index = run_end(text, to, index + 1);
