@@ -47,7 +47,7 @@ module _ (W : Dialect) (V : Type 0) (sweep : SweepInsideIsRight W V) (merge : Me
         → WellFormed f keys → PassLeads B same root p f g → Keeps W V B gives keys f g
     one_keeps B same gives respects f g keys root passes.Sweep formed leads = right_keeps B gives keys f g (one_right B same gives respects f g keys root passes.Sweep formed tt leads)
     one_keeps B same gives respects f g keys root passes.Cse formed leads = right_keeps B gives keys f g (one_right B same gives respects f g keys root passes.Cse formed tt leads)
-    one_keeps B same gives respects f g keys root passes.UnreachableBlocks formed (names, count, removed) =
+    one_keeps B same gives respects f g keys root passes.UnreachableBlocks formed (names, (count, removed)) =
         let tells = unreached B gives root f g keys count formed removed.0 in
         record { formed = (tells.formed names).0; there = λ o live. subst (λ (x : Option (OpRecord context_ids W)). IsSome x) (tells.stays o live) live; values = tells.values }
 
