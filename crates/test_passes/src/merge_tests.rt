@@ -435,21 +435,20 @@ fn blocks_and_regions(rt: HostRuntime) -> anyhow::Result<()> {
     )
 }
 
-// Makes operations behind one, so that there are so many alike it.
-fn add_copies(ctx: &mut Context<Toy>, first: Ptr<Operation<Toy>>, count: usize) -> Checked<()> {
-    let types = [operation::get_type(first, ctx, 0)?];
-    for _ in 1..count {
-        let copy = operation::new(ctx, 0, &types, &[], &[], 0)?;
-        operation::insert_after(copy, ctx, first)?;
-    }
-    Ok(())
+// Makes an operation right behind one, alike it.
+fn add_copy(ctx: &mut Context<Toy>, first: Ptr<Operation<Toy>>) -> Checked<()> {
+    let ty = operation::get_type(first, ctx, 0)?;
+    let copy = operation::new(ctx, 0, &[ty], &[], &[], 0)?;
+    operation::insert_after(copy, ctx, first)
 }
 
 // Makes so many copies of an operation, and merges them.
 fn many(ctx: &mut Context<Toy>, count: usize) -> Checked<usize> {
     let made = make(ctx, &[unlinked(4, &[], &[1]), pure(0, &[], &[])])?;
     if let Some(first) = made.ops.get(1) {
-        add_copies(ctx, *first, count)?;
+        for _ in 1..count {
+            add_copy(ctx, *first)?;
+        }
     }
     let mut merged = 0;
     if let Some(root) = made.ops.first() {
