@@ -3,21 +3,22 @@ use Rattle.std.proofs.Common.{◌≡◌, ℕ, ◌++◌, Bool, true, List, Option
 use Rattle.ir_model.specs.Forest.{Dialect, Behaviour}
 use Rattle.ir_text_run.specs.Parts.{IsDivided}
 use Rattle.ir_model_passes.specs.Meaning.{SameAttributes}
+use Rattle.ir_text_described.specs.Words.{Words}
 use Rattle.ir_opt_run.specs.declared.options.Pass.{Pass}
 use Rattle.ir_opt_run.specs.Runs.{Optimises, OptimisesParts, last, divided}
 
-module _ {W : Dialect} (B : Behaviour W) (same : SameAttributes W) (passes : List Pass) (located : Bool) (text : List ℕ) where
+module _ {W : Dialect} (B : Behaviour W) (same : SameAttributes W) (AreWords : Words W → Type 0) (passes : List Pass) (located : Bool) (text : List ℕ) where
   -- with whatever is made of the rest behind it, this is made of the text
   abbrev pub MadeSoFar : List ℕ → List ℕ → Type 0
-  MadeSoFar rest made = (others : List ℕ) → OptimisesParts B same passes located rest others → OptimisesParts B same passes located text (made ++ others)
+  MadeSoFar rest made = (others : List ℕ) → OptimisesParts B same AreWords passes located rest others → OptimisesParts B same AreWords passes located text (made ++ others)
 
-  pub made_one_more : (rest part behind made out : List ℕ) → MadeSoFar rest made → IsDivided rest part behind → Optimises B same passes located part out → MadeSoFar behind ((made ++ out) ++ codes "// -----\n")
+  pub made_one_more : (rest part behind made out : List ℕ) → MadeSoFar rest made → IsDivided rest part behind → Optimises B same AreWords passes located part out → MadeSoFar behind ((made ++ out) ++ codes "// -----\n")
   made_one_more rest part behind made out so_far cut one others more =
-      let all : OptimisesParts B same passes located text (made ++ (out ++ (codes "// -----\n" ++ others))) = so_far (out ++ (codes "// -----\n" ++ others)) (divided cut one more) in
-      subst (λ (o : List ℕ). OptimisesParts B same passes located text o) (sym (append_assoc (made ++ out) (codes "// -----\n") others ∙ append_assoc made out (codes "// -----\n" ++ others))) all
+      let all : OptimisesParts B same AreWords passes located text (made ++ (out ++ (codes "// -----\n" ++ others))) = so_far (out ++ (codes "// -----\n" ++ others)) (divided cut one more) in
+      subst (λ (o : List ℕ). OptimisesParts B same AreWords passes located text o) (sym (append_assoc (made ++ out) (codes "// -----\n") others ∙ append_assoc made out (codes "// -----\n" ++ others))) all
 
-  pub made_to_the_end : (rest part made out : List ℕ) → part ≡ rest → MadeSoFar rest made → Optimises B same passes located part out → OptimisesParts B same passes located text (made ++ out)
-  made_to_the_end rest part made out whole so_far one = so_far out (last (subst (λ (t : List ℕ). Optimises B same passes located t out) whole one))
+  pub made_to_the_end : (rest part made out : List ℕ) → part ≡ rest → MadeSoFar rest made → Optimises B same AreWords passes located part out → OptimisesParts B same AreWords passes located text (made ++ out)
+  made_to_the_end rest part made out whole so_far one = so_far out (last (subst (λ (t : List ℕ). Optimises B same AreWords passes located t out) whole one))
 
 -- what is said of the value that an option has, and of one that has none
 pub of_its_value : {X : Type 0} (o : Option X) (x : X) (A : Type 0) (P : X → Type 0) → o ≡ Some x → MatchOption o A P → P x

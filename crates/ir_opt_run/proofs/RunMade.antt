@@ -1,5 +1,5 @@
 -- What a run makes, by its steps.
-use Rattle.std.proofs.Common.{◌≡◌, ◌∷◌, [], ℕ, Bool, true, List, IfOk, Result, Ok, Err, ap, subst, ◌∙◌}
+use Rattle.std.proofs.Common.{refl, ◌≡◌, ◌∷◌, [], ℕ, Bool, true, List, IfOk, Result, Ok, Err, ap, subst, ◌∙◌}
 use Rattle.ir_model.specs.declared.ids.ArenaIndex.{ArenaIndex}
 use Rattle.ir_model.specs.ContextIds.{context_ids}
 use Rattle.ir_model.specs.Forest.{Dialect, Behaviour, Forest}
@@ -16,6 +16,7 @@ use Rattle.ir_text_described.specs.Words.{Words}
 use Rattle.generic_described.specs.GenericWords.{generic_words, words_of}
 use Rattle.ir_model_passes.specs.Meaning.{SameAttributes}
 use Rattle.ir_opt_run.specs.declared.options.Pass.{Pass}
+use Rattle.ir_opt_run.specs.GenericBehaviour.{AreGenericWords}
 use Rattle.ir_opt_run.specs.Modules.{Encloses, Says}
 use Rattle.ir_opt_run.specs.Passes.{PassesLead}
 use Rattle.ir_opt_run.specs.Runs.{Optimises}
@@ -26,14 +27,19 @@ words_stay {B = B} {X = X} s t same =
     ap (λ (saved : List GenericSaved). words_of {B = B} {X = X} saved (types_of t)) (ap (λ b. b.saved) same.beside)
     ∙ ap (λ (types : List (StoredType (closed KeptAttr GenericType B GenericSaved X GenericLoc))). words_of (bare s).beside.saved types) same.store
 
-module _ {W : Dialect} (B : Behaviour W) (same : SameAttributes W) (passes : List Pass) (located : Bool) (text : List ℕ) where
+-- the words of a context are words of the dialect
+pub words_are_generic : {D : Type 0} (s : ContextState D KeptAttr GenericType (Unit {0}) GenericSaved (Unit {0}) GenericLoc) → AreGenericWords (generic_words s)
+words_are_generic s = record { saved = (bare s).beside.saved; types = types_of s; are = refl }
+
+module _ {W : Dialect} (B : Behaviour W) (same : SameAttributes W) (AreWords : Words W → Type 0) (passes : List Pass) (located : Bool) (text : List ℕ) where
   one_made : (f g : Forest context_ids W) (words later : Words W) (types : ℕ) (root : ArenaIndex) (out : List ℕ) → ((operations : List ArenaIndex) × Says f words true text operations × Encloses f words root operations)
-      → WellFormed f types → PassesLead B same root passes f g → later ≡ words → Says g later located out (root ∷ []) → Optimises B same passes located text out
-  one_made f g words later types root out (operations, said, encloses) formed led same printed =
+      → WellFormed f types → PassesLead B same root passes f g → later ≡ words → Says g later located out (root ∷ []) → Optimises B same AreWords passes located text out
+  one_made f g words later types root out (operations, said, encloses) are_words formed led same printed =
       record {
         before = f;
         after = g;
         words = words;
+        are_words = are_words;
         types = types;
         operations = operations;
         root = root;
@@ -45,6 +51,6 @@ module _ {W : Dialect} (B : Behaviour W) (same : SameAttributes W) (passes : Lis
       }
 
   pub run_made : {X E : Type 0} (items : X → List ℕ) (f g : Forest context_ids W) (words later : Words W) (types : ℕ) (root : ArenaIndex) (r : Result X E) → ((operations : List ArenaIndex) × Says f words true text operations × Encloses f words root operations)
-      → WellFormed f types → PassesLead B same root passes f g → later ≡ words → IfOk r (λ out. Says g later located (items out) (root ∷ [])) → IfOk r (λ out. Optimises B same passes located text (items out))
-  run_made items f g words later types root (Ok out) read formed led same printed = one_made f g words later types root (items out) read formed led same printed
-  run_made items f g words later types root (Err e) read formed led same printed = tt
+      → WellFormed f types → PassesLead B same root passes f g → later ≡ words → IfOk r (λ out. Says g later located (items out) (root ∷ [])) → IfOk r (λ out. Optimises B same AreWords passes located text (items out))
+  run_made items f g words later types root (Ok out) read are_words formed led same printed = one_made f g words later types root (items out) read are_words formed led same printed
+  run_made items f g words later types root (Err e) read are_words formed led same printed = tt

@@ -1,4 +1,6 @@
 -- What the dialect Generic does, in words of the model.
+use Rattle.std.specs.Prelude.{◌≡◌, List}
+use Rattle.ir_model.specs.Edits.{StoredType}
 use Rattle.ir_model.specs.Forest.{Behaviour, Dialect}
 use Rattle.ir_model_passes.specs.Meaning.{SameAttributes}
 use Rattle.ir_base_dialects.specs.Attributes.{same_pairs}
@@ -8,6 +10,8 @@ use Rattle.generic_dialect.specs.declared.generic.GenericLoc.{GenericLoc}
 use Rattle.generic_dialect.specs.declared.generic.GenericSaved.{GenericSaved}
 use Rattle.generic_dialect.specs.declared.generic.GenericType.{GenericType}
 use Rattle.generic_dialect.specs.declared.generic.KeptAttr.{KeptAttr}
+use Rattle.generic_described.specs.GenericWords.{words_of}
+use Rattle.ir_text_described.specs.Words.{Words}
 use Rattle.generic_dialect.specs.contracts.generic.GenericDialects.TheImpl.{ghosts}
 use Rattle.generic_dialect.specs.contracts.generic.GenericTypePartialEq.TheImpl.{eq-value}
 use Rattle.generic_dialect.specs.contracts.generic.KeptAttrPartialEq.TheImpl.{eq-value as attr-value}
@@ -23,3 +27,9 @@ generic_behaviour = behaviour_of ghosts eq-value.it
 -- whether two dictionaries of attributes are equal
 abbrev pub generic_same : SameAttributes generic
 generic_same = same_pairs attr-value.it
+
+-- The words are those of the dialect, over some texts that are saved and some types: so a kind of the table is written by its name there.
+pub record AreGenericWords (words : Words generic) : Type 0 where
+  pub saved : List GenericSaved
+  pub types : List (StoredType generic)
+  pub are : words ≡ words_of saved types

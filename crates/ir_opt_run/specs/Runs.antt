@@ -13,11 +13,12 @@ use Rattle.ir_opt_run.specs.declared.options.Pass.{Pass}
 use Rattle.ir_opt_run.specs.Passes.{PassesLead}
 use Rattle.ir_opt_run.specs.Modules.{Says, Encloses}
 
--- The text says what operations of a forest are, which stand alone or in a module; the passes lead from that forest to another; and the output says what the operation around all is there.
-pub record Optimises {W : Dialect} (B : Behaviour W) (same : SameAttributes W) (passes : List Pass) (located : Bool) (text out : List ℕ) : Type 0 where
+-- In words of the dialect, the same for both, the text says what operations of a forest are, which stand alone or in a module; the passes lead from that forest to another; and the output says what the operation around all is there.
+pub record Optimises {W : Dialect} (B : Behaviour W) (same : SameAttributes W) (AreWords : Words W → Type 0) (passes : List Pass) (located : Bool) (text out : List ℕ) : Type 0 where
   pub before : Forest context_ids W
   pub after : Forest context_ids W
   pub words : Words W
+  pub are_words : AreWords words
   pub types : ℕ
   pub operations : List ArenaIndex
   pub root : ArenaIndex
@@ -28,19 +29,19 @@ pub record Optimises {W : Dialect} (B : Behaviour W) (same : SameAttributes W) (
   pub printed : Says after words located out (root ∷ [])
 
 -- Each part of the text, of those that dividing lines part, is optimised, and the output is what comes of them, with the line between each two.
-pub data OptimisesParts {W : Dialect} (B : Behaviour W) (same : SameAttributes W) (passes : List Pass) (located : Bool) : List ℕ → List ℕ → Type 0 where
-  last : {text out : List ℕ} → Optimises B same passes located text out → OptimisesParts B same passes located text out
-  divided : {text part rest out others : List ℕ} → IsDivided text part rest → Optimises B same passes located part out → OptimisesParts B same passes located rest others → OptimisesParts B same passes located text (out ++ (codes "// -----\n" ++ others))
+pub data OptimisesParts {W : Dialect} (B : Behaviour W) (same : SameAttributes W) (AreWords : Words W → Type 0) (passes : List Pass) (located : Bool) : List ℕ → List ℕ → Type 0 where
+  last : {text out : List ℕ} → Optimises B same AreWords passes located text out → OptimisesParts B same AreWords passes located text out
+  divided : {text part rest out others : List ℕ} → IsDivided text part rest → Optimises B same AreWords passes located part out → OptimisesParts B same AreWords passes located rest others → OptimisesParts B same AreWords passes located text (out ++ (codes "// -----\n" ++ others))
 
 -- what a run makes of a text, taken as one or by its parts
-abbrev pub Makes : {W : Dialect} → Behaviour W → SameAttributes W → List Pass → Bool → Bool → List ℕ → List ℕ → Type 0
-Makes B same passes located true text out = OptimisesParts B same passes located text out
-Makes B same passes located false text out = Optimises B same passes located text out
+abbrev pub Makes : {W : Dialect} → Behaviour W → SameAttributes W → (Words W → Type 0) → List Pass → Bool → Bool → List ℕ → List ℕ → Type 0
+Makes B same AreWords passes located true text out = OptimisesParts B same AreWords passes located text out
+Makes B same AreWords passes located false text out = Optimises B same AreWords passes located text out
 
 -- the known bytes grew by what a run makes of the text
-abbrev pub Prints : {W : Dialect} → Behaviour W → SameAttributes W → List Pass → Bool → Bool → List ℕ → Option (List ℕ) → Option (List ℕ) → Type 0
-Prints B same passes located split text old new = (out : List ℕ) × Makes B same passes located split text out × Appends old new out
+abbrev pub Prints : {W : Dialect} → Behaviour W → SameAttributes W → (Words W → Type 0) → List Pass → Bool → Bool → List ℕ → Option (List ℕ) → Option (List ℕ) → Type 0
+Prints B same AreWords passes located split text old new = (out : List ℕ) × Makes B same AreWords passes located split text out × Appends old new out
 
 -- the known bytes grew by a front part of what a run makes of the text
-abbrev pub PrintsFront : {W : Dialect} → Behaviour W → SameAttributes W → List Pass → Bool → Bool → List ℕ → Option (List ℕ) → Option (List ℕ) → Type 0
-PrintsFront B same passes located split text old new = (out : List ℕ) × Makes B same passes located split text out × AppendsFront old new out
+abbrev pub PrintsFront : {W : Dialect} → Behaviour W → SameAttributes W → (Words W → Type 0) → List Pass → Bool → Bool → List ℕ → Option (List ℕ) → Option (List ℕ) → Type 0
+PrintsFront B same AreWords passes located split text old new = (out : List ℕ) × Makes B same AreWords passes located split text out × AppendsFront old new out

@@ -6,7 +6,7 @@ ghost use Rattle.ir_model.specs.Forest.{an_op};
 ghost use Rattle.ir_model.specs.Nesting.{IsLive};
 ghost use Rattle.ir_core_queries.specs.State.{bare, forest_of};
 ghost use Rattle.ir_core_queries.specs.Calls.{SameButForest};
-ghost use Rattle.ir_opt_run.specs.GenericBehaviour.{generic_behaviour, generic_same};
+ghost use Rattle.ir_opt_run.specs.GenericBehaviour.{AreGenericWords, generic_behaviour, generic_same};
 ghost use Rattle.generic_described.specs.GenericWords.{generic_words};
 ghost use Rattle.ir_opt_run.specs.Modules.{Says};
 ghost use Rattle.ir_opt_run.specs.Passes.{PassLeads, PassesLead};
@@ -125,7 +125,7 @@ fn work<F: Write>(
     text: &[u8],
     log: &mut F,
 ) -> Result<Vec<u8>, Fault>
-    ensures optimised { IfOk result (λ out. Optimises generic_behaviour generic_same options.now.passes.items options.now.prints_locations text.now out.items) }
+    ensures optimised { IfOk result (λ out. Optimises generic_behaviour generic_same AreGenericWords options.now.passes.items options.now.prints_locations text.now out.items) }
 {
     let module = read_module(ctx, text)?;
     ctx.recall_well_formed();
@@ -144,7 +144,7 @@ pub(crate) fn optimise<F: Write>(
     text: &[u8],
     log: &mut F,
 ) -> Result<Vec<u8>, Fault>
-    ensures optimised { IfOk result (λ out. Optimises generic_behaviour generic_same options.now.passes.items options.now.prints_locations text.now out.items) }
+    ensures optimised { IfOk result (λ out. Optimises generic_behaviour generic_same AreGenericWords options.now.passes.items options.now.prints_locations text.now out.items) }
 {
     let mut ctx = Context::new(alloc);
     let outcome = work(&mut ctx, options, text, log);

@@ -1,6 +1,6 @@
 //! The work of the program `ir_opt`.
 ghost use Rattle.std.specs.Prelude.{◌≡◌, ◌⊎◌, ◌++◌, ℕ, List, IfOk, IfSome, true};
-ghost use Rattle.ir_opt_run.specs.GenericBehaviour.{generic_behaviour, generic_same};
+ghost use Rattle.ir_opt_run.specs.GenericBehaviour.{AreGenericWords, generic_behaviour, generic_same};
 ghost use Rattle.ir_text_spelling.specs.Writings.{AppendsFront};
 ghost use Rattle.std.specs.Io.KnownBytes.{Appends};
 ghost use Rattle.ir_opt_run.specs.Runs.{Makes, Optimises, OptimisesParts, Prints, PrintsFront};
@@ -70,7 +70,7 @@ fn text_made<F: Write>(
     lines: u64,
     log: &mut F,
 ) -> Option<Vec<u8>>
-    ensures made { IfSome result (λ out. Optimises generic_behaviour generic_same options.now.passes.items options.now.prints_locations text.now out.items) }
+    ensures made { IfSome result (λ out. Optimises generic_behaviour generic_same AreGenericWords options.now.passes.items options.now.prints_locations text.now out.items) }
 {
     match optimise(alloc, options, text, log) {
         Ok(out) => Some(out),
@@ -90,7 +90,7 @@ fn add_part<F: Write>(
     printed: &mut Vec<u8>,
     log: &mut F,
 ) -> Result<bool, Fault>
-    ensures made { IfOk result (λ is_well. is_well ≡ true → (out : List ℕ) × Optimises generic_behaviour generic_same options.now.passes.items options.now.prints_locations part.now out × (printed.new.items ≡ printed.old.items ++ out)) }
+    ensures made { IfOk result (λ is_well. is_well ≡ true → (out : List ℕ) × Optimises generic_behaviour generic_same AreGenericWords options.now.passes.items options.now.prints_locations part.now out × (printed.new.items ≡ printed.old.items ++ out)) }
 {
     match text_made(alloc, options, part, lines, log) {
         Some(out) => {
@@ -115,7 +115,7 @@ fn parts_made<F: Write>(
     text: &[u8],
     log: &mut F,
 ) -> Result<Option<Vec<u8>>, Fault>
-    ensures made { IfOk result (λ made. IfSome made (λ out. OptimisesParts generic_behaviour generic_same options.now.passes.items options.now.prints_locations text.now out.items)) }
+    ensures made { IfOk result (λ made. IfSome made (λ out. OptimisesParts generic_behaviour generic_same AreGenericWords options.now.passes.items options.now.prints_locations text.now out.items)) }
 {
     let mut printed = Vec::new(alloc);
     let mut is_well = true;
@@ -136,7 +136,7 @@ fn parts_made<F: Write>(
 
 // What comes of the input, if it has no fault; a fault is told.
 fn made<F: Write>(alloc: Global, options: &Options, text: &[u8], log: &mut F) -> Option<Vec<u8>>
-    ensures made { IfSome result (λ out. Makes generic_behaviour generic_same options.now.passes.items options.now.prints_locations options.now.splits_input text.now out.items) }
+    ensures made { IfSome result (λ out. Makes generic_behaviour generic_same AreGenericWords options.now.passes.items options.now.prints_locations options.now.splits_input text.now out.items) }
 {
     if !options.splits_input {
         return text_made(alloc, options, text, 0, log);
@@ -163,11 +163,11 @@ pub fn run_opt<R: Read, W: Write, F: Write>(
     // No other status comes.
     ensures status { (result ≡ 0) ⊎ ((result ≡ 1) ⊎ (result ≡ 3)) }
     // Under 0 the input says what stands in a forest, the named passes lead from it to another, and the output got a text that says what stands there.
-    ensures made { result ≡ 0 → IfSome (R.remaining input.old) (λ text. Prints generic_behaviour generic_same options.now.passes.items options.now.prints_locations options.now.splits_input text (W.contents output.old) (W.contents output.new)) }
+    ensures made { result ≡ 0 → IfSome (R.remaining input.old) (λ text. Prints generic_behaviour generic_same AreGenericWords options.now.passes.items options.now.prints_locations options.now.splits_input text (W.contents output.old) (W.contents output.new)) }
     // Under 1 nothing was written.
     ensures nothing_written { result ≡ 1 → output.new ≡ output.old }
     // Under 3 the output got a front part of such a text.
-    ensures front { result ≡ 3 → IfSome (R.remaining input.old) (λ text. PrintsFront generic_behaviour generic_same options.now.passes.items options.now.prints_locations options.now.splits_input text (W.contents output.old) (W.contents output.new)) }
+    ensures front { result ≡ 3 → IfSome (R.remaining input.old) (λ text. PrintsFront generic_behaviour generic_same AreGenericWords options.now.passes.items options.now.prints_locations options.now.splits_input text (W.contents output.old) (W.contents output.new)) }
 {
     match read_input(alloc, input) {
         Ok(text) => match made(alloc, options, text.as_slice(), log) {

@@ -1,8 +1,8 @@
 use Rattle.std.proofs.Common.{length}
 use Rattle.ir_core_queries.specs.State.{forest_of, types_of}
 use Rattle.generic_described.specs.GenericWords.{generic_words}
-use Rattle.ir_opt_run.specs.GenericBehaviour.{generic_behaviour, generic_same}
-use Rattle.ir_opt_run.proofs.RunMade.{run_made, words_stay}
+use Rattle.ir_opt_run.specs.GenericBehaviour.{AreGenericWords, generic_behaviour, generic_same}
+use Rattle.ir_opt_run.proofs.RunMade.{run_made, words_are_generic, words_stay}
 use Rattle.ir_opt_run.proofs.optimising.work.Goals as goal
 
 pub returns : goal.returns
@@ -10,6 +10,6 @@ returns g c =
     let before = c.read_module.new.ctx in
     let after = c.run_all.new.ctx in
     record {
-      optimised = run_made generic_behaviour generic_same c.args.options.now.passes.items c.args.options.now.prints_locations c.args.text.now (λ out. out.items) (forest_of before) (forest_of after) (generic_words before) (generic_words after) (length (types_of before))
-          c.in_ok-module.module.root.index c.print_module.result c.in_ok-module.ensures.said c.recall_well_formed.ensures c.in_ok-run_all.ensures.lead (words_stay before after c.in_ok-run_all.ensures.rest) c.print_module.ensures.said;
+      optimised = run_made generic_behaviour generic_same AreGenericWords c.args.options.now.passes.items c.args.options.now.prints_locations c.args.text.now (λ out. out.items) (forest_of before) (forest_of after) (generic_words before) (generic_words after) (length (types_of before))
+          c.in_ok-module.module.root.index c.print_module.result c.in_ok-module.ensures.said (words_are_generic before) c.recall_well_formed.ensures c.in_ok-run_all.ensures.lead (words_stay before after c.in_ok-run_all.ensures.rest) c.print_module.ensures.said;
     }
