@@ -1,4 +1,4 @@
-//! The calls of views, walks, verification and sweeps with their conditions tested, as `ir_checked_core` has those of a context.
+//! The calls of views, walks, verification and passes with their conditions tested, as `ir_checked_core` has those of a context.
 //!
 //! Each answers which call can't be made and why, or makes the call and answers what it answers, with its clauses. Where the call itself answers a `Result` that isn't one of a context, as verification does, that stands inside the `Ok`.
 #![tactic(auto)]

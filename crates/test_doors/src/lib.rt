@@ -1,4 +1,4 @@
-//! The five doors and nothing else: each item that callers are promised is named at the door that gives it out, so that the check refuses a door that lacks one.
+//! Doors and nothing else: each item that callers are promised of the first five is named at the door that gives it out, so that the check refuses a door that lacks one.
 //!
 //! A call is named by its path, which asks nothing of its arguments and so costs next to nothing to prove.
 #![tactic(auto)]
