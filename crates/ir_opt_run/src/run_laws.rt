@@ -1,6 +1,7 @@
 //! Why the passes of a run are right together.
 
 ghost use Rattle.ir_core_records.specs.Meaning.{closed};
+ghost use Rattle.ir_opt_run.specs.PureNames.{PureAreListed};
 ghost use Rattle.ir_opt_run.specs.RunLaws.{PassesAreRight, PassesKeep};
 
 use ir_base_dialects::Dialects;
@@ -25,3 +26,8 @@ pub fn passes_keep<D: Dialects, V>()
     merge_common_inside_is_right::<D, V>();
     inside_removal_tells::<D, V>();
 }
+
+/// In words of the dialect Generic, a kind that is pure has the name of an operation that the table says is pure. So where a run takes an operation out because it is pure, the table says so of its name in the text.
+pub fn pure_operations_are_listed()
+    ensures { PureAreListed }
+{}
