@@ -10,7 +10,7 @@ use ir_core_queries::{
     BasicBlock, BlockPlace, BlockPtr, BlockUses, Context, Operation, OperationPtr, ValueQueries,
 };
 use ir_text_dialect::{AttributeForm, Located, Spelling};
-use ir_text_pieces::{DescribeErr, Part, Span, TreeWriter};
+use ir_text_pieces::{DescribeErr, Part, Span, TreeWriter, TypePiece};
 use ir_view_parts::{BlockParts, OperationParts};
 
 /// What is described: a context over a dialect, how this is spelled, and whether locations are put.
@@ -47,7 +47,7 @@ fn type_piece<D: Dialects, S: Spelling<D>>(
     from: &Source<'_, D, S>,
     to: &mut TreeWriter,
     ty: TypeHandle,
-) -> Result<Span, DescribeErr>
+) -> Result<TypePiece, DescribeErr>
     requires { ty.place < length (types_of from.now.ctx.now) }
 {
     if let Some(piece) = to.type_piece(ty.index()) {
@@ -138,7 +138,7 @@ fn put_signature<D: Dialects, S: Spelling<D>>(
     let op = op.deref(from.ctx);
     for ty in op.operand_types(from.ctx) {
         let piece = type_piece(from, to, ty)?;
-        to.description.put(Part::OperandType, piece)?;
+        to.description.put(Part::OperandType, piece.span)?;
     }
     if op.get_num_results() == 1 {
         let piece = type_piece(from, to, op.get_type(0))?;
@@ -146,7 +146,7 @@ fn put_signature<D: Dialects, S: Spelling<D>>(
     }
     for ty in op.result_types() {
         let piece = type_piece(from, to, ty)?;
-        to.description.put(Part::ResultType, piece)?;
+        to.description.put(Part::ResultType, piece.span)?;
     }
     Ok(())
 }
@@ -215,7 +215,7 @@ pub(crate) fn put_block_head<D: Dialects, S: Spelling<D>>(
     for value in record.arguments() {
         to.put_argument(value.index.number)?;
         let piece = type_piece(from, to, value.get_type(from.ctx))?;
-        to.description.put(Part::ArgumentType, piece)?;
+        to.description.put(Part::ArgumentType, piece.span)?;
         if from.located {
             let of = Located::Argument(index);
             put_location(from, to, record.loc(), of, Part::ArgumentLocation)?;

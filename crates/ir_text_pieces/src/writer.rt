@@ -1,14 +1,25 @@
 //! The rows of a tree, put one after another.
 
+use crate::bare_types::is_bare_type;
 use crate::description::Description;
 use crate::error::DescribeErr;
 use crate::names::{Name, NameSort, Names};
 use crate::numbered::Numbered;
 use crate::quoting::{write_key, write_quoted};
+use ir_text_tokens::Bracket;
 use ir_text_tree::{Part, Span};
 use itoa::Buffer;
 use std::alloc::Global;
 use std::collections::HashMap;
+
+/// The piece that a type is, and whether it can stand behind an arrow in no parentheses.
+#[derive(Clone, Copy, Debug, Drop)]
+pub struct TypePiece {
+    /// The piece.
+    pub span: Span,
+    /// Whether it can stand in no parentheses: it is a name, or a name and one group in angle brackets.
+    pub is_bare: bool,
+}
 
 /// The rows of a tree, put one after another, and the names in it. Each name, and each type, is written once in the text.
 #[derive(Debug, Drop)]
@@ -24,7 +35,8 @@ pub struct TreeWriter {
     outside_blocks: Numbered,
     indices: Numbered,
     operation_names: HashMap<u32, Span>,
-    types: HashMap<usize, Span>,
+    types: HashMap<usize, TypePiece>,
+    brackets: Vec<Bracket>,
     braces: (Span, Span),
 }
 
@@ -49,6 +61,7 @@ impl TreeWriter {
             indices: Numbered::new(alloc, "#"),
             operation_names: HashMap::new(alloc),
             types: HashMap::new(alloc),
+            brackets: Vec::new(alloc),
             braces,
         })
     }
@@ -168,7 +181,7 @@ impl TreeWriter {
     }
 
     /// The piece that the type at this place is, once it was written.
-    pub fn type_piece(&self, place: usize) -> Option<Span> {
+    pub fn type_piece(&self, place: usize) -> Option<TypePiece> {
         self.types.get(&place).copied()
     }
 
@@ -176,22 +189,25 @@ impl TreeWriter {
     ///
     /// # Errors
     /// `OutOfMemory` or `TooLong`.
-    pub fn write_type(&mut self, place: usize, text: &[u8]) -> Result<Span, DescribeErr> {
+    pub fn write_type(&mut self, place: usize, text: &[u8]) -> Result<TypePiece, DescribeErr> {
+        let is_bare = is_bare_type(text, &mut self.brackets)?;
         let span = self.description.write(text)?;
-        self.types.insert(place, span)?;
-        Ok(span)
+        let piece = TypePiece { span, is_bare };
+        self.types.insert(place, piece)?;
+        Ok(piece)
     }
 
-    /// Puts the type of the one result of an operation: in no parentheses, unless it begins with one.
+    /// Puts the type of the one result of an operation: in no parentheses, where it can stand so.
     ///
     /// # Errors
     /// `OutOfMemory`.
-    pub fn put_only_result_type(&mut self, piece: Span) -> Result<(), DescribeErr> {
-        let part = match self.description.text.get(piece.start as usize) {
-            Some(b'(') => Part::ResultType,
-            _ => Part::OnlyResultType,
+    pub fn put_only_result_type(&mut self, piece: TypePiece) -> Result<(), DescribeErr> {
+        let part = if piece.is_bare {
+            Part::OnlyResultType
+        } else {
+            Part::ResultType
         };
-        self.description.put(part, piece)
+        self.description.put(part, piece.span)
     }
 
     /// Puts the key of an attribute, in quotes where it needs them.
