@@ -85,6 +85,14 @@ const ROWS: &[Row] = &[
         b"\"builtin.module\"() ({\n  \"t.use\"(%0#1, %0#2) : (i2, i3) -> ()\n  %0:3 = \"t.three\"() : () -> (i1, i2, i3)\n}) : () -> ()\n",
         b"",
     ),
+    // A lone result type stands in no parentheses where it is a name, or a name and one group; else in some.
+    (
+        b"%a = \"t.a\"() : () -> (t<a->b, \">\", [c>=d]>) %b = \"t.b\"() : () -> !d.t %c = \"t.c\"() : () -> (- 1) %d = \"t.d\"() : () -> (a<b> | c<d>) %e = \"t.e\"() : () -> (loc<1>) %f = \"t.f\"() : () -> (i32 [1]) %g = \"t.g\"() : () -> (() -> ())",
+        PLAIN,
+        0,
+        b"\"builtin.module\"() ({\n  %0 = \"t.a\"() : () -> t<a->b, \">\", [c>=d]>\n  %1 = \"t.b\"() : () -> !d.t\n  %2 = \"t.c\"() : () -> (- 1)\n  %3 = \"t.d\"() : () -> (a<b> | c<d>)\n  %4 = \"t.e\"() : () -> (loc<1>)\n  %5 = \"t.f\"() : () -> (i32 [1])\n  %6 = \"t.g\"() : () -> (() -> ())\n}) : () -> ()\n",
+        b"",
+    ),
     // Dead operations go, also where they name each other from inside a region, and what isn't known stays.
     (
         b"%a = \"arith.constant\"() {value = 1 : i32} : () -> i32 %b = \"arith.addi\"(%a, %a) : (i32, i32) -> i32 \"t.r\"() ({ %d = \"arith.muli\"(%b, %b) : (i32, i32) -> i32 \"t.end\"() : () -> () }) : () -> ()",
