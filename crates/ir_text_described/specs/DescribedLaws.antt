@@ -1,0 +1,22 @@
+-- What is known of operations that a tree describes.
+use Rattle.std.specs.Prelude.{◌≡◌, ℕ, ◌<◌, Bool, List, length, Some}
+use Rattle.ir_model.specs.declared.ids.ArenaIndex.{ArenaIndex}
+use Rattle.ir_model.specs.ContextIds.{context_ids}
+use Rattle.ir_model.specs.Forest.{Dialect, Forest}
+use Rattle.ir_text_tree.specs.declared.row.Part.TheVariants as parts
+use Rattle.ir_text_names.specs.Values.{IsDefinition}
+use Rattle.ir_text_described.specs.Words.{Words}
+use Rattle.ir_text_described.specs.Trees.{NamedTree, part_at}
+use Rattle.ir_text_described.specs.Described.{IsDescribedBy}
+use Rattle.ir_text_described.specs.Alike.{AreAlike}
+
+-- What the rows of the tree name is defined in it: a value by the name of a result or an argument, a block by its label.
+pub record NamesAreDefined (t : NamedTree) : Type 0 where
+  pub values : (u d : ℕ) → u < length t.rows → t.value_named u ≡ Some d → IsDefinition t.rows d
+  pub blocks : (u l : ℕ) → u < length t.rows → t.block_named u ≡ Some l → part_at t l ≡ parts.Label
+
+module _ (W V : Dialect) where
+  -- what one tree describes in two forests is alike in all but ids and numbers
+  abbrev pub DescribedAlike : Type 0
+  DescribedAlike = (f : Forest context_ids W) (g : Forest context_ids V) (words : Words W) (words' : Words V) (located : Bool) (tree : NamedTree) (operations operations' : List ArenaIndex)
+      → NamesAreDefined tree → IsDescribedBy f words located tree operations → IsDescribedBy g words' located tree operations' → AreAlike f g operations operations' words words' located
