@@ -8,6 +8,9 @@ use Rattle.ir_model.specs.ContextIds.{context_ids}
 use Rattle.ir_model.specs.Forest.{Dialect, Definer, of_block, Entity, an_op, a_block, a_region, definer_entity, Value, Operand, Successor, OpRecord, BlockRecord, Forest}
 use Rattle.ir_model.specs.Nesting.{list_of, children, regions_of, ops_of, blocks_of, operands_of, successors_of, definitions_of, numbers_of}
 use Rattle.ir_text_tree.specs.declared.row.Part.TheVariants as parts
+use Rattle.ir_text_tree.specs.declared.row.Row.{Row}
+use Rattle.ir_text_names.specs.Blocks.{IsBlockNamed}
+use Rattle.ir_text_names.specs.Values.{IsValueNamed}
 use Rattle.ir_text_described.specs.Words.{Words}
 use Rattle.ir_text_described.specs.Trees.{NamedTree, part_at, which_at}
 use Rattle.ir_text_described.specs.Written.{IsOperand, IsSuccessor, number_of}
@@ -250,3 +253,10 @@ described_alike {W = W} {V = V} f g words words' located tree operations operati
     let w : Sides W V = record { f = f; g = g; words = words; words' = words'; located = located; tree = tree; meanings = d.meanings; meanings' = d'.meanings } in
     let both = ops_meet w (ops_written (one w) operations d.written) (ops_written (other w) operations' d'.written) (rows_end tree) (rows_end tree) in
     all_alike w operations operations' names both.meet
+
+-- what names mean is defined
+pub meant_defined : (text : List ℕ) (rows : List Row) (block_named value_named : ℕ → Option ℕ) → ((u : ℕ) → u < length rows → IsBlockNamed text rows u (block_named u)) → ((u : ℕ) → u < length rows → IsValueNamed text rows u (value_named u)) → NamesAreDefined (record { text = text; rows = rows; block_named = block_named; value_named = value_named })
+meant_defined text rows block_named value_named blocks values = record {
+  values = λ u d lt e. (subst (IsValueNamed text rows u) e (values u lt)).1;
+  blocks = λ u l lt e. (subst (IsBlockNamed text rows u) e (blocks u lt)).1.0;
+}

@@ -9,3 +9,4 @@ pub mod Nested
 pub mod Meets
 pub mod Covered
 pub mod Alikes
+pub mod Correspondents

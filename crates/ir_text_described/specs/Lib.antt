@@ -4,3 +4,4 @@ pub mod Written
 pub mod Described
 pub mod Alike
 pub mod DescribedLaws
+pub mod AlikeLaws

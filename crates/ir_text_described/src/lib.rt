@@ -6,5 +6,8 @@
 mod alike_laws;
 mod item;
 
-pub use alike_laws::described_alike;
+pub use alike_laws::{
+    alike_tells, correspondents_are_one, described_alike, listed_stand_apart,
+    meant_names_are_defined,
+};
 pub use item::Item;
