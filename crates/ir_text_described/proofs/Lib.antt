@@ -1,0 +1,12 @@
+pub mod Places
+pub mod Ranks
+pub mod Onward
+pub mod Sides
+pub mod Heads
+pub mod Tails
+pub mod Labels
+pub mod Nested
+pub mod Meets
+pub mod Covered
+pub mod Alikes
+pub mod Correspondents
