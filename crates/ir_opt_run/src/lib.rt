@@ -6,6 +6,7 @@ mod fault;
 mod optimising;
 mod options;
 mod passes;
+mod printing;
 mod reading;
 mod run_laws;
 mod running;
@@ -16,6 +17,8 @@ mod verifying;
 
 pub use fault::{Fault, Finding};
 pub use options::{Options, Pass};
+pub use printing::print_module;
+pub use reading::{Block, Module, Op, read_module};
 pub use running::run_opt;
 
 /// Laws that lead from what a run does to what it means.

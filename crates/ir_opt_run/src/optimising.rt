@@ -1,29 +1,23 @@
 //! One text: read, worked on by passes, and printed.
 //!
 //! What was built of the text is compared with the text, and what would be printed is read again and compared with what stands in the context. So what a run promises rests on these comparisons, and not on how things are built and described.
-ghost use Rattle.std.specs.Prelude.{◌∷◌, [], IfOk, OnOk};
+ghost use Rattle.std.specs.Prelude.{IfOk, OnOk};
 ghost use Rattle.ir_model.specs.Forest.{an_op};
 ghost use Rattle.ir_model.specs.Nesting.{IsLive};
 ghost use Rattle.ir_core_queries.specs.State.{bare, forest_of};
 ghost use Rattle.ir_core_queries.specs.Calls.{SameButForest};
 ghost use Rattle.ir_opt_run.specs.GenericBehaviour.{AreGenericWords, generic_behaviour, generic_same};
-ghost use Rattle.generic_described.specs.GenericWords.{generic_words};
-ghost use Rattle.ir_opt_run.specs.Modules.{Says};
 ghost use Rattle.ir_opt_run.specs.Passes.{PassLeads, PassesLead};
 ghost use Rattle.ir_opt_run.specs.Runs.{Optimises};
 
 use crate::fault::Fault;
 use crate::options::{Options, Pass};
 use crate::passes::run_pass;
-use crate::reading::{Module, Op, read_module};
-use crate::saying::check_said;
-use crate::trees::read_tree;
+use crate::printing::print_module;
+use crate::reading::{Module, read_module};
 use crate::verifying::verify;
 use generic_dialect::Generic;
-use generic_text::GenericSpelling;
 use ir_core_queries::Context;
-use ir_text_describe::{Locations, describe};
-use ir_text_spelling::spell;
 use std::alloc::Global;
 use std::io::Write;
 
@@ -82,42 +76,6 @@ fn run_all<F: Write>(
     Ok(())
 }
 
-// Whether locations are printed.
-fn locations(options: &Options) -> Locations {
-    if options.prints_locations {
-        Locations::Put
-    } else {
-        Locations::Left
-    }
-}
-
-// Sees to it that a text that would be printed says what stands in the module.
-fn check_printed(ctx: &Context<Generic>, root: Op, located: bool, text: &[u8]) -> Result<(), Fault>
-    ensures said { OnOk result (Says (forest_of ctx.now) (generic_words ctx.now) located text.now (root.index ∷ [])) }
-{
-    let tree = read_tree(ctx.alloc(), text)?;
-    check_said(ctx, &[root], text, &tree, located)
-}
-
-// The text of a live module.
-fn text_of(ctx: &Context<Generic>, options: &Options, root: Op) -> Result<Vec<u8>, Fault>
-    requires { IsLive (forest_of ctx.now) (an_op root.index) }
-{
-    let alloc = ctx.alloc();
-    let described = describe(alloc, ctx, root, &GenericSpelling, locations(options))?;
-    Ok(spell(alloc, described.text.as_slice(), described.rows.as_slice())?)
-}
-
-// The text of a live module. It is read again and compared with the module.
-fn print_module(ctx: &Context<Generic>, options: &Options, root: Op) -> Result<Vec<u8>, Fault>
-    requires { IsLive (forest_of ctx.now) (an_op root.index) }
-    ensures said { IfOk result (λ out. Says (forest_of ctx.now) (generic_words ctx.now) options.now.prints_locations out.items (root.index ∷ [])) }
-{
-    let text = text_of(ctx, options, root)?;
-    check_printed(ctx, root, options.prints_locations, text.as_slice())?;
-    Ok(text)
-}
-
 // Reads a text into the context, runs the passes, and gives the text of what stands there.
 fn work<F: Write>(
     ctx: &mut Context<Generic>,
@@ -131,7 +89,7 @@ fn work<F: Write>(
     ctx.recall_well_formed();
     verify_if(ctx, options, &module)?;
     run_all(ctx, options, &module, log)?;
-    print_module(ctx, options, module.root)
+    print_module(ctx, module.root, options.prints_locations)
 }
 
 /// Reads a text, runs the passes, and gives the text of what comes of it. What passes did is told on the log, where it is asked for.

@@ -20,20 +20,20 @@ use ir_text_reader::Row;
 use std::alloc::{AllocError, Global};
 
 /// An operation of the dialect.
-pub(crate) type Op = Ptr<Operation<Generic>>;
+pub type Op = Ptr<Operation<Generic>>;
 
 /// A block of the dialect.
-pub(crate) type Block = Ptr<BasicBlock<Generic>>;
+pub type Block = Ptr<BasicBlock<Generic>>;
 
 /// What was read of a text.
 #[derive(Drop)]
-pub(crate) struct Module {
-    /// The module that all stands in.
-    pub(crate) root: Op,
+pub struct Module {
+    /// The operation around all of it: the only one that the text has outside all regions, or a module that was made around these.
+    pub root: Op,
     /// All operations of the text, each with the index of the first byte of its name.
-    pub(crate) places: Vec<(Op, u32)>,
+    pub places: Vec<(Op, u32)>,
     /// All blocks of the text.
-    pub(crate) blocks: Vec<Block>,
+    pub blocks: Vec<Block>,
 }
 
 // The index of the first byte of a row.
@@ -104,7 +104,7 @@ fn is_alone(root: Op, tops: &[Op]) -> bool {
 ///
 /// # Errors
 /// The first fault in the text; want of memory, numbers or slots; and `Different` where what was built isn't what the text says, which would be a fault of this program.
-pub(crate) fn read_module(ctx: &mut Context<Generic>, text: &[u8]) -> Result<Module, Fault>
+pub fn read_module(ctx: &mut Context<Generic>, text: &[u8]) -> Result<Module, Fault>
     ensures live { IfOk result (λ m. IsLive (forest_of ctx.new) (an_op m.root.index)) }
     ensures said { IfOk result (λ m. (operations : List ArenaIndex) × Says (forest_of ctx.new) (generic_words ctx.new) true text.now operations × Encloses (forest_of ctx.new) (generic_words ctx.new) m.root.index operations) }
 {
