@@ -1,5 +1,8 @@
 // What `run_opt` prints and tells, and its status.
-use ir_opt_run::{Options, Pass, run_opt};
+use generic_dialect::Generic;
+use ir_checked_core::context;
+use ir_core_queries::Context;
+use ir_opt_run::{Fault, Options, Pass, print_module, read_module, run_opt};
 use std::alloc::{AllocError, Global};
 use std::io;
 use std::io::{ErrorKind, Read, Write};
@@ -332,4 +335,29 @@ fn deep_fault(rt: HostRuntime) -> Result<(), Fail> {
     let told = b"in:2:5: error: no value of this name is defined here\n";
     assert_eq!(rt; log.taken.as_slice(), told.as_slice());
     Ok(())
+}
+
+// What is printed of a text that was read into a context.
+fn printed(ctx: &mut Context<Generic>, text: &[u8]) -> Result<Vec<u8>, Fault> {
+    let module = read_module(ctx, text)?;
+    print_module(ctx, module.root, true)
+}
+
+// Whether a text that is read into a context of its own is printed as it is.
+fn is_printed_again(alloc: Global, text: &[u8]) -> bool {
+    let mut ctx = Context::new(alloc);
+    let outcome = printed(&mut ctx, text);
+    match context::end(ctx, outcome) {
+        Ok(printed) => printed.as_slice() == text,
+        Err(_) => false,
+    }
+}
+
+// A module with locations.
+const LOCATED: &[u8] =
+    b"\"builtin.module\"() ({\n  \"t.a\"() ({\n  ^bb0(%arg0: i32 loc(\"f\":1:2)):\n    \"t.b\"(%arg0) : (i32) -> () loc(unknown)\n  }) : () -> () loc(\"f\":3:4)\n}) : () -> ()\n";
+
+#[test]
+fn modules_are_read_and_printed(rt: HostRuntime) {
+    assert!(rt; is_printed_again(rt.alloc(), LOCATED));
 }
