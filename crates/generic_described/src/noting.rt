@@ -14,10 +14,10 @@ use ir_core_records::Definer;
 use ir_text_described::Item;
 use ir_text_names::Part;
 
-// Whether the part stands in an operation before its regions, from its name on.
+// Whether the part stands in an operation between its name and its regions.
 fn is_of_head(part: Part) -> bool {
     match part {
-        Part::Name | Part::Operand | Part::Index | Part::Successor | Part::Properties => true,
+        Part::Operand | Part::Index | Part::Successor | Part::Properties => true,
         _ => false,
     }
 }
@@ -31,9 +31,9 @@ fn is_of_tail(part: Part) -> bool {
     }
 }
 
-// The row behind what stands in an operation before its regions, from its name on.
-fn behind_head(check: &Check, at: usize) -> usize {
-    for row in at..check.rows.len() {
+// The row behind what stands in an operation before its regions, of which the name is in that row.
+fn behind_head(check: &Check, name: usize) -> usize {
+    for row in name.saturating_add(1)..check.rows.len() {
         if !is_of_head(part_at(check, row)) {
             return row;
         }

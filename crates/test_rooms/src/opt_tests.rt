@@ -88,6 +88,14 @@ const ROWS: &[Row] = &[
         b"\"builtin.module\"() ({\n  \"t.use\"(%0#1, %0#2) : (i2, i3) -> ()\n  %0:3 = \"t.three\"() : () -> (i1, i2, i3)\n}) : () -> ()\n",
         b"",
     ),
+    // A value that is named before its definition, behind an operation that has nothing but a name.
+    (
+        b"\"t.a\"() : () -> () \"t.use\"(%x) : (i1) -> () %x = \"t.b\"() : () -> i1",
+        PLAIN,
+        0,
+        b"\"builtin.module\"() ({\n  \"t.a\"() : () -> ()\n  \"t.use\"(%0) : (i1) -> ()\n  %0 = \"t.b\"() : () -> i1\n}) : () -> ()\n",
+        b"",
+    ),
     // A lone result type stands in no parentheses where it is a name, or a name and one group; else in some.
     (
         b"%a = \"t.a\"() : () -> (t<a->b, \">\", [c>=d]>) %b = \"t.b\"() : () -> !d.t %c = \"t.c\"() : () -> (- 1) %d = \"t.d\"() : () -> (a<b> | c<d>) %e = \"t.e\"() : () -> (loc<1>) %f = \"t.f\"() : () -> (i32 [1]) %g = \"t.g\"() : () -> (() -> ())",
