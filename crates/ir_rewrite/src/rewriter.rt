@@ -8,6 +8,7 @@ ghost use Rattle.ir_model.specs.ContextIds.{same_id};
 ghost use Rattle.ir_model.specs.Forest.{an_op};
 ghost use Rattle.ir_model.specs.Nesting.{IsLive};
 ghost use Rattle.ir_model_passes.specs.Merging.{redirect_each};
+ghost use Rattle.ir_core_context.specs.Calls.{SameButForest};
 ghost use Rattle.ir_core_context.specs.State.{bare, forest_of};
 ghost use Rattle.ir_rewrite.specs.Answers.{EraseAnswers, InsertAnswers, MoveAnswers, ReplaceAnswers};
 ghost use Rattle.ir_rewrite.specs.Points.{next_point, put_at};
@@ -107,6 +108,7 @@ impl<D: Dialects> Rewriter<D> {
         ensures forest { OnOk result (forest_of ctx.new ≡ put_at (forest_of ctx.old) self.old.inserter.point op.index) }
         ensures point { OnOk result (self.new.inserter.point ≡ next_point self.old.inserter.point op) }
         ensures noted { OnOk result (self.new.changes.items ≡ self.old.changes.items ++ Change.Inserted op ∷ []) }
+        ensures rest { OnOk result (SameButForest (bare ctx.old) (bare ctx.new)) }
         ensures err { OnErr result (ctx.new ≡ ctx.old) }
         ensures stays { OnErr result (self.new.inserter ≡ self.old.inserter) }
     {
@@ -130,7 +132,9 @@ impl<D: Dialects> Rewriter<D> {
         ensures conditions { MoveAnswers OperationInsertBefore (forest_of ctx.old) op.index mark.index own_answer result }
         ensures forest { OnOk result (forest_of ctx.new ≡ in_blocks (in_blocks (forest_of ctx.old) (without same_id op.index)) (put_before same_id op.index mark.index)) }
         ensures noted { OnOk result (self.new.changes.items ≡ self.old.changes.items ++ Change.Modified op ∷ []) }
+        ensures rest { OnOk result (SameButForest (bare ctx.old) (bare ctx.new)) }
         ensures err { OnErr result (ctx.new ≡ ctx.old) }
+        ensures stays { self.new.inserter ≡ self.old.inserter }
     {
         check_move(ctx, op, mark, Call::OperationInsertBefore)?;
         self.changes.push(Change::Modified(op))?;
@@ -151,7 +155,9 @@ impl<D: Dialects> Rewriter<D> {
         ensures conditions { MoveAnswers OperationInsertAfter (forest_of ctx.old) op.index mark.index own_answer result }
         ensures forest { OnOk result (forest_of ctx.new ≡ in_blocks (in_blocks (forest_of ctx.old) (without same_id op.index)) (put_after same_id op.index mark.index)) }
         ensures noted { OnOk result (self.new.changes.items ≡ self.old.changes.items ++ Change.Modified op ∷ []) }
+        ensures rest { OnOk result (SameButForest (bare ctx.old) (bare ctx.new)) }
         ensures err { OnErr result (ctx.new ≡ ctx.old) }
+        ensures stays { self.new.inserter ≡ self.old.inserter }
     {
         check_move(ctx, op, mark, Call::OperationInsertAfter)?;
         self.changes.push(Change::Modified(op))?;
@@ -170,7 +176,9 @@ impl<D: Dialects> Rewriter<D> {
     ) -> Result<(), CheckedErr>
         ensures conditions { EraseAnswers (forest_of ctx.old) op.index own_answer result }
         ensures forest { OnOk result (Removes (forest_of ctx.old) (an_op op.index) (forest_of ctx.new)) }
+        ensures rest { OnOk result (SameButForest (bare ctx.old) (bare ctx.new)) }
         ensures err { OnErr result (ctx.new ≡ ctx.old) }
+        ensures stays { self.new.inserter ≡ self.old.inserter }
     {
         check_erase(ctx, op)?;
         self.note_definers(ctx, op)?;
@@ -192,7 +200,9 @@ impl<D: Dialects> Rewriter<D> {
         ensures conditions { ReplaceAnswers (forest_of ctx.old) op.index values.now own_answer result }
         ensures forest { OnOk result (Removes (redirect_each (forest_of ctx.old) (results_beside (forest_of ctx.old) op.index values.now)) (an_op op.index) (forest_of ctx.new)) }
         ensures memory { OnRefused result (RedirectsSome (forest_of ctx.old) (results_beside (forest_of ctx.old) op.index values.now) (forest_of ctx.new)) }
+        ensures rest { OnOk result (SameButForest (bare ctx.old) (bare ctx.new)) }
         ensures err { OnUnmet result (ctx.new ≡ ctx.old) }
+        ensures stays { self.new.inserter ≡ self.old.inserter }
     {
         check_replace(ctx, op, values)?;
         self.note_definers(ctx, op)?;
