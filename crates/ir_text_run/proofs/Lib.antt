@@ -1,2 +1,3 @@
 pub mod PartSteps
 pub mod RowsWithin
+pub mod TextLines

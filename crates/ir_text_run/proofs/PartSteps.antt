@@ -1,7 +1,5 @@
 -- Parts that were spelled again, one behind the other.
-use Rattle.std.proofs.Common.{◌≡◌, ◌≤◌, ◌-◌, ℕ, length, MatchOption, OnOk, arith, Result, Ok, Err, IfErr, take, drop, slice_range, take-append-drop, ◌++◌, List, [], ◌∷◌, Option, None, Some, refl, sym, ap, subst, ◌∙◌, append-nil, codes}
-use Rattle.std.proofs.lemmas.List.{take_rest}
-use Rattle.std.proofs.lemmas.List.Folds.{drop_split}
+use Rattle.std.proofs.Common.{◌≡◌, ℕ, MatchOption, OnOk, arith, Result, Ok, Err, IfErr, ◌++◌, List, [], ◌∷◌, Option, None, Some, refl, sym, ap, subst, ◌∙◌, append-nil, codes}
 use Rattle.std.specs.Io.KnownBytes.{Keeps, Appends}
 use Rattle.std.proofs.KnownBytes.{Keeps-refl, Appends-kept}
 use Rattle.ir_text_spelling.specs.TreeTexts.{tree_text}
@@ -9,7 +7,7 @@ use Rattle.ir_text_run.specs.Respellings.{Respells, RespellsFront}
 use Rattle.ir_text_run.specs.declared.fault.Fault.{Fault}
 use Rattle.ir_text_run.specs.declared.fault.Fault.TheVariants as faults
 use Rattle.ir_text_run.specs.Endings.{status_of}
-use Rattle.ir_text_run.specs.Parts.{IsDivided, RespellsBefore, RespellsParts}
+use Rattle.ir_text_run.specs.Parts.{IsOnePart, IsDivided, RespellsBefore, RespellsParts}
 
 -- known bytes that stayed, and then grew
 kept_appends : (a b c : Option (List ℕ)) (x : List ℕ) → Keeps a b → Appends b c x → Appends a c x
@@ -31,12 +29,6 @@ front_kept text a b c r k = (r.0, r.1, (tree_text text r.0, [], sym (append-nil 
 pub if_told : {X E : Type 0} (r : Result X E) (u : E) (P : Type 0) → P → IfErr r (λ (e : E). e ≡ u → P)
 if_told (Ok x) u P p = tt
 if_told (Err e) u P p = λ _. p
-
--- a text is what stands before a line, the line, and what stands behind it
-pub cut_at_line : (text : List ℕ) (at end : ℕ) → at ≤ end → text ≡ take at text ++ (slice_range text at end ++ take (length text - end) (drop end text))
-cut_at_line text at end le =
-    let behind = ap (λ (l : List ℕ). slice_range text at end ++ l) (sym (take_rest text end)) in
-    sym (take-append-drop at text) ∙ ap (λ (l : List ℕ). take at text ++ l) (drop_split text at end le ∙ behind)
 
 -- what is said of the value that an option has
 pub of_its_value : {X : Type 0} (o : Option X) (x : X) (A : Type 0) (B : X → Type 0) → o ≡ Some x → MatchOption o A B → B x
@@ -70,5 +62,5 @@ pub and_one_more : (text p rest more : List ℕ) (a b c d : Option (List ℕ)) �
 and_one_more text p rest more a b c d before divided r w = (before.0 ++ (p ∷ []), one_more before.0 text p rest more a b c d before.1 divided r w)
 
 -- the last part
-pub and_the_last : (text rest part : List ℕ) (a b c d : Option (List ℕ)) → ((ps : List (List ℕ)) × RespellsBefore ps text rest a b) → part ≡ rest → Respells part b c → Keeps c d → RespellsParts text a d
-and_the_last text rest part a b c d before same r k = (before.0, rest, b, before.1, respells_kept rest b c d (subst (λ (t : List ℕ). Respells t b c) same r) k)
+pub and_the_last : (text rest part : List ℕ) (a b c d : Option (List ℕ)) → ((ps : List (List ℕ)) × RespellsBefore ps text rest a b) → (part ≡ rest) × IsOnePart rest → Respells part b c → Keeps c d → RespellsParts text a d
+and_the_last text rest part a b c d before whole r k = (before.0, rest, b, before.1, whole.1, respells_kept rest b c d (subst (λ (t : List ℕ). Respells t b c) whole.0 r) k)

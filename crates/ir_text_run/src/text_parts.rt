@@ -1,6 +1,6 @@
 //! The parts of an input that lines `// -----` divide.
-ghost use Rattle.std.specs.Prelude.{◌≡◌, ◌<◌, ◌≤◌, ◌↔◌, length, IfSome, IsTrue, MatchOption};
-ghost use Rattle.ir_text_run.specs.Parts.{IsDivider, IsDivided};
+ghost use Rattle.std.specs.Prelude.{◌≡◌, ◌<◌, ◌≤◌, ◌==◌, ◌↔◌, ◌∷◌, length, drop, slice_range, position, IfSome, IsTrue, MatchOption};
+ghost use Rattle.ir_text_run.specs.Parts.{IsDivider, IsOnePart, IsDivided, lines_of};
 
 /// The first part of an input.
 #[derive(Drop)]
@@ -13,13 +13,21 @@ pub struct Front<'a> {
     pub rest: Option<&'a [u8]>,
 }
 
+// The index of the first line feed.
+fn line_feed(text: &[u8]) -> Option<usize>
+    ensures { result ≡ position (λ byte. byte == 10) text.now }
+{
+    text.iter().position(|byte| *byte == b'\n')
+}
+
 // The index behind the line that begins there, with its line feed.
 fn line_end(text: &[u8], at: usize) -> usize
     requires { at < length text.now }
     ensures after { at < result }
     ensures within { result ≤ length text.now }
+    ensures line { lines_of (drop at text.now) ≡ slice_range text.now at result ∷ lines_of (drop result text.now) }
 {
-    match text[at..].iter().position(|byte| *byte == b'\n') {
+    match line_feed(&text[at..]) {
         Some(length) => at + length + 1,
         None => text.len(),
     }
@@ -27,7 +35,7 @@ fn line_end(text: &[u8], at: usize) -> usize
 
 // Whether a line divides parts.
 fn is_divider(line: &[u8]) -> bool
-    ensures { IsTrue result → IsDivider line.now }
+    ensures { IsTrue result ↔ IsDivider line.now }
 {
     line == b"// -----\n".as_slice()
         || line == b"// -----\r\n".as_slice()
@@ -38,7 +46,7 @@ fn is_divider(line: &[u8]) -> bool
 /// The first part of an input.
 pub fn first_part<'a>(text: &'a [u8]) -> Front<'a>
     ensures shorter { IfSome result.rest (λ rest. length rest.now < length text.now) }
-    ensures divided { MatchOption result.rest (result.part.now ≡ text.now) (λ rest. IsDivided text.now result.part.now rest.now) }
+    ensures divided { MatchOption result.rest ((result.part.now ≡ text.now) × IsOnePart text.now) (λ rest. IsDivided text.now result.part.now rest.now) }
 {
     let mut at = 0;
     let mut lines = 0u64;

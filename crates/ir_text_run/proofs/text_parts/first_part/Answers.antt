@@ -1,11 +1,20 @@
-use Rattle.std.proofs.Common.{◌≤◌, slice_range, arith}
-use Rattle.ir_text_run.proofs.PartSteps.{cut_at_line}
+use Rattle.std.proofs.Common.{◌≤◌, ◌∙◌, refl, sym, arith}
+use Rattle.std.proofs.lemmas.Bool.{false≢true}
+use Rattle.ir_text_run.proofs.TextLines.{none_passed, one_passed, divided_there, all_passed}
 use Rattle.ir_text_run.proofs.text_parts.first_part.Goals as goal
+
+pub loop-at-init : goal.loop-at-init
+loop-at-init c = none_passed c.args.text.now
 
 pub returns-then-is_divider-clause-divided : goal.returns-then-is_divider-clause-divided
 returns-then-is_divider-clause-divided c =
-    let text = c.args.text.now in
-    let at = c.loop-at.at in
-    let end = c.line_end-end.result in
-    let after : at ≤ end = omega (arith, c.line_end-end.ensures.after) in
-    (slice_range text at end, c.is_divider.ensures c.if-is_divider.true, cut_at_line text at end after)
+    let after : c.loop-at.at ≤ c.line_end-end.result = omega (arith, c.line_end-end.ensures.after) in
+    divided_there c.args.text.now c.loop-at.at c.line_end-end.result after c.loop-at.invariant c.line_end-end.ensures.line (c.is_divider.ensures.0 c.if-is_divider.true)
+
+pub loop-at-preserved : goal.loop-at-preserved
+loop-at-preserved c =
+    let after : c.loop-at.at ≤ c.line_end-end.result = omega (arith, c.line_end-end.ensures.after) in
+    one_passed c.args.text.now c.loop-at.at c.line_end-end.result after c.loop-at.invariant c.line_end-end.ensures.line (λ is. false≢true (sym c.if-is_divider.false ∙ c.is_divider.ensures.1 is))
+
+pub returns-clause-divided : goal.returns-clause-divided
+returns-clause-divided c = (refl, all_passed c.args.text.now c.loop-at.at (omega (arith, c.loop-at-test.false)) c.loop-at.invariant)
