@@ -1,7 +1,7 @@
 -- What is made of the parts of a text, one behind the other.
 use Rattle.std.proofs.Common.{◌≡◌, ℕ, ◌++◌, Bool, true, List, Option, Some, None, IfSome, MatchOption, append_assoc, codes, sym, subst, ap, ◌∙◌}
 use Rattle.ir_model.specs.Forest.{Dialect, Behaviour}
-use Rattle.ir_text_run.specs.Parts.{IsDivided}
+use Rattle.ir_text_run.specs.Parts.{IsOnePart, IsDivided}
 use Rattle.ir_model_passes.specs.Meaning.{SameAttributes}
 use Rattle.ir_text_described.specs.Words.{Words}
 use Rattle.ir_opt_run.specs.declared.options.Pass.{Pass}
@@ -17,8 +17,8 @@ module _ {W : Dialect} (B : Behaviour W) (same : SameAttributes W) (AreWords : W
       let all : OptimisesParts B same AreWords passes located text (made ++ (out ++ (codes "// -----\n" ++ others))) = so_far (out ++ (codes "// -----\n" ++ others)) (divided cut one more) in
       subst (λ (o : List ℕ). OptimisesParts B same AreWords passes located text o) (sym (append_assoc (made ++ out) (codes "// -----\n") others ∙ append_assoc made out (codes "// -----\n" ++ others))) all
 
-  pub made_to_the_end : (rest part made out : List ℕ) → part ≡ rest → MadeSoFar rest made → Optimises B same AreWords passes located part out → OptimisesParts B same AreWords passes located text (made ++ out)
-  made_to_the_end rest part made out whole so_far one = so_far out (last (subst (λ (t : List ℕ). Optimises B same AreWords passes located t out) whole one))
+  pub made_to_the_end : (rest part made out : List ℕ) → (part ≡ rest) × IsOnePart rest → MadeSoFar rest made → Optimises B same AreWords passes located part out → OptimisesParts B same AreWords passes located text (made ++ out)
+  made_to_the_end rest part made out whole so_far one = so_far out (last whole.1 (subst (λ (t : List ℕ). Optimises B same AreWords passes located t out) whole.0 one))
 
 -- what is said of the value that an option has, and of one that has none
 pub of_its_value : {X : Type 0} (o : Option X) (x : X) (A : Type 0) (P : X → Type 0) → o ≡ Some x → MatchOption o A P → P x

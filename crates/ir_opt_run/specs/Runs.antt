@@ -7,7 +7,7 @@ use Rattle.ir_model.specs.Forest.{Dialect, Behaviour, Forest}
 use Rattle.ir_model.specs.Nesting.{WellFormed}
 use Rattle.ir_model_passes.specs.Meaning.{SameAttributes}
 use Rattle.ir_text_described.specs.Words.{Words}
-use Rattle.ir_text_run.specs.Parts.{IsDivided}
+use Rattle.ir_text_run.specs.Parts.{IsOnePart, IsDivided}
 use Rattle.ir_text_spelling.specs.Writings.{AppendsFront}
 use Rattle.ir_opt_run.specs.declared.options.Pass.{Pass}
 use Rattle.ir_opt_run.specs.Passes.{PassesLead}
@@ -28,9 +28,9 @@ pub record Optimises {W : Dialect} (B : Behaviour W) (same : SameAttributes W) (
   pub led : PassesLead B same root passes before after
   pub printed : Says after words located out (root ∷ [])
 
--- Each part of the text, of those that dividing lines part, is optimised, and the output is what comes of them, with the line between each two.
+-- Each part of the text, of those that its dividing lines part, is optimised, and the output is what comes of them, with the line between each two.
 pub data OptimisesParts {W : Dialect} (B : Behaviour W) (same : SameAttributes W) (AreWords : Words W → Type 0) (passes : List Pass) (located : Bool) : List ℕ → List ℕ → Type 0 where
-  last : {text out : List ℕ} → Optimises B same AreWords passes located text out → OptimisesParts B same AreWords passes located text out
+  last : {text out : List ℕ} → IsOnePart text → Optimises B same AreWords passes located text out → OptimisesParts B same AreWords passes located text out
   divided : {text part rest out others : List ℕ} → IsDivided text part rest → Optimises B same AreWords passes located part out → OptimisesParts B same AreWords passes located rest others → OptimisesParts B same AreWords passes located text (out ++ (codes "// -----\n" ++ others))
 
 -- what a run makes of a text, taken as one or by its parts

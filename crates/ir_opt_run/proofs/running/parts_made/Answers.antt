@@ -1,6 +1,6 @@
 use Rattle.std.proofs.Common.{rules, ◌≡◌, ◌++◌, ◌∙◌, ℕ, List, IfSome, MatchOption, Option, Some, None, true, false, codes, ap, sym, subst}
 use Rattle.std.proofs.lemmas.Bool.{false≢true}
-use Rattle.ir_text_run.specs.Parts.{IsDivided}
+use Rattle.ir_text_run.specs.Parts.{IsOnePart, IsDivided}
 use Rattle.ir_opt_run.specs.Runs.{OptimisesParts}
 use Rattle.ir_opt_run.specs.GenericBehaviour.{AreGenericWords, generic_behaviour, generic_same}
 use Rattle.ir_opt_run.proofs.PartsMade.{MadeSoFar, made_one_more, made_to_the_end, if_made, none_is, of_its_value}
@@ -14,7 +14,7 @@ returns-in_default g c = record {
         | then-is_well w ↦
             let there = c.in_ok-is_part_well.ensures.made (sym w.is_well-is ∙ e) in
             let none : c.first_part-front.result.rest ≡ None = search rules in
-            let whole = none_is c.first_part-front.result.rest (c.first_part-front.result.part.now ≡ c.loop-printed.rest.now) _ none c.first_part-front.ensures.divided in
+            let whole = none_is c.first_part-front.result.rest ((c.first_part-front.result.part.now ≡ c.loop-printed.rest.now) × IsOnePart c.loop-printed.rest.now) _ none c.first_part-front.ensures.divided in
             subst (λ (o : List ℕ). OptimisesParts generic_behaviour generic_same AreGenericWords c.args.options.now.passes.items c.args.options.now.prints_locations c.args.text.now o) (sym there.2)
             (made_to_the_end generic_behaviour generic_same AreGenericWords c.args.options.now.passes.items c.args.options.now.prints_locations c.args.text.now c.loop-printed.rest.now c.first_part-front.result.part.now c.loop-printed.printed.items there.0 whole (c.loop-printed.invariant w.if-is_well.true) there.1)
         | else-is_well w ↦ absurd (false≢true (sym w.if-is_well.false ∙ (sym w.is_well-is ∙ e)))
