@@ -36,19 +36,19 @@ abbrev pub unlisted : List ℕ → List ℕ
 unlisted name = if is_some (listed_kind name) then [] else name
 
 -- the name of an open kind; nothing where the table has an operation of that name
-abbrev pub open_name : List GenericSaved → Kind → List ℕ
-open_name saved (Listed row) = []
-open_name saved (Open name ends) = unlisted (text_at saved name.0)
+abbrev pub told_open_name : List GenericSaved → Kind → List ℕ
+told_open_name saved (Listed row) = []
+told_open_name saved (Open name ends) = unlisted (text_at saved name.0)
 
 -- the name of a kind: that in the table, if it is listed; so a name of the table is told of no open kind
-abbrev pub name_of : List GenericSaved → Option (List ℕ) → Kind → List ℕ
-name_of saved None kind = open_name saved kind
-name_of saved (Some name) kind = name
+abbrev pub told_name : List GenericSaved → Option (List ℕ) → Kind → List ℕ
+told_name saved None kind = told_open_name saved kind
+told_name saved (Some name) kind = name
 
 -- the words of the dialect, by what is saved and which types there are
 abbrev pub words_of : {B X : Type 0} → List GenericSaved → List (StoredType (closed KeptAttr GenericType B GenericSaved X GenericLoc)) → Words (closed KeptAttr GenericType B GenericSaved X GenericLoc)
 words_of saved types = record {
-  operation_name = λ kind. name_of saved (listed_name (kind_of kind)) (kind_of kind);
+  operation_name = λ kind. told_name saved (listed_name (kind_of kind)) (kind_of kind);
   type_text = λ place. type_text saved (option_map (λ t. t.key) (slice_get types place));
   entry = λ name a. entry_of saved (the_key name) a.0;
   properties = λ attributes. properties_of saved (option_and_then (λ a. Some a.0) (attribute_at attributes (codes "__properties")));

@@ -7,7 +7,7 @@ ghost use Rattle.ir_core_queries.specs.State.{bare, forest_of, types_of};
 ghost use Rattle.generic_dialect.specs.Kinds.{kind_of};
 ghost use Rattle.generic_text.specs.GenericTexts.{known, place_of, text_at};
 ghost use Rattle.generic_described.specs.Checks.{setting_of};
-ghost use Rattle.generic_described.specs.GenericWords.{open_name, unlisted, value_of};
+ghost use Rattle.generic_described.specs.GenericWords.{told_open_name, unlisted, value_of};
 ghost use Rattle.ir_text_described.specs.Written.{argument_location_of, location_of, name_of, properties_of};
 
 use crate::check::Check;
@@ -53,7 +53,7 @@ fn unlisted<'a>(check: &Check<'a>, name: &'a [u8]) -> &'a [u8]
 
 // The name of an open kind; nothing where the table has an operation of that name.
 fn open_name<'a>(check: &Check<'a>, kind: Kind) -> &'a [u8]
-    ensures { result.now ≡ open_name (bare check.now.ctx.now).beside.saved kind }
+    ensures { result.now ≡ told_open_name (bare check.now.ctx.now).beside.saved kind }
 {
     match kind {
         Kind::Listed { .. } => &check.text[..0],

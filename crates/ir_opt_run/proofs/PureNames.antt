@@ -11,16 +11,16 @@ use Rattle.generic_dialect.specs.declared.kinds.Kind.TheVariants.{Listed, Open}
 use Rattle.generic_dialect.specs.Implemented.{kind_implements, listed_implements, row_implements}
 use Rattle.generic_dialect.specs.Kinds.{kind_of, listed_kind, listed_name}
 use Rattle.generic_text.specs.GenericTexts.{text_at}
-use Rattle.generic_described.specs.GenericWords.{name_of}
+use Rattle.generic_described.specs.GenericWords.{told_name}
 use Rattle.ir_opt_run.specs.GenericBehaviour.{AreGenericWords, generic}
 use Rattle.ir_opt_run.specs.PureNames.{IsListedPure, IsRow, ListedAreRows, PureAreListed}
 
 pure_row : (saved : List GenericSaved) (row : ℕ) (found : Option Operation) → slice_get operations row ≡ found → row_implements found 6 ≡ true
-    → IsListedPure (name_of saved (option_map (λ (operation : Operation). operation.0) found) (Listed row))
+    → IsListedPure (told_name saved (option_map (λ (operation : Operation). operation.0) found) (Listed row))
 pure_row saved row (Some operation) at pure = record { row = row; operation = operation; listed = at; named = refl; pure = pure }
 pure_row saved row None at pure = absurd (false≢true pure)
 
-pure_kind : (saved : List GenericSaved) (k : Kind) → kind_implements k 6 ≡ true → IsListedPure (name_of saved (listed_name k) k)
+pure_kind : (saved : List GenericSaved) (k : Kind) → kind_implements k 6 ≡ true → IsListedPure (told_name saved (listed_name k) k)
 pure_kind saved (Listed row) pure = pure_row saved row (slice_get operations row) refl pure
 pure_kind saved (Open name ends) pure = absurd (false≢true pure)
 
@@ -35,8 +35,8 @@ record IsKindRow (k : Kind) (name : List ℕ) : Type 0 where
   named : operation.0 ≡ name
   implemented : (interface : ℕ) → kind_implements k interface ≡ listed_implements operation.1 interface
 
-listed_row : (saved : List GenericSaved) (row : ℕ) (found : Option Operation) → slice_get operations row ≡ found → name_of saved (option_map (λ (operation : Operation). operation.0) found) (Listed row) ≢ []
-    → ((interface : ℕ) → kind_implements (Listed row) interface ≡ row_implements found interface) → IsKindRow (Listed row) (name_of saved (option_map (λ (operation : Operation). operation.0) found) (Listed row))
+listed_row : (saved : List GenericSaved) (row : ℕ) (found : Option Operation) → slice_get operations row ≡ found → told_name saved (option_map (λ (operation : Operation). operation.0) found) (Listed row) ≢ []
+    → ((interface : ℕ) → kind_implements (Listed row) interface ≡ row_implements found interface) → IsKindRow (Listed row) (told_name saved (option_map (λ (operation : Operation). operation.0) found) (Listed row))
 listed_row saved row (Some operation) at some does = record { row = row; operation = operation; listed = at; named = refl; implemented = does }
 listed_row saved row None at some does = absurd (some refl)
 
@@ -44,7 +44,7 @@ unlisted_is_none : (text : List ℕ) (b : Bool) → is_some (listed_kind text) �
 unlisted_is_none text true is listed some = some refl
 unlisted_is_none text false is listed some = false≢true (sym is ∙ listed)
 
-kind_row : (saved : List GenericSaved) (k : Kind) → is_some (listed_kind (name_of saved (listed_name k) k)) ≡ true → name_of saved (listed_name k) k ≢ [] → IsKindRow k (name_of saved (listed_name k) k)
+kind_row : (saved : List GenericSaved) (k : Kind) → is_some (listed_kind (told_name saved (listed_name k) k)) ≡ true → told_name saved (listed_name k) k ≢ [] → IsKindRow k (told_name saved (listed_name k) k)
 kind_row saved (Listed row) listed some = listed_row saved row (slice_get operations row) refl some (λ interface. refl)
 kind_row saved (Open name ends) listed some = absurd (unlisted_is_none (text_at saved name.0) (is_some (listed_kind (text_at saved name.0))) refl listed some)
 
