@@ -1,6 +1,7 @@
 //! Laws of what one tree describes in two forests, and of what is alike.
 
 ghost use Rattle.ir_text_described.specs.AlikeLaws.{AllCorresponds, AlikeTurned, ApartLaws, OneToOne, ValuesHaveOneType};
+ghost use Rattle.ir_text_described.specs.AlikeRows.{AlikeRows};
 ghost use Rattle.ir_text_described.specs.DescribedLaws.{DescribedAlike, MeantAlike, MeantAreDefined};
 
 use ir_text_names::laws::{names_one_block, names_one_value};
@@ -73,4 +74,9 @@ pub fn correspondents_are_one<
 /// One operation alone stands apart, and so do those of a block in a nested forest.
 pub fn listed_stand_apart<Key, Body, Attr, Saved, Aux, Loc>()
     ensures { ApartLaws (record { Key = Key; Body = Body; Attr = Attr; Saved = Saved; Aux = Aux; Loc = Loc }) }
+{}
+
+/// The worked examples of alike operations hold: one with other ids and numbers and with other things that aren't written, beside twenty that differ in one part each, and aren't alike.
+pub fn small_alikes_are_told()
+    ensures { AlikeRows }
 {}

@@ -12,6 +12,6 @@ pub use item::Item;
 pub mod laws {
     pub use crate::alike_laws::{
         alike_tells, correspondents_are_one, described_alike, listed_stand_apart,
-        meant_names_are_defined,
+        meant_names_are_defined, small_alikes_are_told,
     };
 }
