@@ -10,3 +10,4 @@ pub mod Meets
 pub mod Covered
 pub mod Alikes
 pub mod Correspondents
+pub mod AlikeRows
