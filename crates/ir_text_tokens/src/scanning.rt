@@ -13,8 +13,8 @@ ghost use Rattle.ir_text_tokens.specs.Coverings.{Covers, GoForward, IsWithin, Le
 use crate::byte_class::{class_at, class_of};
 use crate::fault::{Fault, fault_of};
 use crate::reader_step::{
-    Around, Mode, Nesting, Step, glued_behind, goes_on_name, goes_on_word, is_digit, is_gap,
-    is_inner, is_plain, missing_at_end, reader_step, start_at,
+    Mode, Nesting, Step, glued_behind, goes_on_name, goes_on_word, is_digit, is_gap, is_inner,
+    is_plain, missing_at_end, reader_step, start_at,
 };
 use crate::token::{Bracket, Token};
 use std::alloc::{AllocError, Global};
