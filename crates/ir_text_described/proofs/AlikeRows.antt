@@ -1,7 +1,7 @@
 -- Which operations of small forests are alike, and which are not.
 use Rattle.std.proofs.Common.{◌≡◌, ℕ, ◌<◌, true, List, [], ◌∷◌, map, length, Option, Some, refl, sym, ap, ◌∙◌, subst, subst₂, inl, inr, arith}
 use Rattle.std.specs.List.{AllZip}
-use Rattle.ir_model.specs.Forest.{Entity, an_op, a_block, a_region, Forest, Value}
+use Rattle.ir_model.specs.Forest.{of_block, Entity, an_op, a_block, a_region, Forest, Value}
 use Rattle.ir_model.specs.Nesting.{In, children}
 use Rattle.ir_model.specs.SmallForests.{Small, n0, n1, n2, n3, n5, small_ids, result, operand, successor}
 use Rattle.ir_text_described.specs.Alike.{AtOnePlace, Correspond, outermost, inner, ValuesCorrespond, OperationsAlike, BlocksAlike, AreAlike, entries_of, type_texts}
@@ -106,18 +106,18 @@ not_beside (inr (inr none)) = none
 operands_turned : IsAlike (around giver (record user { operands = operand n0 (result n1 n1) ∷ operand n1 (result n1 n0) ∷ [] }) first both) → ⊥
 operands_turned a = not_beside ((users giver (record user { operands = operand n0 (result n1 n1) ∷ operand n1 (result n1 n0) ∷ [] }) first refl a).operands.0.places)
 
-abbrev own_named : Op
-own_named = record user { operands = operand n0 (result n2 n0) ∷ operand n1 (result n1 n1) ∷ []; results = given n0 0 ∷ [] }
+abbrev argument_named : Op
+argument_named = record user { operands = operand n0 (record { definer = of_block n0; number = n2 }) ∷ operand n1 (result n1 n1) ∷ [] }
 
-own_shape : (x : Entity small_ids) → children (around giver own_named first both) x ≡ children (around giver user first both) x
-own_shape (an_op n0) = refl
-own_shape (a_block n0) = refl
-own_shape (a_region n0) = refl
-own_shape _ = refl
+argument_shape : (x : Entity small_ids) → children (around giver argument_named first both) x ≡ children (around giver user first both) x
+argument_shape (an_op n0) = refl
+argument_shape (a_block n0) = refl
+argument_shape (a_region n0) = refl
+argument_shape _ = refl
 
-operand_of_another : IsAlike (around giver own_named first both) → ⊥
+operand_of_another : IsAlike (around giver argument_named first both) → ⊥
 operand_of_another a =
-    let e : ◌≡◌ {A = Entity small_ids} (an_op n1) (an_op n2) = same_shape (around giver user first both) (around giver own_named first both) own_shape ((users giver own_named first refl a).operands.0.definers) in
+    let e : ◌≡◌ {A = Entity small_ids} (an_op n1) (a_block n0) = same_shape (around giver user first both) (around giver argument_named first both) argument_shape ((users giver argument_named first refl a).operands.0.definers) in
     let none : ⊥ = cc in none
 
 fewer_operands : IsAlike (around giver (record user { operands = operand n0 (result n1 n0) ∷ [] }) first both) → ⊥

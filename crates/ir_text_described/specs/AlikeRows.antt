@@ -1,6 +1,6 @@
 -- Which operations of small forests are alike, and which are not.
 use Rattle.std.specs.Prelude.{ℕ, true, List, [], ◌∷◌, length, Some, None, nat_eq, if◌then◌else◌}
-use Rattle.ir_model.specs.Forest.{Dialect, Definition, OpRecord, BlockRecord, Forest}
+use Rattle.ir_model.specs.Forest.{Dialect, of_block, Definition, OpRecord, BlockRecord, Forest}
 use Rattle.ir_model.specs.SmallForests.{Small, n0, n1, n2, n3, n4, n5, small_ids, table, result, operand, successor}
 use Rattle.ir_text_described.specs.Words.{Words}
 use Rattle.ir_text_described.specs.Alike.{AreAlike}
@@ -90,7 +90,8 @@ pub record AlikeRows : Type 0 where
   pub results_turned : IsAlike (around (record giver { results = given n1 1 ∷ given n0 0 ∷ [] }) user first both) → ⊥
   pub more_results : IsAlike (around (record giver { results = given n0 0 ∷ given n1 1 ∷ given n3 0 ∷ [] }) user first both) → ⊥
   pub operands_turned : IsAlike (around giver (record user { operands = operand n0 (result n1 n1) ∷ operand n1 (result n1 n0) ∷ [] }) first both) → ⊥
-  pub operand_of_another : IsAlike (around giver (record user { operands = operand n0 (result n2 n0) ∷ operand n1 (result n1 n1) ∷ []; results = given n0 0 ∷ [] }) first both) → ⊥
+  -- it names the argument in place of a result
+  pub operand_of_another : IsAlike (around giver (record user { operands = operand n0 (record { definer = of_block n0; number = n2 }) ∷ operand n1 (result n1 n1) ∷ [] }) first both) → ⊥
   pub fewer_operands : IsAlike (around giver (record user { operands = operand n0 (result n1 n0) ∷ [] }) first both) → ⊥
   pub other_successor : IsAlike (around giver (record user { successors = successor n2 n0 ∷ [] }) first both) → ⊥
   pub other_properties : IsAlike (around giver (record user { attributes = (1 ∷ [], 5) ∷ (2 ∷ [], 6) ∷ [] }) first both) → ⊥
