@@ -5,14 +5,15 @@ ghost use Rattle.ir_model.specs.Forest.{a_block, an_op};
 ghost use Rattle.ir_model.specs.Nesting.{IsLive};
 ghost use Rattle.ir_core_queries.specs.State.{bare, forest_of, types_of};
 ghost use Rattle.generic_dialect.specs.Kinds.{kind_of};
-ghost use Rattle.generic_text.specs.GenericTexts.{known, open_name, place_of, text_at};
+ghost use Rattle.generic_text.specs.GenericTexts.{known, place_of, text_at};
 ghost use Rattle.generic_described.specs.Checks.{setting_of};
-ghost use Rattle.generic_described.specs.GenericWords.{value_of};
+ghost use Rattle.generic_described.specs.GenericWords.{told_open_name, unlisted, value_of};
 ghost use Rattle.ir_text_described.specs.Written.{argument_location_of, location_of, name_of, properties_of};
 
 use crate::check::Check;
 use generic_dialect::{
     Generic, GenericAttr, GenericLoc, GenericType, Kind, TextId, kind_name, properties_key,
+    table_kind,
 };
 use generic_text::place_of;
 use ir_base_dialects::{Ptr, TypeHandle};
@@ -39,13 +40,24 @@ fn known<'a>(check: &Check<'a>, id: Option<TextId>) -> Option<&'a [u8]>
     }
 }
 
-// The name of a kind that isn't in the table.
+// A name that the table hasn't; nothing in the place of one that it has.
+fn unlisted<'a>(check: &Check<'a>, name: &'a [u8]) -> &'a [u8]
+    ensures { result.now ≡ unlisted name.now }
+{
+    if table_kind(name).is_some() {
+        &check.text[..0]
+    } else {
+        name
+    }
+}
+
+// The name of an open kind; nothing where the table has an operation of that name.
 fn open_name<'a>(check: &Check<'a>, kind: Kind) -> &'a [u8]
-    ensures { result.now ≡ open_name (bare check.now.ctx.now).beside.saved kind }
+    ensures { result.now ≡ told_open_name (bare check.now.ctx.now).beside.saved kind }
 {
     match kind {
         Kind::Listed { .. } => &check.text[..0],
-        Kind::Open { name, .. } => saved(check, name),
+        Kind::Open { name, .. } => unlisted(check, saved(check, name)),
     }
 }
 

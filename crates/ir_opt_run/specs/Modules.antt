@@ -1,5 +1,5 @@
 -- Texts that say what stands in a forest, and the operation around all of it.
-use Rattle.std.specs.Prelude.{◌≡◌, ℕ, ◌<◌, Bool, List, [], ◌∷◌, length, Option, Some, codes}
+use Rattle.std.specs.Prelude.{◌≡◌, ℕ, ◌<◌, Bool, List, [], ◌∷◌, length, Option, None, Some, codes}
 use Rattle.ir_model.specs.declared.ids.ArenaIndex.{ArenaIndex}
 use Rattle.ir_model.specs.ContextIds.{context_ids}
 use Rattle.ir_model.specs.Forest.{Dialect, Forest, OpRecord, of_block}
@@ -28,13 +28,15 @@ module _ {W : Dialect} where
     pub values : (u : ℕ) → u < length (tree_rows tree) → IsValueNamed text (tree_rows tree) u (value_named u)
     pub described : IsDescribedBy f words located (tree_of text tree block_named value_named) operations
 
-  -- a module with one region, which neither names nor gives anything
+  -- a module with one region, which neither names nor gives anything, without attributes and without a location
   pub record IsBareModule (words : Words W) (r : OpRecord context_ids W) : Type 0 where
     pub named : words.operation_name r.kind ≡ codes "builtin.module"
     pub operands : r.operands ≡ []
     pub results : r.results ≡ []
     pub successors : r.successors ≡ []
     pub regions : length r.regions ≡ 1
+    pub attributes : r.attributes ≡ []
+    pub location : words.location r.loc ≡ None
 
   -- The root is the only one of these operations; or it is a bare module around them: they are the list of the only block of its region, which has no arguments.
   pub data Encloses (f : Forest context_ids W) (words : Words W) (root : ArenaIndex) : List ArenaIndex → Type 0 where

@@ -3,8 +3,8 @@ use Rattle.std.specs.Prelude.{ℕ, ◌++◌, Bool, true, false, List, [], ◌∷
 use Rattle.std.specs.Io.KnownBytes.{Appends}
 use Rattle.ir_model.specs.declared.ids.ArenaIndex.{ArenaIndex}
 use Rattle.ir_model.specs.ContextIds.{context_ids}
-use Rattle.ir_model.specs.Forest.{Dialect, Behaviour, Forest}
-use Rattle.ir_model.specs.Nesting.{WellFormed}
+use Rattle.ir_model.specs.Forest.{Dialect, Behaviour, Forest, an_op}
+use Rattle.ir_model.specs.Nesting.{IsClosed, WellFormed}
 use Rattle.ir_model_passes.specs.Meaning.{SameAttributes}
 use Rattle.ir_text_described.specs.Words.{Words}
 use Rattle.ir_text_run.specs.Parts.{IsOnePart, IsDivided}
@@ -13,7 +13,7 @@ use Rattle.ir_opt_run.specs.declared.options.Pass.{Pass}
 use Rattle.ir_opt_run.specs.Passes.{PassesLead}
 use Rattle.ir_opt_run.specs.Modules.{Says, Encloses}
 
--- In words of the dialect, the same for both, the text says what operations of a forest are, which stand alone or in a module; the passes lead from that forest to another; and the output says what the operation around all is there.
+-- In words of the dialect, the same for both, the text says what operations of a forest are, which stand alone or in a module, and nothing outside names what is defined inside; the passes lead from that forest to another; and the output says what the operation around all is there.
 pub record Optimises {W : Dialect} (B : Behaviour W) (same : SameAttributes W) (AreWords : Words W → Type 0) (passes : List Pass) (located : Bool) (text out : List ℕ) : Type 0 where
   pub before : Forest context_ids W
   pub after : Forest context_ids W
@@ -24,6 +24,7 @@ pub record Optimises {W : Dialect} (B : Behaviour W) (same : SameAttributes W) (
   pub root : ArenaIndex
   pub read : Says before words true text operations
   pub encloses : Encloses before words root operations
+  pub closed : IsClosed before (an_op root)
   pub formed : WellFormed before types
   pub led : PassesLead B same root passes before after
   pub printed : Says after words located out (root ∷ [])

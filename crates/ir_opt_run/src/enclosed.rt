@@ -1,5 +1,5 @@
 //! What stands in the module that is around all of a text.
-ghost use Rattle.std.specs.Prelude.{◌≡◌, ◌∷◌, [], IfOk, IsTrue, Some, codes, map};
+ghost use Rattle.std.specs.Prelude.{◌≡◌, ◌∷◌, [], IfOk, IsTrue, None, Some, codes, map};
 ghost use Rattle.generic_described.specs.GenericWords.{generic_words};
 ghost use Rattle.generic_dialect.specs.Kinds.{kind_of, listed_name};
 ghost use Rattle.ir_model.specs.Forest.{a_block, a_region, an_op, of_block};
@@ -10,7 +10,7 @@ ghost use Rattle.ir_opt_run.specs.Modules.{Encloses, IsBareModule};
 
 use crate::fault::Fault;
 use crate::reading::{Block, Op};
-use generic_dialect::{Generic, kind_name};
+use generic_dialect::{Generic, GenericLoc, kind_name};
 use ir_base_dialects::Ptr;
 use ir_core_queries::{BlockPtr, Context, Operation, OperationPtr, Region};
 use ir_view_walks::{blocks_of, ops_of};
@@ -22,16 +22,29 @@ fn is_module(kind: u32) -> bool
     kind_name(kind) == Some(b"builtin.module".as_slice())
 }
 
-// Whether an operation is a module with one region, which neither names nor gives anything.
+// Whether the location of an operation isn't known.
+fn is_unlocated(ctx: &Context<Generic>, op: &Operation<Generic>) -> bool
+    ensures { IsTrue result → (generic_words ctx.now).location (op_record op.now).loc ≡ None }
+{
+    let _ = ctx;
+    match op.loc() {
+        GenericLoc::Unknown => true,
+        GenericLoc::Text(_) => false,
+        GenericLoc::Arguments(_) => false,
+    }
+}
+
+// Whether an operation is a module with one region, which neither names nor gives anything, without attributes and without a location.
 fn is_bare_module(ctx: &Context<Generic>, op: &Operation<Generic>) -> bool
     ensures { IsTrue result → IsBareModule (generic_words ctx.now) (op_record op.now) }
 {
-    let _ = ctx;
     is_module(op.kind())
         && op.get_num_operands() == 0
         && op.get_num_results() == 0
         && op.get_num_successors() == 0
         && op.num_regions() == 1
+        && op.attributes().is_empty()
+        && is_unlocated(ctx, op)
 }
 
 // The only block of a live region, where that has no arguments.

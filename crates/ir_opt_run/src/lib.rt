@@ -23,5 +23,7 @@ pub use running::run_opt;
 
 /// Laws that lead from what a run does to what it means.
 pub mod laws {
-    pub use crate::run_laws::{passes_are_right, passes_keep, pure_operations_are_listed};
+    pub use crate::run_laws::{
+        listed_names_are_rows, passes_are_right, passes_keep, pure_operations_are_listed,
+    };
 }

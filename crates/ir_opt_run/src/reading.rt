@@ -3,7 +3,7 @@ ghost use Rattle.std.specs.Prelude.{IfOk, List, OnOk, true};
 ghost use Rattle.generic_described.specs.GenericWords.{block_named, generic_words, value_named};
 ghost use Rattle.ir_model.specs.declared.ids.ArenaIndex.{ArenaIndex};
 ghost use Rattle.ir_model.specs.Forest.{an_op};
-ghost use Rattle.ir_model.specs.Nesting.{IsLive};
+ghost use Rattle.ir_model.specs.Nesting.{IsClosed, IsLive};
 ghost use Rattle.ir_core_queries.specs.State.{forest_of};
 ghost use Rattle.ir_opt_run.specs.Modules.{Encloses, IsReadAs, Says};
 
@@ -14,7 +14,7 @@ use crate::trees::{NamedTree, read_tree};
 use generic_building::{BuildError, Built, build, enclose};
 use generic_dialect::Generic;
 use ir_base_dialects::Ptr;
-use ir_core_queries::{BasicBlock, Context, Operation, OperationPtr};
+use ir_core_queries::{BasicBlock, Context, Entity, Operation, OperationPtr, can_erase};
 use ir_text_names::Wrong;
 use ir_text_reader::Row;
 use std::alloc::{AllocError, Global};
@@ -106,6 +106,7 @@ fn is_alone(root: Op, tops: &[Op]) -> bool {
 /// The first fault in the text; want of memory, numbers or slots; and `Different` where what was built isn't what the text says, which would be a fault of this program.
 pub fn read_module(ctx: &mut Context<Generic>, text: &[u8]) -> Result<Module, Fault>
     ensures live { IfOk result (λ m. IsLive (forest_of ctx.new) (an_op m.root.index)) }
+    ensures closed { IfOk result (λ m. IsClosed (forest_of ctx.new) (an_op m.root.index)) }
     ensures said { IfOk result (λ m. (operations : List ArenaIndex) × Says (forest_of ctx.new) (generic_words ctx.new) true text.now operations × Encloses (forest_of ctx.new) (generic_words ctx.new) m.root.index operations) }
 {
     let alloc = ctx.alloc();
@@ -113,6 +114,9 @@ pub fn read_module(ctx: &mut Context<Generic>, text: &[u8]) -> Result<Module, Fa
     let built = build_tree(ctx, text, &tree)?;
     let root = enclose(ctx, built.tops.as_slice())?;
     if !root.is_live(ctx) {
+        return Err(Fault::Different);
+    }
+    if !can_erase(ctx, Entity::Op(root)) {
         return Err(Fault::Different);
     }
     check_read(

@@ -1,7 +1,7 @@
 //! Why the passes of a run are right together.
 
 ghost use Rattle.ir_core_records.specs.Meaning.{closed};
-ghost use Rattle.ir_opt_run.specs.PureNames.{PureAreListed};
+ghost use Rattle.ir_opt_run.specs.PureNames.{ListedAreRows, PureAreListed};
 ghost use Rattle.ir_opt_run.specs.RunLaws.{PassesAreRight, PassesKeep};
 
 use ir_base_dialects::Dialects;
@@ -30,4 +30,9 @@ pub fn passes_keep<D: Dialects, V>()
 /// In words of the dialect Generic, a kind that is pure has the name of an operation that the table says is pure. So where a run takes an operation out because it is pure, the table says so of its name in the text.
 pub fn pure_operations_are_listed()
     ensures { PureAreListed }
+{}
+
+/// In words of the dialect Generic, a kind with the name of an operation that the table has is that row of the table, and implements what the table says. So a run takes every operation with that name for what the table says of it.
+pub fn listed_names_are_rows()
+    ensures { ListedAreRows }
 {}

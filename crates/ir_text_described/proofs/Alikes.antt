@@ -9,14 +9,14 @@ use Rattle.ir_model.specs.Forest.{Dialect, Definer, of_block, Entity, an_op, a_b
 use Rattle.ir_model.specs.Nesting.{list_of, children, regions_of, ops_of, blocks_of, operands_of, successors_of, definitions_of, numbers_of}
 use Rattle.ir_text_tree.specs.declared.row.Part.TheVariants as parts
 use Rattle.ir_text_tree.specs.declared.row.Row.{Row}
-use Rattle.ir_text_names.specs.Blocks.{IsBlockNamed}
-use Rattle.ir_text_names.specs.Values.{IsValueNamed}
+use Rattle.ir_text_names.specs.Blocks.{IsBlockAgain, IsBlockNamed, NamesBlock}
+use Rattle.ir_text_names.specs.Values.{IsValueAgain, IsValueNamed, NamesValue}
 use Rattle.ir_text_described.specs.Words.{Words}
 use Rattle.ir_text_described.specs.Trees.{NamedTree, part_at, which_at}
 use Rattle.ir_text_described.specs.Written.{IsOperand, IsSuccessor, number_of}
 use Rattle.ir_text_described.specs.Described.{IsDescribedBy}
 use Rattle.ir_text_described.specs.Alike.{AtOnePlace, Correspond, outermost, inner, ValuesCorrespond, OperationsAlike, BlocksAlike, AreAlike, entries_of, type_texts}
-use Rattle.ir_text_described.specs.DescribedLaws.{NamesAreDefined}
+use Rattle.ir_text_described.specs.DescribedLaws.{NamesAreDefined, NamesAreMeant, NamesAreGivenOnce}
 use Rattle.ir_text_described.proofs.Places.{mapped_some, at_index, unmapped, zip_by_place}
 use Rattle.ir_text_described.proofs.Ranks.{is_row}
 use Rattle.ir_text_described.proofs.Onward.{Twice}
@@ -137,6 +137,11 @@ module _ {W V : Dialect} (w : Sides W V) where
   blocks_alike : (operations operations' : List ArenaIndex) (b c : ArenaIndex) → BlockPair b c → BlocksAlike w.f w.g operations operations' w.words w.words' w.located b c
   blocks_alike operations operations' b c pair = record { argument_types = pair.label.argument_types; argument_locations = block_locations b c pair }
 
+-- each row names the same, whichever way the names are told
+record NameTheSame {W V : Dialect} (w : Sides W V) : Type 0 where
+  values : (u : ℕ) → u < length w.tree.rows → w.tree.value_named u ≡ w.value_named' u
+  blocks : (u : ℕ) → u < length w.tree.rows → w.tree.block_named u ≡ w.block_named' u
+
 module _ {W V : Dialect} (w : Sides W V) (operations operations' : List ArenaIndex) where
   abbrev Corresponds : Entity context_ids → Entity context_ids → Type 0
   Corresponds x y = Correspond w.f w.g operations operations' x y
@@ -175,7 +180,7 @@ module _ {W V : Dialect} (w : Sides W V) (operations operations' : List ArenaInd
       let is' : u.other.block ≡ c = said_twice (w.meanings'.blocks u.one.row) u.other.block c (sym (ap w.meanings'.blocks same_row) ∙ u.other.meant) e' in
       subst₂ (λ x y. Corresponds (a_block x) (a_block y)) (sym is) (sym is') corresponds
 
-  module _ (names : NamesAreDefined w.tree) (covered : (r : ℕ) → r < length w.tree.rows → Covered w operations operations' r) where
+  module _ (names : NamesAreDefined w.tree) (same : NameTheSame w) (covered : (r : ℕ) → r < length w.tree.rows → Covered w operations operations' r) where
     operand_row : (n : ℕ) → part_at w.tree n ≡ parts.Operand → n < length w.tree.rows
     operand_row n part = is_row w.tree n (λ e. let differ : ⊥ = cc in differ)
 
@@ -187,7 +192,7 @@ module _ {W V : Dialect} (w : Sides W V) (operations operations' : List ArenaInd
 
     operand_values : (o p : ArenaIndex) (k : ℕ) (u : Twice (IsOperand (one w) o) (IsOperand (other w) p) k) → Values u.one.value u.other.value
     operand_values o p k u =
-        let same_row : u.other.row ≡ u.one.row = said_twice (w.tree.value_named u.at) u.other.row u.one.row u.other.named u.one.named in
+        let same_row : u.other.row ≡ u.one.row = said_twice (w.tree.value_named u.at) u.other.row u.one.row (same.values u.at (operand_row u.at u.one.part) ∙ u.other.named) u.one.named in
         let same_index : u.other.index ≡ u.one.index = said_twice (which_at w.tree u.at) u.other.index u.one.index u.other.which u.one.which in
         let row = names.values u.at u.one.row (operand_row u.at u.one.part) u.one.named in
         let c = (covered u.one.row row.0).value row.1 in
@@ -195,7 +200,7 @@ module _ {W V : Dialect} (w : Sides W V) (operations operations' : List ArenaInd
 
     successor_blocks : (o p : ArenaIndex) (k : ℕ) (u : Twice (IsSuccessor (one w) o) (IsSuccessor (other w) p) k) → Corresponds (a_block u.one.block) (a_block u.other.block)
     successor_blocks o p k u =
-        let same_row : u.other.row ≡ u.one.row = said_twice (w.tree.block_named u.at) u.other.row u.one.row u.other.named u.one.named in
+        let same_row : u.other.row ≡ u.one.row = said_twice (w.tree.block_named u.at) u.other.row u.one.row (same.blocks u.at (successor_row u.at u.one.part) ∙ u.other.named) u.one.named in
         let label = names.blocks u.at u.one.row (successor_row u.at u.one.part) u.one.named in
         let c = (covered u.one.row (label_row u.one.row label)).block label in
         named_blocks o p k u c.0 c.1 same_row c.2 c.3 c.4
@@ -238,25 +243,69 @@ module _ {W V : Dialect} (w : Sides W V) (operations operations' : List ArenaInd
         let r = mapped_some (λ z. w.words'.operation_name z.kind) (w.g.ops p) pair.head.text pair.head.other_named in
         live_alike o p q.0 r.0 q.1 r.1 (q.2 ∙ sym r.2) pair
 
-  all_alike : NamesAreDefined w.tree → OpsMeet w operations operations' 0 (length w.tree.rows) → AreAlike w.f w.g operations operations' w.words w.words' w.located
-  all_alike names meet = record {
+  all_alike : NamesAreDefined w.tree → NameTheSame w → OpsMeet w operations operations' 0 (length w.tree.rows) → AreAlike w.f w.g operations operations' w.words w.words' w.located
+  all_alike names same meet = record {
     as_many = so_many_ops w meet;
     as_many_inside = λ x y c. so_many_inside w x y (paired meet c);
-    each_operation = λ o p c. ops_alike names (all_covered w operations operations' meet) o p (paired meet c);
+    each_operation = λ o p c. ops_alike names same (all_covered w operations operations' meet) o p (paired meet c);
     each_block = λ b c corresponds. blocks_alike w operations operations' b c (paired meet corresponds);
   }
+
+-- what the rows of a text describe in two forests is alike, where each row names the same
+names_alike : {W V : Dialect} (f : Forest context_ids W) (g : Forest context_ids V) (words : Words W) (words' : Words V) (located : Bool) (text : List ℕ) (rows : List Row) (blocks values blocks' values' : ℕ → Option ℕ) (operations operations' : List ArenaIndex)
+    → NamesAreDefined (record { text = text; rows = rows; block_named = blocks; value_named = values })
+    → ((u : ℕ) → u < length rows → values u ≡ values' u) → ((u : ℕ) → u < length rows → blocks u ≡ blocks' u)
+    → IsDescribedBy f words located (record { text = text; rows = rows; block_named = blocks; value_named = values }) operations
+    → IsDescribedBy g words' located (record { text = text; rows = rows; block_named = blocks'; value_named = values' }) operations'
+    → AreAlike f g operations operations' words words' located
+names_alike {W = W} {V = V} f g words words' located text rows blocks values blocks' values' operations operations' names same_values same_blocks d d' =
+    let tree : NamedTree = record { text = text; rows = rows; block_named = blocks; value_named = values } in
+    let w : Sides W V = record { f = f; g = g; words = words; words' = words'; located = located; tree = tree; meanings = d.meanings; meanings' = d'.meanings; block_named' = blocks'; value_named' = values' } in
+    let both = ops_meet w (ops_written (one w) operations d.written) (ops_written (other w) operations' d'.written) (rows_end tree) (rows_end tree) in
+    all_alike w operations operations' names (record { values = same_values; blocks = same_blocks }) both.meet
 
 -- what one tree describes in two forests is alike
 pub described_alike : {W V : Dialect} (f : Forest context_ids W) (g : Forest context_ids V) (words : Words W) (words' : Words V) (located : Bool) (tree : NamedTree) (operations operations' : List ArenaIndex)
     → NamesAreDefined tree → IsDescribedBy f words located tree operations → IsDescribedBy g words' located tree operations' → AreAlike f g operations operations' words words' located
-described_alike {W = W} {V = V} f g words words' located tree operations operations' names d d' =
-    let w : Sides W V = record { f = f; g = g; words = words; words' = words'; located = located; tree = tree; meanings = d.meanings; meanings' = d'.meanings } in
-    let both = ops_meet w (ops_written (one w) operations d.written) (ops_written (other w) operations' d'.written) (rows_end tree) (rows_end tree) in
-    all_alike w operations operations' names both.meet
+described_alike f g words words' located tree operations operations' names d d' =
+    names_alike f g words words' located tree.text tree.rows tree.block_named tree.value_named tree.block_named tree.value_named operations operations' names (λ u lt. refl) (λ u lt. refl) d d'
 
 -- what names mean is defined
-pub meant_defined : (text : List ℕ) (rows : List Row) (block_named value_named : ℕ → Option ℕ) → ((u : ℕ) → u < length rows → IsBlockNamed text rows u (block_named u)) → ((u : ℕ) → u < length rows → IsValueNamed text rows u (value_named u)) → NamesAreDefined (record { text = text; rows = rows; block_named = block_named; value_named = value_named })
-meant_defined text rows block_named value_named blocks values = record {
-  values = λ u d lt e. (subst (IsValueNamed text rows u) e (values u lt)).1;
-  blocks = λ u l lt e. (subst (IsBlockNamed text rows u) e (blocks u lt)).1.0;
+pub meant_defined : (t : NamedTree) → NamesAreMeant t → NamesAreDefined t
+meant_defined t meant = record {
+  values = λ u d lt e. (subst (IsValueNamed t.text t.rows u) e (meant.values u lt)).1;
+  blocks = λ u l lt e. (subst (IsBlockNamed t.text t.rows u) e (meant.blocks u lt)).1.0;
 }
+
+-- what is known of names
+abbrev pub OneValue : Type 0
+OneValue = (text : List ℕ) (rows : List Row) (u d e : ℕ) → ((k : ℕ) → k < length rows → ¬ IsValueAgain text rows k) → NamesValue text rows u d → NamesValue text rows u e → d ≡ e
+
+abbrev pub OneBlock : Type 0
+OneBlock = (text : List ℕ) (rows : List Row) (s l m : ℕ) → ((k : ℕ) → k < length rows → ¬ IsBlockAgain text rows k) → NamesBlock text rows s l → NamesBlock text rows s m → l ≡ m
+
+-- where no name is given again, it means one thing
+module _ (one_value : OneValue) (one_block : OneBlock) (text : List ℕ) (rows : List Row) (once : NamesAreGivenOnce text rows) where
+  one_value_meant : (u : ℕ) (a b : Option ℕ) → IsValueNamed text rows u a → IsValueNamed text rows u b → a ≡ b
+  one_value_meant u None None h h' = refl
+  one_value_meant u None (Some e) h h' = absurd (h e h')
+  one_value_meant u (Some d) None h h' = absurd (h' d h)
+  one_value_meant u (Some d) (Some e) h h' = ap Some (one_value text rows u d e once.values h h')
+
+  one_block_meant : (u : ℕ) (a b : Option ℕ) → IsBlockNamed text rows u a → IsBlockNamed text rows u b → a ≡ b
+  one_block_meant u None None h h' = refl
+  one_block_meant u None (Some e) h h' = absurd (h e h')
+  one_block_meant u (Some d) None h h' = absurd (h' d h)
+  one_block_meant u (Some d) (Some e) h h' = ap Some (one_block text rows u d e once.blocks h h')
+
+-- what the rows of one text describe is alike, by whatever tables their names are told
+pub meant_alike : {W V : Dialect} (f : Forest context_ids W) (g : Forest context_ids V) (words : Words W) (words' : Words V) (located : Bool) (text : List ℕ) (rows : List Row) (blocks values blocks' values' : ℕ → Option ℕ) (operations operations' : List ArenaIndex)
+    → OneValue → OneBlock → NamesAreGivenOnce text rows
+    → NamesAreMeant (record { text = text; rows = rows; block_named = blocks; value_named = values }) → NamesAreMeant (record { text = text; rows = rows; block_named = blocks'; value_named = values' })
+    → IsDescribedBy f words located (record { text = text; rows = rows; block_named = blocks; value_named = values }) operations
+    → IsDescribedBy g words' located (record { text = text; rows = rows; block_named = blocks'; value_named = values' }) operations'
+    → AreAlike f g operations operations' words words' located
+meant_alike f g words words' located text rows blocks values blocks' values' operations operations' one_value one_block once meant meant' d d' =
+    names_alike f g words words' located text rows blocks values blocks' values' operations operations' (meant_defined (record { text = text; rows = rows; block_named = blocks; value_named = values }) meant)
+    (λ u lt. one_value_meant one_value one_block text rows once u (values u) (values' u) (meant.values u lt) (meant'.values u lt))
+    (λ u lt. one_block_meant one_value one_block text rows once u (blocks u) (blocks' u) (meant.blocks u lt) (meant'.blocks u lt)) d d'

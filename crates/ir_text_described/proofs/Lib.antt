@@ -1,12 +1,13 @@
-pub mod Places
-pub mod Ranks
-pub mod Onward
-pub mod Sides
-pub mod Heads
-pub mod Tails
-pub mod Labels
-pub mod Nested
-pub mod Meets
-pub mod Covered
-pub mod Alikes
-pub mod Correspondents
+mod Places
+mod Ranks
+mod Onward
+mod Sides
+mod Heads
+mod Tails
+mod Labels
+mod Nested
+mod Meets
+mod Covered
+mod Alikes
+mod Correspondents
+mod AlikeRows

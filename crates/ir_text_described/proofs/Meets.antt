@@ -11,7 +11,7 @@ use Rattle.ir_text_described.proofs.Sides.{Sides, one, other}
 use Rattle.ir_text_described.proofs.Heads.{HeadPair, heads_meet, head_begins}
 use Rattle.ir_text_described.proofs.Tails.{TailPair, tails_meet, tail_low}
 use Rattle.ir_text_described.proofs.Labels.{LabelPair, labels_meet, plain_pair}
-use Rattle.ir_text_described.proofs.Nested.{OpsAt, no_ops, ops, RegionsAt, no_regions, regions, RegionAt, all_labelled, first_plain, BlocksAt, no_blocks, blocks, Stops, blocks_row_stops, ops_far, region_opens, regions_low, blocks_row}
+use Rattle.ir_text_described.proofs.Nested.{IsBlocksRow, OpsAt, no_ops, ops, RegionsAt, no_regions, regions, RegionAt, all_labelled, first_plain, BlocksAt, no_blocks, blocks, Stops, blocks_row_stops, ops_far, region_opens, regions_low, blocks_row}
 
 module _ {W V : Dialect} (w : Sides W V) where
   mutual
@@ -53,6 +53,10 @@ module _ {W V : Dialect} (w : Sides W V) where
   no_label : (n : ℕ) → part_at w.tree n ≡ parts.Label → part_at w.tree n ≡ parts.Close → ⊥
   no_label n e e' = cc
 
+  -- the rows are those of one text, whatever they name
+  other_stops : (n : ℕ) → IsBlocksRow (other w).tree n → Stops w.tree n
+  other_stops n row = blocks_row_stops w.tree n (record { far = row.far; begins = row.begins })
+
   mutual
     pub ops_meet : {os ps : List ArenaIndex} {at next next' : ℕ} → OpsAt (one w) os at next → OpsAt (other w) ps at next' → Stops w.tree next → Stops w.tree next' → OpsEnd os ps at next next'
     ops_meet no_ops no_ops stop stop' = record { ends = refl; meet = none }
@@ -85,7 +89,7 @@ module _ {W V : Dialect} (w : Sides W V) where
     region_meet (all_labelled part bs closes e) (first_plain part' is no_head os bs' closes' e') = let row = blocks_row (one w) bs closes in absurd (true≢false (sym no_head.begins ∙ row.begins))
     region_meet (first_plain part is no_head os bs closes e) (all_labelled part' bs' closes' e') = let row = blocks_row (other w) bs' closes' in absurd (true≢false (sym no_head.begins ∙ row.begins))
     region_meet {g = g} {h = h} {at = at} (first_plain {b = b} {a = a} {m = m} part is no_head os bs closes e) (first_plain {b = c} {bs = cs} {a = a'} {m = m'} part' is' no_head' os' bs' closes' e') =
-        let first = ops_meet os os' (blocks_row_stops w.tree m (blocks_row (one w) bs closes)) (blocks_row_stops w.tree m' (blocks_row (other w) bs' closes')) in
+        let first = ops_meet os os' (blocks_row_stops w.tree m (blocks_row (one w) bs closes)) (other_stops m' (blocks_row (other w) bs' closes')) in
         let others = blocks_meet bs (subst (λ x. BlocksAt (other w) cs x a') (sym first.ends) bs') closes closes' in
         let all : BlocksMeet (blocks_of w.f g) (blocks_of w.g h) (at + 1) a = subst₂ (λ xs ys. BlocksMeet xs ys (at + 1) a) (sym is) (sym is') (more_blocks (plain_pair w b c (at + 1) no_head no_head') first.meet others.meet) in
         record { ends = e ∙ ap (λ x. x + 1) others.ends ∙ sym e'; meet = within part all closes e }
@@ -96,7 +100,7 @@ module _ {W V : Dialect} (w : Sides W V) where
     blocks_meet (blocks {at = at} label os rest) no_blocks closes closes' = absurd (no_label at label.part closes')
     blocks_meet {next' = next'} (blocks {b = b} {at = at} {a = a} {m = m} label os rest) (blocks {b = c} {bs = cs} {a = a'} {m = m'} label' os' rest') closes closes' =
         let stop = blocks_row_stops w.tree m (blocks_row (one w) rest closes) in
-        let stop' = blocks_row_stops w.tree m' (blocks_row (other w) rest' closes') in
+        let stop' = other_stops m' (blocks_row (other w) rest' closes') in
         let labels = labels_meet w b c at a a' label label' (ops_far (one w) os stop.far) (ops_far (other w) os' stop'.far) in
         let inside = ops_meet os (subst (λ x. OpsAt (other w) (ops_of w.g c) x m') (sym labels.ends) os') stop stop' in
         let behind = blocks_meet rest (subst (λ x. BlocksAt (other w) cs x next') (sym inside.ends) rest') closes closes' in

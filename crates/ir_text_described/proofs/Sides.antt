@@ -1,4 +1,4 @@
--- Two forests beside one tree.
+-- Two forests beside the rows of one text, whose names may be told in two ways.
 use Rattle.std.proofs.Common.{◌≡◌, ℕ, ◌+◌, ◌<◌, ◌≤◌, Bool, true, false, List, Option, Some, None, refl, sym, ap, ◌∙◌, true≢false, if◌then◌else◌, arith}
 use Rattle.ir_model.specs.declared.ids.ArenaIndex.{ArenaIndex}
 use Rattle.ir_model.specs.ContextIds.{context_ids}
@@ -22,13 +22,15 @@ pub record Sides (W V : Dialect) : Type 0 where
   pub tree : NamedTree
   pub meanings : Meanings
   pub meanings' : Meanings
+  pub block_named' : ℕ → Option ℕ
+  pub value_named' : ℕ → Option ℕ
 
 module _ {W V : Dialect} where
   abbrev pub one : Sides W V → Setting W
   one w = record { forest = w.f; words = w.words; located = w.located; tree = w.tree; meanings = w.meanings }
 
   abbrev pub other : Sides W V → Setting V
-  other w = record { forest = w.g; words = w.words'; located = w.located; tree = w.tree; meanings = w.meanings' }
+  other w = record { forest = w.g; words = w.words'; located = w.located; tree = record w.tree { block_named = w.block_named'; value_named = w.value_named' }; meanings = w.meanings' }
 
 -- What the row defines, if it defines something, is defined by the one definer in the one forest and by the other in the other, at one place.
 pub record Row {W V : Dialect} (w : Sides W V) (d d' : Definer context_ids) (r : ℕ) : Type 0 where

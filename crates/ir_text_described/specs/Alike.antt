@@ -52,7 +52,7 @@ module _ {N M : Ids} {W V : Dialect} (f : Forest N W) (g : Forest M V) (operatio
 
     -- The operations of the one forest and those of the other are alike in all but ids and numbers: there are as many of them, what corresponds has as many regions, blocks or operations inside, and all that corresponds is alike.
     --
-    -- It says nothing of what isn't written: debug names of values, labels and attributes of blocks, attributes without an entry, kinds that have one name, types that have one text.
+    -- It says nothing of what isn't written: debug names of values, labels and attributes of blocks, attributes without an entry. Nor does it tell kinds apart that have one name, or types that have one text.
     pub record AreAlike : Type 0 where
       pub as_many : length operations ≡ length operations'
       pub as_many_inside : (x : Entity N) (y : Entity M) → Correspond x y → length (children f x) ≡ length (children g y)

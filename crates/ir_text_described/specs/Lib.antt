@@ -5,3 +5,4 @@ pub mod Described
 pub mod Alike
 pub mod DescribedLaws
 pub mod AlikeLaws
+pub mod AlikeRows

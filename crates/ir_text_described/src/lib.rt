@@ -6,8 +6,12 @@
 mod alike_laws;
 mod item;
 
-pub use alike_laws::{
-    alike_tells, correspondents_are_one, described_alike, listed_stand_apart,
-    meant_names_are_defined,
-};
 pub use item::Item;
+
+/// Laws of what is described.
+pub mod laws {
+    pub use crate::alike_laws::{
+        alike_tells, correspondents_are_one, described_alike, listed_stand_apart,
+        meant_names_are_defined, small_alikes_are_told,
+    };
+}

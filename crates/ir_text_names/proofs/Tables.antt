@@ -2,7 +2,13 @@
 use Rattle.std.proofs.Common.{◌≡◌, ℕ, ◌+◌, ◌<◌, ◌≤◌, Bool, true, List, [], ◌∷◌, ◌++◌, length, get_or, set, Option, Some, None, refl, sym, ap, subst, ◌∙◌, ⊎_elim, arith}
 use Rattle.std.proofs.lemmas.Bool.{cases_lt, cases_eq, false≢true}
 use Rattle.std.proofs.lemmas.List.{get_or_push, get_or_append_left, length_push, get_or-set_same, get_or-set_other}
+use Rattle.ir_text_tree.specs.declared.row.Part.TheVariants as parts
+use Rattle.ir_text_tree.specs.declared.row.Row.{Row}
 use Rattle.ir_text_names.specs.Blocks.{misses}
+use Rattle.ir_text_names.specs.Firsts.{IsFirst, noted}
+use Rattle.ir_text_names.specs.Rows.{part_of}
+use Rattle.ir_text_names.specs.Values.{IsMissing}
+use Rattle.ir_text_names.proofs.FirstRows.{first_as, first_more}
 
 -- one entry more
 pub entries_more : (P : ℕ → Option ℕ → Type 0) (n : ℕ) (o : Option ℕ) (table out : List (Option ℕ)) → P n o → out ≡ table ++ o ∷ [] → (length table ≡ n) × ((u : ℕ) → u < n → P u (get_or table u None)) → (length out ≡ n + 1) × ((u : ℕ) → u < n + 1 → P u (get_or out u None))
@@ -27,6 +33,16 @@ misses_is b (Some i) e = absurd (false≢true e)
 
 pub misses_told : (b : Bool) (o : Option ℕ) → b ≡ true → o ≡ None → misses b o ≡ true
 misses_told b o e f = ap (misses b) f ∙ e
+
+-- the first operand without an entry, where one entry more is put behind the others
+pub missing_more : (rows : List Row) (n : ℕ) (o : Option ℕ) (b : Bool) (e : Option ℕ) (table out : List (Option ℕ)) → out ≡ table ++ e ∷ [] → length table ≡ n → (b ≡ true → (part_of rows n ≡ parts.Operand) × (e ≡ None)) → ((part_of rows n ≡ parts.Operand) × (e ≡ None) → b ≡ true)
+    → IsFirst (IsMissing rows table) n o → IsFirst (IsMissing rows out) (n + 1) (noted o n b)
+missing_more rows n o b e table out pushed long holds known h =
+    let here : get_or out n None ≡ e = ap (λ (t : List (Option ℕ)). get_or t n None) pushed ∙ get_or_push table e None n long in
+    let before : (k : ℕ) → k < n → get_or out k None ≡ get_or table k None =
+    λ k lt. ap (λ (t : List (Option ℕ)). get_or t k None) pushed ∙ get_or_append_left table (e ∷ []) None k (omega (arith, lt, long)) in
+    first_more (IsMissing rows out) n o b (λ t. let m = holds t in (m.0, here ∙ m.1)) (λ m. known (m.0, sym here ∙ m.1))
+    (first_as (IsMissing rows table) (IsMissing rows out) n o (λ k lt m. (m.0, before k lt ∙ m.1)) (λ k lt m. (m.0, sym (before k lt) ∙ m.1)) h)
 
 -- one item more, of any sort
 pub items_more : (X : Type 0) (P : ℕ → X → Type 0) (d : X) (n : ℕ) (o : X) (table out : List X) → P n o → out ≡ table ++ o ∷ [] → length table ≡ n → ((u : ℕ) → u < n → P u (get_or table u d)) → (u : ℕ) → u < n + 1 → P u (get_or out u d)

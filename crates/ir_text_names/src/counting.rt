@@ -50,15 +50,20 @@ pub(crate) fn is_counted(sort: Counted, part: Part) -> bool
     }
 }
 
+// 1, if it is one to be counted.
+fn one_if(is: bool) -> u32
+    ensures { result ≡ (if is then 1 else 0) }
+{
+    if is { 1 } else { 0 }
+}
+
 /// Counts one more there, if it is one.
 pub(crate) fn count_if(counts: &mut Vec<u32>, is: bool, at: usize)
     requires within { at < vec_len counts.old }
     requires fits { slice_index_or counts.old.items at 0 + 1 < 2 ^ 32 }
     ensures { counts.new.items ≡ (if is then slice_set counts.old.items at (slice_index_or counts.old.items at 0 + 1) else counts.old.items) }
 {
-    if is {
-        counts[at] += 1;
-    }
+    counts[at] += one_if(is);
 }
 
 /// How many parts of that sort each operation has, by its number.

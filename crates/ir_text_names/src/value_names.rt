@@ -26,6 +26,8 @@ struct Before {
     table: RowTable,
     // The first definition of a name that is defined already.
     again: Option<usize>,
+    // The first operand for which the table has none.
+    missing: Option<usize>,
 }
 
 // Whether the part defines a value.
@@ -119,11 +121,13 @@ fn named_before(
     requires regions { regions.now ≡ row_regions rows.now }
     ensures table { IfOk result (λ b. AreNamedBefore text.now rows.now (length rows.now) b.table) }
     ensures again { IfOk result (λ b. IsFirst (IsValueAgain text.now rows.now) (length rows.now) b.again) }
+    ensures missing { IfOk result (λ b. IsFirst (IsMissing rows.now b.table) (length rows.now) b.missing) }
 {
     let mut last = NamedRows::new(alloc, rows.len());
     let mut ends = RowTable::of_none(alloc, rows.len())?;
     let mut table = RowTable::with_room(alloc, rows.len())?;
     let mut again = None;
+    let mut missing = None;
     for (at, row) in rows.iter().enumerate() {
         let name = piece(text, row.span);
         let is = defines(row.part);
@@ -131,11 +135,17 @@ fn named_before(
         let before = last.find_if(any(is, uses), name);
         let around = still_open(&ends, regions, before);
         again = noted(again, at, clashes(is, before, around, regions[at] as usize));
-        table.push(only_if(uses, around))?;
+        let found = only_if(uses, around);
+        missing = noted(missing, at, misses(uses, found));
+        table.push(found)?;
         last.put_if(is, name, at)?;
         end_if(&mut ends, is_close(row.part), regions[at] as usize, at);
     }
-    Ok(Before { table, again })
+    Ok(Before {
+        table,
+        again,
+        missing,
+    })
 }
 
 // A definition behind a row, if the row stands in its region or in one in it.
@@ -219,22 +229,40 @@ fn first_missing(rows: &[Row], table: &RowTable) -> Option<usize>
     missing
 }
 
+// What operands name.
+#[derive(Drop)]
+struct Entries {
+    // For each row the definition that it names.
+    table: RowTable,
+    // The first operand for which the table has none.
+    missing: Option<usize>,
+}
+
 // What operands name, where these stand before them.
 fn named(
     alloc: Global,
     text: &[u8],
     rows: &[Row],
     regions: &[u32],
-    before: RowTable,
-) -> Result<RowTable, AllocError>
+    before: Before,
+) -> Result<Entries, AllocError>
     requires few { length rows.now < 4294967295 }
     requires regions { regions.now ≡ row_regions rows.now }
-    requires before { AreNamedBefore text.now rows.now (length rows.now) before }
-    ensures { IfOk result (λ t. AreNamedUnlessAgain text.now rows.now t) }
+    requires before { AreNamedBefore text.now rows.now (length rows.now) before.table }
+    requires missing { IsFirst (IsMissing rows.now before.table) (length rows.now) before.missing }
+    ensures table { IfOk result (λ e. AreNamedUnlessAgain text.now rows.now e.table) }
+    ensures missing { IfOk result (λ e. IsFirst (IsMissing rows.now e.table) (length rows.now) e.missing) }
 {
-    match first_missing(rows, &before) {
-        None => Ok(before),
-        Some(_) => named_behind(alloc, text, rows, regions, before),
+    match before.missing {
+        None => Ok(Entries {
+            table: before.table,
+            missing: None,
+        }),
+        Some(_) => {
+            let table = named_behind(alloc, text, rows, regions, before.table)?;
+            let missing = first_missing(rows, &table);
+            Ok(Entries { table, missing })
+        }
     }
 }
 
@@ -273,19 +301,23 @@ pub(crate) fn value_table(
 {
     let regions = regions(alloc, rows)?;
     let before = named_before(alloc, text, rows, &regions)?;
-    let table = named(alloc, text, rows, &regions, before.table)?;
+    let again = before.again;
+    let entries = named(alloc, text, rows, &regions, before)?;
     drop(regions);
-    let twice = told(before.again, Wrong::ValueTwice);
-    let unknown = told(first_missing(rows, &table), Wrong::UnknownValue);
+    let twice = told(again, Wrong::ValueTwice);
+    let unknown = told(entries.missing, Wrong::UnknownValue);
     let named = sooner(twice, unknown);
-    let past = beyond(text, rows, before.again, &table);
+    let past = beyond(text, rows, again, &entries.table);
     let numbered = told(past, Wrong::UnknownValue);
     let names = sooner(named, numbered);
     let tables = type_tables(alloc, text, rows, operations)?;
-    let odd = other_type(&tables, before.again, &table);
+    let odd = other_type(&tables, again, &entries.table);
     let typed = told(odd, Wrong::TypeOther);
     let found = sooner(names, typed);
-    Ok(ValueTable { table, found })
+    Ok(ValueTable {
+        table: entries.table,
+        found,
+    })
 }
 
 /// For each row of a tree of that text the row of the definition that it names: for an operand the result or argument of its name that is defined in the region in which the operand stands, or in one around that, before it or behind it.

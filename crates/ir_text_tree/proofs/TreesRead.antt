@@ -1,5 +1,5 @@
 -- The tokens of a tree are read as its rows.
-use Rattle.std.proofs.Common.{◌≡◌, ℕ, zero, suc, true, List, [], ◌∷◌, Option, Some, None, Result, Ok, refl, sym, ap, subst, ◌∙◌}
+use Rattle.std.proofs.Common.{◌≡◌, ℕ, zero, suc, true, List, [], ◌∷◌, Option, Some, None, Ok, refl, sym, ap, subst, ◌∙◌}
 use Rattle.ir_text_tree.specs.declared.row.Part.{Part}
 use Rattle.ir_text_tree.specs.declared.row.Part.TheVariants as parts
 use Rattle.ir_text_tree.specs.declared.row.Row.{Row}

@@ -29,8 +29,8 @@ use Rattle.ir_text_tree.specs.declared.tree_step.Step.TheVariants.{Go, Bad}
 use Rattle.ir_text_tree.specs.TextSteps.{takes, part_of_text, innermost}
 use Rattle.ir_text_tree.specs.TreeSteps.{skip, put, begin_text, stops_outside, text_end, taken, text_step, after_step, bare_step, tree_step, is_whole, parts_step}
 use Rattle.ir_text_tree.specs.Parsings.{is_inside, ended_row, token_row, text_behind, brackets_behind, depth_behind, last_row, listed as one_row, parsing}
-use Rattle.ir_text_tree.specs.Rows.{row, span}
-use Rattle.ir_text_tree.specs.Trees.{Expected, IsKey, IsTypeName, Label, Body, Regions}
+use Rattle.ir_text_tree.specs.Rows.{row}
+use Rattle.ir_text_tree.specs.Trees.{IsKey, IsTypeName}
 use Rattle.ir_text_tree.specs.declared.fault.Fault.TheVariants as faults
 use Rattle.ir_text_tree.specs.TreeSteps.{wanted}
 use Rattle.ir_text_tree.specs.Parsings.{before_rows, behind_row}

@@ -1,10 +1,10 @@
 //! From tokens to the flat tree, by one loop.
-ghost use Rattle.std.specs.Prelude.{◌≡◌, ◌+◌, ◌<◌, ◌≤◌, ◌^◌, ◌++◌, reverse, Ok, IfOk, IfErr, IfSome, OnOk};
+ghost use Rattle.std.specs.Prelude.{◌≡◌, ◌+◌, ◌<◌, ◌≤◌, ◌^◌, ◌++◌, ◌∷◌, [], reverse, Ok, IfOk, IfErr, IfSome, OnOk};
 ghost use Rattle.ir_text_tree.specs.TreeFaults.{fault_place};
 ghost use Rattle.ir_text_tree.specs.TextSteps.{innermost, renested};
 ghost use Rattle.ir_text_tree.specs.Trees.{Body, IsWholeText, Spells, tree_rows};
 ghost use Rattle.ir_text_tree.specs.Parsings.{IsParsing, IsReadOn, IsReadOut, start_state, is_inside, ended_row, token_row, last_row, listed, text_behind, brackets_behind, depth_behind, rows_read};
-ghost use Rattle.ir_text_tree.specs.Rows.{joined, GoForward, piece_spans, row_spans};
+ghost use Rattle.ir_text_tree.specs.Rows.{row, joined, GoForward, piece_spans, row_spans};
 
 use crate::fault::Fault;
 use crate::row::{Part, Row, Span};
@@ -41,32 +41,6 @@ fn renest(brackets: &mut Vec<Bracket>, nesting: Nesting) -> Result<(), AllocErro
     Ok(())
 }
 
-// What becomes of the open brackets.
-fn nest(brackets: &mut Vec<Bracket>, action: Action) -> Result<(), AllocError>
-    ensures { OnOk result (reverse brackets.new.items ≡ brackets_behind action (reverse brackets.old.items)) }
-{
-    match action {
-        Action::Start(nesting) => {
-            brackets.clear();
-            renest(brackets, nesting)
-        }
-        Action::Extend(nesting) => renest(brackets, nesting),
-        _ => Ok(()),
-    }
-}
-
-// How many regions are open behind a token.
-fn depth_behind(action: Action, depth: usize) -> usize
-    requires { depth + 1 < 2 ^ 64 }
-    ensures { result ≡ depth_behind action depth }
-{
-    match action {
-        Action::Open => depth + 1,
-        Action::Close => depth.saturating_sub(1),
-        _ => depth,
-    }
-}
-
 // The text with a token behind it.
 fn joined(text: Span, token: Span) -> Span
     ensures { result ≡ joined text token }
@@ -77,17 +51,6 @@ fn joined(text: Span, token: Span) -> Span
     }
 }
 
-// The text behind a token.
-fn text_behind(action: Action, token: Span, text: Span) -> Span
-    ensures { result ≡ text_behind action token text }
-{
-    match action {
-        Action::Start(_) => token,
-        Action::Extend(_) => joined(text, token),
-        _ => text,
-    }
-}
-
 // The row of the text that ends before a token, if one does.
 fn ended_row(ended: Option<Part>, text: Span) -> Option<Row>
     ensures { result ≡ ended_row ended text }
@@ -95,28 +58,6 @@ fn ended_row(ended: Option<Part>, text: Span) -> Option<Row>
     match ended {
         None => None,
         Some(part) => Some(Row { part, span: text }),
-    }
-}
-
-// The row of a token, if it has one.
-fn token_row(action: Action, token: Span, text: Span) -> Option<Row>
-    ensures { result ≡ token_row action token text }
-{
-    match action {
-        Action::Put(part) => Some(Row { part, span: token }),
-        Action::Join(part) => Some(Row {
-            part,
-            span: joined(text, token),
-        }),
-        Action::Open => Some(Row {
-            part: Part::Open,
-            span: token,
-        }),
-        Action::Close => Some(Row {
-            part: Part::Close,
-            span: token,
-        }),
-        Action::Skip | Action::Start(_) | Action::Extend(_) => None,
     }
 }
 
@@ -133,12 +74,20 @@ fn last_row(mode: Mode, text: Span) -> Option<Row>
     }
 }
 
+// Puts a row.
+fn put_row(rows: &mut Vec<Row>, part: Part, span: Span) -> Result<(), AllocError>
+    ensures { OnOk result (rows.new.items ≡ rows.old.items ++ row part span ∷ []) }
+{
+    rows.push(Row { part, span })?;
+    Ok(())
+}
+
 // Puts a row, if there is one.
 fn put(rows: &mut Vec<Row>, row: Option<Row>) -> Result<(), AllocError>
     ensures { OnOk result (rows.new.items ≡ rows.old.items ++ listed row) }
 {
     if let Some(row) = row {
-        rows.push(row)?;
+        put_row(rows, row.part, row.span)?;
     }
     Ok(())
 }
@@ -152,6 +101,64 @@ pub struct State {
     pub depth: usize,
     /// The type, value or location that goes on; else a span that counts for nothing.
     pub text: Span,
+}
+
+// Where the reader is: in this mode, with so many regions open, and in that text.
+fn state_of(mode: Mode, depth: usize, text: Span) -> State
+    ensures mode { result.mode ≡ mode }
+    ensures depth { result.depth ≡ depth }
+    ensures text { result.text ≡ text }
+{
+    State { mode, depth, text }
+}
+
+// Does with a token what becomes of it: puts its row, if it has one, and opens or closes brackets. The answer is where the reader is then.
+#[inline(always)]
+fn act(
+    rows: &mut Vec<Row>,
+    brackets: &mut Vec<Bracket>,
+    state: State,
+    action: Action,
+    token: Span,
+    to: Mode,
+) -> Result<State, AllocError>
+    requires { state.depth + 1 < 2 ^ 64 }
+    ensures rows { OnOk result (rows.new.items ≡ rows.old.items ++ listed (token_row action token state.text)) }
+    ensures brackets { OnOk result (reverse brackets.new.items ≡ brackets_behind action (reverse brackets.old.items)) }
+    ensures mode { IfOk result (λ s. s.mode ≡ to) }
+    ensures depth { IfOk result (λ s. s.depth ≡ depth_behind action state.depth) }
+    ensures text { IfOk result (λ s. s.text ≡ text_behind action token state.text) }
+{
+    let depth = state.depth;
+    let text = state.text;
+    match action {
+        Action::Skip => Ok(state_of(to, depth, text)),
+        Action::Put(part) => {
+            put_row(rows, part, token)?;
+            Ok(state_of(to, depth, text))
+        }
+        Action::Start(nesting) => {
+            brackets.clear();
+            renest(brackets, nesting)?;
+            Ok(state_of(to, depth, token))
+        }
+        Action::Extend(nesting) => {
+            renest(brackets, nesting)?;
+            Ok(state_of(to, depth, joined(text, token)))
+        }
+        Action::Join(part) => {
+            put_row(rows, part, joined(text, token))?;
+            Ok(state_of(to, depth, text))
+        }
+        Action::Open => {
+            put_row(rows, Part::Open, token)?;
+            Ok(state_of(to, depth + 1, text))
+        }
+        Action::Close => {
+            put_row(rows, Part::Close, token)?;
+            Ok(state_of(to, depth.saturating_sub(1), text))
+        }
+    }
 }
 
 /// Before all tokens.
@@ -192,13 +199,8 @@ pub fn read_piece(
         });
     };
     put(rows, ended_row(ended, state.text))?;
-    put(rows, token_row(action, piece.span, state.text))?;
-    nest(brackets, action)?;
-    Ok(State {
-        mode: to,
-        depth: depth_behind(action, state.depth),
-        text: text_behind(action, piece.span, state.text),
-    })
+    let behind = act(rows, brackets, state, action, piece.span, to)?;
+    Ok(behind)
 }
 
 /// Ends the tokens of a text of so many bytes, and puts the row of the type that ends there, if one does.

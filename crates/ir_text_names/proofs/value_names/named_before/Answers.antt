@@ -3,12 +3,12 @@ use Rattle.std.proofs.lemmas.List.{length-replicate}
 use Rattle.ir_text_names.specs.Firsts.{IsFirst}
 use Rattle.ir_text_names.specs.NamedRows.{named_row}
 use Rattle.ir_text_names.specs.Rows.{text_of, row_regions, region_of, regions_behind}
-use Rattle.ir_text_names.specs.Values.{still_open, clashes, IsNamedBefore, IsValueAgain}
+use Rattle.ir_text_names.specs.Values.{still_open, clashes, IsMissing, IsNamedBefore, IsValueAgain}
 use Rattle.ir_text_names.proofs.FirstRows.{first_none, first_more_clear}
 use Rattle.ir_text_names.proofs.Entries.{none_there}
 use Rattle.ir_text_names.proofs.Gates.{asked_is, clash_gated, use_gated, gated_within, open_within}
 use Rattle.ir_text_names.proofs.Scopes.{length-scopes_from, region_at_most}
-use Rattle.ir_text_names.proofs.Tables.{entries_more}
+use Rattle.ir_text_names.proofs.Tables.{entries_more, missing_more, misses_is, misses_told}
 use Rattle.ir_text_names.proofs.ValuesBefore.{last_none, last_more, ends_none, ends_more, known_within, named_before_is, clash_is, clash_told}
 use Rattle.ir_text_names.proofs.value_names.named_before.Goals as goal
 
@@ -26,6 +26,7 @@ loop-at-init c =
       ends = ends_none rows (λ (s : ℕ). get_or c.in_ok-ends.ends s None) (λ s. ap (λ (t : List (Option ℕ)). get_or t s None) c.in_ok-ends.ensures ∙ none_there (length rows) s);
       table = (ap length c.in_ok-table.ensures, λ u lt. absurd (omega (arith, lt)));
       again = first_none (IsValueAgain text rows);
+      missing = first_none (IsMissing rows c.in_ok-table.table);
     }
 
 pub still_open-around-requires : goal.still_open-around-requires
@@ -57,7 +58,7 @@ push-requires c =
     let few : IfSome before (λ d. d < m) = gated_within (c.defines-is.result || uses) (known name) before m (asked_is c.defines-is.result uses c.any.result (known name) c.find_if-before.result c.any.ensures c.find_if-before.ensures) (known_within c.args.text.now c.args.rows.now l.at m known name (known name) l.invariant.last refl le) in
     let opened : IfSome around (λ d. d < m) =
     subst (λ (o : Option ℕ). IfSome o (λ d. d < m)) (sym c.still_open-around.ensures) (open_within (λ (s : ℕ). get_or l.ends s None) c.args.regions.now before m few) in
-    gated_within uses around c.only_if.result m c.only_if.ensures opened
+    gated_within uses around c.only_if-found.result m c.only_if-found.ensures opened
 
 pub end_if-requires-clause-within : goal.end_if-requires-clause-within
 end_if-requires-clause-within c =
@@ -95,9 +96,9 @@ loop-at-preserved c =
     ∙ ap (λ (r : List ℕ). clashes holds asked (still asked) (get_or r l.at 0)) c.requires.regions
     ∙ clash_gated holds uses k still (region_of rows l.at) in
     let within : l.at < length rows = c.loop-at-test.true in
-    let named : IsNamedBefore text rows l.at c.only_if.result =
-    named_before_is text rows l.at known ends uses c.only_if.result l.invariant.last l.invariant.ends c.is_operand-uses.ensures (c.only_if.ensures ∙ ap (λ (o : Option ℕ). cond uses o None) around_is ∙ use_gated holds uses k still) in
-    let pushed : c.push.new.self ≡ l.table ++ c.only_if.result ∷ [] = search rules in
+    let named : IsNamedBefore text rows l.at c.only_if-found.result =
+    named_before_is text rows l.at known ends uses c.only_if-found.result l.invariant.last l.invariant.ends c.is_operand-uses.ensures (c.only_if-found.ensures ∙ ap (λ (o : Option ℕ). cond uses o None) around_is ∙ use_gated holds uses k still) in
+    let pushed : c.push.new.self ≡ l.table ++ c.only_if-found.result ∷ [] = search rules in
     record {
       limit = omega (arith, c.in_ok-put_if.ensures.limit, l.invariant.limit);
       last = last_more text rows l.at holds known (named_row c.put_if.new.self) within c.defines-is.ensures
@@ -105,8 +106,18 @@ loop-at-preserved c =
       long = c.end_if.ensures.long ∙ l.invariant.long;
       ends = ends_more rows l.at c.is_close.result ends (λ (s : ℕ). get_or c.end_if.new.ends s None) c.is_close.ensures
           (λ s. c.end_if.ensures.ends s ∙ ap (λ (r : List ℕ). cond (c.is_close.result && nat_eq (get_or r l.at 0) s) (Some l.at) (ends s)) c.requires.regions) l.invariant.ends;
-      table = entries_more (IsNamedBefore text rows) l.at c.only_if.result l.table c.push.new.self named pushed l.invariant.table;
+      table = entries_more (IsNamedBefore text rows) l.at c.only_if-found.result l.table c.push.new.self named pushed l.invariant.table;
       again = subst (λ (o : Option ℕ). IsFirst (IsValueAgain text rows) (l.at + 1) o) (sym c.noted-again.ensures)
           (first_more_clear (IsValueAgain text rows) l.at l.again c.clashes.result (λ e. clash_is text rows l.at known ends holds within l.invariant.last l.invariant.ends c.defines-is.ensures (sym clash ∙ e))
           (λ clear again. clash ∙ clash_told text rows l.at known ends holds l.invariant.last l.invariant.ends c.defines-is.ensures clear again) l.invariant.again);
+      missing = subst (λ (o : Option ℕ). IsFirst (IsMissing rows c.push.new.self) (l.at + 1) o) (sym c.noted-missing.ensures)
+          (missing_more rows l.at l.missing c.misses.result c.only_if-found.result l.table c.push.new.self pushed l.invariant.table.0
+          (λ e. let both = misses_is uses c.only_if-found.result (sym c.misses.ensures ∙ e) in (c.is_operand-uses.ensures.0 both.0, both.1))
+          (λ m. c.misses.ensures ∙ misses_told uses c.only_if-found.result (c.is_operand-uses.ensures.1 m.0) m.1) l.invariant.missing);
     }
+
+pub returns-clause-missing : goal.returns-clause-missing
+returns-clause-missing c =
+    let l = c.loop-at in
+    let end : l.at ≡ length c.args.rows.now = omega arith in
+    subst (λ (n : ℕ). IsFirst (IsMissing c.args.rows.now l.table) n l.missing) end l.invariant.missing

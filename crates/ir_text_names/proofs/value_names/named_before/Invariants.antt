@@ -1,7 +1,7 @@
 use Rattle.std.proofs.Common.{◌≡◌, ℕ, ◌≤◌, length, get_or, None}
 use Rattle.ir_text_names.specs.Firsts.{IsFirst}
 use Rattle.ir_text_names.specs.NamedRows.{named_row}
-use Rattle.ir_text_names.specs.Values.{IsValueAgain, AreNamedBefore}
+use Rattle.ir_text_names.specs.Values.{IsMissing, IsValueAgain, AreNamedBefore}
 use Rattle.ir_text_names.proofs.ValuesBefore.{AreLast, AreEnds}
 use Rattle.ir_text_names.proofs.value_names.named_before.Given as goal
 
@@ -13,4 +13,5 @@ invariant-loop-at l = record {
   ends : AreEnds l.rows l.at (λ (s : ℕ). get_or l.ends s None);
   table : AreNamedBefore l.text l.rows l.at l.table;
   again : IsFirst (IsValueAgain l.text l.rows) l.at l.again;
+  missing : IsFirst (IsMissing l.rows l.table) l.at l.missing;
 }

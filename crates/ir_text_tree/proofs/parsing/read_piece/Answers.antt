@@ -1,6 +1,7 @@
-use Rattle.std.proofs.Common.{◌≡◌, ◌++◌, List, Option, reverse, refl, ap, ◌∙◌}
+use Rattle.std.proofs.Common.{◌≡◌, ◌++◌, List, Option, reverse, refl, sym, ap, ◌∙◌}
 use Rattle.ir_text_tree.specs.declared.row.Row.{Row}
 use Rattle.ir_text_tree.specs.declared.parsing.State.{State}
+use Rattle.ir_text_tree.specs.declared.tree_step.Mode.{Mode}
 use Rattle.ir_text_tree.specs.declared.tree_step.Step.TheVariants.{Go, Bad}
 use Rattle.ir_text_tree.specs.TextSteps.{innermost}
 use Rattle.ir_text_tree.specs.Parsings.{is_inside, ended_row, token_row, listed}
@@ -27,7 +28,7 @@ returns-clause-reads c =
     let r = ended_row w.ended st.text in
     let q = token_row w.action x.span st.text in
     let one : c.put.new.rows.items ≡ front ++ listed r = c.in_ok-put.ensures ∙ ap (λ (o : Option Row). front ++ listed o) c.ended_row.ensures in
-    let two : c.put-2.new.rows.items ≡ (front ++ listed r) ++ listed q =
-    c.in_ok-put-2.ensures ∙ ap (λ (o : Option Row). c.put.new.rows.items ++ listed o) c.token_row.ensures ∙ ap (λ (rows : List Row). rows ++ listed q) one in
-    let to : State = record { mode = w.to; depth = c.depth_behind.result; text = c.text_behind.result } in
-    reads_on front c.put-2.new.rows.items r q st to bs (reverse c.nest.new.brackets.items) x w.ended w.action e two refl refl c.depth_behind.ensures c.in_ok-nest.ensures c.text_behind.ensures
+    let two : c.act.new.rows.items ≡ (front ++ listed r) ++ listed q = c.in_ok-behind.ensures.rows ∙ ap (λ (rows : List Row). rows ++ listed q) one in
+    let to : State = c.in_ok-behind.behind in
+    let goes = e ∙ ap (λ (m : Mode). Go w.ended w.action m) (sym c.in_ok-behind.ensures.mode) in
+    reads_on front c.act.new.rows.items r q st to bs (reverse c.act.new.brackets.items) x w.ended w.action goes two refl refl c.in_ok-behind.ensures.depth c.in_ok-behind.ensures.brackets c.in_ok-behind.ensures.text
