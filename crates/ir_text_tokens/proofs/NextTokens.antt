@@ -22,7 +22,7 @@ use Rattle.ir_text_tokens.specs.declared.reader_step.Step.TheVariants.{Go, Emit,
 use Rattle.ir_text_tokens.specs.ByteClasses.{class_of_byte, class_ahead}
 use Rattle.ir_text_tokens.specs.Faults.{fault}
 use Rattle.ir_text_tokens.specs.ReaderSteps.{reader_step, start_at, start_behind, stays, glued_behind, missing_at_end}
-use Rattle.ir_text_tokens.specs.Readings.{KeepsStart, innermost, renested, with_front, token, reading, read_at_end, Scan, nothing_before, before, fault_at_end, scanning, scan_from, scan_of, all_or_fault, read_of, IsNext, IsReading}
+use Rattle.ir_text_tokens.specs.Readings.{innermost, renested, with_front, token, reading, read_at_end, Scan, nothing_before, before, fault_at_end, scanning, scan_from, scan_of, all_or_fault, read_of, IsNext, IsReading}
 use Rattle.ir_text_tokens.specs.Coverings.{IsWithin}
 use Rattle.ir_text_tokens.proofs.ReadingSteps.{regroup, reading_goes, reading_emits, reading_stops}
 
@@ -201,57 +201,6 @@ gap_passed text at to behind glued le e h =
     let same : to ≡ at = omega (arith, l, le) in
     let on : glued ≡ behind = e ∙ ap (λ (b : Bool). behind && b) (eq-eqb to at same) ∙ and_yes behind in
     ap (λ (g : Bool). scanning to to g mode.Between [] (drop to text)) on ∙ ap (λ (k : ℕ). scanning k k behind mode.Between [] (drop k text)) same) (cases_lt at to)
-
--- ---- a token to whose last byte a run of bytes leads
-
-pub run_emits : (text : List ℕ) (m : Mode) (from place start : ℕ) (glued : Bool) (k : Kind) (r : Step) → place < length text → from ≤ place → Passes text m from place → KeepsStart m → r ≡ reader_step m None (class_of_byte (get_or text place 0)) (class_ahead (drop (place + 1) text)) → r ≡ Emit k
-    → scanning from start glued m [] (drop from text) ≡ before (token k glued start (place + 1)) (scan_from (place + 1) true text)
-run_emits text m from place start glued k r lt le h kept e is =
-    let b = get_or text place 0 in
-    let rest = drop (place + 1) text in
-    let cut : drop place text ≡ b ∷ rest = drop_more text place 0 lt in
-    let first = kept start from glued in
-    let last = kept start place glued in
-    ap (λ (x : ℕ). scanning from x glued m [] (drop from text)) (sym first.0)
-    ∙ ap (λ (g : Bool). scanning from (start_at m start from) g m [] (drop from text)) (sym first.1)
-    ∙ passed text m from place start glued [] le h
-    ∙ ap (λ (g : Bool). scanning place (start_at m start place) g m [] (drop place text)) last.1
-    ∙ ap (λ (x : ℕ). scanning place x glued m [] (drop place text)) last.0
-    ∙ ap (scanning place start glued m []) cut
-    ∙ scanning_emits place start glued m [] b rest k (sym e ∙ is)
-
-pub byte_emits : (text : List ℕ) (at : ℕ) (glued : Bool) (k : Kind) (r : Step) → at < length text → r ≡ reader_step mode.Between None (class_of_byte (get_or text at 0)) (class_ahead (drop (at + 1) text)) → r ≡ Emit k
-    → scan_from at glued text ≡ before (token k glued at (at + 1)) (scan_from (at + 1) true text)
-byte_emits text at glued k r lt e is =
-    let b = get_or text at 0 in
-    let rest = drop (at + 1) text in
-    let cut : drop at text ≡ b ∷ rest = drop_more text at 0 lt in
-    ap (scanning at at glued mode.Between []) cut ∙ scanning_emits at at glued mode.Between [] b rest k (sym e ∙ is)
-
-some_same : (one other : Scan) (text : List ℕ) (o : Option Token) → one ≡ other → IfSome o (λ t. other ≡ before t (scan_from t.end true text)) → IfSome o (λ t. one ≡ before t (scan_from t.end true text))
-some_same one other text None e h = tt
-some_same one other text (Some t) e h = e ∙ h
-
-pub byte_goes : (text : List ℕ) (at : ℕ) (glued : Bool) (to : Mode) (how : Nesting) (r : Step) (o : Option Token) → at < length text → r ≡ reader_step mode.Between None (class_of_byte (get_or text at 0)) (class_ahead (drop (at + 1) text)) → r ≡ Go to how
-    → IfSome o (λ t. scanning (at + 1) (start_behind to at at) (glued_behind to glued) to (renested how []) (drop (at + 1) text) ≡ before t (scan_from t.end true text)) → IfSome o (λ t. scan_from at glued text ≡ before t (scan_from t.end true text))
-byte_goes text at glued to how r o lt e is h =
-    let b = get_or text at 0 in
-    let rest = drop (at + 1) text in
-    let cut : drop at text ≡ b ∷ rest = drop_more text at 0 lt in
-    some_same (scan_from at glued text) (scanning (at + 1) (start_behind to at at) (glued_behind to glued) to (renested how []) rest) text o
-    (ap (scanning at at glued mode.Between []) cut ∙ scanning_goes at at glued mode.Between [] b rest to how (sym e ∙ is)) h
-
--- what is scanned from here on is the same as from there on, and so is what the next token is
-pub next_from : (at to : ℕ) (behind glued : Bool) (text : List ℕ) (r : Result (Option Token) Fault) → scan_from to glued text ≡ scan_from at behind text → IsNext to glued text r → IsNext at behind text r
-next_from at to behind glued text (Ok None) e h = sym e ∙ h
-next_from at to behind glued text (Ok (Some t)) e h = sym e ∙ h
-next_from at to behind glued text (Err faults.OutOfMemory) e h = tt
-next_from at to behind glued text (Err faults.TooLong) e h = sym e ∙ h
-next_from at to behind glued text (Err (faults.Character p)) e h = sym e ∙ h
-next_from at to behind glued text (Err (faults.Escape p)) e h = sym e ∙ h
-next_from at to behind glued text (Err (faults.OpenString p)) e h = sym e ∙ h
-next_from at to behind glued text (Err (faults.OpenGroup p)) e h = sym e ∙ h
-next_from at to behind glued text (Err (faults.Bracket p)) e h = sym e ∙ h
 
 -- a token that goes on begins where it began, or at this place
 pub begins : (m : Mode) (start from at : ℕ) → start ≤ from → from ≤ at → (start ≤ start_at m start at) × (start_at m start at ≤ at)

@@ -13,7 +13,7 @@ use Rattle.ir_text_tokens.specs.declared.reader_step.Nesting.TheVariants as nest
 use Rattle.ir_text_tokens.specs.declared.reader_step.Step.TheVariants.{Go, Emit, Bad}
 use Rattle.ir_text_tokens.specs.ByteClasses.{class_of_byte, class_ahead}
 use Rattle.ir_text_tokens.specs.Faults.{fault}
-use Rattle.ir_text_tokens.specs.ReaderSteps.{reader_step, start_at, start_behind, glued_behind, missing_at_end}
+use Rattle.ir_text_tokens.specs.ReaderSteps.{reader_step, start_behind, glued_behind, missing_at_end}
 
 -- the last of the open brackets
 abbrev pub innermost : List Bracket → Option Bracket
@@ -33,10 +33,6 @@ with_front front (Err e) = Err e
 -- the token with these parts
 abbrev pub token : Kind → Bool → ℕ → ℕ → Token
 token k glued start end = record { kind = k; glued = glued; start = start; end = end }
-
--- A token goes on in this mode as it began.
-abbrev pub KeepsStart : Mode → Type 0
-KeepsStart m = (start at : ℕ) (glued : Bool) → (start_at m start at ≡ start) × (glued_behind m glued ≡ glued)
 
 -- at the end of the text, which is this place
 abbrev pub read_at_end : ℕ → Option Problem → Result (List Token) Fault

@@ -1,13 +1,12 @@
 //! From a text to its tokens, a byte at a time.
-ghost use Rattle.std.specs.Prelude.{◌≡◌, ◌≢◌, ◌↔◌, ◌+◌, ◌<◌, ◌≤◌, ◌&&◌, ℕ, Bool, nat_eq, true, false, List, [], drop, slice_index_or, length, Ok, Err, IfOk, IfErr, IfSome, OnOk};
+ghost use Rattle.std.specs.Prelude.{◌≡◌, ◌≢◌, ◌↔◌, ◌+◌, ◌<◌, ◌≤◌, ◌&&◌, ℕ, Bool, nat_eq, false, List, drop, slice_index_or, length, Ok, Err, IfOk, IfErr, IfSome, OnOk};
 ghost use Rattle.std.specs.List.{All};
 ghost use Rattle.ir_text_tokens.specs.declared.fault.Fault.TheVariants.{TooLong};
 ghost use Rattle.ir_text_tokens.specs.Faults.{StopsWithin};
 ghost use Rattle.ir_text_tokens.specs.ByteClasses.{class_of_byte, class_ahead};
 ghost use Rattle.ir_text_tokens.specs.declared.token.Bracket.{Bracket};
-ghost use Rattle.ir_text_tokens.specs.declared.reader_step.Mode.TheVariants as modes;
-ghost use Rattle.ir_text_tokens.specs.ReaderSteps.{glued_behind, start_at, start_behind, stays};
-ghost use Rattle.ir_text_tokens.specs.Readings.{IsReading, IsNext, KeepsStart, innermost, renested, before, read_of, scan_from, scanning};
+ghost use Rattle.ir_text_tokens.specs.ReaderSteps.{glued_behind, start_at, stays};
+ghost use Rattle.ir_text_tokens.specs.Readings.{IsReading, IsNext, innermost, renested, read_of, scanning};
 ghost use Rattle.ir_text_tokens.specs.Coverings.{Covers, GoForward, IsWithin, Lexeme, HaveSpelling, spelling, lexemes, GivesAgain};
 
 use crate::byte_class::{class_at, class_of};
@@ -68,7 +67,6 @@ fn is_glued(behind: bool, start: u32, at: u32) -> bool
 }
 
 // The first place from this one on behind which the reader doesn't stay in this mode, or the end of the text.
-#[inline(always)]
 fn run_end(text: &[u8], mode: Mode, from: usize) -> usize
     requires { from ≤ length text.now }
     ensures passes { (start : ℕ) (glued : Bool) (s : List Bracket) → from < result → scanning from (start_at mode start from) glued mode s (drop from text.now) ≡ scanning result (start_at mode start result) (glued_behind mode glued) mode s (drop result text.now) }
@@ -83,87 +81,11 @@ fn run_end(text: &[u8], mode: Mode, from: usize) -> usize
     text.len()
 }
 
-// The token that goes on from a place in this mode, in no brackets, if a run of bytes leads to its last.
-#[inline(always)]
-fn run_token(text: &[u8], mode: Mode, from: usize, glued: bool, start: u32) -> Option<Token>
-    requires short { length text.now ≤ 4294967295 }
-    requires within { from ≤ length text.now }
-    requires begun { start < from }
-    requires kept { KeepsStart mode }
-    ensures reads { IfSome result (λ t. scanning from start glued mode [] (drop from text.now) ≡ before t (scan_from t.end true text.now)) }
-    ensures within { IfSome result (IsWithin text.now) }
-    ensures begins { IfSome result (λ t. t.start ≡ start) }
-{
-    let place = run_end(text, mode, from);
-    if place < text.len() {
-        match reader_step(text, mode, None, place) {
-            Step::Emit(kind) => Some(Token {
-                kind,
-                glued,
-                start,
-                end: (place + 1) as u32,
-            }),
-            _ => None,
-        }
-    } else {
-        None
-    }
-}
-
-// The token in which the reader goes on from a place, if a run of bytes leads to its last.
-#[inline(always)]
-fn token_on(
-    text: &[u8],
-    to: Mode,
-    nesting: Nesting,
-    from: usize,
-    glued: bool,
-    start: u32,
-) -> Option<Token>
-    requires short { length text.now ≤ 4294967295 }
-    requires within { from ≤ length text.now }
-    requires begun { start + 1 ≡ from }
-    ensures reads { IfSome result (λ t. scanning from (start_behind to start start) (glued_behind to glued) to (renested nesting []) (drop from text.now) ≡ before t (scan_from t.end true text.now)) }
-    ensures within { IfSome result (IsWithin text.now) }
-    ensures begins { IfSome result (λ t. t.start ≡ start) }
-{
-    match nesting {
-        Nesting::Kept => match to {
-            Mode::Word => run_token(text, Mode::Word, from, glued, start),
-            Mode::Number(sign) => run_token(text, Mode::Number(sign), from, glued, start),
-            Mode::Name(sign) => run_token(text, Mode::Name(sign), from, glued, start),
-            Mode::Quoted(around) => run_token(text, Mode::Quoted(around), from, glued, start),
-            Mode::Arrow => run_token(text, Mode::Arrow, from, glued, start),
-            _ => None,
-        },
-        _ => None,
-    }
-}
-
-// The token that begins at a place, if it is one byte, or a run of bytes leads to its last. Others may have brackets or escapes in them.
-#[inline(always)]
-fn short_token(text: &[u8], at: usize, glued: bool) -> Option<Token>
-    requires short { length text.now ≤ 4294967295 }
-    requires within { at < length text.now }
-    ensures reads { IfSome result (λ t. scan_from at glued text.now ≡ before t (scan_from t.end true text.now)) }
-    ensures within { IfSome result (IsWithin text.now) }
-    ensures begins { IfSome result (λ t. t.start ≡ at) }
-{
-    let start = at as u32;
-    match reader_step(text, Mode::Between, None, at) {
-        Step::Emit(kind) => Some(Token {
-            kind,
-            glued,
-            start,
-            end: start + 1,
-        }),
-        Step::Go(to, nesting) => token_on(text, to, nesting, at + 1, glued, start),
-        Step::Bad(_) => None,
-    }
-}
-
-// The same as `next_token`, for any token.
-fn long_token(
+/// The next token of a text that goes on at this place, outside all tokens; `behind` says whether another token ends there. None where blanks and comments alone follow. What is in `brackets` counts for nothing.
+///
+/// # Errors
+/// `OutOfMemory`, and else the first fault from this place on.
+pub fn next_token(
     text: &[u8],
     at: u32,
     behind: bool,
@@ -171,9 +93,12 @@ fn long_token(
 ) -> Result<Option<Token>, Fault>
     requires short { length text.now ≤ 4294967295 }
     requires within { at ≤ length text.now }
+    // With the token goes what is scanned behind it.
     ensures reads { IsNext at behind text.now result }
+    // The span of a token goes forward, and lies in the text behind this place.
     ensures within { IfOk result (λ o. IfSome o (IsWithin text.now)) }
     ensures behind { IfOk result (λ o. IfSome o (λ t. at ≤ t.start)) }
+    // The place of a fault is in the text, or its end.
     ensures placed { IfErr result (StopsWithin text.now) }
     ensures not_too_long { IfErr result (λ e. e ≢ TooLong) }
 {
@@ -208,41 +133,6 @@ fn long_token(
     match missing_at_end(mode) {
         None => Ok(None),
         Some(problem) => Err(fault_of(problem, text.len() as u32)),
-    }
-}
-
-/// The next token of a text that goes on at this place, outside all tokens; `behind` says whether another token ends there. None where blanks and comments alone follow. What is in `brackets` counts for nothing.
-///
-/// # Errors
-/// `OutOfMemory`, and else the first fault from this place on.
-pub fn next_token(
-    text: &[u8],
-    at: u32,
-    behind: bool,
-    brackets: &mut Vec<Bracket>,
-) -> Result<Option<Token>, Fault>
-    requires short { length text.now ≤ 4294967295 }
-    requires within { at ≤ length text.now }
-    // With the token goes what is scanned behind it.
-    ensures reads { IsNext at behind text.now result }
-    // The span of a token goes forward, and lies in the text behind this place.
-    ensures within { IfOk result (λ o. IfSome o (IsWithin text.now)) }
-    ensures behind { IfOk result (λ o. IfSome o (λ t. at ≤ t.start)) }
-    // The place of a fault is in the text, or its end.
-    ensures placed { IfErr result (StopsWithin text.now) }
-    ensures not_too_long { IfErr result (λ e. e ≢ TooLong) }
-{
-    let index = run_end(text, Mode::Between, at as usize);
-    let start = index as u32;
-    let glued = is_glued(behind, start, at);
-    if index < text.len() {
-        if let Some(token) = short_token(text, index, glued) {
-            return Ok(Some(token));
-        }
-    }
-    match long_token(text, start, glued, brackets) {
-        Ok(token) => Ok(token),
-        Err(fault) => Err(fault),
     }
 }
 

@@ -1,6 +1,6 @@
 use Rattle.std.proofs.Common.{◌≡◌, ◌≤◌, ◌-◌, drop, length}
 use Rattle.ir_text_tokens.specs.Readings.{scanning, scan_from}
-use Rattle.ir_text_tokens.proofs.scanning.long_token.Given as goal
+use Rattle.ir_text_tokens.proofs.scanning.next_token.Given as goal
 
 abbrev pub decreases-loop-index : goal.decreases-loop-index
 decreases-loop-index l = length l.text - l.index
