@@ -4,3 +4,4 @@ mod RunMade
 mod Enclosing
 mod PassSteps
 mod PartsMade
+mod SaidAlike

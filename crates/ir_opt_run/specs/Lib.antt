@@ -3,3 +3,4 @@ pub mod Passes
 pub mod Modules
 pub mod Runs
 pub mod RunLaws
+pub mod SaidLaws

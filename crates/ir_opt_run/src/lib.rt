@@ -9,6 +9,7 @@ mod passes;
 mod reading;
 mod run_laws;
 mod running;
+mod said_laws;
 mod saying;
 mod telling;
 mod trees;
@@ -21,4 +22,5 @@ pub use running::run_opt;
 /// Laws that lead from what a run does to what it means.
 pub mod laws {
     pub use crate::run_laws::{passes_are_right, passes_keep};
+    pub use crate::said_laws::said_alike;
 }
