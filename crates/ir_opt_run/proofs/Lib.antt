@@ -5,3 +5,4 @@ mod Enclosing
 mod PassSteps
 mod PartsMade
 mod PureNames
+mod SaidAlike

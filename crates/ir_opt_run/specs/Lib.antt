@@ -4,3 +4,4 @@ pub mod Modules
 pub mod Runs
 pub mod RunLaws
 pub mod PureNames
+pub mod SaidLaws

@@ -10,6 +10,7 @@ mod printing;
 mod reading;
 mod run_laws;
 mod running;
+mod said_laws;
 mod saying;
 mod telling;
 mod trees;
@@ -26,4 +27,5 @@ pub mod laws {
     pub use crate::run_laws::{
         listed_names_are_rows, passes_are_right, passes_keep, pure_operations_are_listed,
     };
+    pub use crate::said_laws::said_alike;
 }
