@@ -6,6 +6,7 @@ mod replacing;
 
 use crate::command_line::{Request, read_request};
 use crate::replacing::replace_file;
+use clap::error::ErrorKind;
 use ir_opt_run::run_opt;
 use std::alloc::Global;
 use std::env::Env;
@@ -75,8 +76,11 @@ fn run(rt: &HostRuntime) -> u8 {
     }
 }
 
-// Prints help, the version, or what is wrong with the command line; the status.
+// Prints help, the version, or what is wrong with the command line, or says that memory was wanting; the status.
 fn tell(rt: &HostRuntime, error: &clap::Error) -> u8 {
+    if error.kind() == ErrorKind::OutOfMemory {
+        return fail(rt, "ir_opt", "out of memory", 1);
+    }
     let status = if error.use_stderr() { 2 } else { 0 };
     match error.print(rt) {
         Ok(()) => status,
