@@ -178,7 +178,6 @@ impl<D: Dialects> Rewriter<D> {
         ensures forest { OnOk result (Removes (forest_of ctx.old) (an_op op.index) (forest_of ctx.new)) }
         ensures rest { OnOk result (SameButForest (bare ctx.old) (bare ctx.new)) }
         ensures err { OnErr result (ctx.new ≡ ctx.old) }
-        ensures stays { self.new.inserter ≡ self.old.inserter }
     {
         check_erase(ctx, op)?;
         self.note_definers(ctx, op)?;
@@ -202,7 +201,6 @@ impl<D: Dialects> Rewriter<D> {
         ensures memory { OnRefused result (RedirectsSome (forest_of ctx.old) (results_beside (forest_of ctx.old) op.index values.now) (forest_of ctx.new)) }
         ensures rest { OnOk result (SameButForest (bare ctx.old) (bare ctx.new)) }
         ensures err { OnUnmet result (ctx.new ≡ ctx.old) }
-        ensures stays { self.new.inserter ≡ self.old.inserter }
     {
         check_replace(ctx, op, values)?;
         self.note_definers(ctx, op)?;
