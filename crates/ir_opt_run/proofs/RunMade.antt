@@ -33,7 +33,7 @@ words_are_generic s = record { saved = (bare s).beside.saved; types = types_of s
 
 module _ {W : Dialect} (B : Behaviour W) (same : SameAttributes W) (AreWords : Words W → Type 0) (passes : List Pass) (located : Bool) (text : List ℕ) where
   one_made : (f g : Forest context_ids W) (words later : Words W) (types : ℕ) (root : ArenaIndex) (out : List ℕ) → ((operations : List ArenaIndex) × Says f words true text operations × Encloses f words root operations)
-      → WellFormed f types → PassesLead B same root passes f g → later ≡ words → Says g later located out (root ∷ []) → Optimises B same AreWords passes located text out
+      → AreWords words × IsClosed f (an_op root) × WellFormed f types → PassesLead B same root passes f g → later ≡ words → Says g later located out (root ∷ []) → Optimises B same AreWords passes located text out
   one_made f g words later types root out (operations, said, encloses) (are_words, closed, formed) led same printed =
       record {
         before = f;
@@ -52,6 +52,6 @@ module _ {W : Dialect} (B : Behaviour W) (same : SameAttributes W) (AreWords : W
       }
 
   pub run_made : {X E : Type 0} (items : X → List ℕ) (f g : Forest context_ids W) (words later : Words W) (types : ℕ) (root : ArenaIndex) (r : Result X E) → ((operations : List ArenaIndex) × Says f words true text operations × Encloses f words root operations)
-      → WellFormed f types → PassesLead B same root passes f g → later ≡ words → IfOk r (λ out. Says g later located (items out) (root ∷ [])) → IfOk r (λ out. Optimises B same AreWords passes located text (items out))
+      → AreWords words × IsClosed f (an_op root) × WellFormed f types → PassesLead B same root passes f g → later ≡ words → IfOk r (λ out. Says g later located (items out) (root ∷ [])) → IfOk r (λ out. Optimises B same AreWords passes located text (items out))
   run_made items f g words later types root (Ok out) read facts led same printed = one_made f g words later types root (items out) read facts led same printed
   run_made items f g words later types root (Err e) read facts led same printed = tt
