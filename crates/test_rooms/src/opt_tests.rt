@@ -98,10 +98,10 @@ const ROWS: &[Row] = &[
     ),
     // A lone result type stands in no parentheses where it is a name, or a name and one group; else in some.
     (
-        b"%a = \"t.a\"() : () -> (t<a->b, \">\", [c>=d]>) %b = \"t.b\"() : () -> !d.t %c = \"t.c\"() : () -> (- 1) %d = \"t.d\"() : () -> (a<b> | c<d>) %e = \"t.e\"() : () -> (loc<1>) %f = \"t.f\"() : () -> (i32 [1]) %g = \"t.g\"() : () -> (() -> ())",
+        b"%a = \"t.a\"() : () -> (t<a->b, \">\", [c>=d]>) %b = \"t.b\"() : () -> !d.t %c = \"t.c\"() : () -> (- 1) %d = \"t.d\"() : () -> (a<b> | c<d>) %e = \"t.e\"() : () -> (loca<1>) %f = \"t.f\"() : () -> (i32 [1]) %g = \"t.g\"() : () -> (() -> ())",
         PLAIN,
         0,
-        b"\"builtin.module\"() ({\n  %0 = \"t.a\"() : () -> t<a->b, \">\", [c>=d]>\n  %1 = \"t.b\"() : () -> !d.t\n  %2 = \"t.c\"() : () -> (- 1)\n  %3 = \"t.d\"() : () -> (a<b> | c<d>)\n  %4 = \"t.e\"() : () -> (loc<1>)\n  %5 = \"t.f\"() : () -> (i32 [1])\n  %6 = \"t.g\"() : () -> (() -> ())\n}) : () -> ()\n",
+        b"\"builtin.module\"() ({\n  %0 = \"t.a\"() : () -> t<a->b, \">\", [c>=d]>\n  %1 = \"t.b\"() : () -> !d.t\n  %2 = \"t.c\"() : () -> (- 1)\n  %3 = \"t.d\"() : () -> (a<b> | c<d>)\n  %4 = \"t.e\"() : () -> loca<1>\n  %5 = \"t.f\"() : () -> (i32 [1])\n  %6 = \"t.g\"() : () -> (() -> ())\n}) : () -> ()\n",
         b"",
     ),
     // Dead operations go, also where they name each other from inside a region, and what isn't known stays.
