@@ -18,7 +18,7 @@ mod verifying;
 
 pub use fault::{Fault, Finding};
 pub use options::{Options, Pass};
-pub use printing::print_module;
+pub use printing::print_operation;
 pub use reading::{Block, Module, Op, read_module};
 pub use running::run_opt;
 

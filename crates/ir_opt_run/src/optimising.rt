@@ -13,7 +13,7 @@ ghost use Rattle.ir_opt_run.specs.Runs.{Optimises};
 use crate::fault::Fault;
 use crate::options::{Options, Pass};
 use crate::passes::run_pass;
-use crate::printing::print_module;
+use crate::printing::print_operation;
 use crate::reading::{Module, read_module};
 use crate::verifying::verify;
 use generic_dialect::Generic;
@@ -89,7 +89,7 @@ fn work<F: Write>(
     ctx.recall_well_formed();
     verify_if(ctx, options, &module)?;
     run_all(ctx, options, &module, log)?;
-    print_module(ctx, module.root, options.prints_locations)
+    print_operation(ctx, module.root, options.prints_locations)
 }
 
 /// Reads a text, runs the passes, and gives the text of what comes of it. What passes did is told on the log, where it is asked for.

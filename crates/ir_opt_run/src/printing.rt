@@ -46,7 +46,7 @@ fn text_of(ctx: &Context<Generic>, root: Op, located: bool) -> Result<Vec<u8>, F
 ///
 /// # Errors
 /// Want of memory; a text or a number past 4,294,967,295; and `Different` where the text isn't what stands there, or another fault where it can't be read, which would be faults of this program.
-pub fn print_module(ctx: &Context<Generic>, root: Op, located: bool) -> Result<Vec<u8>, Fault>
+pub fn print_operation(ctx: &Context<Generic>, root: Op, located: bool) -> Result<Vec<u8>, Fault>
     requires { IsLive (forest_of ctx.now) (an_op root.index) }
     ensures said { IfOk result (λ out. Says (forest_of ctx.now) (generic_words ctx.now) located out.items (root.index ∷ [])) }
 {

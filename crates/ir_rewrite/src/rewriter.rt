@@ -37,6 +37,37 @@ pub enum Change<D: Dialects> {
     Erased(Ptr<Operation<D>>),
 }
 
+// Notes what defines the operands of a live operation.
+fn note_definers<D: Dialects>(
+    changes: &mut Vec<Change<D>>,
+    ctx: &Context<D>,
+    op: Ptr<Operation<D>>,
+) -> Result<(), CoreError>
+    requires { IsLive (forest_of ctx.now) (an_op op.index) }
+{
+    let record = op.deref(ctx);
+    for index in 0..record.get_num_operands() {
+        if let Some(definer) = record.get_operand(index).defining_op() {
+            changes.push(Change::Touched(definer))?;
+        }
+    }
+    Ok(())
+}
+
+// Notes which operations name a result of a live operation.
+fn note_users<D: Dialects>(
+    changes: &mut Vec<Change<D>>,
+    ctx: &Context<D>,
+    op: Ptr<Operation<D>>,
+) -> Result<(), CoreError>
+    requires { IsLive (forest_of ctx.now) (an_op op.index) }
+{
+    for used in op.uses(ctx) {
+        changes.push(Change::Touched(used.user_op()))?;
+    }
+    Ok(())
+}
+
 /// The calls by which a pattern edits. Each tests its conditions, and notes what it changes. It stands for pliron's and MLIR's pattern rewriters.
 #[derive(Drop)]
 pub struct Rewriter<D: Dialects> {
@@ -64,36 +95,15 @@ impl<D: Dialects> Rewriter<D> {
         self.changes.clear();
     }
 
-    // Notes what defines the operands of a live operation.
-    fn note_definers(&mut self, ctx: &Context<D>, op: Ptr<Operation<D>>) -> Result<(), CoreError>
-        requires { IsLive (forest_of ctx.now) (an_op op.index) }
-    {
-        let record = op.deref(ctx);
-        for index in 0..record.get_num_operands() {
-            if let Some(definer) = record.get_operand(index).defining_op() {
-                self.changes.push(Change::Touched(definer))?;
-            }
-        }
-        Ok(())
-    }
-
-    // Notes which operations name a result of a live operation.
-    fn note_users(&mut self, ctx: &Context<D>, op: Ptr<Operation<D>>) -> Result<(), CoreError>
-        requires { IsLive (forest_of ctx.now) (an_op op.index) }
-    {
-        for used in op.uses(ctx) {
-            self.changes.push(Change::Touched(used.user_op()))?;
-        }
-        Ok(())
-    }
-
     /// Notes that the operation was changed otherwise, and that those were touched that name its results. Of one that isn't live nothing is noted.
     ///
     /// # Errors
     /// `OutOfMemory`.
-    pub fn modified(&mut self, ctx: &Context<D>, op: Ptr<Operation<D>>) -> Result<(), CheckedErr> {
+    pub fn modified(&mut self, ctx: &Context<D>, op: Ptr<Operation<D>>) -> Result<(), CheckedErr>
+        ensures stays { self.new.inserter ≡ self.old.inserter }
+    {
         if op.is_live(ctx) {
-            self.note_users(ctx, op)?;
+            note_users(&mut self.changes, ctx, op)?;
             self.changes.push(Change::Modified(op))?;
         }
         Ok(())
@@ -178,9 +188,10 @@ impl<D: Dialects> Rewriter<D> {
         ensures forest { OnOk result (Removes (forest_of ctx.old) (an_op op.index) (forest_of ctx.new)) }
         ensures rest { OnOk result (SameButForest (bare ctx.old) (bare ctx.new)) }
         ensures err { OnErr result (ctx.new ≡ ctx.old) }
+        ensures stays { self.new.inserter ≡ self.old.inserter }
     {
         check_erase(ctx, op)?;
-        self.note_definers(ctx, op)?;
+        note_definers(&mut self.changes, ctx, op)?;
         self.changes.push(Change::Erased(op))?;
         op.erase(ctx);
         Ok(())
@@ -201,10 +212,11 @@ impl<D: Dialects> Rewriter<D> {
         ensures memory { OnRefused result (RedirectsSome (forest_of ctx.old) (results_beside (forest_of ctx.old) op.index values.now) (forest_of ctx.new)) }
         ensures rest { OnOk result (SameButForest (bare ctx.old) (bare ctx.new)) }
         ensures err { OnUnmet result (ctx.new ≡ ctx.old) }
+        ensures stays { self.new.inserter ≡ self.old.inserter }
     {
         check_replace(ctx, op, values)?;
-        self.note_definers(ctx, op)?;
-        self.note_users(ctx, op)?;
+        note_definers(&mut self.changes, ctx, op)?;
+        note_users(&mut self.changes, ctx, op)?;
         self.changes.push(Change::Erased(op))?;
         match operation::replace_op(op, ctx, values) {
             Ok(()) => Ok(()),

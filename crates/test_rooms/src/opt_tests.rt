@@ -2,7 +2,7 @@
 use generic_dialect::Generic;
 use ir_checked_core::context;
 use ir_core_queries::Context;
-use ir_opt_run::{Fault, Options, Pass, print_module, read_module, run_opt};
+use ir_opt_run::{Fault, Options, Pass, print_operation, read_module, run_opt};
 use std::alloc::{AllocError, Global};
 use std::io;
 use std::io::{ErrorKind, Read, Write};
@@ -348,7 +348,7 @@ fn deep_fault(rt: HostRuntime) -> Result<(), Fail> {
 // What is printed of a text that was read into a context.
 fn printed(ctx: &mut Context<Generic>, text: &[u8]) -> Result<Vec<u8>, Fault> {
     let module = read_module(ctx, text)?;
-    print_module(ctx, module.root, true)
+    print_operation(ctx, module.root, true)
 }
 
 // Whether a text that is read into a context of its own is printed as it is.
