@@ -3,6 +3,7 @@ pub mod RoomLemmas
 pub mod StoredTypes
 pub mod Rooms
 pub mod DistinctTypes
+pub mod DistinctSaved
 pub mod Emptiness
 pub mod Numbers
 pub mod Handed

@@ -34,4 +34,11 @@ impl<D: Dialects> Context<D> {
     {
         self.side.saved_at(place)
     }
+
+    /// What holds of every context: no saved value is equal to an earlier one.
+    pub fn recall_saved_apart(&self)
+        ensures { SavedApart (kinds_of D.Dialects D.Saved.eq) (bare self.now).beside }
+    {
+        let _len = self.side.saved.len();
+    }
 }

@@ -6,3 +6,4 @@ mod PassSteps
 mod PartsMade
 mod PureNames
 mod SaidAlike
+mod WrittenAlike

@@ -5,7 +5,7 @@ use Rattle.ir_model.specs.ContextIds.{context_ids}
 use Rattle.ir_model.specs.Forest.{Dialect, Behaviour, Forest, an_op}
 use Rattle.ir_model.specs.Edits.{StoredType}
 use Rattle.ir_model.specs.Nesting.{IsClosed, WellFormed}
-use Rattle.ir_core_queries.specs.Calls.{SameButForest}
+use Rattle.ir_core_queries.specs.Calls.{SameButForest, TypesAreExact}
 use Rattle.ir_core_queries.specs.State.{ContextState, bare, types_of}
 use Rattle.ir_core_records.specs.Meaning.{closed}
 use Rattle.generic_dialect.specs.declared.generic.GenericLoc.{GenericLoc}
@@ -16,7 +16,7 @@ use Rattle.ir_text_described.specs.Words.{Words}
 use Rattle.generic_described.specs.GenericWords.{generic_words, words_of}
 use Rattle.ir_model_passes.specs.Meaning.{SameAttributes}
 use Rattle.ir_opt_run.specs.declared.options.Pass.{Pass}
-use Rattle.ir_opt_run.specs.GenericBehaviour.{AreGenericWords}
+use Rattle.ir_opt_run.specs.GenericBehaviour.{AreGenericWords, TextsApart, generic_behaviour}
 use Rattle.ir_opt_run.specs.Modules.{Encloses, Says}
 use Rattle.ir_opt_run.specs.Passes.{PassesLead}
 use Rattle.ir_opt_run.specs.Runs.{Optimises}
@@ -27,9 +27,9 @@ words_stay {B = B} {X = X} s t same =
     ap (λ (saved : List GenericSaved). words_of {B = B} {X = X} saved (types_of t)) (ap (λ b. b.saved) same.beside)
     ∙ ap (λ (types : List (StoredType (closed KeptAttr GenericType B GenericSaved X GenericLoc))). words_of (bare s).beside.saved types) same.store
 
--- the words of a context are words of the dialect
-pub words_are_generic : {D : Type 0} (s : ContextState D KeptAttr GenericType (Unit {0}) GenericSaved (Unit {0}) GenericLoc) → AreGenericWords (generic_words s)
-words_are_generic s = record { saved = (bare s).beside.saved; types = types_of s; are = refl }
+-- the words of a context are words of the dialect, where neither saved texts nor types are there twice
+pub words_are_generic : {D : Type 0} (s : ContextState D KeptAttr GenericType (Unit {0}) GenericSaved (Unit {0}) GenericLoc) → TextsApart (bare s).beside.saved → TypesAreExact generic_behaviour (types_of s) → AreGenericWords (generic_words s)
+words_are_generic s apart exact = record { saved = (bare s).beside.saved; types = types_of s; are = refl; apart = apart; exact = exact }
 
 module _ {W : Dialect} (B : Behaviour W) (same : SameAttributes W) (AreWords : Words W → Type 0) (passes : List Pass) (located : Bool) (text : List ℕ) where
   one_made : (f g : Forest context_ids W) (words later : Words W) (types : ℕ) (root : ArenaIndex) (out : List ℕ) → ((operations : List ArenaIndex) × Says f words true text operations × Encloses f words root operations)

@@ -5,3 +5,4 @@ pub mod Runs
 pub mod RunLaws
 pub mod PureNames
 pub mod SaidLaws
+pub mod WrittenAlike

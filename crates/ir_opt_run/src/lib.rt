@@ -26,6 +26,7 @@ pub use running::run_opt;
 pub mod laws {
     pub use crate::run_laws::{
         listed_names_are_rows, passes_are_right, passes_keep, pure_operations_are_listed,
+        written_alike_is_one,
     };
     pub use crate::said_laws::said_alike;
 }

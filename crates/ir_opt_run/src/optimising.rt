@@ -87,6 +87,8 @@ fn work<F: Write>(
 {
     let module = read_module(ctx, text)?;
     ctx.recall_well_formed();
+    ctx.recall_saved_apart();
+    ctx.recall_types_exact();
     verify_if(ctx, options, &module)?;
     run_all(ctx, options, &module, log)?;
     print_operation(ctx, module.root, options.prints_locations)

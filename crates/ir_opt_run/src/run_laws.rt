@@ -3,6 +3,7 @@
 ghost use Rattle.ir_core_records.specs.Meaning.{closed};
 ghost use Rattle.ir_opt_run.specs.PureNames.{ListedAreRows, PureAreListed};
 ghost use Rattle.ir_opt_run.specs.RunLaws.{PassesAreRight, PassesKeep};
+ghost use Rattle.ir_opt_run.specs.WrittenAlike.{WrittenAlikeIsOne};
 
 use ir_base_dialects::Dialects;
 use ir_model_passes::right_passes_follow;
@@ -35,4 +36,9 @@ pub fn pure_operations_are_listed()
 /// In words of the dialect Generic, a kind with the name of an operation that the table has is that row of the table, and implements what the table says. So a run takes every operation with that name for what the table says of it.
 pub fn listed_names_are_rows()
     ensures { ListedAreRows }
+{}
+
+/// In words of the dialect Generic, types that are written alike are one, and so are attributes under one name, and properties. So the operations of a run that are written alike are alike to `--cse`.
+pub fn written_alike_is_one()
+    ensures { WrittenAlikeIsOne }
 {}

@@ -15,6 +15,7 @@ fn call_laws<D: Dialects>(ctx: &Context<D>) {
     ctx.recall_live_was_made();
     ctx.recall_holds_together();
     ctx.recall_use_numbers_fit();
+    ctx.recall_saved_apart();
 }
 
 // Calls the laws of saved values.

@@ -11,5 +11,5 @@ returns g c =
     let after = c.run_all.new.ctx in
     record {
       optimised = run_made generic_behaviour generic_same AreGenericWords c.args.options.now.passes.items c.args.options.now.prints_locations c.args.text.now (λ out. out.items) (forest_of before) (forest_of after) (generic_words before) (generic_words after) (length (types_of before))
-          c.in_ok-module.module.root.index c.print_operation.result c.in_ok-module.ensures.said (words_are_generic before, c.in_ok-module.ensures.closed, c.recall_well_formed.ensures) c.in_ok-run_all.ensures.lead (words_stay before after c.in_ok-run_all.ensures.rest) c.print_operation.ensures.said;
+          c.in_ok-module.module.root.index c.print_operation.result c.in_ok-module.ensures.said (words_are_generic before c.recall_saved_apart.ensures c.recall_types_exact.ensures, c.in_ok-module.ensures.closed, c.recall_well_formed.ensures) c.in_ok-run_all.ensures.lead (words_stay before after c.in_ok-run_all.ensures.rest) c.print_operation.ensures.said;
     }
