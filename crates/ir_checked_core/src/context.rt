@@ -11,7 +11,7 @@ use ir_base_dialects::{Dialects, Limits};
 use ir_core_queries::Context;
 use std::alloc::Global;
 
-/// Lets go of a context, and gives back how what was done with it ended. That all in a context is let go of is proved here, once and for any dialect.
+/// Lets go of a context, and gives back how what was done with it ended. The drop of all that a context owns is proved in this crate, once and for any dialect.
 pub fn end<D: Dialects, O>(_ctx: Context<D>, outcome: O) -> O
     ensures { result ≡ outcome }
 {

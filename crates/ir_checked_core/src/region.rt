@@ -259,7 +259,7 @@ pub fn move_to_op<D: Dialects>(
     }
 }
 
-/// Takes the operands and successors of all operations inside out, also its own.
+/// Takes the operands and successors of all operations inside out.
 ///
 /// # Errors
 /// `Unmet` where the region isn't live.

@@ -175,7 +175,7 @@ pub fn remove_unreached_inside<D: Dialects>(
     ensures removed { OnOk result ((count : ℕ) × RemovesUnreachedInside (an_op root.index) (forest_of ctx.old) (forest_of ctx.new) count) }
     ensures partly { OnRefused result ((count : ℕ) × RemovesSomeInside (an_op root.index) (forest_of ctx.old) (forest_of ctx.new) count) }
     ensures memory { Made result (IfErr result (λ e. e ≡ out_of_memory)) }
-    ensures rest { OnOk result (SameButForest (bare ctx.old) (bare ctx.new)) }
+    ensures rest { Made result (SameButForest (bare ctx.old) (bare ctx.new)) }
     ensures unmet { OnUnmet result (ctx.new ≡ ctx.old) }
 {
     if !root.is_live(ctx) {
