@@ -96,26 +96,25 @@ impl<'a> Meanings<'a> {
         ctx: &mut Context<Generic>,
         name: &'a [u8],
     ) -> Result<Kind, BuildError> {
-        let kind = match table_kind(name) {
-            Some(kind) => Ok(Kind::of(kind)),
-            None => self.open_kind(ctx, name),
+        let kind = if has_escapes(name) {
+            quoted_kind(ctx, name)
+        } else {
+            self.plain_kind(ctx, name)
         }?;
         self.kinds.insert(name, kind)?;
         Ok(kind)
     }
 
-    // The kind of operations of a name that the table doesn't have.
-    fn open_kind(
+    // The kind of operations of a name that is written without escapes.
+    fn plain_kind(
         &mut self,
         ctx: &mut Context<Generic>,
         name: &'a [u8],
     ) -> Result<Kind, BuildError> {
-        let name = if has_escapes(name) {
-            save_quoted(ctx, name)
-        } else {
-            self.saved(ctx, name)
-        }?;
-        Ok(Kind::Open { name, ends: false })
+        match table_kind(name) {
+            Some(kind) => Ok(Kind::of(kind)),
+            None => Ok(open_kind(self.saved(ctx, name)?)),
+        }
     }
 
     /// The identifier of a key.
@@ -148,10 +147,18 @@ fn save_text(ctx: &mut Context<Generic>, text: &[u8]) -> Result<TextId, BuildErr
     }
 }
 
-// The place of what a text between quotes stands for among the saved texts.
-fn save_quoted(ctx: &mut Context<Generic>, text: &[u8]) -> Result<TextId, BuildError> {
-    let bytes = unescaped(ctx.alloc(), text)?;
-    save_text(ctx, bytes.as_slice())
+// The kind of operations of a name that the table doesn't have, none of which ends a block.
+fn open_kind(name: TextId) -> Kind {
+    Kind::Open { name, ends: false }
+}
+
+// The kind of operations of the name that a text between quotes stands for.
+fn quoted_kind(ctx: &mut Context<Generic>, text: &[u8]) -> Result<Kind, BuildError> {
+    let name = unescaped(ctx.alloc(), text)?;
+    match table_kind(name.as_slice()) {
+        Some(kind) => Ok(Kind::of(kind)),
+        None => Ok(open_kind(save_text(ctx, name.as_slice())?)),
+    }
 }
 
 // The identifier of the key that a text between quotes stands for.

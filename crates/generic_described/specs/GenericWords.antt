@@ -13,8 +13,9 @@ use Rattle.generic_dialect.specs.declared.generic.GenericType.{GenericType}
 use Rattle.generic_dialect.specs.declared.generic.KeptAttr.{KeptAttr}
 use Rattle.generic_dialect.specs.declared.kinds.Kind.{Kind}
 use Rattle.generic_dialect.specs.declared.kinds.Kind.TheVariants.{Listed, Open}
+use Rattle.generic_dialect.specs.Keys.{the_key}
 use Rattle.generic_dialect.specs.Kinds.{kind_of, listed_kind, listed_name}
-use Rattle.generic_text.specs.GenericTexts.{known, place_of, properties_of, text_at, the_key, type_text}
+use Rattle.generic_text.specs.GenericTexts.{known, place_of, properties_of, text_at, type_text}
 use Rattle.ir_text_dialect.specs.declared.spelling.Located.TheVariants as located
 use Rattle.ir_text_names.specs.declared.resolving.Names.{Names}
 use Rattle.ir_text_tree.specs.declared.row.Row.{Row}

@@ -1,12 +1,10 @@
 //! The attributes of an operation.
 ghost use Rattle.std.specs.Prelude.{◌≡◌, length, IfOk, Some};
-ghost use Rattle.std.specs.Option.{option_map};
-ghost use Rattle.hex.specs.Hex.{decode_of};
 ghost use Rattle.ir_model.specs.Forest.{an_op};
 ghost use Rattle.ir_model.specs.Nesting.{IsLive};
 ghost use Rattle.ir_core_queries.specs.State.{bare, forest_of};
 ghost use Rattle.ir_text_described.specs.Written.{IsEntry, Leads, StandsAs, attributes_of};
-ghost use Rattle.generic_text.specs.GenericTexts.{decoded};
+ghost use Rattle.generic_dialect.specs.Keys.{the_key};
 ghost use Rattle.generic_described.specs.Checks.{setting_of};
 ghost use Rattle.generic_described.specs.GenericWords.{entry_of, value_of};
 
@@ -14,23 +12,10 @@ use crate::check::Check;
 use crate::error::DescribedErr;
 use crate::rows::{behind, expect_bytes, expect_if, expect_part};
 use crate::texts::value_of;
-use generic_dialect::{Generic, GenericAttr, KeptAttr};
-use hex::FromHexError;
+use generic_dialect::{Generic, GenericAttr, KeptAttr, key_bytes};
 use ir_base_dialects::{Identifier, Ptr};
 use ir_core_queries::{Operation, OperationPtr};
 use ir_text_names::Part;
-use std::alloc::Global;
-
-// What digits spell, if they do.
-fn decoded(alloc: Global, digits: &[u8]) -> Result<Option<Vec<u8>>, DescribedErr>
-    ensures { IfOk result (λ key. option_map (λ v. v.items) key ≡ decoded (decode_of digits.now)) }
-{
-    match hex::decode(alloc, digits) {
-        Ok(key) => Ok(Some(key)),
-        Err(FromHexError::OutOfMemory) => Err(DescribedErr::OutOfMemory),
-        Err(_) => Ok(None),
-    }
-}
 
 // Reads the key and the value of an attribute; the row behind them.
 fn read_pair(check: &Check, key: &[u8], attr: GenericAttr, at: usize) -> Result<usize, DescribedErr>
@@ -42,18 +27,19 @@ fn read_pair(check: &Check, key: &[u8], attr: GenericAttr, at: usize) -> Result<
     expect_if(check, Part::Value, value_of(check, attr), next)
 }
 
-// Reads an attribute under an identifier that begins with `__`, of which these are the further bytes; the row behind it.
+// Reads an attribute under an identifier that begins with `__`; the row behind it.
 fn read_marked(
     check: &Check,
-    digits: &[u8],
+    name: &Identifier,
     attr: GenericAttr,
     at: usize,
 ) -> Result<usize, DescribedErr>
-    ensures { IfOk result (λ next. StandsAs (setting_of check.now) (entry_of (bare check.now.ctx.now).beside.saved (decoded (decode_of digits.now)) attr) at next) }
+    ensures { IfOk result (λ next. StandsAs (setting_of check.now) (entry_of (bare check.now.ctx.now).beside.saved (the_key name.now) attr) at next) }
 {
-    match decoded(check.ctx.alloc(), digits)? {
-        None => Ok(at),
-        Some(key) => read_pair(check, key.as_slice(), attr, at),
+    match key_bytes(check.ctx.alloc(), name) {
+        Err(_) => Err(DescribedErr::OutOfMemory),
+        Ok(None) => Ok(at),
+        Ok(Some(key)) => read_pair(check, key.as_slice(), attr, at),
     }
 }
 
@@ -67,7 +53,7 @@ fn read_entry(
     ensures { IfOk result (λ next. StandsAs (setting_of check.now) ((setting_of check.now).words.entry name.now attr.now) at next) }
 {
     match name.as_str().as_bytes() {
-        [b'_', b'_', digits @ ..] => read_marked(check, digits, attr.0, at),
+        [b'_', b'_', ..] => read_marked(check, name, attr.0, at),
         key => read_pair(check, key, attr.0, at),
     }
 }

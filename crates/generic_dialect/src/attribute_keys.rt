@@ -2,9 +2,10 @@
 //!
 //! A key that is an identifier and doesn't begin with `__` stands for itself. Any other is `__` and two hexadecimal digits, of lower case, for each of its bytes.
 ghost use Rattle.std.specs.Prelude.{◌≡◌, ◌∷◌, codes, false, is_ok, is_some, Ok, IfOk, IfSome, IsOkUnless, MatchOption, string_bytes};
+ghost use Rattle.std.specs.Option.{option_map};
 ghost use Rattle.std.specs.Str.{bytes_eq};
 ghost use Rattle.hex.specs.Hex.{decode_of, encode_lower};
-ghost use Rattle.generic_dialect.specs.Keys.{HasNoKey, is_marked, is_plain, key_name};
+ghost use Rattle.generic_dialect.specs.Keys.{HasNoKey, decoded, is_marked, is_plain, key_name, own_key, the_key};
 
 use hex::FromHexError;
 use ir_base_dialects::{CoreError, Identifier};
@@ -70,6 +71,7 @@ pub fn key_identifier(alloc: Global, key: &[u8]) -> Result<Identifier, CoreError
 // The bytes of which these are the digits, where they are digits.
 fn decoded(alloc: Global, digits: &[u8]) -> Result<Option<Vec<u8>>, CoreError>
     ensures bytes { IfOk result (λ found. MatchOption found (is_ok (decode_of digits.now) ≡ false) (λ bytes. decode_of digits.now ≡ Ok bytes.items)) }
+    ensures spelled { IfOk result (λ found. option_map (λ v. v.items) found ≡ decoded (decode_of digits.now)) }
     ensures refused { IsOkUnless result CoreError.OutOfMemory }
 {
     match hex::decode(alloc, digits) {
@@ -96,6 +98,7 @@ fn is_name_of(alloc: Global, name: &Identifier, key: &[u8]) -> Result<bool, Core
 fn marked_key(alloc: Global, name: &Identifier, digits: &[u8]) -> Result<Option<Vec<u8>>, CoreError>
     requires { name.now ≡ 95 ∷ 95 ∷ digits.now }
     ensures key { IfOk result (λ found. MatchOption found (HasNoKey name.now) (λ key. key_name key.items ≡ name.now)) }
+    ensures told { IfOk result (λ found. option_map (λ v. v.items) found ≡ own_key name.now (decoded (decode_of digits.now))) }
     ensures refused { IsOkUnless result CoreError.OutOfMemory }
 {
     let Some(key) = decoded(alloc, digits)? else {
@@ -111,6 +114,7 @@ fn marked_key(alloc: Global, name: &Identifier, digits: &[u8]) -> Result<Option<
 /// The key that has this identifier; `None` where no key has it. `OutOfMemory` where there is no room for it.
 pub fn key_bytes(alloc: Global, name: &Identifier) -> Result<Option<Vec<u8>>, CoreError>
     ensures key { IfOk result (λ found. MatchOption found (HasNoKey name.now) (λ key. key_name key.items ≡ name.now)) }
+    ensures told { IfOk result (λ found. option_map (λ v. v.items) found ≡ the_key name.now) }
     ensures refused { IsOkUnless result CoreError.OutOfMemory }
 {
     match name.as_str().as_bytes() {

@@ -1,7 +1,5 @@
 -- How the dialect Generic is spelled, by what is saved.
-use Rattle.std.specs.Prelude.{ℕ, List, [], ◌∷◌, Option, Some, None, Result, Ok, Err, drop, if◌then◌else◌, slice_get}
-use Rattle.hex.specs.Hex.{decode_of}
-use Rattle.hex.specs.declared.error.FromHexError.{FromHexError}
+use Rattle.std.specs.Prelude.{ℕ, List, [], ◌∷◌, Option, Some, None, slice_get}
 use Rattle.ir_text_dialect.specs.declared.spelling.AttributeForm.TheVariants as forms
 use Rattle.ir_text_dialect.specs.declared.spelling.Located.{Located}
 use Rattle.ir_text_dialect.specs.declared.spelling.Located.TheVariants as located
@@ -15,7 +13,6 @@ use Rattle.generic_dialect.specs.declared.generic.GenericType.{GenericType}
 use Rattle.generic_dialect.specs.declared.kinds.Kind.{Kind}
 use Rattle.generic_dialect.specs.declared.kinds.Kind.TheVariants.{Listed, Open}
 use Rattle.generic_dialect.specs.declared.texts.TextId.{TextId}
-use Rattle.generic_dialect.specs.Keys.{is_marked}
 
 -- the bytes of a saved text; nothing where there is none
 abbrev pub bytes_of : Option GenericSaved → List ℕ
@@ -40,15 +37,6 @@ name_of saved (Some name) kind = name
 abbrev pub type_text : List GenericSaved → Option GenericType → List ℕ
 type_text saved None = []
 type_text saved (Some t) = text_at saved t.0.0
-
--- what digits spell, if they do
-abbrev pub decoded : Result (List ℕ) FromHexError → Option (List ℕ)
-decoded (Ok bytes) = Some bytes
-decoded (Err e) = None
-
--- the key of an identifier: what the digits behind `__` spell, or the identifier itself
-abbrev pub the_key : List ℕ → Option (List ℕ)
-the_key name = if is_marked name then decoded (decode_of (drop 2 name)) else Some name
 
 -- an attribute under a key; what has no key is none of the attributes
 abbrev pub attribute_of : List GenericSaved → Option (List ℕ) → GenericAttr → AttributeText

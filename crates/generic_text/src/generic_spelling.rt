@@ -1,17 +1,16 @@
 //! The parts of the dialect Generic as texts.
 ghost use Rattle.std.specs.Prelude.{◌≡◌, ◌++◌, ℕ, List, [], OnOk, IfOk, codes, drop, is_some, unwrap_or, option_and_then, slice_get, Some};
 ghost use Rattle.std.specs.Option.{option_copied, option_map};
-ghost use Rattle.hex.specs.Hex.{decode_of};
 ghost use Rattle.ir_model.specs.Stores.{attribute_at};
 ghost use Rattle.ir_core_queries.specs.State.{bare, types_of};
+ghost use Rattle.generic_dialect.specs.Keys.{the_key};
 ghost use Rattle.generic_dialect.specs.Kinds.{kind_of, listed_name};
-ghost use Rattle.generic_text.specs.GenericTexts.{attribute_of, decoded, joined, known, name_of, open_name, place_of, properties_of, text_at, the_key, type_text};
+ghost use Rattle.generic_text.specs.GenericTexts.{attribute_of, joined, known, name_of, open_name, place_of, properties_of, text_at, type_text};
 
 use generic_dialect::{
-    Generic, GenericAttr, GenericLoc, GenericType, KeptAttr, Kind, TextId, kind_name,
+    Generic, GenericAttr, GenericLoc, GenericType, KeptAttr, Kind, TextId, key_bytes, kind_name,
     properties_key,
 };
-use hex::FromHexError;
 use ir_base_dialects::attribute::AttributeDict;
 use ir_base_dialects::{CoreError, Identifier, TypeHandle};
 use ir_core_queries::{Context, TypeQueries};
@@ -38,27 +37,6 @@ fn write_open(ctx: &Context<Generic>, kind: Kind, out: &mut Vec<u8>) -> Result<(
     match kind {
         Kind::Listed { .. } => Ok(()),
         Kind::Open { name, .. } => write_text(ctx, name, out),
-    }
-}
-
-// What digits spell, if they do.
-fn decoded(alloc: Global, digits: &[u8]) -> Result<Option<Vec<u8>>, CoreError>
-    ensures { IfOk result (λ key. option_map (λ v. v.items) key ≡ decoded (decode_of digits.now)) }
-{
-    match hex::decode(alloc, digits) {
-        Ok(key) => Ok(Some(key)),
-        Err(FromHexError::OutOfMemory) => Err(CoreError::OutOfMemory),
-        Err(_) => Ok(None),
-    }
-}
-
-// The key of an identifier, if it has one.
-fn key_of(alloc: Global, name: &Identifier) -> Result<Option<Vec<u8>>, CoreError>
-    ensures { IfOk result (λ key. option_map (λ v. v.items) key ≡ the_key name.now) }
-{
-    match name.as_str().as_bytes() {
-        [b'_', b'_', digits @ ..] => decoded(alloc, digits),
-        key => Ok(Some(Vec::from_slice(alloc, key)?)),
     }
 }
 
@@ -173,7 +151,7 @@ impl Spelling<Generic> for GenericSpelling {
         key_out: &mut Vec<u8>,
         value_out: &mut Vec<u8>,
     ) -> Result<AttributeForm, CoreError> {
-        match key_of(ctx.alloc(), key)? {
+        match key_bytes(ctx.alloc(), key)? {
             None => Ok(AttributeForm::Property),
             Some(bytes) => {
                 key_out.extend_from_slice(bytes.as_slice())?;

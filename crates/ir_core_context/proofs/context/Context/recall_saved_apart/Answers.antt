@@ -1,6 +1,6 @@
 use Rattle.std.proofs.Common.{sym}
 use Rattle.ir_core_context.proofs.DistinctSaved.{saved_apart}
-use Rattle.ir_core_context.proofs.saved_data.Context.recall_saved_apart.Goals as goal
+use Rattle.ir_core_context.proofs.context.Context.recall_saved_apart.Goals as goal
 
 pub returns : goal.returns
 returns g c =
