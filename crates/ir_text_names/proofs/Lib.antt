@@ -21,3 +21,4 @@ mod TypeFaults
 mod Spots
 mod Entries
 mod Gates
+mod PartCounts

@@ -1,5 +1,5 @@
 -- How many parts of a sort an operation has, and where they are not as many as they should be.
-use Rattle.std.specs.Prelude.{◌≡◌, ◌≢◌, ℕ, zero, suc, ◌+◌, Bool, true, false, ◌&&◌, if◌then◌else◌, nat_eq, List, length, slice_index_or}
+use Rattle.std.specs.Prelude.{◌≡◌, ◌≢◌, ℕ, zero, suc, ◌+◌, Bool, true, false, ◌&&◌, if◌then◌else◌, nat_eq, List, length, slice_index_or, slice_set}
 use Rattle.ir_text_tree.specs.declared.row.Part.{Part}
 use Rattle.ir_text_tree.specs.declared.row.Part.TheVariants as parts
 use Rattle.ir_text_tree.specs.declared.row.Row.{Row}
@@ -22,6 +22,10 @@ is_counted counted.ResultTypes parts.ResultType = true
 is_counted counted.ResultTypes parts.OnlyResultType = true
 is_counted counted.Keys parts.Key = true
 is_counted _ _ = false
+
+-- how many there are by that number, behind a part
+abbrev pub one_more : Counted → Part → ℕ → List ℕ → List ℕ
+one_more sort part at counts = if is_counted sort part then slice_set counts at (slice_index_or counts at 0 + 1) else counts
 
 -- row i is of that sort, and is a part of that operation
 abbrev pub belongs : Counted → List Row → ℕ → ℕ → Bool

@@ -1,10 +1,11 @@
 -- Operations by number, in the order of their names.
-use Rattle.std.specs.Prelude.{◌≡◌, ◌⊎◌, ℕ, ◌+◌, ◌-◌, ◌<◌, Bool, true, false, cond, List, length, slice_index_or}
+use Rattle.std.specs.Prelude.{◌≡◌, ◌⊎◌, ℕ, ◌+◌, ◌-◌, ◌<◌, ◌≤◌, Bool, true, false, cond, List, length, slice_index_or}
 use Rattle.ir_text_tree.specs.declared.row.Part.{Part}
 use Rattle.ir_text_tree.specs.declared.row.Part.TheVariants as parts
 use Rattle.ir_text_tree.specs.declared.row.Row.{Row}
+use Rattle.ir_text_names.specs.declared.counting.Counted.{Counted}
 use Rattle.ir_text_names.specs.declared.rows.NumberedOperations.{NumberedOperations}
-use Rattle.ir_text_names.specs.Counts.{tally}
+use Rattle.ir_text_names.specs.Counts.{tally, belongs}
 use Rattle.ir_text_names.specs.Rows.{part_of, row_operations}
 
 abbrev pub is_name : Part → Bool
@@ -30,6 +31,11 @@ number_off part n = cond (is_name part) (n - 1) n
 -- The index is one behind the name of an operation, or 0.
 abbrev pub IsOperation : List Row → ℕ → Type 0
 IsOperation rows o = (o ≡ 0) ⊎ ((k : ℕ) × (o ≡ k + 1) × (part_of rows k ≡ parts.Name))
+
+-- How many parts of a sort each operation has among the rows below n, by its number.
+pub record AreCounted (sort : Counted) (rows : List Row) (n : ℕ) (counts : List ℕ) : Type 0 where
+  pub room : length counts ≡ number_of rows (length rows) + 1
+  pub counted : (o : ℕ) → IsOperation rows o → o ≤ length rows → slice_index_or counts (number_of rows o) 0 ≡ tally (belongs sort rows o) n
 
 -- What is known of the operations of few rows: how many there are, and the number of that of each row.
 pub record AreOperations (rows : List Row) (operations : NumberedOperations) : Type 0 where

@@ -86,22 +86,15 @@ pub(crate) fn block_table(
     alloc: Global,
     text: &[u8],
     rows: &[Row],
+    regions: &[u32],
 ) -> Result<BlockTable, AllocError>
     requires few { length rows.now < 4294967295 }
+    requires regions { regions.now ≡ row_regions rows.now }
     ensures table { IfOk result (λ b. AreBlocksNamed text.now rows.now (length rows.now) b.table) }
     ensures found { IfOk result (λ b. IsFirstWrong (IsBlockWrong text.now rows.now) (length rows.now) b.found) }
 {
-    let regions = regions(alloc, rows)?;
-    let given = given(
-        alloc,
-        NameKind::Block,
-        text,
-        &text[..0],
-        rows,
-        &regions,
-        &[],
-    )?;
-    let named = named(alloc, text, rows, &regions, &given.places)?;
+    let given = given(alloc, NameKind::Block, text, &text[..0], rows, regions, &[])?;
+    let named = named(alloc, text, rows, regions, &given.places)?;
     let twice = told(given.again, Wrong::BlockTwice);
     let unknown = told(named.unknown, Wrong::UnknownBlock);
     let found = sooner(twice, unknown);
@@ -122,7 +115,8 @@ pub fn blocks(alloc: Global, text: &[u8], rows: &[Row]) -> Result<RowTable, Faul
     ensures checked { IsChecked (IsBlockWrong text.now rows.now) rows.now result }
 {
     are_few(rows)?;
-    let blocks = block_table(alloc, text, rows)?;
+    let regions = regions(alloc, rows)?;
+    let blocks = block_table(alloc, text, rows, &regions)?;
     match fault_of(rows, blocks.found) {
         Some(fault) => Err(fault),
         None => Ok(blocks.table),

@@ -1,10 +1,10 @@
 //! How many parts of a sort each operation has.
-ghost use Rattle.std.specs.Prelude.{◌≡◌, ◌≢◌, ℕ, ◌+◌, ◌<◌, ◌≤◌, ◌^◌, length, vec_len, IfOk, IsTrue, ◌↔◌, if◌then◌else◌, slice_index_or, slice_set, nat_eq, not, ◌&&◌};
+ghost use Rattle.std.specs.Prelude.{◌≡◌, ◌≢◌, ◌+◌, ◌<◌, ◌^◌, length, vec_len, IfOk, IsTrue, ◌↔◌, if◌then◌else◌, slice_index_or, slice_set, replicate};
 ghost use Rattle.ir_text_tree.specs.declared.row.Part.TheVariants as parts;
 ghost use Rattle.ir_text_names.specs.declared.counting.Counted.TheVariants as counted;
-ghost use Rattle.ir_text_names.specs.Counts.{belongs, is_counted, how_many, HasOtherTypes, IsCountWrong};
+ghost use Rattle.ir_text_names.specs.Counts.{is_counted, one_more, HasOtherTypes, IsCountWrong};
 ghost use Rattle.ir_text_names.specs.Firsts.{IsChecked, IsFirst, IsFirstWrong};
-ghost use Rattle.ir_text_names.specs.Operations.{AreOperations, IsOperation, number_of};
+ghost use Rattle.ir_text_names.specs.Operations.{AreCounted, AreOperations, number_of};
 ghost use Rattle.ir_text_names.specs.Rows.{part_of};
 
 use crate::fault::{Fault, Wrong};
@@ -66,21 +66,79 @@ pub(crate) fn count_if(counts: &mut Vec<u32>, is: bool, at: usize)
     counts[at] += one_if(is);
 }
 
-/// How many parts of that sort each operation has, by its number.
-pub(crate) fn counts(
+/// How many parts of each sort each operation has, by its number.
+#[derive(Drop)]
+pub(crate) struct PartCounts {
+    /// Operands.
+    pub(crate) operands: Vec<u32>,
+    /// Their types.
+    pub(crate) operand_types: Vec<u32>,
+    /// The types of results.
+    pub(crate) result_types: Vec<u32>,
+    /// Keys.
+    pub(crate) keys: Vec<u32>,
+}
+
+// So many numbers of which each is 0, for each sort.
+fn none_counted(alloc: Global, room: usize) -> Result<PartCounts, AllocError>
+    ensures operands { IfOk result (λ c. c.operands.items ≡ replicate room 0) }
+    ensures operand_types { IfOk result (λ c. c.operand_types.items ≡ replicate room 0) }
+    ensures result_types { IfOk result (λ c. c.result_types.items ≡ replicate room 0) }
+    ensures keys { IfOk result (λ c. c.keys.items ≡ replicate room 0) }
+{
+    let operands = vec![in alloc; 0u32; room]?;
+    let operand_types = vec![in alloc; 0u32; room]?;
+    let result_types = vec![in alloc; 0u32; room]?;
+    let keys = vec![in alloc; 0u32; room]?;
+    Ok(PartCounts {
+        operands,
+        operand_types,
+        result_types,
+        keys,
+    })
+}
+
+// Counts one part more there, if it is of one of the sorts.
+fn count_part(counts: &mut PartCounts, part: Part, at: usize)
+    requires operands { at < vec_len counts.old.operands }
+    requires operand_types { at < vec_len counts.old.operand_types }
+    requires result_types { at < vec_len counts.old.result_types }
+    requires keys { at < vec_len counts.old.keys }
+    requires operands_fit { slice_index_or counts.old.operands.items at 0 + 1 < 2 ^ 32 }
+    requires operand_types_fit { slice_index_or counts.old.operand_types.items at 0 + 1 < 2 ^ 32 }
+    requires result_types_fit { slice_index_or counts.old.result_types.items at 0 + 1 < 2 ^ 32 }
+    requires keys_fit { slice_index_or counts.old.keys.items at 0 + 1 < 2 ^ 32 }
+    ensures operands { counts.new.operands.items ≡ one_more counted.Operands part at counts.old.operands.items }
+    ensures operand_types { counts.new.operand_types.items ≡ one_more counted.OperandTypes part at counts.old.operand_types.items }
+    ensures result_types { counts.new.result_types.items ≡ one_more counted.ResultTypes part at counts.old.result_types.items }
+    ensures keys { counts.new.keys.items ≡ one_more counted.Keys part at counts.old.keys.items }
+{
+    let operands = is_counted(Counted::Operands, part);
+    let operand_types = is_counted(Counted::OperandTypes, part);
+    let result_types = is_counted(Counted::ResultTypes, part);
+    let keys = is_counted(Counted::Keys, part);
+    count_if(&mut counts.operands, operands, at);
+    count_if(&mut counts.operand_types, operand_types, at);
+    count_if(&mut counts.result_types, result_types, at);
+    count_if(&mut counts.keys, keys, at);
+}
+
+/// How many parts of each sort each operation has, by its number.
+pub(crate) fn part_counts(
     alloc: Global,
-    sort: Counted,
     rows: &[Row],
     operations: &NumberedOperations,
-) -> Result<Vec<u32>, AllocError>
+) -> Result<PartCounts, AllocError>
     requires { AreOperations rows.now operations.now }
-    ensures room { IfOk result (λ v. length v.items ≡ operations.now.count + 1) }
-    ensures counted { IfOk result (λ v. (operation : ℕ) → IsOperation rows.now operation → operation ≤ length rows.now → slice_index_or v.items (number_of rows.now operation) 0 ≡ how_many sort rows.now operation) }
+    ensures operands { IfOk result (λ c. AreCounted counted.Operands rows.now (length rows.now) c.operands.items) }
+    ensures operand_types { IfOk result (λ c. AreCounted counted.OperandTypes rows.now (length rows.now) c.operand_types.items) }
+    ensures result_types { IfOk result (λ c. AreCounted counted.ResultTypes rows.now (length rows.now) c.result_types.items) }
+    ensures keys { IfOk result (λ c. AreCounted counted.Keys rows.now (length rows.now) c.keys.items) }
 {
-    let mut counts = vec![in alloc; 0u32; operations.count + 1]?;
+    let mut counts = none_counted(alloc, operations.count + 1)?;
     for (at, row) in rows.iter().enumerate() {
-        let is = is_counted(sort, row.part);
-        count_if(&mut counts, is, number_at(&operations.numbers, at));
+        let number = number_at(&operations.numbers, at);
+        count_part(&mut counts, row.part, number);
     }
     Ok(counts)
 }
@@ -112,19 +170,14 @@ fn first_different(rows: &[Row], some: &[u32], others: &[u32]) -> Option<usize>
 }
 
 /// The first operation that has more or fewer operand types than operands.
-pub(crate) fn type_fault(
-    alloc: Global,
-    rows: &[Row],
-    operations: &NumberedOperations,
-) -> Result<Option<Found>, AllocError>
-    requires { AreOperations rows.now operations.now }
-    ensures { IfOk result (λ f. IsFirstWrong (IsCountWrong rows.now) (length rows.now) f) }
+pub(crate) fn type_fault(rows: &[Row], counts: &PartCounts) -> Option<Found>
+    requires few { length rows.now < 4294967295 }
+    requires operands { AreCounted counted.Operands rows.now (length rows.now) counts.now.operands.items }
+    requires operand_types { AreCounted counted.OperandTypes rows.now (length rows.now) counts.now.operand_types.items }
+    ensures { IsFirstWrong (IsCountWrong rows.now) (length rows.now) result }
 {
-    let some = counts(alloc, Counted::Operands, rows, operations)?;
-    let others = counts(alloc, Counted::OperandTypes, rows, operations)?;
-    let first = first_different(rows, &some, &others);
-    let found = told(first, Wrong::OperandTypes);
-    Ok(found)
+    let first = first_different(rows, &counts.operands, &counts.operand_types);
+    told(first, Wrong::OperandTypes)
 }
 
 /// Whether each operation of a tree has as many operand types as operands.
@@ -136,7 +189,8 @@ pub fn operand_types(alloc: Global, rows: &[Row]) -> Result<(), Fault>
 {
     are_few(rows)?;
     let operations = operations(alloc, rows)?;
-    let found = type_fault(alloc, rows, &operations)?;
+    let counts = part_counts(alloc, rows, &operations)?;
+    let found = type_fault(rows, &counts);
     match fault_of(rows, found) {
         Some(fault) => Err(fault),
         None => Ok(()),

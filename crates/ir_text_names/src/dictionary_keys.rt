@@ -2,9 +2,10 @@
 ghost use Rattle.ir_text_names.specs.Firsts.{IsChecked, IsFirstWrong};
 ghost use Rattle.std.specs.Prelude.{length, IfOk};
 ghost use Rattle.ir_text_names.specs.Keys.{IsKeyWrong};
-ghost use Rattle.ir_text_names.specs.Operations.{AreOperations};
+ghost use Rattle.ir_text_names.specs.Operations.{AreCounted, AreOperations};
+ghost use Rattle.ir_text_names.specs.declared.counting.Counted.TheVariants as counted;
 
-use crate::counting::{Counted, counts};
+use crate::counting::{PartCounts, part_counts};
 use crate::fault::{Fault, Wrong};
 use crate::firsts::{Found, fault_of, told};
 use crate::given::{NameKind, escaped_names, given};
@@ -18,14 +19,23 @@ pub(crate) fn key_fault(
     text: &[u8],
     rows: &[Row],
     operations: &NumberedOperations,
+    counts: &PartCounts,
 ) -> Result<Option<Found>, AllocError>
-    requires { AreOperations rows.now operations.now }
+    requires operations { AreOperations rows.now operations.now }
+    requires counts { AreCounted counted.Keys rows.now (length rows.now) counts.now.keys.items }
     ensures { IfOk result (λ f. IsFirstWrong (IsKeyWrong text.now rows.now) (length rows.now) f) }
 {
-    let counts = counts(alloc, Counted::Keys, rows, operations)?;
     let escaped = escaped_names(alloc, NameKind::Key, text, rows)?;
     let numbers = operations.numbers.as_slice();
-    let given = given(alloc, NameKind::Key, text, &escaped, rows, numbers, &counts)?;
+    let given = given(
+        alloc,
+        NameKind::Key,
+        text,
+        &escaped,
+        rows,
+        numbers,
+        &counts.keys,
+    )?;
     let found = told(given.again, Wrong::KeyTwice);
     Ok(found)
 }
@@ -39,7 +49,8 @@ pub fn keys(alloc: Global, text: &[u8], rows: &[Row]) -> Result<(), Fault>
 {
     are_few(rows)?;
     let operations = operations(alloc, rows)?;
-    let found = key_fault(alloc, text, rows, &operations)?;
+    let counts = part_counts(alloc, rows, &operations)?;
+    let found = key_fault(alloc, text, rows, &operations, &counts)?;
     match fault_of(rows, found) {
         Some(fault) => Err(fault),
         None => Ok(()),

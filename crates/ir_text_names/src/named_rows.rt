@@ -117,6 +117,7 @@ impl<'a> NamedRows<'a> {
     }
 
     /// Puts the row under that name, if it is one to be put.
+    #[inline(always)]
     pub(crate) fn put_if(&mut self, is: bool, name: &'a [u8], row: usize) -> Result<(), AllocError>
         requires limit { self.old.limit ≤ 4294967295 }
         requires row { row < 4294967295 }

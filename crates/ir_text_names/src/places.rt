@@ -48,6 +48,7 @@ pub(crate) fn put_if<'a>(
 }
 
 /// The row that was put last there, if it is looked for.
+#[inline(always)]
 pub(crate) fn find_if(
     places: &HashMap<(usize, &[u8]), usize>,
     is: bool,

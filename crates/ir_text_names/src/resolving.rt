@@ -6,13 +6,13 @@ ghost use Rattle.ir_text_names.specs.Resolved.{IsWrong};
 ghost use Rattle.ir_text_names.specs.Values.{AreValuesNamed};
 
 use crate::block_names::block_table;
-use crate::counting::type_fault;
+use crate::counting::{part_counts, type_fault};
 use crate::dictionary_keys::key_fault;
 use crate::fault::Fault;
 use crate::firsts::{fault_of, sooner};
 use crate::result_numbers::result_fault;
 use crate::row_table::RowTable;
-use crate::rows::{are_few, operations};
+use crate::rows::{are_few, operations, regions};
 use crate::value_names::value_table;
 use ir_text_tree::Row;
 use std::alloc::Global;
@@ -39,15 +39,17 @@ pub fn resolve(alloc: Global, text: &[u8], rows: &[Row]) -> Result<Names, Fault>
     ensures checked { IsChecked (IsWrong text.now rows.now) rows.now result }
 {
     are_few(rows)?;
+    let regions = regions(alloc, rows)?;
+    let blocks = block_table(alloc, text, rows, &regions)?;
     let operations = operations(alloc, rows)?;
-    let keys = key_fault(alloc, text, rows, &operations)?;
-    let types = type_fault(alloc, rows, &operations)?;
-    let results = result_fault(alloc, text, rows, &operations)?;
-    let values = value_table(alloc, text, rows, operations)?;
-    let blocks = block_table(alloc, text, rows)?;
+    let counts = part_counts(alloc, rows, &operations)?;
+    let keys = key_fault(alloc, text, rows, &operations, &counts)?;
+    let types = type_fault(rows, &counts);
+    let results = result_fault(text, rows, &counts);
+    let values = value_table(alloc, text, rows, operations, counts, regions)?;
     let places = sooner(blocks.found, keys);
-    let counts = sooner(types, results);
-    let uses = sooner(counts, values.found);
+    let numbers = sooner(types, results);
+    let uses = sooner(numbers, values.found);
     let found = sooner(places, uses);
     match fault_of(rows, found) {
         Some(fault) => Err(fault),

@@ -4,16 +4,17 @@ ghost use Rattle.std.specs.Option.{unwrap_or};
 ghost use Rattle.ir_text_tree.specs.declared.row.Part.TheVariants as parts;
 ghost use Rattle.ir_text_names.specs.Firsts.{IsChecked, IsFirst, IsFirstWrong};
 ghost use Rattle.ir_text_names.specs.Numbers.{amount_of, number_in, is_count, width, results_on, results_before, IsNoCount, IsResultWrong};
-ghost use Rattle.ir_text_names.specs.Operations.{AreOperations, number_of};
-ghost use Rattle.ir_text_names.specs.Rows.{part_of};
+ghost use Rattle.ir_text_names.specs.Operations.{AreCounted, number_of};
+ghost use Rattle.ir_text_names.specs.declared.counting.Counted.TheVariants as counted;
+ghost use Rattle.ir_text_names.specs.Rows.{part_of, piece};
 
-use crate::counting::{Counted, counts};
+use crate::counting::{PartCounts, part_counts};
 use crate::fault::{Fault, Wrong};
 use crate::firsts::{Found, fault_of, noted, sooner, told};
 use crate::numbers::{Amount, is_number, is_zero, number_in, or_zero, sum_of};
-use crate::rows::{NumberedOperations, are_few, next_number, operations, piece};
-use ir_text_tree::{Part, Row};
-use std::alloc::{AllocError, Global};
+use crate::rows::{are_few, next_number, operations, piece};
+use ir_text_tree::{Part, Row, Span};
+use std::alloc::Global;
 
 // Whether the part says how many results stand under a name.
 fn is_count(part: Part) -> bool
@@ -42,23 +43,30 @@ pub fn width(text: &[u8], rows: &[Row], row: usize) -> Amount
     }
 }
 
-/// The results so far, behind a row.
-pub(crate) fn results_on(part: Part, more: Amount, before: Amount) -> Amount
-    ensures { (n m : ℕ) → before ≡ amount_of (Some n) → more ≡ amount_of (Some m) → result ≡ amount_of (Some (results_on part m n)) }
+/// The results so far, behind a row that is such a part.
+pub(crate) fn results_behind(
+    part: Part,
+    text: &[u8],
+    rows: &[Row],
+    row: usize,
+    before: Amount,
+) -> Amount
+    requires { row < length rows.now }
+    ensures { (n : ℕ) → before ≡ amount_of (Some n) → result ≡ amount_of (Some (results_on part (width text.now rows.now row) n)) }
 {
     match part {
-        Part::Result => sum_of(before, more),
+        Part::Result => sum_of(before, width(text, rows, row)),
         Part::Count => before,
         _ => Amount::Small(0),
     }
 }
 
 // Whether the part says how many results stand under a name, and is no number, or 0.
-fn is_bad_count(part: Part, text: &[u8]) -> bool
-    ensures { IsTrue result ↔ ((part ≡ parts.Count) × (unwrap_or (number_in text.now) 0 ≡ 0)) }
+fn is_bad_count(part: Part, text: &[u8], span: Span) -> bool
+    ensures { IsTrue result ↔ ((part ≡ parts.Count) × (unwrap_or (number_in (piece text.now span)) 0 ≡ 0)) }
 {
     match part {
-        Part::Count => is_zero(number_in(text)),
+        Part::Count => is_zero(number_in(piece(text, span))),
         _ => false,
     }
 }
@@ -79,7 +87,7 @@ fn first_bad_count(text: &[u8], rows: &[Row]) -> Option<usize>
 {
     let mut first = None;
     for (at, row) in rows.iter().enumerate() {
-        first = noted(first, at, is_bad_count(row.part, piece(text, row.span)));
+        first = noted(first, at, is_bad_count(row.part, text, row.span));
     }
     first
 }
@@ -100,27 +108,21 @@ fn first_other_results(text: &[u8], rows: &[Row], types: &[u32]) -> Option<usize
             at,
             is_other(row.part, results, types[number] as usize),
         );
-        let more = width(text, rows, at);
-        results = results_on(row.part, more, results);
+        results = results_behind(row.part, text, rows, at, results);
     }
     first
 }
 
 /// The first number of results that is none, or operation that has more or fewer result types than results.
-pub(crate) fn result_fault(
-    alloc: Global,
-    text: &[u8],
-    rows: &[Row],
-    operations: &NumberedOperations,
-) -> Result<Option<Found>, AllocError>
-    requires { AreOperations rows.now operations.now }
-    ensures { IfOk result (λ f. IsFirstWrong (IsResultWrong text.now rows.now) (length rows.now) f) }
+pub(crate) fn result_fault(text: &[u8], rows: &[Row], counts: &PartCounts) -> Option<Found>
+    requires few { length rows.now < 4294967295 }
+    requires types { AreCounted counted.ResultTypes rows.now (length rows.now) counts.now.result_types.items }
+    ensures { IsFirstWrong (IsResultWrong text.now rows.now) (length rows.now) result }
 {
-    let types = counts(alloc, Counted::ResultTypes, rows, operations)?;
-    let uneven = told(first_other_results(text, rows, &types), Wrong::ResultTypes);
+    let other = first_other_results(text, rows, &counts.result_types);
+    let uneven = told(other, Wrong::ResultTypes);
     let unread = told(first_bad_count(text, rows), Wrong::ResultCount);
-    let found = sooner(unread, uneven);
-    Ok(found)
+    sooner(unread, uneven)
 }
 
 /// Whether each operation of a tree of that text has as many result types as results, where `%x:2` stands for two.
@@ -132,7 +134,8 @@ pub fn result_types(alloc: Global, text: &[u8], rows: &[Row]) -> Result<(), Faul
 {
     are_few(rows)?;
     let operations = operations(alloc, rows)?;
-    let found = result_fault(alloc, text, rows, &operations)?;
+    let counts = part_counts(alloc, rows, &operations)?;
+    let found = result_fault(text, rows, &counts);
     match fault_of(rows, found) {
         Some(fault) => Err(fault),
         None => Ok(()),

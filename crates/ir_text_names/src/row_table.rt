@@ -84,6 +84,13 @@ impl RowTable {
         RowTable { entries }
     }
 
+    /// The numbers that stand for what it has.
+    pub(crate) fn into_numbers(self) -> Vec<u32>
+        ensures { all_entries result.items ≡ self }
+    {
+        self.entries
+    }
+
     /// One row more.
     pub(crate) fn push(&mut self, row: Option<usize>) -> Result<(), AllocError>
         requires { IfSome row (λ r. r < 4294967295) }

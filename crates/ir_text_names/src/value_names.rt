@@ -2,13 +2,15 @@
 ghost use Rattle.std.specs.Prelude.{◌≡◌, ◌<◌, ◌≤◌, ◌&&◌, ◌||◌, ℕ, List, Some, None, cond, length, nat_eq, slice_index_or, slice_set, IfOk, IfSome, OnOk, IsTrue, ◌↔◌, if◌then◌else◌};
 ghost use Rattle.ir_text_tree.specs.declared.row.Part.TheVariants as parts;
 ghost use Rattle.ir_text_names.specs.Firsts.{HasNone, IsChecked, IsFirst, IsFirstWrong};
-ghost use Rattle.ir_text_names.specs.Operations.{AreOperations};
+ghost use Rattle.ir_text_names.specs.Operations.{AreCounted, AreOperations};
+ghost use Rattle.ir_text_names.specs.declared.counting.Counted.TheVariants as counted;
 ghost use Rattle.ir_text_names.specs.Rows.{part_of, row_regions};
 ghost use Rattle.ir_text_names.specs.Values.{defines, still_open, clashes, reached, begins_before, IsValueAgain, AreValuesNamed, AreNamedBefore, AreNamedUnlessAgain, IsMissing, IsNamedUnlessAgain};
 ghost use Rattle.ir_text_names.specs.Indices.{IsBeyond};
 ghost use Rattle.ir_text_names.specs.Uses.{IsUseWrong};
 
 use crate::block_names::misses;
+use crate::counting::{PartCounts, part_counts};
 use crate::fault::{Fault, Wrong};
 use crate::firsts::{Found, fault_of, noted, sooner, told};
 use crate::named_rows::NamedRows;
@@ -28,6 +30,8 @@ struct Before {
     again: Option<usize>,
     // The first operand for which the table has none.
     missing: Option<usize>,
+    // Room for a table more.
+    spare: Vec<u32>,
 }
 
 // Whether the part defines a value.
@@ -145,6 +149,7 @@ fn named_before(
         table,
         again,
         missing,
+        spare: ends.into_numbers(),
     })
 }
 
@@ -236,6 +241,8 @@ struct Entries {
     table: RowTable,
     // The first operand for which the table has none.
     missing: Option<usize>,
+    // Room for a table more.
+    spare: Vec<u32>,
 }
 
 // What operands name, where these stand before them.
@@ -257,11 +264,16 @@ fn named(
         None => Ok(Entries {
             table: before.table,
             missing: None,
+            spare: before.spare,
         }),
         Some(_) => {
             let table = named_behind(alloc, text, rows, regions, before.table)?;
             let missing = first_missing(rows, &table);
-            Ok(Entries { table, missing })
+            Ok(Entries {
+                table,
+                missing,
+                spare: before.spare,
+            })
         }
     }
 }
@@ -294,23 +306,34 @@ pub(crate) fn value_table(
     text: &[u8],
     rows: &[Row],
     operations: NumberedOperations,
+    counts: PartCounts,
+    regions: Vec<u32>,
 ) -> Result<ValueTable, AllocError>
-    requires { AreOperations rows.now operations }
+    requires operations { AreOperations rows.now operations }
+    requires operand_types { AreCounted counted.OperandTypes rows.now (length rows.now) counts.operand_types.items }
+    requires result_types { AreCounted counted.ResultTypes rows.now (length rows.now) counts.result_types.items }
+    requires regions { regions.items ≡ row_regions rows.now }
     ensures table { IfOk result (λ v. HasNone (IsUseWrong text.now rows.now) (length rows.now) → AreValuesNamed text.now rows.now (length rows.now) v.table) }
     ensures found { IfOk result (λ v. IsFirstWrong (IsUseWrong text.now rows.now) (length rows.now) v.found) }
 {
-    let regions = regions(alloc, rows)?;
     let before = named_before(alloc, text, rows, &regions)?;
     let again = before.again;
     let entries = named(alloc, text, rows, &regions, before)?;
-    drop(regions);
     let twice = told(again, Wrong::ValueTwice);
     let unknown = told(entries.missing, Wrong::UnknownValue);
     let named = sooner(twice, unknown);
     let past = beyond(text, rows, again, &entries.table);
     let numbered = told(past, Wrong::UnknownValue);
     let names = sooner(named, numbered);
-    let tables = type_tables(alloc, text, rows, operations)?;
+    let tables = type_tables(
+        alloc,
+        text,
+        rows,
+        operations,
+        counts,
+        regions,
+        entries.spare,
+    )?;
     let odd = other_type(&tables, again, &entries.table);
     let typed = told(odd, Wrong::TypeOther);
     let found = sooner(names, typed);
@@ -332,7 +355,9 @@ pub fn values(alloc: Global, text: &[u8], rows: &[Row]) -> Result<RowTable, Faul
 {
     are_few(rows)?;
     let operations = operations(alloc, rows)?;
-    let values = value_table(alloc, text, rows, operations)?;
+    let regions = regions(alloc, rows)?;
+    let counts = part_counts(alloc, rows, &operations)?;
+    let values = value_table(alloc, text, rows, operations, counts, regions)?;
     match fault_of(rows, values.found) {
         Some(fault) => Err(fault),
         None => Ok(values.table),

@@ -1,14 +1,15 @@
 //! Operands' types against those of the values that they name.
 ghost use Rattle.std.specs.Prelude.{◌≡◌, ◌≢◌, ℕ, ◌<◌, Some, None, length, slice_index_or, IfOk, IsTrue, ◌↔◌};
 ghost use Rattle.ir_text_names.specs.Firsts.{IsFirst};
-ghost use Rattle.ir_text_names.specs.Operations.{AreOperations};
+ghost use Rattle.ir_text_names.specs.Operations.{AreCounted, AreOperations};
+ghost use Rattle.ir_text_names.specs.declared.counting.Counted.TheVariants as counted;
 ghost use Rattle.ir_text_names.specs.Rows.{text_of};
 ghost use Rattle.ir_text_names.specs.Types.{HasOtherType, HasOtherTypeAt, IsEntryOther, IsTypeOther, IsOperandType, IsResultType, IsArgumentType, IsValueType};
 ghost use Rattle.ir_text_tree.specs.declared.row.Part.TheVariants as parts;
 ghost use Rattle.ir_text_names.specs.TypeTables.{AreTypeTables};
 ghost use Rattle.ir_text_names.specs.Values.{IsNamedUnlessAgain, IsValueAgain};
 
-use crate::counting::Counted;
+use crate::counting::{Counted, PartCounts};
 use crate::firsts::noted;
 use crate::numbers::Amount;
 use crate::row_table::RowTable;
@@ -43,17 +44,28 @@ pub(crate) fn type_tables<'a>(
     text: &'a [u8],
     rows: &'a [Row],
     operations: NumberedOperations,
+    counts: PartCounts,
+    room: Vec<u32>,
+    spare: Vec<u32>,
 ) -> Result<TypeTables<'a>, AllocError>
-    requires { AreOperations rows.now operations }
+    requires operations { AreOperations rows.now operations }
+    requires operand_types { AreCounted counted.OperandTypes rows.now (length rows.now) counts.operand_types.items }
+    requires result_types { AreCounted counted.ResultTypes rows.now (length rows.now) counts.result_types.items }
     ensures tables { IfOk result AreTypeTables }
     ensures text { IfOk result (λ t. t.text.now ≡ text.now) }
     ensures rows { IfOk result (λ t. t.rows.now ≡ rows.now) }
 {
     let count = operations.count;
-    let results = placed(alloc, Counted::ResultTypes, rows, &operations)?;
-    let own = own_types(alloc, rows, operations)?;
-    let next = next_operations(alloc, rows, count)?;
-    let before = results_table(alloc, text, rows)?;
+    let results = placed(
+        alloc,
+        Counted::ResultTypes,
+        rows,
+        &operations,
+        counts.result_types,
+    )?;
+    let own = own_types(alloc, rows, operations, counts.operand_types)?;
+    let next = next_operations(rows, count, room)?;
+    let before = results_table(text, rows, spare)?;
     Ok(TypeTables {
         text,
         rows,

@@ -1,7 +1,7 @@
 use Rattle.std.proofs.Common.{◌≡◌, ◌≢◌, ◌↔◌, ℕ, ◌+◌, true, get_or, length, Option, Some, sym, ap, subst, ◌∙◌, arith}
 use Rattle.ir_text_tree.specs.declared.row.Part.TheVariants as parts
 use Rattle.ir_text_names.specs.Firsts.{IsFirst}
-use Rattle.ir_text_names.specs.Numbers.{amount_of, width, results_before}
+use Rattle.ir_text_names.specs.Numbers.{amount_of, results_before}
 use Rattle.ir_text_names.specs.Operations.{number_of, number_on}
 use Rattle.ir_text_names.specs.Rows.{part_of}
 use Rattle.ir_text_names.proofs.FirstRows.{first_more, first_none}
@@ -50,5 +50,5 @@ loop-at-preserved c =
     record {
       number = number;
       first = subst (λ (o : Option ℕ). IsFirst P (l.at + 1) o) (sym c.noted-first.ensures) (first_more P l.at l.first c.is_other.result is.0 is.1 l.invariant.first);
-      results = c.results_on-results.ensures (results_before text rows l.at) (width text rows l.at) l.invariant.results c.width-more.ensures ∙ ap (λ (n : ℕ). amount_of (Some n)) (results_more text rows l.at);
+      results = c.results_behind-results.ensures (results_before text rows l.at) l.invariant.results ∙ ap (λ (n : ℕ). amount_of (Some n)) (results_more text rows l.at);
     }
