@@ -1,7 +1,10 @@
 //! What is built: the text, its rows and what their names mean.
+ghost use Rattle.std.specs.Prelude.{◌≡◌, ◌≢◌, ◌⊎◌, ◌+◌, ◌++◌, ◌∷◌, [], List, ℕ, None, slice_index_or};
+ghost use Rattle.ir_text_names.specs.Rows.{text_of};
+ghost use Rattle.ir_text_outline.specs.Sources.{part_at};
 
-use ir_text_names::Names;
-use ir_text_tree::{Part, Row, Span};
+use ir_text_names::{Names, piece};
+use ir_text_tree::{Part, Row};
 
 /// The text, its rows and what their names mean.
 #[derive(Clone, Copy)]
@@ -13,7 +16,9 @@ pub struct Source<'a> {
 
 impl<'a> Source<'a> {
     /// What the row is; past the end the end of a region.
-    pub fn part(self, at: usize) -> Part {
+    pub fn part(self, at: usize) -> Part
+        ensures { result ≡ part_at self.entry.rows.now at }
+    {
         match self.rows.get(at) {
             Some(row) => row.part,
             None => Part::Close,
@@ -21,7 +26,9 @@ impl<'a> Source<'a> {
     }
 
     /// The piece of the text that the row is; nothing past the end.
-    pub fn piece(self, at: usize) -> &'a [u8] {
+    pub fn piece(self, at: usize) -> &'a [u8]
+        ensures { result.now ≡ text_of self.entry.text.now self.entry.rows.now at }
+    {
         match self.rows.get(at) {
             Some(row) => piece(self.text, row.span),
             None => &self.text[..0],
@@ -29,7 +36,10 @@ impl<'a> Source<'a> {
     }
 
     /// The piece of the text that the row is, without its quotes.
-    pub fn unquoted(self, at: usize) -> &'a [u8] {
+    pub fn unquoted(self, at: usize) -> &'a [u8]
+        ensures quoted { (inner : List ℕ) → text_of self.entry.text.now self.entry.rows.now at ≡ 34 ∷ (inner ++ 34 ∷ []) → result.now ≡ inner }
+        ensures plain { (result.now ≡ text_of self.entry.text.now self.entry.rows.now at) ⊎ (text_of self.entry.text.now self.entry.rows.now at ≡ 34 ∷ (result.now ++ 34 ∷ [])) }
+    {
         match self.piece(at) {
             [b'"', inner @ .., b'"'] => inner,
             piece => piece,
@@ -37,17 +47,23 @@ impl<'a> Source<'a> {
     }
 
     /// The row of the definition that an operand names.
-    pub fn definition(self, at: usize) -> Option<usize> {
+    pub fn definition(self, at: usize) -> Option<usize>
+        ensures { result ≡ slice_index_or self.entry.names.now.values at None }
+    {
         self.names.values.get(at)
     }
 
     /// The row of the block that a successor names.
-    pub fn block(self, at: usize) -> Option<usize> {
+    pub fn block(self, at: usize) -> Option<usize>
+        ensures { result ≡ slice_index_or self.entry.names.now.blocks at None }
+    {
         self.names.blocks.get(at)
     }
 
     /// Which of the values under its name an operand is.
-    pub fn index(self, at: usize) -> usize {
+    pub fn index(self, at: usize) -> usize
+        ensures none { part_at self.entry.rows.now (at + 1) ≢ Part.Index → result ≡ 0 }
+    {
         let behind = at.saturating_add(1);
         match self.part(behind) {
             Part::Index => number(self.piece(behind)),
@@ -56,20 +72,15 @@ impl<'a> Source<'a> {
     }
 
     /// How many values stand under the name of a result.
-    pub fn width(self, at: usize) -> usize {
+    pub fn width(self, at: usize) -> usize
+        ensures none { part_at self.entry.rows.now (at + 1) ≢ Part.Count → result ≡ 1 }
+    {
         let behind = at.saturating_add(1);
         match self.part(behind) {
             Part::Count => number(self.piece(behind)),
             _ => 1,
         }
     }
-}
-
-// The piece of a text, as far as it lies in the text.
-fn piece(text: &[u8], span: Span) -> &[u8] {
-    let end = text.len().min(span.end as usize);
-    let start = end.min(span.start as usize);
-    &text[start..end]
 }
 
 // The number that the digits of a piece make, as far as it can be held.

@@ -1,5 +1,6 @@
 //! Rows with the text of which their spans are pieces.
-ghost use Rattle.std.specs.Prelude.{◌≡◌, ◌++◌, ◌≤◌, ◌<◌, ◌^◌, ◌∷◌, [], length, IfOk, IfErr, IsErr, OnOk, ◌↔◌};
+ghost use Rattle.std.specs.Prelude.{◌≡◌, ◌⊎◌, ◌++◌, ◌≤◌, ◌<◌, ◌^◌, ◌∷◌, [], length, IfOk, IfErr, IsErr, OnOk, OnErr, ◌↔◌};
+ghost use Rattle.std.specs.Io.{StartsWith};
 ghost use Rattle.ir_text_tree.specs.Rows.{row, span};
 
 use crate::error::DescribeErr;
@@ -54,6 +55,7 @@ impl Description {
     /// `OutOfMemory`.
     pub fn put(&mut self, part: Part, span: Span) -> Result<(), DescribeErr>
         ensures rows { OnOk result (self.new.rows.items ≡ self.old.rows.items ++ row part span ∷ []) }
+        ensures kept { OnErr result (self.new.rows.items ≡ self.old.rows.items) }
         ensures text { self.new.text ≡ self.old.text }
         ensures error { IfErr result (λ e. e ≡ DescribeErr.OutOfMemory) }
     {
@@ -69,6 +71,13 @@ impl Description {
         ensures text { OnOk result (self.new.text.items ≡ self.old.text.items ++ bytes.now) }
         ensures span { IfOk result (λ s. s ≡ span (length self.old.text.items) (length self.new.text.items)) }
         ensures rows { self.new.rows ≡ self.old.rows }
+        ensures front { StartsWith self.new.text.items self.old.text.items }
+        // Without memory the text stays.
+        ensures kept { IfErr result (λ e. e ≡ DescribeErr.OutOfMemory → self.new.text.items ≡ self.old.text.items) }
+        // A text that gets too long has the piece.
+        ensures written { IfErr result (λ e. e ≡ DescribeErr.TooLong → self.new.text.items ≡ self.old.text.items ++ bytes.now) }
+        ensures long { IfErr result (λ e. e ≡ DescribeErr.TooLong → 2 ^ 32 ≤ length self.new.text.items) }
+        ensures error { IfErr result (λ e. (e ≡ DescribeErr.OutOfMemory) ⊎ (e ≡ DescribeErr.TooLong)) }
     {
         let start = self.text.len();
         self.text.extend_from_slice(bytes)?;

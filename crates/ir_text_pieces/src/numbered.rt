@@ -1,4 +1,6 @@
 //! Pieces that are a mark and a number, each written once.
+ghost use Rattle.std.specs.Prelude.{◌≡◌};
+ghost use Rattle.std.specs.Io.{StartsWith};
 
 use crate::description::Description;
 use crate::error::DescribeErr;
@@ -23,7 +25,10 @@ impl Numbered {
     }
 
     // Writes the piece with the next number.
-    fn write_next(&mut self, to: &mut Description) -> Result<(), DescribeErr> {
+    fn write_next(&mut self, to: &mut Description) -> Result<(), DescribeErr>
+        ensures rows { to.new.rows ≡ to.old.rows }
+        ensures front { StartsWith to.new.text.items to.old.text.items }
+    {
         let start = to.text.len();
         to.text.extend_from_slice(self.mark.as_bytes())?;
         to.text
@@ -36,7 +41,10 @@ impl Numbered {
     ///
     /// # Errors
     /// `OutOfMemory` or `TooLong`.
-    pub fn piece(&mut self, to: &mut Description, number: u32) -> Result<Span, DescribeErr> {
+    pub fn piece(&mut self, to: &mut Description, number: u32) -> Result<Span, DescribeErr>
+        ensures rows { to.new.rows ≡ to.old.rows }
+        ensures front { StartsWith to.new.text.items to.old.text.items }
+    {
         let number = number as usize;
         for _ in self.spans.len()..=number {
             self.write_next(to)?;

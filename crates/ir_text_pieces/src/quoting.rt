@@ -1,6 +1,7 @@
 //! Texts in quotes, and keys, which have quotes only where they need them.
-ghost use Rattle.std.specs.Prelude.{◌≡◌, ◌<◌, ◌++◌, OnOk};
+ghost use Rattle.std.specs.Prelude.{◌≡◌, ◌<◌, ◌++◌, OnOk, OnErr};
 ghost use Rattle.std.specs.List.{list_all};
+ghost use Rattle.std.specs.Io.{StartsWith};
 ghost use Rattle.ir_text_pieces.specs.Quotes.{escaped, hex_digit, is_bare_key, is_digit, is_key_start, is_key_rest, is_letter, is_shown, key_text, quoted, starts_key};
 
 use std::alloc::AllocError;
@@ -26,7 +27,8 @@ fn hex_digit(value: u8) -> u8
 
 // Writes a byte as it stands in quotes.
 fn write_escaped(out: &mut Vec<u8>, byte: u8) -> Result<(), AllocError>
-    ensures { OnOk result (out.new.items ≡ out.old.items ++ escaped byte) }
+    ensures text { OnOk result (out.new.items ≡ out.old.items ++ escaped byte) }
+    ensures kept { OnErr result (out.new.items ≡ out.old.items) }
 {
     if byte == b'\\' {
         out.extend_from_slice(b"\\\\")
@@ -42,7 +44,8 @@ fn write_escaped(out: &mut Vec<u8>, byte: u8) -> Result<(), AllocError>
 /// # Errors
 /// Memory was wanting.
 pub fn write_quoted(out: &mut Vec<u8>, bytes: &[u8]) -> Result<(), AllocError>
-    ensures { OnOk result (out.new.items ≡ out.old.items ++ quoted bytes.now) }
+    ensures text { OnOk result (out.new.items ≡ out.old.items ++ quoted bytes.now) }
+    ensures front { OnErr result (StartsWith out.new.items out.old.items) }
 {
     out.push(b'"')?;
     for byte in bytes {
@@ -109,7 +112,8 @@ pub fn is_bare_key(key: &[u8]) -> bool
 /// # Errors
 /// Memory was wanting.
 pub fn write_key(out: &mut Vec<u8>, key: &[u8]) -> Result<(), AllocError>
-    ensures { OnOk result (out.new.items ≡ out.old.items ++ key_text key.now) }
+    ensures text { OnOk result (out.new.items ≡ out.old.items ++ key_text key.now) }
+    ensures front { OnErr result (StartsWith out.new.items out.old.items) }
 {
     if is_bare_key(key) {
         out.extend_from_slice(key)

@@ -1,4 +1,9 @@
 //! The rows of a tree, put one after another.
+ghost use Rattle.std.specs.Prelude.{◌≡◌, ◌≢◌, ◌⊎◌, ◌++◌, ◌≤◌, ◌<◌, ◌∷◌, [], length, IfOk, OnOk, if◌then◌else◌};
+ghost use Rattle.std.specs.Io.{StartsWith};
+ghost use Rattle.ir_text_tree.specs.Rows.{row, span};
+ghost use Rattle.ir_text_pieces.specs.Quotes.{key_text, quoted};
+ghost use Rattle.ir_text_pieces.specs.Writings.{PutsRow, PutsTwoRows};
 
 use crate::bare_types::is_bare_type;
 use crate::description::Description;
@@ -45,7 +50,9 @@ impl TreeWriter {
     ///
     /// # Errors
     /// `OutOfMemory`.
-    pub fn new(alloc: Global) -> Result<Self, DescribeErr> {
+    pub fn new(alloc: Global) -> Result<Self, DescribeErr>
+        ensures rows { IfOk result (λ w. w.description.rows.items ≡ []) }
+    {
         let mut description = Description::new(alloc);
         let braces = (description.write(b"{")?, description.write(b"}")?);
         let mut names = Names::new(alloc);
@@ -67,7 +74,10 @@ impl TreeWriter {
     }
 
     // The piece that the name of a value is.
-    fn value_piece(&mut self, name: Name) -> Result<Span, DescribeErr> {
+    fn value_piece(&mut self, name: Name) -> Result<Span, DescribeErr>
+        ensures rows { self.new.description.rows ≡ self.old.description.rows }
+        ensures front { StartsWith self.new.description.text.items self.old.description.text.items }
+    {
         let number = name.number;
         match name.sort {
             NameSort::Argument => self.arguments.piece(&mut self.description, number),
@@ -77,7 +87,10 @@ impl TreeWriter {
     }
 
     // The piece that the name of a block is, where it is named in the innermost region.
-    fn block_piece(&mut self, block: u32) -> Result<Span, DescribeErr> {
+    fn block_piece(&mut self, block: u32) -> Result<Span, DescribeErr>
+        ensures rows { self.new.description.rows ≡ self.old.description.rows }
+        ensures front { StartsWith self.new.description.text.items self.old.description.text.items }
+    {
         let name = self.names.block(block)?;
         let number = name.number;
         match name.sort {
@@ -90,7 +103,10 @@ impl TreeWriter {
     ///
     /// # Errors
     /// `OutOfMemory` or `TooLong`.
-    pub fn put_results(&mut self, first: u64, count: usize) -> Result<(), DescribeErr> {
+    pub fn put_results(&mut self, first: u64, count: usize) -> Result<(), DescribeErr>
+        ensures one { count ≤ 1 → OnOk result (PutsRow Part.Result self.old.description.rows.items self.new.description.rows.items) }
+        ensures several { 1 < count → OnOk result (PutsTwoRows Part.Result Part.Count self.old.description.rows.items self.new.description.rows.items) }
+    {
         let name = self.names.value(first)?;
         let span = self.value_piece(name)?;
         self.description.put(Part::Result, span)?;
@@ -106,7 +122,9 @@ impl TreeWriter {
     ///
     /// # Errors
     /// `OutOfMemory` or `TooLong`.
-    pub fn put_operand(&mut self, value: u64) -> Result<(), DescribeErr> {
+    pub fn put_operand(&mut self, value: u64) -> Result<(), DescribeErr>
+        ensures rows { OnOk result (PutsRow Part.Operand self.old.description.rows.items self.new.description.rows.items ⊎ PutsTwoRows Part.Operand Part.Index self.old.description.rows.items self.new.description.rows.items) }
+    {
         let name = self.names.value(value)?;
         let span = self.value_piece(name)?;
         self.description.put(Part::Operand, span)?;
@@ -121,7 +139,10 @@ impl TreeWriter {
     ///
     /// # Errors
     /// `OutOfMemory` or `TooLong`.
-    pub fn put_successor(&mut self, block: u32) -> Result<(), DescribeErr> {
+    pub fn put_successor(&mut self, block: u32) -> Result<(), DescribeErr>
+        ensures row { OnOk result (PutsRow Part.Successor self.old.description.rows.items self.new.description.rows.items) }
+        ensures front { StartsWith self.new.description.text.items self.old.description.text.items }
+    {
         let span = self.block_piece(block)?;
         self.description.put(Part::Successor, span)
     }
@@ -130,7 +151,10 @@ impl TreeWriter {
     ///
     /// # Errors
     /// `OutOfMemory` or `TooLong`.
-    pub fn put_label(&mut self, block: u32) -> Result<(), DescribeErr> {
+    pub fn put_label(&mut self, block: u32) -> Result<(), DescribeErr>
+        ensures row { OnOk result (PutsRow Part.Label self.old.description.rows.items self.new.description.rows.items) }
+        ensures front { StartsWith self.new.description.text.items self.old.description.text.items }
+    {
         let span = self.block_piece(block)?;
         self.description.put(Part::Label, span)
     }
@@ -139,7 +163,10 @@ impl TreeWriter {
     ///
     /// # Errors
     /// `OutOfMemory` or `TooLong`.
-    pub fn put_argument(&mut self, value: u64) -> Result<(), DescribeErr> {
+    pub fn put_argument(&mut self, value: u64) -> Result<(), DescribeErr>
+        ensures row { OnOk result (PutsRow Part.Argument self.old.description.rows.items self.new.description.rows.items) }
+        ensures front { StartsWith self.new.description.text.items self.old.description.text.items }
+    {
         let name = self.names.value(value)?;
         let span = self.value_piece(name)?;
         self.description.put(Part::Argument, span)
@@ -149,7 +176,10 @@ impl TreeWriter {
     ///
     /// # Errors
     /// `OutOfMemory`.
-    pub fn open_region(&mut self) -> Result<(), DescribeErr> {
+    pub fn open_region(&mut self) -> Result<(), DescribeErr>
+        ensures row { OnOk result (PutsRow Part.Open self.old.description.rows.items self.new.description.rows.items) }
+        ensures text { self.new.description.text ≡ self.old.description.text }
+    {
         self.names.open()?;
         self.description.put(Part::Open, self.braces.0)
     }
@@ -158,7 +188,10 @@ impl TreeWriter {
     ///
     /// # Errors
     /// `OutOfMemory`.
-    pub fn close_region(&mut self) -> Result<(), DescribeErr> {
+    pub fn close_region(&mut self) -> Result<(), DescribeErr>
+        ensures row { OnOk result (PutsRow Part.Close self.old.description.rows.items self.new.description.rows.items) }
+        ensures text { self.new.description.text ≡ self.old.description.text }
+    {
         self.names.close();
         self.description.put(Part::Close, self.braces.1)
     }
@@ -172,7 +205,11 @@ impl TreeWriter {
     ///
     /// # Errors
     /// `OutOfMemory` or `TooLong`.
-    pub fn write_operation_name(&mut self, kind: u32, name: &[u8]) -> Result<Span, DescribeErr> {
+    pub fn write_operation_name(&mut self, kind: u32, name: &[u8]) -> Result<Span, DescribeErr>
+        ensures text { OnOk result (self.new.description.text.items ≡ self.old.description.text.items ++ quoted name.now) }
+        ensures span { IfOk result (λ s. s ≡ span (length self.old.description.text.items) (length self.new.description.text.items)) }
+        ensures rows { self.new.description.rows ≡ self.old.description.rows }
+    {
         let start = self.description.text.len();
         write_quoted(&mut self.description.text, name)?;
         let span = self.description.piece_from(start)?;
@@ -189,7 +226,11 @@ impl TreeWriter {
     ///
     /// # Errors
     /// `OutOfMemory` or `TooLong`.
-    pub fn write_type(&mut self, place: usize, text: &[u8]) -> Result<TypePiece, DescribeErr> {
+    pub fn write_type(&mut self, place: usize, text: &[u8]) -> Result<TypePiece, DescribeErr>
+        ensures text { OnOk result (self.new.description.text.items ≡ self.old.description.text.items ++ text.now) }
+        ensures span { IfOk result (λ piece. piece.span ≡ span (length self.old.description.text.items) (length self.new.description.text.items)) }
+        ensures rows { self.new.description.rows ≡ self.old.description.rows }
+    {
         let is_bare = is_bare_type(text, &mut self.brackets)?;
         let span = self.description.write(text)?;
         let piece = TypePiece { span, is_bare };
@@ -201,7 +242,10 @@ impl TreeWriter {
     ///
     /// # Errors
     /// `OutOfMemory`.
-    pub fn put_only_result_type(&mut self, piece: TypePiece) -> Result<(), DescribeErr> {
+    pub fn put_only_result_type(&mut self, piece: TypePiece) -> Result<(), DescribeErr>
+        ensures row { OnOk result (self.new.description.rows.items ≡ self.old.description.rows.items ++ row (if piece.is_bare then Part.OnlyResultType else Part.ResultType) piece.span ∷ []) }
+        ensures text { self.new.description.text ≡ self.old.description.text }
+    {
         let part = if piece.is_bare {
             Part::OnlyResultType
         } else {
@@ -214,7 +258,10 @@ impl TreeWriter {
     ///
     /// # Errors
     /// `OutOfMemory` or `TooLong`.
-    pub fn put_key(&mut self, key: &[u8]) -> Result<(), DescribeErr> {
+    pub fn put_key(&mut self, key: &[u8]) -> Result<(), DescribeErr>
+        ensures text { OnOk result (self.new.description.text.items ≡ self.old.description.text.items ++ key_text key.now) }
+        ensures row { OnOk result (self.new.description.rows.items ≡ self.old.description.rows.items ++ row Part.Key (span (length self.old.description.text.items) (length self.new.description.text.items)) ∷ []) }
+    {
         let start = self.description.text.len();
         write_key(&mut self.description.text, key)?;
         let span = self.description.piece_from(start)?;

@@ -1,5 +1,5 @@
 -- The lines of a text, from its front on.
-use Rattle.std.proofs.Common.{◌≡◌, ◌≤◌, ◌<◌, ◌==◌, ◌+◌, ◌-◌, ℕ, suc, length, not, Bool, true, false, All, take, drop, slice_range, position, cond, Option, Some, None, MatchOption, ◌++◌, List, [], ◌∷◌, refl, sym, ap, subst, ◌∙◌, arith, get_or, nat_lt, append-nil, append_assoc, take-append-drop}
+use Rattle.std.proofs.Common.{◌≡◌, ◌≤◌, ◌<◌, ◌==◌, ◌+◌, ◌-◌, ℕ, suc, length, not, Bool, true, false, All, take, drop, slice_range, position, cond, Option, Some, None, MatchOption, ◌++◌, List, [], ◌∷◌, refl, sym, ap, subst, ◌∙◌, arith, get_or, nat_lt, append-nil, append_assoc, take-append-drop, length-append}
 use Rattle.std.proofs.Math.Seq.{take-add, drop-length}
 use Rattle.std.proofs.Math.ListN.{drop_of_length-le}
 use Rattle.std.proofs.lemmas.Bool.{ltb-true, ltb-false}
@@ -158,3 +158,33 @@ pub all_passed : (text : List ℕ) (at : ℕ) → length text ≤ at → Passed 
 all_passed text at le so_far =
     let none : lines_of (drop at text) ≡ [] = ap lines_of (drop_of_length-le text le) ∙ no_lines in
     subst (All (λ line. IsDivider line → ⊥)) (sym (so_far.lines ∙ (ap (λ (ls : List (List ℕ)). so_far.before ++ ls) none ∙ append-nil so_far.before))) so_far.one
+
+-- the lines that were passed are counted
+pub record Counted (text : List ℕ) (at lines : ℕ) : Type 0 where
+  pub passed : Passed text at
+  pub counted : lines ≡ length passed.before
+  pub few : lines ≤ at
+
+pub none_counted : (text : List ℕ) → Counted text 0 0
+unfolding none_passed
+none_counted text = record { passed = none_passed text; counted = refl; few = omega arith }
+
+pub one_counted : (text : List ℕ) (at end lines : ℕ) → at < end → Counted text at lines → lines_of (drop at text) ≡ slice_range text at end ∷ lines_of (drop end text) → (IsDivider (slice_range text at end) → ⊥) → Counted text end (lines + 1)
+unfolding one_passed
+one_counted text at end lines lt so_far first is_none =
+    let le : at ≤ end = omega (arith, lt) in
+    let few : lines ≤ at = so_far.few in
+    let one = slice_range text at end ∷ [] in
+    record {
+      passed = one_passed text at end le so_far.passed first is_none;
+      counted = ap (λ (n : ℕ). n + 1) so_far.counted ∙ sym (length-append so_far.passed.before one);
+      few = omega (arith, few, lt);
+    }
+
+pub counted_here : (text : List ℕ) (at lines : ℕ) (so_far : Counted text at lines) → lines + 1 ≡ length (lines_of (take at text)) + 1
+counted_here text at lines so_far = ap (λ (n : ℕ). n + 1) (so_far.counted ∙ ap length (sym (lines_passed text at so_far.passed)))
+
+pub all_counted : (text : List ℕ) (at lines : ℕ) → length text ≤ at → (so_far : Counted text at lines) → lines ≡ length (lines_of text)
+all_counted text at lines le so_far =
+    let none : lines_of (drop at text) ≡ [] = ap lines_of (drop_of_length-le text le) ∙ no_lines in
+    so_far.counted ∙ ap length (sym (so_far.passed.lines ∙ (ap (λ (ls : List (List ℕ)). so_far.passed.before ++ ls) none ∙ append-nil so_far.passed.before)))

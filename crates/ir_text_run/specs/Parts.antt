@@ -2,7 +2,7 @@
 use Rattle.std.specs.Prelude.{◌≡◌, ◌⊎◌, ℕ, ◌++◌, ◌==◌, if◌then◌else◌, All, List, [], ◌∷◌, Option, codes}
 use Rattle.std.specs.List.{onto_first}
 use Rattle.std.specs.Io.KnownBytes.{Keeps, Appends}
-use Rattle.ir_text_run.specs.Respellings.{Respells}
+use Rattle.ir_text_run.specs.Respellings.{Respells, RespellsOrKeeps}
 
 -- The line divides parts: `// -----`, with a CR at its end or not; the last line of an input may have no line feed.
 abbrev pub IsDivider : List ℕ → Type 0
@@ -21,12 +21,20 @@ IsOnePart text = All (λ line. IsDivider line → ⊥) (lines_of text)
 abbrev pub IsDivided : List ℕ → List ℕ → List ℕ → Type 0
 IsDivided text part rest = (line : List ℕ) × IsDivider line × IsOnePart part × (lines_of text ≡ lines_of part ++ (line ∷ lines_of rest)) × (text ≡ part ++ (line ++ rest))
 
--- For each of these parts of a text, behind which the rest stands, the known bytes grew by the text of its tree and the line between two parts.
-unfoldable pub RespellsBefore : List (List ℕ) → List ℕ → List ℕ → Option (List ℕ) → Option (List ℕ) → Type 0
-RespellsBefore [] text rest old new = (text ≡ rest) × Keeps old new
-RespellsBefore (p ∷ ps) text rest old new =
-    (more : List ℕ) × (written : Option (List ℕ)) × (next : Option (List ℕ)) × IsDivided text p more × Respells p old written × Appends written next (codes "// -----\n") × RespellsBefore ps more rest next new
+-- For each of these parts of a text, behind which the rest stands, the known bytes became what the relation tells of the part, and then grew by the line between two parts.
+unfoldable pub WritesBefore : (List ℕ → Option (List ℕ) → Option (List ℕ) → Type 0) → List (List ℕ) → List ℕ → List ℕ → Option (List ℕ) → Option (List ℕ) → Type 0
+WritesBefore Writes [] text rest old new = (text ≡ rest) × Keeps old new
+WritesBefore Writes (p ∷ ps) text rest old new =
+    (more : List ℕ) × (written : Option (List ℕ)) × (next : Option (List ℕ)) × IsDivided text p more × Writes p old written × Appends written next (codes "// -----\n") × WritesBefore Writes ps more rest next new
+
+-- The text is parts, none with a dividing line in it, with one such line between each two, and for each of them the known bytes became what the relation tells of it, and between each two they grew by the line.
+abbrev pub WritesParts : (List ℕ → Option (List ℕ) → Option (List ℕ) → Type 0) → List ℕ → Option (List ℕ) → Option (List ℕ) → Type 0
+WritesParts Writes text old new = (ps : List (List ℕ)) × (last : List ℕ) × (mid : Option (List ℕ)) × WritesBefore Writes ps text last old mid × IsOnePart last × Writes last mid new
 
 -- The text is parts, none with a dividing line in it, with one such line between each two, and the known bytes grew by the texts of their trees, with the line between each two.
 abbrev pub RespellsParts : List ℕ → Option (List ℕ) → Option (List ℕ) → Type 0
-RespellsParts text old new = (ps : List (List ℕ)) × (last : List ℕ) × (mid : Option (List ℕ)) × RespellsBefore ps text last old mid × IsOnePart last × Respells last mid new
+RespellsParts = WritesParts Respells
+
+-- The same, but that for a part nothing may have been written.
+abbrev pub RespellsSomeParts : List ℕ → Option (List ℕ) → Option (List ℕ) → Type 0
+RespellsSomeParts = WritesParts RespellsOrKeeps

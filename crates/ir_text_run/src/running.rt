@@ -2,7 +2,7 @@
 ghost use Rattle.std.specs.Prelude.{◌≡◌, ◌⊎◌, IfSome, IfErr, IfOk, OnOk, ◌≢◌, codes};
 ghost use Rattle.std.specs.Io.KnownBytes.{Keeps, Appends};
 ghost use Rattle.ir_text_run.specs.Faults.{StandsWithin};
-ghost use Rattle.ir_text_run.specs.Parts.{RespellsParts};
+ghost use Rattle.ir_text_run.specs.Parts.{RespellsParts, RespellsSomeParts};
 ghost use Rattle.ir_text_run.specs.Respellings.{Respells, RespellsFront};
 
 use crate::fault::Fault;
@@ -98,6 +98,8 @@ fn spell_parts<W: Write, F: Write>(
 ) -> Result<u8, Fault>
     ensures status { IfOk result (λ s. (s ≡ 0) ⊎ (s ≡ 1)) }
     ensures spelled { IfOk result (λ s. s ≡ 0 → RespellsParts text.now (W.contents output.old) (W.contents output.new)) }
+    ensures some_spelled { OnOk result (RespellsSomeParts text.now (W.contents output.old) (W.contents output.new)) }
+    ensures nothing_told { IfOk result (λ s. s ≡ 0 → Keeps (F.contents fault.old) (F.contents fault.new)) }
     ensures error { IfErr result (λ e. e ≡ Fault.Unwritable) }
 {
     let mut worst = 0;
@@ -146,6 +148,10 @@ pub fn run_parts<R: Read, W: Write, F: Write>(
     ensures status { (result ≡ 0) ⊎ ((result ≡ 1) ⊎ (result ≡ 3)) }
     // Under 0 each part of the input spells a tree none of whose names is wrong, and the output got the texts of these trees, with the line between each two.
     ensures spelled { result ≡ 0 → IfSome (R.remaining input.old) (λ text. RespellsParts text (W.contents output.old) (W.contents output.new)) }
+    // Under 1 nothing was written, or for each part the text of its tree or nothing, with the line between each two.
+    ensures some_spelled { result ≡ 1 → (output.new ≡ output.old) ⊎ IfSome (R.remaining input.old) (λ text. RespellsSomeParts text (W.contents output.old) (W.contents output.new)) }
+    // Under 0 nothing is told.
+    ensures nothing_told { result ≡ 0 → Keeps (F.contents fault.old) (F.contents fault.new) }
 {
     match read_input(alloc, input) {
         Ok(text) => match spell_parts(alloc, name, text.as_slice(), output, fault) {
@@ -170,6 +176,9 @@ pub fn run<R: Read, W: Write, F: Write>(
     ensures spelled { form ≡ Form.Whole → result ≡ 0 → IfSome (R.remaining input.old) (λ text. Respells text (W.contents output.old) (W.contents output.new)) }
     ensures nothing_written { form ≡ Form.Whole → result ≡ 1 → output.new ≡ output.old }
     ensures front { form ≡ Form.Whole → result ≡ 3 → IfSome (R.remaining input.old) (λ text. RespellsFront text (W.contents output.old) (W.contents output.new)) }
+    ensures some_spelled { form ≡ Form.Parts → result ≡ 1 → (output.new ≡ output.old) ⊎ IfSome (R.remaining input.old) (λ text. RespellsSomeParts text (W.contents output.old) (W.contents output.new)) }
+    ensures nothing_told { result ≡ 0 → Keeps (F.contents fault.old) (F.contents fault.new) }
+    ensures nothing_told_of_output { form ≡ Form.Whole → result ≡ 3 → Keeps (F.contents fault.old) (F.contents fault.new) }
 {
     match form {
         Form::Whole => run_text(alloc, name, input, output, fault),

@@ -1,5 +1,5 @@
 //! The parts of an input that lines `// -----` divide.
-ghost use Rattle.std.specs.Prelude.{◌≡◌, ◌<◌, ◌≤◌, ◌==◌, ◌↔◌, ◌∷◌, length, drop, slice_range, position, IfSome, IsTrue, MatchOption};
+ghost use Rattle.std.specs.Prelude.{◌≡◌, ◌<◌, ◌≤◌, ◌+◌, ◌==◌, ◌↔◌, ◌∷◌, length, drop, slice_range, position, IfSome, IsTrue, MatchOption};
 ghost use Rattle.ir_text_run.specs.Parts.{IsDivider, IsOnePart, IsDivided, lines_of};
 
 /// The first part of an input.
@@ -47,12 +47,13 @@ fn is_divider(line: &[u8]) -> bool
 pub fn first_part<'a>(text: &'a [u8]) -> Front<'a>
     ensures shorter { IfSome result.rest (λ rest. length rest.now < length text.now) }
     ensures divided { MatchOption result.rest ((result.part.now ≡ text.now) × IsOnePart text.now) (λ rest. IsDivided text.now result.part.now rest.now) }
+    ensures lines { MatchOption result.rest (result.lines ≡ length (lines_of text.now)) (λ _. result.lines ≡ length (lines_of result.part.now) + 1) }
 {
     let mut at = 0;
     let mut lines = 0u64;
     while at < text.len() {
         let end = line_end(text, at);
-        lines = lines.saturating_add(1);
+        lines += 1;
         if is_divider(&text[at..end]) {
             return Front {
                 part: &text[..at],

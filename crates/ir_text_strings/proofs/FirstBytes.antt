@@ -1,5 +1,5 @@
 -- A text from its first byte on, and texts without escapes.
-use Rattle.std.proofs.Common.{◌≡◌, ℕ, ◌+◌, ◌-◌, ◌*◌, ◌<◌, ◌≤◌, ◌&&◌, ◌==◌, Bool, true, false, cond, List, [], ◌∷◌, ◌++◌, length, get_or, drop, refl, sym, ap, ◌∙◌, append_assoc, arith}
+use Rattle.std.proofs.Common.{◌≡◌, ℕ, ◌+◌, ◌-◌, ◌*◌, ◌<◌, ◌≤◌, ◌&&◌, ◌==◌, Result, Ok, Err, OnErr, Bool, true, false, cond, List, [], ◌∷◌, ◌++◌, length, get_or, drop, refl, sym, ap, ◌∙◌, append_assoc, arith}
 use Rattle.std.proofs.Math.Bool.{and-false}
 use Rattle.std.proofs.lemmas.Bool.{or_parts, false≢true}
 use Rattle.std.proofs.lemmas.List.{drop_more, drop_all, drop-drop, take_rest}
@@ -86,3 +86,8 @@ unescaped_same (a ∷ text) e =
     let no_mark : is_marked a second ≡ false = ap (λ (b : Bool). b && is_mark second) parts.0 in
     let no_number : is_number a second third ≡ false = ap (λ (b : Bool). b && (is_hex second && is_hex third)) parts.0 in
     unescaped_first a text ∙ plain a (marked second) (16 * hex_value second + hex_value third) text (is_marked a second) (is_number a second third) no_mark no_number ∙ ap (λ (t : List ℕ). a ∷ t) (unescaped_same text parts.1)
+
+-- what holds in any case holds under an error
+pub on_err : {X E : Type 0} (r : Result X E) (P : Type 0) → P → OnErr r P
+on_err (Ok x) P p = tt
+on_err (Err e) P p = p

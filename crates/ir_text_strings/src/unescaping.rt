@@ -1,5 +1,6 @@
 //! The bytes that a text between quotes stands for.
-ghost use Rattle.std.specs.Prelude.{◌≡◌, ◌++◌, length, slice_index_or, IfOk, OnOk};
+ghost use Rattle.std.specs.Prelude.{◌≡◌, ◌++◌, length, slice_index_or, IfOk, OnOk, OnErr};
+ghost use Rattle.std.specs.Io.{StartsWith};
 ghost use Rattle.ir_text_strings.specs.Escapes.{has_escapes, unescaped};
 
 use crate::escapes::first_spelled;
@@ -27,7 +28,8 @@ fn byte_at(text: &[u8], at: usize) -> u8
 /// # Errors
 /// Memory was wanting.
 pub fn extend_unescaped(out: &mut Vec<u8>, text: &[u8]) -> Result<(), AllocError>
-    ensures { OnOk result (out.new.items ≡ out.old.items ++ unescaped text.now) }
+    ensures text { OnOk result (out.new.items ≡ out.old.items ++ unescaped text.now) }
+    ensures front { OnErr result (StartsWith out.new.items out.old.items) }
 {
     let mut more = 0;
     for (at, byte) in text.iter().enumerate() {
