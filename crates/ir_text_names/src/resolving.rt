@@ -39,14 +39,16 @@ pub fn resolve(alloc: Global, text: &[u8], rows: &[Row]) -> Result<Names, Fault>
     ensures checked { IsChecked (IsWrong text.now rows.now) rows.now result }
 {
     are_few(rows)?;
-    let regions = regions(alloc, rows)?;
-    let blocks = block_table(alloc, text, rows, &regions)?;
     let operations = operations(alloc, rows)?;
     let counts = part_counts(alloc, rows, &operations)?;
     let keys = key_fault(alloc, text, rows, &operations, &counts)?;
     let types = type_fault(rows, &counts);
     let results = result_fault(text, rows, &counts);
-    let values = value_table(alloc, text, rows, operations, counts, regions)?;
+    let for_values = regions(alloc, rows)?;
+    let values = value_table(alloc, text, rows, operations, counts, for_values)?;
+    // They are told anew, so that no table of blocks is held beside those of values.
+    let for_blocks = regions(alloc, rows)?;
+    let blocks = block_table(alloc, text, rows, &for_blocks)?;
     let places = sooner(blocks.found, keys);
     let numbers = sooner(types, results);
     let uses = sooner(numbers, values.found);
