@@ -3,6 +3,9 @@ import re
 
 from .names import meaning_of_key
 
+# An escape, or another character.
+SPELLED = re.compile(r'\\[0-9A-Fa-f]{2}|\\.|.')
+
 # The last character of a token, and the first of another that would go on with it.
 GOES_ON = re.compile(r'[\w$.%^@#!-][\w$.-]')
 
@@ -20,6 +23,7 @@ VALUES = [
     'affine_map<(d0)[s0] -> (d0 + s0 floordiv 2)>', 'affine_set<(d0, d1) : (d0 >= 0, d1 - 1 == 0)>', '(i32, f32) -> (i32)', '() -> ()', 'i32', '!a.b<[1]>',
     '#a.b<"x", (d0) -> (d0), [>=]>', '#a', '# ', 'array<i32: 1, -2>', 'loc("f":1:2)', 'loc(unknown)', 'opaque<"d", "0x01"> : i1', '* ? + | -> -', 'x.y$z_0', '%x ^y', ': :',
 ]
+NAMES = ['"a.b"', '"func.func"', '"x"', '"\\22q\\09"', '""', '"a \\\\ // b"']
 LOCATIONS = ['unknown', '"f.mlir":1:2', 'fused["a":1:1, callsite("b" at "c")]', '#loc1', '"x"("y":3:4)', 'loc(unknown)']
 PROPERTIES = ['<{}>', '<{a = 1 : i32, b = "}>"}>', '<{x = [1, 2], y = {z}}>', '<>', '<(a) -> b>']
 KEYS = ['a', 'b', 'c.d', '$e', '_', '0', '1x', 'loc', 'value', 'sym_name', '"a"', '"b c"', '"\\61"', '"\\n"', '"x\\"y"', '""',
@@ -159,9 +163,18 @@ class Drawer:
             self.write(f'#{which}')
         types.append(more[which])
 
+    def operation_name(self):
+        """The name of an operation, now and then with one of its letters as an escape."""
+        spelled = SPELLED.findall(self.one(NAMES))
+        letters = [place for place, it in enumerate(spelled) if it.isalpha()]
+        if letters and self.happens(0.15):
+            place = self.one(letters)
+            spelled[place] = self.one(['\\%02x', '\\%02X']) % ord(spelled[place])
+        return ''.join(spelled)
+
     def operation(self, depth):
         results = self.results()
-        self.write(self.one(['"a.b"', '"func.func"', '"x"', '"\\22q\\09"', '""', '"a \\\\ // b"']))
+        self.write(self.operation_name())
         self.write('(')
         operands = []
         self.listed(range(self.number(4)), lambda _: self.use(operands))

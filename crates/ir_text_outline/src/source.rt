@@ -1,7 +1,7 @@
 //! What is built: the text, its rows and what their names mean.
 ghost use Rattle.std.specs.Prelude.{◌≡◌, ◌≢◌, ◌⊎◌, ◌+◌, ◌++◌, ◌∷◌, [], List, ℕ, None, slice_index_or};
 ghost use Rattle.ir_text_names.specs.Rows.{text_of};
-ghost use Rattle.ir_text_outline.specs.Sources.{part_at};
+ghost use Rattle.ir_text_outline.specs.Sources.{digits_behind, held, part_at, with_digit};
 
 use ir_text_names::{Names, piece};
 use ir_text_tree::{Part, Row};
@@ -62,6 +62,7 @@ impl<'a> Source<'a> {
 
     /// Which of the values under its name an operand is.
     pub fn index(self, at: usize) -> usize
+        ensures number { part_at self.entry.rows.now (at + 1) ≡ Part.Index → result ≡ held (digits_behind 0 (text_of self.entry.text.now self.entry.rows.now (at + 1))) }
         ensures none { part_at self.entry.rows.now (at + 1) ≢ Part.Index → result ≡ 0 }
     {
         let behind = at.saturating_add(1);
@@ -73,6 +74,7 @@ impl<'a> Source<'a> {
 
     /// How many values stand under the name of a result.
     pub fn width(self, at: usize) -> usize
+        ensures number { part_at self.entry.rows.now (at + 1) ≡ Part.Count → result ≡ held (digits_behind 0 (text_of self.entry.text.now self.entry.rows.now (at + 1))) }
         ensures none { part_at self.entry.rows.now (at + 1) ≢ Part.Count → result ≡ 1 }
     {
         let behind = at.saturating_add(1);
@@ -83,15 +85,26 @@ impl<'a> Source<'a> {
     }
 }
 
+// A number with this digit behind its digits, as far as it can be held; what is no digit counts for nothing.
+fn with_digit(number: usize, byte: u8) -> usize
+    ensures { result ≡ held (with_digit number byte) }
+{
+    if byte.is_ascii_digit() {
+        number
+            .saturating_mul(10)
+            .saturating_add(byte.saturating_sub(b'0') as usize)
+    } else {
+        number
+    }
+}
+
 // The number that the digits of a piece make, as far as it can be held.
-fn number(piece: &[u8]) -> usize {
+fn number(piece: &[u8]) -> usize
+    ensures { result ≡ held (digits_behind 0 piece.now) }
+{
     let mut number: usize = 0;
     for byte in piece {
-        if byte.is_ascii_digit() {
-            number = number
-                .saturating_mul(10)
-                .saturating_add(byte.saturating_sub(b'0') as usize);
-        }
+        number = with_digit(number, *byte);
     }
     number
 }

@@ -1,9 +1,9 @@
 //! The rows of a tree, put one after another.
-ghost use Rattle.std.specs.Prelude.{◌≡◌, ◌≢◌, ◌⊎◌, ◌++◌, ◌≤◌, ◌<◌, ◌∷◌, [], length, IfOk, OnOk, if◌then◌else◌};
+ghost use Rattle.std.specs.Prelude.{◌≡◌, ◌≢◌, ◌⊎◌, ◌++◌, ◌≤◌, ◌<◌, ◌∷◌, [], length, nat_eq, ℕ, Some, IfOk, OnOk, if◌then◌else◌};
 ghost use Rattle.std.specs.Io.{StartsWith};
 ghost use Rattle.ir_text_tree.specs.Rows.{row, span};
 ghost use Rattle.ir_text_pieces.specs.Quotes.{key_text, quoted};
-ghost use Rattle.ir_text_pieces.specs.Writings.{PutsRow, PutsTwoRows};
+ghost use Rattle.ir_text_pieces.specs.Writings.{PutsRow, PutsTwoRows, name_piece, type_piece};
 
 use crate::bare_types::is_bare_type;
 use crate::description::Description;
@@ -197,7 +197,9 @@ impl TreeWriter {
     }
 
     /// The piece that the name of operations of this kind is, once it was written.
-    pub fn operation_name(&self, kind: u32) -> Option<Span> {
+    pub fn operation_name(&self, kind: u32) -> Option<Span>
+        ensures { result ≡ name_piece self.now kind }
+    {
         self.operation_names.get(&kind).copied()
     }
 
@@ -209,6 +211,7 @@ impl TreeWriter {
         ensures text { OnOk result (self.new.description.text.items ≡ self.old.description.text.items ++ quoted name.now) }
         ensures span { IfOk result (λ s. s ≡ span (length self.old.description.text.items) (length self.new.description.text.items)) }
         ensures rows { self.new.description.rows ≡ self.old.description.rows }
+        ensures kept { IfOk result (λ s. (k : ℕ) → name_piece self.new k ≡ (if nat_eq kind k then Some s else name_piece self.old k)) }
     {
         let start = self.description.text.len();
         write_quoted(&mut self.description.text, name)?;
@@ -218,7 +221,9 @@ impl TreeWriter {
     }
 
     /// The piece that the type at this place is, once it was written.
-    pub fn type_piece(&self, place: usize) -> Option<TypePiece> {
+    pub fn type_piece(&self, place: usize) -> Option<TypePiece>
+        ensures { result ≡ type_piece self.now place }
+    {
         self.types.get(&place).copied()
     }
 
@@ -230,6 +235,7 @@ impl TreeWriter {
         ensures text { OnOk result (self.new.description.text.items ≡ self.old.description.text.items ++ text.now) }
         ensures span { IfOk result (λ piece. piece.span ≡ span (length self.old.description.text.items) (length self.new.description.text.items)) }
         ensures rows { self.new.description.rows ≡ self.old.description.rows }
+        ensures kept { IfOk result (λ piece. (k : ℕ) → type_piece self.new k ≡ (if nat_eq place k then Some piece else type_piece self.old k)) }
     {
         let is_bare = is_bare_type(text, &mut self.brackets)?;
         let span = self.description.write(text)?;

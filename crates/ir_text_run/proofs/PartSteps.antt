@@ -1,5 +1,5 @@
 -- Parts that were spelled again, one behind the other.
-use Rattle.std.proofs.Common.{◌≡◌, ◌≢◌, ◌⊎◌, inl, inr, ℕ, MatchOption, OnOk, arith, Result, Ok, Err, IfErr, ◌++◌, List, [], ◌∷◌, Option, None, Some, IfSome, refl, sym, ap, subst, ◌∙◌, append-nil, codes}
+use Rattle.std.proofs.Common.{◌≡◌, ◌≢◌, inl, inr, ℕ, MatchOption, OnOk, arith, Result, Ok, Err, IfErr, ◌++◌, List, [], ◌∷◌, Option, None, Some, IfSome, refl, sym, ap, subst, ◌∙◌, append-nil, codes}
 use Rattle.std.specs.Io.KnownBytes.{Keeps, Appends}
 use Rattle.std.proofs.KnownBytes.{Keeps-refl, Keeps-trans, Appends-kept}
 use Rattle.ir_text_spelling.specs.TreeTexts.{tree_text}
@@ -7,7 +7,7 @@ use Rattle.ir_text_run.specs.Respellings.{Respells, RespellsOrKeeps, RespellsFro
 use Rattle.ir_text_run.specs.declared.fault.Fault.{Fault}
 use Rattle.ir_text_run.specs.declared.fault.Fault.TheVariants as faults
 use Rattle.ir_text_run.specs.Endings.{status_of}
-use Rattle.ir_text_run.specs.Parts.{IsOnePart, IsDivided, WritesBefore, WritesParts, RespellsParts, RespellsSomeParts}
+use Rattle.ir_text_run.specs.Parts.{IsOnePart, IsDivided, WritesBefore, RespellsParts, RespellsSomeParts}
 
 -- known bytes that stayed, and then grew
 kept_appends : (a b c : Option (List ℕ)) (x : List ℕ) → Keeps a b → Appends b c x → Appends a c x

@@ -112,6 +112,21 @@ const ROWS: &[Row] = &[
         b"\"builtin.module\"() ({\n  \"t.r\"() ({\n    \"t.end\"() : () -> ()\n  }) : () -> ()\n}) : () -> ()\n",
         b"",
     ),
+    // A name that is written with an escape is the name that it stands for: it is printed so, and is known to the table.
+    (
+        b"%a = \"arith\\2Econstant\"() {value = 1 : i32} : () -> i32 \"t.use\"(%a) : (i32) -> ()",
+        PLAIN,
+        0,
+        b"\"builtin.module\"() ({\n  %0 = \"arith.constant\"() {value = 1 : i32} : () -> i32\n  \"t.use\"(%0) : (i32) -> ()\n}) : () -> ()\n",
+        b"",
+    ),
+    (
+        b"%a = \"arith\\2Econstant\"() {value = 1 : i32} : () -> i32 \"t.end\"() : () -> ()",
+        SWEEP,
+        0,
+        b"\"builtin.module\"() ({\n  \"t.end\"() : () -> ()\n}) : () -> ()\n",
+        b"",
+    ),
     // What passes did is told.
     (
         b"%a = \"arith.constant\"() {value = 1 : i32} : () -> i32 \"t.end\"() : () -> ()",

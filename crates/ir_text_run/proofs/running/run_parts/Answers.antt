@@ -1,4 +1,4 @@
-use Rattle.std.proofs.Common.{rules, ◌≡◌, ℕ, List, sym, subst, inr}
+use Rattle.std.proofs.Common.{rules, ◌≡◌, ℕ, List, subst, inr}
 use Rattle.ir_text_run.specs.Parts.{RespellsSomeParts}
 use Rattle.ir_text_run.proofs.PartSteps.{of_known}
 use Rattle.ir_text_run.proofs.running.run_parts.Goals as goal
