@@ -11,6 +11,8 @@ pub mod Chains
 pub mod EachBlock
 pub mod KeptWalk
 pub mod MetSoFar
+pub mod NamedOperands
 pub mod Places
 pub mod Replacing
+pub mod Rising
 pub mod Unmet

@@ -116,7 +116,7 @@ fn merge_in_order<D: Dialects>(
 ///
 /// Two operations are alike where both are plain, of one kind, with equal attributes, the same operands and the same types of results. Plain is what has neither regions nor successors and is of a kind that implements `PURE_OPERATION`. Of two alike ones the later goes, and what named its results names the earlier's, place by place, until no two alike are left. A block is in order where no operation stands before one of the block whose result it names. pliron has no such call.
 ///
-/// It goes through the block twice. The first way sees whether the block is in order, with a look-up for each operation and for each operand that an operation gives. The second has a look-up by hash for each plain operation, and one more for each that is kept.
+/// It goes through the block twice. The first way sees whether the block is in order: without memory where the slots of its operations rise, as those of operations do that were made one after the other, and else with a look-up for each operation and for each operand that an operation gives. The second has a look-up by hash for each plain operation, and one more for each that is kept.
 ///
 /// # Errors
 /// `OutOfMemory` where a table had to grow, or the list of a value's uses, and couldn't. Then some alike operations were merged, and of one more some results may have been replaced already: the forest is well formed, and what is left sees the same values.

@@ -1,4 +1,6 @@
 //! Whether a block is in order: no operation stands before one of the block whose result it names.
+//!
+//! Operations that were made one after the other are in slots that rise. Where they stand so in the block, no table is needed.
 
 ghost use Rattle.std.specs.Prelude.{◌≡◌, ◌↔◌, IsTrue, IfErr, IfOk};
 ghost use Rattle.ir_model.specs.Forest.{a_block, a_value, an_op};
@@ -6,7 +8,7 @@ ghost use Rattle.ir_model.specs.Nesting.{In, IsLive, IsLiveNamed, ops_of};
 ghost use Rattle.ir_model_passes.specs.InOrder.{InOrder};
 ghost use Rattle.ir_core_queries.specs.State.{forest_of};
 ghost use Rattle.ir_core_records.specs.Meaning.{value_of};
-ghost use Rattle.ir_run_passes.specs.Ordering.{IsUnmet, NamesUnmet};
+ghost use Rattle.ir_run_passes.specs.Ordering.{IsUnmet, NamesUnmet, IsFromAbove, NamesAbove, RisesInOrder};
 
 use indexmap::IndexSet;
 use ir_base_dialects::{ArenaIndex, CoreError, Dialects, Ptr};
@@ -75,10 +77,10 @@ fn names_unmet<D: Dialects>(
     false
 }
 
-/// Whether a live block is in order.
-///
-/// It meets the operations from the front to the back, and looks up each operation that gives an operand among those that it met.
-pub(crate) fn is_in_order<D: Dialects>(
+// Whether a live block is in order, by a table of the operations that were met.
+//
+// It meets the operations from the front to the back, and looks up each operation that gives an operand among those that it met.
+fn is_in_order_by_table<D: Dialects>(
     ctx: &Context<D>,
     block: Ptr<BasicBlock<D>>,
 ) -> Result<bool, CoreError>
@@ -95,4 +97,77 @@ pub(crate) fn is_in_order<D: Dialects>(
         }
     }
     Ok(true)
+}
+
+// Whether an operation of the block that is in a slot above this one gives the live value.
+fn is_from_above<D: Dialects>(
+    ctx: &Context<D>,
+    block: Ptr<BasicBlock<D>>,
+    slot: u32,
+    value: Value<D>,
+) -> bool
+    requires { IsLiveNamed (forest_of ctx.now) (a_value (value_of value.index)) }
+    ensures { IsTrue result ↔ IsFromAbove (forest_of ctx.now) block.index slot (value_of value.index) }
+{
+    let Some(definer) = value.defining_op() else {
+        return false;
+    };
+    if definer.index.slot <= slot {
+        return false;
+    }
+    stands_in(ctx, definer, block)
+}
+
+// Whether a live operation names a result of one of the block that is in a slot above its own.
+fn names_above<D: Dialects>(
+    ctx: &Context<D>,
+    block: Ptr<BasicBlock<D>>,
+    user: Ptr<Operation<D>>,
+) -> bool
+    requires { IsLive (forest_of ctx.now) (an_op user.index) }
+    ensures { IsTrue result ↔ NamesAbove (forest_of ctx.now) block.index user.index }
+{
+    let operation = user.deref(ctx);
+    for index in 0..operation.get_num_operands() {
+        if is_from_above(ctx, block, user.index.slot, operation.get_operand(index)) {
+            return true;
+        }
+    }
+    false
+}
+
+// Whether each operation of a live block is in a slot above that of the one before it, and names no result of one of the block that is in a slot above its own. Such a block is in order.
+fn rises_in_order<D: Dialects>(ctx: &Context<D>, block: Ptr<BasicBlock<D>>) -> bool
+    requires { IsLive (forest_of ctx.now) (a_block block.index) }
+    ensures { IsTrue result ↔ RisesInOrder (forest_of ctx.now) block.index }
+{
+    ctx.recall_well_formed();
+    let mut slot = 0;
+    for op in block.iter(ctx) {
+        if op.index.slot <= slot {
+            return false;
+        }
+        if names_above(ctx, block, op) {
+            return false;
+        }
+        slot = op.index.slot;
+    }
+    true
+}
+
+/// Whether a live block is in order.
+///
+/// Where the slots of its operations rise it goes through them once, without memory. Elsewhere it looks up each operation, and each that gives an operand, in a table of those that it met.
+pub(crate) fn is_in_order<D: Dialects>(
+    ctx: &Context<D>,
+    block: Ptr<BasicBlock<D>>,
+) -> Result<bool, CoreError>
+    requires { IsLive (forest_of ctx.now) (a_block block.index) }
+    ensures order { IfOk result (λ answer. IsTrue answer ↔ InOrder (forest_of ctx.now) block.index) }
+    ensures memory { IfErr result (λ e. e ≡ CoreError.OutOfMemory) }
+{
+    if rises_in_order(ctx, block) {
+        return Ok(true);
+    }
+    is_in_order_by_table(ctx, block)
 }

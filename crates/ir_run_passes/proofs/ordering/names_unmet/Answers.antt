@@ -5,7 +5,8 @@ use Rattle.std.specs.Option.{option_map}
 use Rattle.ir_model.specs.Nesting.{list_of}
 use Rattle.ir_core_queries.specs.State.{forest_of}
 use Rattle.ir_core_records.specs.Meaning.{op_record, value_of}
-use Rattle.ir_run_passes.proofs.Unmet.{unmet_here, unmet_not_here, none_unmet}
+use Rattle.ir_run_passes.specs.Ordering.{IsUnmet}
+use Rattle.ir_run_passes.proofs.NamedOperands.{named_here, not_named_here, none_named}
 use Rattle.ir_run_passes.proofs.ordering.names_unmet.Goals as goal
 
 pub loop-index-init : goal.loop-index-init
@@ -15,13 +16,13 @@ pub returns-then-is_unmet : goal.returns-then-is_unmet
 returns-then-is_unmet g c =
     let f = forest_of c.args.ctx.now in
     let named = ap (λ m. option_map (λ p. p.value) (slice_get (list_of (λ r. r.operands) m) c.loop-index.index)) c.deref-operation.ensures.found.found ∙ c.get_operand.ensures in
-    (λ t. unmet_here f c.args.block.index c.args.met.now.keys c.args.user.index c.loop-index.index (value_of c.get_operand.result.index) named (c.is_unmet.ensures.0 c.if-is_unmet.true), λ n. refl)
+    (λ t. named_here f (IsUnmet f c.args.block.index c.args.met.now.keys) c.args.user.index c.loop-index.index (value_of c.get_operand.result.index) named (c.is_unmet.ensures.0 c.if-is_unmet.true), λ n. refl)
 
 pub loop-index-preserved : goal.loop-index-preserved
 loop-index-preserved g c =
     let f = forest_of c.args.ctx.now in
     let named = ap (λ m. option_map (λ p. p.value) (slice_get (list_of (λ r. r.operands) m) c.loop-index.index)) c.deref-operation.ensures.found.found ∙ c.get_operand.ensures in
-    unmet_not_here f c.args.block.index c.args.met.now.keys c.args.user.index c.loop-index.index (value_of c.get_operand.result.index) named
+    not_named_here f (IsUnmet f c.args.block.index c.args.met.now.keys) c.args.user.index c.loop-index.index (value_of c.get_operand.result.index) named
     (λ u. false≢true (sym c.if-is_unmet.false ∙ c.is_unmet.ensures.1 u)) c.loop-index.invariant
 
 pub returns : goal.returns
@@ -31,5 +32,5 @@ returns g c =
     let told = c.get_num_operands-index-end.ensures in
     let over = c.loop-index-test.false in (
       λ t. absurd (false≢true t),
-      λ n. absurd (none_unmet f c.args.block.index c.args.met.now.keys c.args.user.index _ refl (λ k p lt. c.loop-index.invariant k p (omega (arith, lt, count, told, over))) n),
+      λ n. absurd (none_named f (IsUnmet f c.args.block.index c.args.met.now.keys) c.args.user.index _ refl (λ k p lt. c.loop-index.invariant k p (omega (arith, lt, count, told, over))) n.0 n.1 n.2),
     )

@@ -1,6 +1,6 @@
 use Rattle.ir_core_queries.specs.State.{forest_of}
 use Rattle.ir_run_passes.proofs.MetSoFar.{MetSoFar}
-use Rattle.ir_run_passes.proofs.ordering.is_in_order.Given as goal
+use Rattle.ir_run_passes.proofs.ordering.is_in_order_by_table.Given as goal
 
 -- those that were met are in order, and the rest is ahead
 abbrev pub invariant-loop-op : goal.invariant-loop-op
