@@ -1,6 +1,8 @@
 -- What is said of an answer that is the fault that a check told.
-use Rattle.std.proofs.Common.{◌≡◌, ◌⊎◌, refl, sym, subst, inl, inr, true, false, List}
+use Rattle.std.proofs.Common.{◌≡◌, ◌⊎◌, refl, sym, ap, ◌∙◌, subst, inl, inr, true, false, List}
 use Rattle.std.specs.Prelude.{Result, Ok, Err, IfErr, IsOk, OnErr}
+use Rattle.ir_model.specs.declared.error.CoreError.{CoreError}
+use Rattle.ir_model.specs.declared.error.CoreError.TheVariants.{OutOfMemory}
 use Rattle.ir_model.specs.declared.ids.ArenaIndex.{ArenaIndex}
 use Rattle.ir_model.specs.ContextIds.{context_ids}
 use Rattle.ir_model.specs.Forest.{Dialect, Forest}
@@ -87,3 +89,17 @@ at_error X r e is x = subst (λ z. IfErr z X) (sym is) x
 pub passed_on : (T : Type 0) {U : Type 0} (e : CheckedErr) (r : Result U CheckedErr) → r ≡ Err e → Made {T = T} (Err e) (IsOk {T = T} {E = CheckedErr} (Err e)) → Made r (IfErr r (λ x. x ≡ out_of_memory))
 passed_on T (Unmet u) r is h = subst (λ z. Made z (IfErr z (λ x. x ≡ out_of_memory))) (sym is) tt
 passed_on T (Core c) r is h = no_wonder h
+
+-- memory lacked, as a call of another error told
+module _ {T : Type 0} (r : Result T CheckedErr) where
+  pub lacked_as : (x : CoreError) → r ≡ Err (Core x) → x ≡ OutOfMemory → r ≡ Err out_of_memory
+  lacked_as x is why = is ∙ ap (λ y. Err (Core y)) why
+
+  pub lacked : r ≡ Err out_of_memory → IfErr r (λ x. x ≡ out_of_memory)
+  lacked is = subst (λ z. IfErr z (λ x. x ≡ out_of_memory)) (sym is) refl
+
+  pub made_lacked : r ≡ Err out_of_memory → Made r (IfErr r (λ x. x ≡ out_of_memory))
+  made_lacked is = subst (λ z. Made z (IfErr z (λ x. x ≡ out_of_memory))) (sym is) refl
+
+  pub not_unmet : {P : Type 0} → r ≡ Err out_of_memory → OnUnmet r P
+  not_unmet {P = P} is = subst (λ z. OnUnmet z P) (sym is) tt

@@ -1,6 +1,8 @@
 use Rattle.std.proofs.Common.{◌≡◌, Err, refl, rules}
+use Rattle.ir_checked_core.specs.Answers.{out_of_memory}
+use Rattle.ir_checked_core.specs.declared.error.CheckedErr.TheVariants.{Core}
 use Rattle.ir_rewrite.proofs.Notes.{adds_none, adds_still}
-use Rattle.ir_rewrite.proofs.Passed.{on_refused, on_unmet, passed_on}
+use Rattle.ir_rewrite.proofs.Passed.{lacked_as, made_lacked, not_unmet, on_refused, on_unmet, passed_on}
 use Rattle.ir_rewrite.proofs.rewriter.Rewriter.erase_op.Goals as goal
 
 pub erase-requires-clause-closed : goal.erase-requires-clause-closed
@@ -25,3 +27,23 @@ returns-in_err-push-clause-told_partly g c = on_refused _ (adds_still c.args.sel
 
 pub returns-clause-noted : goal.returns-clause-noted
 returns-clause-noted g c = (c.note_definers.new.changes.items, c.note_definers.ensures.noted, c.in_ok-push.ensures.items)
+
+pub returns-in_err-note_definers-clause-memory : goal.returns-in_err-note_definers-clause-memory
+returns-in_err-note_definers-clause-memory g c =
+    let is : c.from_residual-in_err-note_definers.result ≡ Err (Core c.in_err-note_definers.field-0.0) = search rules in
+    made_lacked _ (lacked_as _ _ is c.in_err-note_definers.ensures.memory)
+
+pub returns-in_err-note_definers-clause-told : goal.returns-in_err-note_definers-clause-told
+returns-in_err-note_definers-clause-told g c =
+    let is : c.from_residual-in_err-note_definers.result ≡ Err (Core c.in_err-note_definers.field-0.0) = search rules in
+    not_unmet _ (lacked_as _ _ is c.in_err-note_definers.ensures.memory)
+
+pub returns-in_err-push-clause-memory : goal.returns-in_err-push-clause-memory
+returns-in_err-push-clause-memory g c =
+    let is : c.from_residual-in_err-push.result ≡ Err out_of_memory = search rules in
+    made_lacked _ is
+
+pub returns-in_err-push-clause-told : goal.returns-in_err-push-clause-told
+returns-in_err-push-clause-told g c =
+    let is : c.from_residual-in_err-push.result ≡ Err out_of_memory = search rules in
+    not_unmet _ is

@@ -1,7 +1,9 @@
-use Rattle.std.proofs.Common.{refl, sym, ◌∙◌}
+use Rattle.std.proofs.Common.{refl, sym, ◌∙◌, ◌≡◌, Err, rules}
+use Rattle.ir_checked_core.specs.Answers.{out_of_memory}
+use Rattle.ir_checked_core.specs.declared.error.CheckedErr.TheVariants.{Core}
 use Rattle.std.proofs.lemmas.Bool.{false≢true}
 use Rattle.ir_rewrite.proofs.Notes.{adds_still}
-use Rattle.ir_rewrite.proofs.Passed.{on_err}
+use Rattle.ir_rewrite.proofs.Passed.{lacked, lacked_as, on_err}
 use Rattle.ir_rewrite.proofs.rewriter.Rewriter.modified.Goals as goal
 
 pub returns-then-not-is_live-clause-noted : goal.returns-then-not-is_live-clause-noted
@@ -27,3 +29,13 @@ returns-clause-noted g c = λ _. (c.note_users.new.changes.items, c.note_users.e
 
 pub returns-clause-dead : goal.returns-clause-dead
 returns-clause-dead g c = λ dead. absurd (dead (c.is_live.ensures.0 c.if-not-is_live.false))
+
+pub returns-in_err-note_users-clause-memory : goal.returns-in_err-note_users-clause-memory
+returns-in_err-note_users-clause-memory g c =
+    let is : c.from_residual.result ≡ Err (Core c.in_err-note_users.field-0.0) = search rules in
+    lacked _ (lacked_as _ _ is c.in_err-note_users.ensures.memory)
+
+pub returns-in_err-push-clause-memory : goal.returns-in_err-push-clause-memory
+returns-in_err-push-clause-memory g c =
+    let is : c.from_residual-in_err-push.result ≡ Err out_of_memory = search rules in
+    lacked _ is
