@@ -101,5 +101,5 @@ module _ {T : Type 0} (r : Result T CheckedErr) where
   pub made_lacked : r ≡ Err out_of_memory → Made r (IfErr r (λ x. x ≡ out_of_memory))
   made_lacked is = subst (λ z. Made z (IfErr z (λ x. x ≡ out_of_memory))) (sym is) refl
 
-  pub not_unmet : {P : Type 0} → r ≡ Err out_of_memory → OnUnmet r P
-  not_unmet {P = P} is = subst (λ z. OnUnmet z P) (sym is) tt
+  pub not_unmet : (P : Type 0) → r ≡ Err out_of_memory → OnUnmet r P
+  not_unmet P is = subst (λ z. OnUnmet z P) (sym is) tt

@@ -61,7 +61,7 @@ returns-in_err-note_definers-clause-memory g c =
 pub returns-in_err-note_definers-clause-told : goal.returns-in_err-note_definers-clause-told
 returns-in_err-note_definers-clause-told g c =
     let is : c.from_residual-in_err-note_definers.result ≡ Err (Core c.in_err-note_definers.field-0.0) = search rules in
-    not_unmet _ (lacked_as _ _ is c.in_err-note_definers.ensures.memory)
+    not_unmet _ _ (lacked_as _ _ is c.in_err-note_definers.ensures.memory)
 
 pub returns-in_err-note_users-clause-memory : goal.returns-in_err-note_users-clause-memory
 returns-in_err-note_users-clause-memory g c =
@@ -71,7 +71,7 @@ returns-in_err-note_users-clause-memory g c =
 pub returns-in_err-note_users-clause-told : goal.returns-in_err-note_users-clause-told
 returns-in_err-note_users-clause-told g c =
     let is : c.from_residual-in_err-note_users.result ≡ Err (Core c.in_err-note_users.field-0.0) = search rules in
-    not_unmet _ (lacked_as _ _ is c.in_err-note_users.ensures.memory)
+    not_unmet _ _ (lacked_as _ _ is c.in_err-note_users.ensures.memory)
 
 pub returns-in_err-push-clause-memory : goal.returns-in_err-push-clause-memory
 returns-in_err-push-clause-memory g c =
@@ -81,7 +81,7 @@ returns-in_err-push-clause-memory g c =
 pub returns-in_err-push-clause-told : goal.returns-in_err-push-clause-told
 returns-in_err-push-clause-told g c =
     let is : c.from_residual-in_err-push.result ≡ Err out_of_memory = search rules in
-    not_unmet _ is
+    not_unmet _ _ is
 
 pub returns-in-Err-clause-memory : goal.returns-in-Err-clause-memory
 returns-in-Err-clause-memory g c = ap (λ x. Core x) c.in-Err.ensures.memory
