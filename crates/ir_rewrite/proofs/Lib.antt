@@ -1,5 +1,6 @@
 pub mod Lists
 pub mod May
+pub mod Notes
 pub mod Passed
 pub mod Redirects
 pub mod Replaceable

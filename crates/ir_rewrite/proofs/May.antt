@@ -4,13 +4,13 @@ use Rattle.std.specs.Prelude.{◌↔◌, Result, Ok, Err, IsOk}
 use Rattle.ir_model.specs.declared.ids.ArenaIndex.{ArenaIndex}
 use Rattle.ir_model.specs.ContextIds.{context_ids}
 use Rattle.ir_model.specs.Forest.{Dialect, Forest, a_block, an_op}
-use Rattle.ir_model.specs.Nesting.{IsLive, Nested}
+use Rattle.ir_model.specs.Nesting.{IsClosed, IsLive, Nested}
 use Rattle.ir_model.specs.Edits.{MayGoBeside, MayGoInto}
 use Rattle.ir_checked_core.specs.declared.error.Call.{Call}
 use Rattle.ir_checked_core.specs.declared.error.CheckedErr.{CheckedErr}
 use Rattle.ir_checked_core.specs.Answers.{own_value}
 use Rattle.ir_core_records.specs.declared.handles.Value.{Value}
-use Rattle.ir_rewrite.specs.Answers.{InsertBesideAnswers, InsertIntoAnswers, MoveAnswers, ReplaceAnswers}
+use Rattle.ir_rewrite.specs.Answers.{EraseAnswers, InsertBesideAnswers, InsertIntoAnswers, MoveAnswers, ReplaceAnswers}
 use Rattle.ir_rewrite.specs.Points.{MayMoveBeside}
 use Rattle.ir_rewrite.specs.Replacing.{MayReplace}
 
@@ -54,6 +54,10 @@ module _ {T : Type 0} {W : Dialect} (f : Forest context_ids W) (o : ArenaIndex) 
       (λ _. h5.0, λ _. refl)
   move_may nested call mark (Err e) h =
       (λ k. no_wonder k, λ m. absurd (fault_of h (nested.live (an_op o) m.0.0 m.0.1) (λ h1. fault_of h1 m.0 (λ h2. fault_of h2 (nested.live (an_op mark) m.2.0 m.2.1) (λ h3. fault_of h3 (m.2.0, m.2.1) (λ h4. fault_of h4 m (λ z. z)))))))
+
+  pub erase_may : (r : Result T CheckedErr) → EraseAnswers f o own_value r → IsOk r → IsLive f (an_op o) × IsClosed f (an_op o)
+  erase_may (Ok x) h = let h1 = rest_of h in let h2 = rest_of h1.1 in λ _. (h1.0, h2.0)
+  erase_may (Err e) h = λ k. no_wonder k
 
   pub replace_may : {D A K B S X L : Type 0} (values : List (Value D A K B S X L)) (r : Result T CheckedErr) → ReplaceAnswers f o values own_value r → IsOk r ↔ MayReplace f o values
   replace_may values (Ok x) h =

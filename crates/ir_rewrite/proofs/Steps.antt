@@ -1,11 +1,13 @@
 -- Steps of a driver, and the round after which it ends.
-use Rattle.std.proofs.Common.{◌≡◌, sym, subst, ℕ, ◌+◌, All, List, map, add-one, Bool, true, false}
-use Rattle.std.specs.Prelude.{Ok}
+use Rattle.std.proofs.Common.{◌≡◌, ◌⊎◌, ◌≤◌, sym, subst, inl, inr, ℕ, ◌+◌, All, List, map, add-one, Bool, true, false}
+use Rattle.std.specs.Prelude.{Result, Ok, Err, IfErr}
+use Rattle.ir_checked_core.specs.Answers.{out_of_memory}
 use Rattle.ir_checked_core.specs.declared.error.CheckedErr.{CheckedErr}
 use Rattle.ir_model.specs.declared.ids.ArenaIndex.{ArenaIndex}
 use Rattle.ir_model.specs.ContextIds.{context_ids}
 use Rattle.ir_model.specs.Forest.{Dialect, Forest, an_op}
 use Rattle.ir_model.specs.Nesting.{In, Inside}
+use Rattle.ir_rewrite.proofs.Passed.{at_error}
 use Rattle.ir_rewrite.specs.Driving.{NoneApplies, OnNo, OnYes, OneChanges, Rewrites, Stands, one_step}
 
 module _ {W : Dialect} {S P : Type 0} (forest : S → Forest context_ids W) (root : ArenaIndex) (patterns : List P) where
@@ -19,6 +21,25 @@ module _ {W : Dialect} {S P : Type 0} (forest : S → Forest context_ids W) (roo
       → ((o : ArenaIndex) → In o (map index todo) → Stands (forest s) root o → All (λ p. declines p s o) patterns)
       → NoneApplies forest declines root patterns t
   none_applies index declines s t todo same all declined = subst (λ z. NoneApplies forest declines root patterns z) (sym same) (λ o st. declined o (all o st.1) st)
+
+  -- what a pattern failed at since nothing had changed
+  pub failed_since : {T : Type 0} (fails : P → S → ArenaIndex → CheckedErr → S → Type 0) (r : Result T CheckedErr) (e : CheckedErr) → r ≡ Err e → (s t u : S) → t ≡ s
+      → OneChanges forest (λ p x o y. fails p x o e y) root patterns t u → IfErr r (λ z. OneChanges forest (λ p x o y. fails p x o z y) root patterns s u)
+  failed_since fails r e is s t u same one =
+      at_error (λ z. OneChanges forest (λ p x o y. fails p x o z y) root patterns s u) r e is
+      (subst (λ v. OneChanges forest (λ p x o y. fails p x o e y) root patterns v u) same one)
+
+  module _ (changes : P → S → ArenaIndex → S → Type 0) (fails : P → S → ArenaIndex → CheckedErr → S → Type 0) (s u : S) (limit : ℕ) where
+    -- what a driver leaves that ends with this error
+    abbrev pub Leaves : CheckedErr → Type 0
+    Leaves z = (t : S) × (n : ℕ) × Rewrites forest changes root patterns s t n × (n ≤ limit) × (((z ≡ out_of_memory) × (u ≡ t)) ⊎ OneChanges forest (λ p x o y. fails p x o z y) root patterns t u)
+
+    module _ {T : Type 0} (r : Result T CheckedErr) (e : CheckedErr) (is : r ≡ Err e) (t : S) (n : ℕ) (steps : Rewrites forest changes root patterns s t n) (within : n ≤ limit) where
+      pub lacking : e ≡ out_of_memory → u ≡ t → IfErr r Leaves
+      lacking why same = at_error Leaves r e is (t, n, steps, within, inl (why, same))
+
+      pub failing : OneChanges forest (λ p x o y. fails p x o e y) root patterns t u → IfErr r Leaves
+      failing one = at_error Leaves r e is (t, n, steps, within, inr one)
 
 -- where the answer is no, what is said on no
 pub on_no : {P : Type 0} (b : Bool) → b ≡ false → OnNo {E = CheckedErr} (Ok b) P → P

@@ -1,6 +1,6 @@
 //! Patterns asked of operations.
 
-ghost use Rattle.std.specs.Prelude.{◌≡◌, All, map};
+ghost use Rattle.std.specs.Prelude.{◌≡◌, All, IfErr, map};
 ghost use Rattle.ir_model.specs.declared.ids.ArenaIndex.{ArenaIndex};
 ghost use Rattle.ir_model.specs.Forest.{an_op};
 ghost use Rattle.ir_model.specs.Nesting.{In, IsLive};
@@ -24,6 +24,7 @@ fn ask<D: Dialects, P: Pattern<D>>(
     ensures unchanged { OnNo result (ctx.new ≡ ctx.old) }
     ensures declined { OnNo result (All (λ p. P.declines p ctx.old op.index) patterns.now) }
     ensures changed { OnYes result ((p : _) × In p patterns.now × P.changes p ctx.old op.index ctx.new) }
+    ensures failed { IfErr result (λ e. (p : _) × In p patterns.now × P.fails p ctx.old op.index e ctx.new) }
 {
     for pattern in patterns {
         rewriter.go_to(op);
@@ -46,6 +47,7 @@ fn ask_inside<D: Dialects, P: Pattern<D>>(
     ensures unchanged { OnNo result (ctx.new ≡ ctx.old) }
     ensures declined { OnNo result (Stands (forest_of ctx.old) root.index op.index → All (λ p. P.declines p ctx.old op.index) patterns.now) }
     ensures changed { OnYes result (OneChanges forest_of P.changes root.index patterns.now ctx.old ctx.new) }
+    ensures failed { IfErr result (λ e. OneChanges forest_of (λ p s o t. P.fails p s o e t) root.index patterns.now ctx.old ctx.new) }
 {
     if !op.is_live(ctx) {
         return Ok(false);
@@ -67,6 +69,7 @@ pub(crate) fn ask_each<D: Dialects, P: Pattern<D>>(
     ensures unchanged { OnNo result (ctx.new ≡ ctx.old) }
     ensures declined { OnNo result ((o : ArenaIndex) → In o (map (λ p. p.index) todo.old.items) → Stands (forest_of ctx.old) root.index o → All (λ p. P.declines p ctx.old o) patterns.now) }
     ensures changed { OnYes result (OneChanges forest_of P.changes root.index patterns.now ctx.old ctx.new) }
+    ensures failed { IfErr result (λ e. OneChanges forest_of (λ p s o t. P.fails p s o e t) root.index patterns.now ctx.old ctx.new) }
 {
     while let Some(op) = todo.pop() {
         let changed = ask_inside(ctx, root, patterns, rewriter, op)?;

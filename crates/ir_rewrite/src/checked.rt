@@ -1,7 +1,7 @@
 //! The calls of `operation` with their conditions tested. Each answers the first condition that doesn't hold, with the call of the core that has it, and then nothing has changed.
 
-ghost use Rattle.std.specs.Prelude.{◌≡◌, OnErr, OnOk};
-ghost use Rattle.ir_checked_core.specs.Answers.{Made, OnRefused, OnUnmet, own_answer, own_value};
+ghost use Rattle.std.specs.Prelude.{◌≡◌, IfErr, OnErr, OnOk};
+ghost use Rattle.ir_checked_core.specs.Answers.{Made, OnRefused, OnUnmet, out_of_memory, own_answer, own_value};
 ghost use Rattle.ir_checked_core.specs.declared.error.Call.TheVariants.{OperationInsertAfter, OperationInsertBefore};
 ghost use Rattle.ir_model.specs.Changes.{Removes, in_blocks, put_after, put_before, without};
 ghost use Rattle.ir_model.specs.ContextIds.{same_id};
@@ -92,8 +92,9 @@ pub fn replace_op<D: Dialects>(
     ensures conditions { ReplaceAnswers (forest_of ctx.old) op.index values.now own_answer result }
     ensures forest { OnOk result (Removes (redirect_each (forest_of ctx.old) (results_beside (forest_of ctx.old) op.index values.now)) (an_op op.index) (forest_of ctx.new)) }
     ensures rest { Made result (SameButForest (bare ctx.old) (bare ctx.new)) }
-    ensures memory { OnRefused result (RedirectsSome (forest_of ctx.old) (results_beside (forest_of ctx.old) op.index values.now) (forest_of ctx.new)) }
-    ensures err { OnUnmet result (ctx.new ≡ ctx.old) }
+    ensures memory { Made result (IfErr result (λ e. e ≡ out_of_memory)) }
+    ensures partly { OnRefused result (RedirectsSome (forest_of ctx.old) (results_beside (forest_of ctx.old) op.index values.now) (forest_of ctx.new)) }
+    ensures unmet { OnUnmet result (ctx.new ≡ ctx.old) }
 {
     check_replace(ctx, op, values)?;
     match operation::replace_op(op, ctx, values) {

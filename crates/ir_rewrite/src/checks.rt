@@ -1,7 +1,7 @@
 //! Which condition of a call doesn't hold, if one doesn't. Each is tested once, and nothing changes.
 
 ghost use Rattle.std.specs.Prelude.{◌≡◌, ◌↔◌, All, IsOk, IsTrue, length};
-ghost use Rattle.ir_checked_core.specs.Answers.{own_value};
+ghost use Rattle.ir_checked_core.specs.Answers.{Made, own_value};
 ghost use Rattle.ir_model.specs.ContextIds.{context_ids};
 ghost use Rattle.ir_model.specs.Forest.{a_block, a_region, a_value, an_op, definer_entity, of_op};
 ghost use Rattle.ir_model.specs.Nesting.{IsClosed, IsLive, IsLiveNamed, definitions_of, regions_of};
@@ -103,6 +103,7 @@ pub(crate) fn check_insert<D: Dialects>(
 ) -> Result<(), CheckedErr>
     ensures conditions { InsertAnswers (forest_of ctx.now) point op.index own_value result }
     ensures may { IsOk result ↔ MayGoAt (forest_of ctx.now) point op.index }
+    ensures told { Made result (IsOk result) }
 {
     ctx.recall_well_formed();
     match point {
@@ -130,6 +131,7 @@ pub(crate) fn check_move<D: Dialects>(
 ) -> Result<(), CheckedErr>
     ensures conditions { MoveAnswers call (forest_of ctx.now) op.index mark.index own_value result }
     ensures may { IsOk result ↔ MayMoveBeside (forest_of ctx.now) op.index mark.index }
+    ensures told { Made result (IsOk result) }
 {
     ctx.recall_well_formed();
     first_unmet_of_move(ctx, op, mark, call)
@@ -173,6 +175,17 @@ pub(crate) fn check_erase<D: Dialects>(
     ensures conditions { EraseAnswers (forest_of ctx.now) op.index own_value result }
     ensures live { IsOk result → IsLive (forest_of ctx.now) (an_op op.index) }
     ensures closed { IsOk result → IsClosed (forest_of ctx.now) (an_op op.index) }
+    ensures told { Made result (IsOk result) }
+{
+    first_unmet_of_erasing(ctx, op)
+}
+
+// Which condition of an erasure doesn't hold.
+fn first_unmet_of_erasing<D: Dialects>(
+    ctx: &Context<D>,
+    op: Ptr<Operation<D>>,
+) -> Result<(), CheckedErr>
+    ensures { EraseAnswers (forest_of ctx.now) op.index own_value result }
 {
     if !op.is_live(ctx) {
         return Err(unmet(Call::OperationErase, Condition::DeadOperation));
@@ -264,6 +277,7 @@ pub(crate) fn check_replace<D: Dialects>(
 ) -> Result<(), CheckedErr>
     ensures conditions { ReplaceAnswers (forest_of ctx.now) op.index values.now own_value result }
     ensures may { IsOk result ↔ MayReplace (forest_of ctx.now) op.index values.now }
+    ensures told { Made result (IsOk result) }
 {
     first_unmet_of_replacing(ctx, op, values)
 }

@@ -4,7 +4,7 @@ use crate::rewriter::Change;
 use ir_base_dialects::{Dialects, Ptr};
 use ir_core_queries::{Context, Operation};
 
-/// What a driver tells of each change that a pattern noted, once the pattern has answered. It stands for pliron's `RewriteListener`.
+/// What a driver tells of each change that a pattern noted, once the pattern has answered yes. It stands for pliron's `RewriteListener`.
 pub trait Listener<D: Dialects> {
     /// The operation was put in.
     fn inserted(&mut self, ctx: &Context<D>, op: &Ptr<Operation<D>>);

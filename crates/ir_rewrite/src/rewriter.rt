@@ -1,16 +1,17 @@
 //! What a pattern edits by.
 
-ghost use Rattle.std.specs.Prelude.{◌≡◌, ◌++◌, ◌∷◌, [], OnErr, OnOk};
-ghost use Rattle.ir_checked_core.specs.Answers.{OnRefused, OnUnmet, own_answer};
+ghost use Rattle.std.specs.Prelude.{◌≡◌, ◌++◌, ◌∷◌, [], IfErr, IsOk, OnErr, OnOk};
+ghost use Rattle.ir_checked_core.specs.Answers.{Made, OnRefused, OnUnmet, out_of_memory, own_answer};
 ghost use Rattle.ir_checked_core.specs.declared.error.Call.TheVariants.{OperationInsertAfter, OperationInsertBefore};
 ghost use Rattle.ir_model.specs.Changes.{Removes, in_blocks, put_after, put_before, without};
 ghost use Rattle.ir_model.specs.ContextIds.{same_id};
 ghost use Rattle.ir_model.specs.Forest.{an_op};
 ghost use Rattle.ir_model.specs.Nesting.{IsLive};
 ghost use Rattle.ir_model_passes.specs.Merging.{redirect_each};
-ghost use Rattle.ir_core_context.specs.Calls.{SameButForest};
+ghost use Rattle.ir_core_context.specs.Calls.{KeepsAll, SameButForest};
 ghost use Rattle.ir_core_context.specs.State.{bare, forest_of};
 ghost use Rattle.ir_rewrite.specs.Answers.{EraseAnswers, InsertAnswers, MoveAnswers, ReplaceAnswers};
+ghost use Rattle.ir_rewrite.specs.Notes.{AddsTouched};
 ghost use Rattle.ir_rewrite.specs.Points.{next_point, put_at};
 ghost use Rattle.ir_rewrite.specs.Replacing.{RedirectsSome, results_beside};
 
@@ -31,10 +32,27 @@ pub enum Change<D: Dialects> {
     Inserted(Ptr<Operation<D>>),
     /// It was moved, or what it says of itself was changed.
     Modified(Ptr<Operation<D>>),
-    /// It names what was replaced or modified, or defines what was named by an operation that went.
+    /// It names what was replaced or modified, or defines an operand of an operation that was to go.
     Touched(Ptr<Operation<D>>),
     /// It went, with all that stood inside it.
     Erased(Ptr<Operation<D>>),
+}
+
+// Notes that the operation was touched, if there is one.
+fn note_touched<D: Dialects>(
+    changes: &mut Vec<Change<D>>,
+    touched: Option<Ptr<Operation<D>>>,
+) -> Result<(), CoreError>
+    ensures noted { AddsTouched changes.old.items changes.new.items }
+    ensures memory { IfErr result (λ e. e ≡ CoreError.OutOfMemory) }
+{
+    match touched {
+        Some(op) => {
+            changes.push(Change::Touched(op))?;
+            Ok(())
+        }
+        None => Ok(()),
+    }
 }
 
 // Notes what defines the operands of a live operation.
@@ -44,12 +62,12 @@ fn note_definers<D: Dialects>(
     op: Ptr<Operation<D>>,
 ) -> Result<(), CoreError>
     requires { IsLive (forest_of ctx.now) (an_op op.index) }
+    ensures noted { AddsTouched changes.old.items changes.new.items }
+    ensures memory { IfErr result (λ e. e ≡ CoreError.OutOfMemory) }
 {
     let record = op.deref(ctx);
     for index in 0..record.get_num_operands() {
-        if let Some(definer) = record.get_operand(index).defining_op() {
-            changes.push(Change::Touched(definer))?;
-        }
+        note_touched(changes, record.get_operand(index).defining_op())?;
     }
     Ok(())
 }
@@ -61,9 +79,11 @@ fn note_users<D: Dialects>(
     op: Ptr<Operation<D>>,
 ) -> Result<(), CoreError>
     requires { IsLive (forest_of ctx.now) (an_op op.index) }
+    ensures noted { AddsTouched changes.old.items changes.new.items }
+    ensures memory { IfErr result (λ e. e ≡ CoreError.OutOfMemory) }
 {
     for used in op.uses(ctx) {
-        changes.push(Change::Touched(used.user_op()))?;
+        note_touched(changes, Some(used.user_op()))?;
     }
     Ok(())
 }
@@ -89,37 +109,48 @@ impl<D: Dialects> Rewriter<D> {
         }
     }
 
-    // Goes to an operation of which a pattern is to be asked: right before it, with nothing noted.
-    pub(crate) fn go_to(&mut self, op: Ptr<Operation<D>>) {
+    /// Goes to an operation of which a pattern is to be asked: right before it, with nothing noted. A pattern made of others calls it before it asks the next of them.
+    pub fn go_to(&mut self, op: Ptr<Operation<D>>)
+        ensures at { self.new.inserter.point ≡ InsertionPoint.BeforeOperation op }
+        ensures fresh { self.new.changes.items ≡ [] }
+    {
         self.inserter.point = InsertionPoint::BeforeOperation(op);
         self.changes.clear();
     }
 
-    /// Notes that the operation was changed otherwise, and that those were touched that name its results. Of one that isn't live nothing is noted.
+    /// Notes that the operation was changed otherwise, behind notes that those were touched that name its results. Of one that isn't live nothing is noted.
     ///
     /// # Errors
-    /// `OutOfMemory`.
+    /// `OutOfMemory`. Then some of those that name its results may be noted.
     pub fn modified(&mut self, ctx: &Context<D>, op: Ptr<Operation<D>>) -> Result<(), CheckedErr>
+        ensures noted { OnOk result (IsLive (forest_of ctx.now) (an_op op.index) → (t : _) × AddsTouched self.old.changes.items t × (self.new.changes.items ≡ t ++ Change.Modified op ∷ [])) }
+        ensures dead { ¬ IsLive (forest_of ctx.now) (an_op op.index) → IsOk result × (self.new ≡ self.old) }
+        ensures partly { OnErr result (AddsTouched self.old.changes.items self.new.changes.items) }
+        ensures memory { IfErr result (λ e. e ≡ out_of_memory) }
         ensures stays { self.new.inserter ≡ self.old.inserter }
     {
-        if op.is_live(ctx) {
-            note_users(&mut self.changes, ctx, op)?;
-            self.changes.push(Change::Modified(op))?;
+        if !op.is_live(ctx) {
+            return Ok(());
         }
+        note_users(&mut self.changes, ctx, op)?;
+        self.changes.push(Change::Modified(op))?;
         Ok(())
     }
 
     /// Puts the operation in at the point, and moves the point on.
     ///
     /// # Errors
-    /// As those of `checked::insert_at`, and `OutOfMemory`. Then nothing has changed.
+    /// As those of `checked::insert_at`, and `OutOfMemory`. Then nothing has changed, and nothing is noted.
     pub fn insert(&mut self, op: Ptr<Operation<D>>, ctx: &mut Context<D>) -> Result<(), CheckedErr>
         ensures conditions { InsertAnswers (forest_of ctx.old) self.old.inserter.point op.index own_answer result }
         ensures forest { OnOk result (forest_of ctx.new ≡ put_at (forest_of ctx.old) self.old.inserter.point op.index) }
         ensures point { OnOk result (self.new.inserter.point ≡ next_point self.old.inserter.point op) }
         ensures noted { OnOk result (self.new.changes.items ≡ self.old.changes.items ++ Change.Inserted op ∷ []) }
         ensures rest { OnOk result (SameButForest (bare ctx.old) (bare ctx.new)) }
+        ensures keeps { OnOk result (KeepsAll ctx.old ctx.new) }
+        ensures memory { Made result (IfErr result (λ e. e ≡ out_of_memory)) }
         ensures err { OnErr result (ctx.new ≡ ctx.old) }
+        ensures told { OnErr result (self.new.changes.items ≡ self.old.changes.items) }
         ensures stays { OnErr result (self.new.inserter ≡ self.old.inserter) }
     {
         check_insert(ctx, op, self.inserter.point)?;
@@ -132,7 +163,7 @@ impl<D: Dialects> Rewriter<D> {
     /// Takes the operation out of its list, and puts it in right before the mark.
     ///
     /// # Errors
-    /// As those of `checked::move_before`, and `OutOfMemory`. Then nothing has changed.
+    /// As those of `checked::move_before`, and `OutOfMemory`. Then nothing has changed, and nothing is noted.
     pub fn move_before(
         &mut self,
         op: Ptr<Operation<D>>,
@@ -143,7 +174,10 @@ impl<D: Dialects> Rewriter<D> {
         ensures forest { OnOk result (forest_of ctx.new ≡ in_blocks (in_blocks (forest_of ctx.old) (without same_id op.index)) (put_before same_id op.index mark.index)) }
         ensures noted { OnOk result (self.new.changes.items ≡ self.old.changes.items ++ Change.Modified op ∷ []) }
         ensures rest { OnOk result (SameButForest (bare ctx.old) (bare ctx.new)) }
+        ensures keeps { OnOk result (KeepsAll ctx.old ctx.new) }
+        ensures memory { Made result (IfErr result (λ e. e ≡ out_of_memory)) }
         ensures err { OnErr result (ctx.new ≡ ctx.old) }
+        ensures told { OnErr result (self.new.changes.items ≡ self.old.changes.items) }
         ensures stays { self.new.inserter ≡ self.old.inserter }
     {
         check_move(ctx, op, mark, Call::OperationInsertBefore)?;
@@ -155,7 +189,7 @@ impl<D: Dialects> Rewriter<D> {
     /// Takes the operation out of its list, and puts it in right after the mark.
     ///
     /// # Errors
-    /// As those of `checked::move_after`, and `OutOfMemory`. Then nothing has changed.
+    /// As those of `checked::move_after`, and `OutOfMemory`. Then nothing has changed, and nothing is noted.
     pub fn move_after(
         &mut self,
         op: Ptr<Operation<D>>,
@@ -166,7 +200,10 @@ impl<D: Dialects> Rewriter<D> {
         ensures forest { OnOk result (forest_of ctx.new ≡ in_blocks (in_blocks (forest_of ctx.old) (without same_id op.index)) (put_after same_id op.index mark.index)) }
         ensures noted { OnOk result (self.new.changes.items ≡ self.old.changes.items ++ Change.Modified op ∷ []) }
         ensures rest { OnOk result (SameButForest (bare ctx.old) (bare ctx.new)) }
+        ensures keeps { OnOk result (KeepsAll ctx.old ctx.new) }
+        ensures memory { Made result (IfErr result (λ e. e ≡ out_of_memory)) }
         ensures err { OnErr result (ctx.new ≡ ctx.old) }
+        ensures told { OnErr result (self.new.changes.items ≡ self.old.changes.items) }
         ensures stays { self.new.inserter ≡ self.old.inserter }
     {
         check_move(ctx, op, mark, Call::OperationInsertAfter)?;
@@ -175,10 +212,10 @@ impl<D: Dialects> Rewriter<D> {
         Ok(())
     }
 
-    /// Erases the operation with all that stands inside it.
+    /// Erases the operation with all that stands inside it. Noted before it are those that define its own operands, as touched.
     ///
     /// # Errors
-    /// As those of `ir_checked_core`'s `operation::erase`, and `OutOfMemory`. Then nothing has changed.
+    /// As those of `ir_checked_core`'s `operation::erase`, and then nothing is noted; and `OutOfMemory`, and then some of those that define its operands may be. The context is as it was.
     pub fn erase_op(
         &mut self,
         op: Ptr<Operation<D>>,
@@ -186,8 +223,12 @@ impl<D: Dialects> Rewriter<D> {
     ) -> Result<(), CheckedErr>
         ensures conditions { EraseAnswers (forest_of ctx.old) op.index own_answer result }
         ensures forest { OnOk result (Removes (forest_of ctx.old) (an_op op.index) (forest_of ctx.new)) }
+        ensures noted { OnOk result ((t : _) × AddsTouched self.old.changes.items t × (self.new.changes.items ≡ t ++ Change.Erased op ∷ [])) }
         ensures rest { OnOk result (SameButForest (bare ctx.old) (bare ctx.new)) }
+        ensures memory { Made result (IfErr result (λ e. e ≡ out_of_memory)) }
         ensures err { OnErr result (ctx.new ≡ ctx.old) }
+        ensures told { OnUnmet result (self.new ≡ self.old) }
+        ensures told_partly { OnRefused result (AddsTouched self.old.changes.items self.new.changes.items) }
         ensures stays { self.new.inserter ≡ self.old.inserter }
     {
         check_erase(ctx, op)?;
@@ -197,10 +238,10 @@ impl<D: Dialects> Rewriter<D> {
         Ok(())
     }
 
-    /// Lets each operand that names a result of the operation name the value at the same place, and erases the operation with all that stands inside it.
+    /// Lets each operand that names a result of the operation name the value at the same place, and erases the operation with all that stands inside it. Noted before it are those that define its own operands, and those that named its results, as touched.
     ///
     /// # Errors
-    /// As those of `checked::replace_op`. `OutOfMemory` may come too before any result is replaced.
+    /// As those of `checked::replace_op`, and then nothing is noted; and `OutOfMemory`, which may come too before any result is replaced, and then some of those that define its operands or name its results may be.
     pub fn replace_op(
         &mut self,
         op: Ptr<Operation<D>>,
@@ -209,9 +250,13 @@ impl<D: Dialects> Rewriter<D> {
     ) -> Result<(), CheckedErr>
         ensures conditions { ReplaceAnswers (forest_of ctx.old) op.index values.now own_answer result }
         ensures forest { OnOk result (Removes (redirect_each (forest_of ctx.old) (results_beside (forest_of ctx.old) op.index values.now)) (an_op op.index) (forest_of ctx.new)) }
-        ensures memory { OnRefused result (RedirectsSome (forest_of ctx.old) (results_beside (forest_of ctx.old) op.index values.now) (forest_of ctx.new)) }
-        ensures rest { OnOk result (SameButForest (bare ctx.old) (bare ctx.new)) }
-        ensures err { OnUnmet result (ctx.new ≡ ctx.old) }
+        ensures noted { OnOk result ((t : _) × AddsTouched self.old.changes.items t × (self.new.changes.items ≡ t ++ Change.Erased op ∷ [])) }
+        ensures rest { Made result (SameButForest (bare ctx.old) (bare ctx.new)) }
+        ensures memory { Made result (IfErr result (λ e. e ≡ out_of_memory)) }
+        ensures partly { OnRefused result (RedirectsSome (forest_of ctx.old) (results_beside (forest_of ctx.old) op.index values.now) (forest_of ctx.new)) }
+        ensures unmet { OnUnmet result (ctx.new ≡ ctx.old) }
+        ensures told { OnUnmet result (self.new ≡ self.old) }
+        ensures told_partly { OnRefused result (AddsTouched self.old.changes.items self.new.changes.items) }
         ensures stays { self.new.inserter ≡ self.old.inserter }
     {
         check_replace(ctx, op, values)?;
@@ -220,7 +265,10 @@ impl<D: Dialects> Rewriter<D> {
         self.changes.push(Change::Erased(op))?;
         match operation::replace_op(op, ctx, values) {
             Ok(()) => Ok(()),
-            Err(error) => Err(CheckedErr::Core(error)),
+            Err(error) => {
+                self.changes.pop();
+                Err(CheckedErr::Core(error))
+            }
         }
     }
 }

@@ -1,9 +1,9 @@
 //! What a driver leaves of small forests, and why it ends.
 
-use crate::nests::{Block, Checked, Op, has_ops, is_refused, nest, put};
+use crate::nests::{Block, Checked, Op, has_ops, is_refused, nest, new_op, put};
 use ir_checked_core::context::end;
 use ir_checked_core::prelude::{Context, Value};
-use ir_checked_core::{Call, Condition, operation};
+use ir_checked_core::{Call, Condition, basic_block, operation};
 use ir_core_queries::OperationPtr;
 use ir_rewrite::{Both, DummyListener, End, Listener, Pattern, Rewriter, rewrite};
 use std::process::Abort;
@@ -112,6 +112,57 @@ impl Listener<Toy> for Gone {
 
     fn erased(&mut self, _ctx: &Context<Toy>, _op: &Op) {
         self.0 = self.0.saturating_add(1);
+    }
+}
+
+// What was told: a letter for each change, and the operation.
+#[derive(Drop)]
+struct Told {
+    letters: String,
+    ops: Vec<Op>,
+}
+
+impl Told {
+    // Writes one change more; what memory lacks for is left out.
+    fn write(&mut self, letter: &str, op: Op) {
+        let _ = self.letters.push_str(letter);
+        let _ = self.ops.push(op);
+    }
+}
+
+impl Listener<Toy> for Told {
+    fn inserted(&mut self, _ctx: &Context<Toy>, op: &Op) {
+        self.write("i", *op);
+    }
+
+    fn modified(&mut self, _ctx: &Context<Toy>, op: &Op) {
+        self.write("m", *op);
+    }
+
+    fn erased(&mut self, _ctx: &Context<Toy>, op: &Op) {
+        self.write("e", *op);
+    }
+}
+
+// Puts a use in before an eater, moves it behind the eater, and erases the eater.
+#[derive(Drop)]
+struct Turn;
+
+impl Pattern<Toy> for Turn {
+    fn rewrite(
+        &self,
+        ctx: &mut Context<Toy>,
+        rewriter: &mut Rewriter<Toy>,
+        op: &Op,
+    ) -> Checked<bool> {
+        if kind(ctx, *op) != Some(EATER) {
+            return Ok(false);
+        }
+        let made = new_op(ctx, USE, &[], 0)?;
+        rewriter.insert(made, ctx)?;
+        rewriter.move_after(made, ctx, *op)?;
+        rewriter.erase_op(*op, ctx)?;
+        Ok(true)
     }
 }
 
@@ -240,6 +291,47 @@ fn check_asked(rt: &impl Abort, ctx: &mut Context<Toy>) -> Checked<()> {
 fn only_what_stands_inside_is_asked(rt: HostRuntime) -> anyhow::Result<()> {
     let mut ctx = Context::new(rt.alloc());
     let outcome = check_asked(&rt, &mut ctx);
+    end(ctx, outcome)?;
+    Ok(())
+}
+
+fn check_told(rt: &impl Abort, ctx: &mut Context<Toy>) -> Checked<()> {
+    let (root, block) = nest(ctx)?;
+    let first = put(ctx, block, EATER, &[])?;
+    let second = put(ctx, block, EATER, &[])?;
+    let mut told = Told {
+        letters: String::new(ctx.alloc()),
+        ops: Vec::new(ctx.alloc()),
+    };
+    assert!(rt; root.is_live(ctx));
+    let rewritten = rewrite(ctx, root, &[Turn], 100, &mut told)?;
+    assert!(rt; rewritten.steps == 2, "each eater is a step");
+    let mut expected = Vec::new(ctx.alloc());
+    let mut eaters = Vec::new(ctx.alloc());
+    eaters.push(second)?;
+    eaters.push(first)?;
+    for made in basic_block::iter(block, ctx)? {
+        expected.push(made)?;
+        expected.push(made)?;
+        if let Some(eater) = eaters.pop() {
+            expected.push(eater)?;
+        }
+    }
+    assert!(rt;
+        told.letters.as_str() == "imeime",
+        "each change is told by its kind"
+    );
+    assert!(rt;
+        told.ops.as_slice() == expected.as_slice(),
+        "and by its operation, the front one first"
+    );
+    Ok(())
+}
+
+#[test]
+fn listeners_are_told_each_change(rt: HostRuntime) -> anyhow::Result<()> {
+    let mut ctx = Context::new(rt.alloc());
+    let outcome = check_told(&rt, &mut ctx);
     end(ctx, outcome)?;
     Ok(())
 }

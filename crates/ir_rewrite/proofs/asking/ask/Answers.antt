@@ -1,7 +1,9 @@
-use Rattle.std.proofs.Common.{◌≡◌, refl, sym, subst, ap, ◌∙◌, Ok, All}
+use Rattle.std.proofs.Common.{◌≡◌, refl, sym, subst, ap, ◌∙◌, Ok, Err, All, rules}
 use Rattle.std.proofs.lemmas.Option.{slice_get_read}
+use Rattle.ir_model.specs.Nesting.{In}
 use Rattle.ir_model.proofs.Back.{slice_get-in}
 use Rattle.ir_rewrite.proofs.Lists.{all_below, at_item, at_more}
+use Rattle.ir_rewrite.proofs.Passed.{at_error}
 use Rattle.ir_rewrite.proofs.Steps.{on_no, on_yes}
 use Rattle.ir_rewrite.proofs.asking.ask.Goals as goal
 
@@ -29,3 +31,16 @@ returns-then-changed-clause-changed g c =
 
 pub returns-clause-declined : goal.returns-clause-declined
 returns-clause-declined g c = all_below (λ p. g.P.Pattern.declines p c.args.ctx.now c.args.op.index) c.args.patterns.now c.loop-pattern.pattern-index c.loop-pattern-test.false c.loop-pattern.invariant.declined
+
+pub returns-in_err-changed-clause-failed : goal.returns-in_err-changed-clause-failed
+returns-in_err-changed-clause-failed g c =
+    let s0 = c.args.ctx.now in
+    let o = c.args.op.index in
+    let e = c.in_err-changed.field-0.0 in
+    let is : c.from_residual.result ≡ Err e = search rules in
+    let made : g.P.Pattern.fails c.pattern-item.result c.loop-pattern.ctx o e c.rewrite.new.ctx = c.in_err-changed.ensures.failed in
+    at_error (λ x. (p : _) × In p c.args.patterns.now × g.P.Pattern.fails p s0 o x c.rewrite.new.ctx) c.from_residual.result e is (
+      c.pattern-item.result,
+      slice_get-in c.args.patterns.now c.loop-pattern.pattern-index c.pattern-item.result (slice_get_read c.args.patterns.now _ c.loop-pattern.pattern-index c.pattern-item.result refl c.loop-pattern-test.true c.pattern-item.is),
+      subst (λ s. g.P.Pattern.fails c.pattern-item.result s o e c.rewrite.new.ctx) c.loop-pattern.invariant.same made,
+    )

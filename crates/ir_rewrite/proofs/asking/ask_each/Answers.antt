@@ -1,9 +1,9 @@
-use Rattle.std.proofs.Common.{◌≡◌, refl, sym, subst, ap, ◌∙◌, inl, inr, Ok, All, map}
+use Rattle.std.proofs.Common.{◌≡◌, refl, sym, subst, ap, ◌∙◌, inl, inr, Ok, Err, All, map, rules}
 use Rattle.ir_model.specs.Nesting.{In}
 use Rattle.ir_core_context.specs.State.{forest_of}
 use Rattle.ir_rewrite.specs.Driving.{Stands}
 use Rattle.ir_rewrite.proofs.Lists.{in_shorter}
-use Rattle.ir_rewrite.proofs.Steps.{on_no}
+use Rattle.ir_rewrite.proofs.Steps.{failed_since, on_no}
 use Rattle.ir_rewrite.proofs.asking.ask_each.Goals as goal
 
 pub loop-op-preserved : goal.loop-op-preserved
@@ -27,3 +27,9 @@ loop-op-preserved g c =
         | inr d ↦ inr d
       ];
     }
+
+pub returns-in_err-changed-clause-failed : goal.returns-in_err-changed-clause-failed
+returns-in_err-changed-clause-failed g c =
+    let e = c.in_err-changed.field-0.0 in
+    let is : c.from_residual.result ≡ Err e = search rules in
+    failed_since forest_of c.args.root.index c.args.patterns.now g.P.Pattern.fails c.from_residual.result e is c.args.ctx.now c.loop-op.ctx c.ask_inside.new.ctx c.loop-op.invariant.same c.in_err-changed.ensures.failed

@@ -6,6 +6,7 @@ use Rattle.ir_core_context.specs.State.{forest_of}
 use Rattle.ir_rewrite.specs.Answers.{InsertAnswers}
 use Rattle.ir_rewrite.specs.Points.{MayGoAt}
 use Rattle.ir_rewrite.proofs.May.{beside_may, into_may}
+use Rattle.ir_rewrite.proofs.Passed.{beside_told, into_told}
 use Rattle.ir_rewrite.proofs.checks.check_insert.Goals as goal
 
 pub returns-in-AtBlockStart-clause-conditions : goal.returns-in-AtBlockStart-clause-conditions
@@ -39,3 +40,15 @@ pub returns-in-AfterOperation-clause-may : goal.returns-in-AfterOperation-clause
 returns-in-AfterOperation-clause-may g c =
     subst (λ p. IsOk c.check_insert_beside-in-AfterOperation.result ↔ MayGoAt (forest_of c.args.ctx.now) p c.args.op.index) (sym c.in-AfterOperation.is)
     (beside_may (forest_of c.args.ctx.now) c.args.op.index c.recall_well_formed.ensures.nested OperationInsertAfter c.in-AfterOperation.mark.index c.check_insert_beside-in-AfterOperation.result c.check_insert_beside-in-AfterOperation.ensures)
+
+pub returns-in-AtBlockStart-clause-told : goal.returns-in-AtBlockStart-clause-told
+returns-in-AtBlockStart-clause-told g c = into_told (forest_of c.args.ctx.now) c.args.op.index OperationInsertAtFront c.in-AtBlockStart.block.index c.check_insert_into.result c.check_insert_into.ensures
+
+pub returns-in-AtBlockEnd-clause-told : goal.returns-in-AtBlockEnd-clause-told
+returns-in-AtBlockEnd-clause-told g c = into_told (forest_of c.args.ctx.now) c.args.op.index OperationInsertAtBack c.in-AtBlockEnd.block.index c.check_insert_into-in-AtBlockEnd.result c.check_insert_into-in-AtBlockEnd.ensures
+
+pub returns-in-BeforeOperation-clause-told : goal.returns-in-BeforeOperation-clause-told
+returns-in-BeforeOperation-clause-told g c = beside_told (forest_of c.args.ctx.now) c.args.op.index OperationInsertBefore c.in-BeforeOperation.mark.index c.check_insert_beside.result c.check_insert_beside.ensures
+
+pub returns-in-AfterOperation-clause-told : goal.returns-in-AfterOperation-clause-told
+returns-in-AfterOperation-clause-told g c = beside_told (forest_of c.args.ctx.now) c.args.op.index OperationInsertAfter c.in-AfterOperation.mark.index c.check_insert_beside-in-AfterOperation.result c.check_insert_beside-in-AfterOperation.ensures
