@@ -2,6 +2,7 @@ pub mod ArenaSound
 pub mod CellsMemory
 pub mod PlainLists
 pub mod ArenaChain
+pub mod ArenaCleared
 pub mod ListArena
 pub mod ListChains
 pub mod ListEdits

@@ -1,7 +1,8 @@
 -- How an `Arena` lays out its slots. No public clause cites this module.
-use Rattle.std.specs.Prelude.{◌≡◌, ℕ, ◌+◌, ◌<◌, ◌≤◌, nat_eq, cond, List, [], ◌∷◌, map, length, count_by, slice_index_or, Some, None}
+use Rattle.std.specs.Prelude.{◌≡◌, ℕ, ◌+◌, ◌<◌, ◌≤◌, nat_eq, cond, List, [], ◌∷◌, map, set, length, count_by, slice_index_or, Some, None}
 use Rattle.ir_model.specs.Slots.{Slot, is_taken, is_reusable, is_retired, slot_in}
-use Rattle.ir_model.specs.Arenas.{IsInRange}
+use Rattle.ir_model.specs.Arenas.{Arena, IsInRange}
+use Rattle.ir_base_arenas.specs.Arena.{emptied}
 use Rattle.ir_base_arenas.specs.declared.arena.Slot.{Slot as Laid}
 
 -- a slot as it is used: its version, with its record, or with the number of the free slot after it
@@ -48,6 +49,10 @@ module _ {T : Type 0} where
     pub within : length slots ≤ limit
     pub numbered : limit < 4294967295
     pub starts : 1 ≤ last
+
+  -- the arena with the slot at a place emptied; a record in it counts as a removal
+  abbrev pub emptied_at : Arena T → ℕ → Arena T
+  emptied_at a k = record a { slots = set a.slots k (emptied (slot_in a.slots k)); removals = a.removals + cond (is_taken (slot_in a.slots k)) 1 0 }
 
   -- the free slots are chained, as many as are counted
   pub record IsLaid (slots : List (Held T)) (first free len limit last : ℕ) : Type 0 where

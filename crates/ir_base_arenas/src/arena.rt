@@ -2,17 +2,18 @@
 //!
 //! A slot keeps the version that it handed out last. A slot whose record was removed is handed out again under the version two above, the slot freed last first, unless that is past the last version: then the slot stays empty for good. Free slots are chained through themselves, so that a removal takes no memory, and an insertion takes memory only where no free slot is left.
 
-ghost use Rattle.std.specs.Prelude.{◌≡◌, ◌⊎◌, ◌+◌, ◌<◌, ◌≤◌, ◌==◌, ◌↔◌, IsTrue, IfOk, IfErr, IfNone, OnErr, OnSome, OnOk, Some, None, Err, option_copied, nat_le};
+ghost use Rattle.std.specs.Prelude.{◌≡◌, ◌⊎◌, ◌+◌, ◌<◌, ◌≤◌, ◌==◌, ◌↔◌, length, IsTrue, IfOk, IfErr, IfNone, OnErr, OnSome, OnOk, Some, None, Err, option_copied, nat_le};
 ghost use Rattle.std.specs.Option.{option_copied_mut};
 ghost use Rattle.std.specs.Borrow.{sem};
 ghost use Rattle.ir_model.specs.Slots.{item_under};
 ghost use Rattle.ir_base_arenas.specs.declared.ptr.Ptr.{Ptr as Handle};
-ghost use Rattle.ir_base_arenas.specs.Arena.{empty, get, IsLiveIn, IsWhole, IsNew, cut, miss, room, unused, arena_len, Inserts};
+ghost use Rattle.ir_base_arenas.specs.Arena.{empty, get, IsLiveIn, IsWhole, IsNew, cleared, cut, miss, room, unused, arena_len, Inserts};
+ghost use Rattle.ir_base_arenas.specs.ArenaSound.{emptied_at};
 
 use crate::take_out::TakeOut;
 use crate::tally::Tally;
 use crate::{ArenaIndex, CoreError, Ptr};
-use std::alloc::Global;
+use std::alloc::{AllocError, Global};
 use std::marker::Model;
 use std::mem::size_of;
 
@@ -177,6 +178,17 @@ impl<T> Arena<T> {
         &mut self.slots[place].item
     }
 
+    /// Makes place for so many more records, where there is less. Slots that can be handed out again count as place.
+    ///
+    /// # Errors
+    /// Where the arena had to grow and couldn't. The records are the same in either case.
+    pub fn reserve(&mut self, additional: usize) -> Result<(), AllocError>
+        ensures { self.new ≡ self.old }
+    {
+        let more = additional.saturating_sub(self.free as usize);
+        self.slots.reserve(more)
+    }
+
     /// Stores what `make` answers for a new handle, and answers the handle. `make` is called only where no refusal comes: a caller promises that it can be called with a new handle, and where the arena has no room, none is new.
     ///
     /// # Errors
@@ -269,5 +281,32 @@ impl<T> Arena<T> {
         let item = self.at_mut(ptr).take_out();
         self.vacate(ptr);
         Some(item)
+    }
+
+    // Takes the record in the slot at a place out, if it has one.
+    fn empty_slot(&mut self, place: usize)
+    where
+        T: TakeOut + Drop,
+        requires { place < length self.old.slots }
+        ensures { self.new ≡ emptied_at self.old place }
+    {
+        let version = self.slots[place].version;
+        let slot = place as u32 + 1;
+        let ptr = Ptr::from_index(ArenaIndex { slot, version });
+        if self.is_live(ptr) {
+            self.remove(ptr);
+        }
+    }
+
+    /// Takes all records out, with the memory that they own, and keeps the slots: they are handed out again, the first of them first. It takes no memory. Each record counts as a removal.
+    pub fn clear(&mut self)
+    where
+        T: TakeOut + Drop,
+        ensures { self.new ≡ cleared self.old }
+    {
+        let count = self.slots.len();
+        for done in 0..count {
+            self.empty_slot(count - 1 - done);
+        }
     }
 }

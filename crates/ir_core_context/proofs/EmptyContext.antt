@@ -1,13 +1,13 @@
--- A context in which nothing was made.
-use Rattle.std.proofs.Common.{◌≡◌, refl, sym, subst, ℕ, List, [], Some, None, false, arith}
+-- A context without an operation, block or region: one in which nothing was made, and one that was cleared.
+use Rattle.std.proofs.Common.{◌≡◌, ◌≤◌, refl, sym, subst, ℕ, nat_lt, List, [], length, Some, None, arith}
 use Rattle.ir_model.specs.declared.ids.ArenaIndex.{ArenaIndex}
 use Rattle.ir_model.specs.declared.ids.Limits.{Limits}
 use Rattle.ir_model.specs.Ids.{Ids, Distinct}
 use Rattle.ir_model.specs.Forest.{Dialect, Forest, Entity, an_op, a_block, a_region, Definer, of_op, of_block}
 use Rattle.ir_model.specs.Nesting.{In, WellFormed, children, numbers_of, use_numbers_of, names_of, definition_types_of}
 use Rattle.ir_model.specs.Sessions.{IsNewSession}
-use Rattle.ir_base_arenas.specs.Arena.{get, empty}
-use Rattle.ir_model.proofs.Arenas.{get-empty, passed-empty}
+use Rattle.ir_base_arenas.specs.Arena.{cleared, empty, get}
+use Rattle.ir_model.proofs.Arenas.{get-cleared, get-empty, passed-cleared, passed-empty}
 use Rattle.ir_base_arenas.specs.Lists.{Links, Ends, Heap, AreLists}
 use Rattle.ir_core_records.specs.declared.record.Operation.{Operation}
 use Rattle.ir_core_records.specs.declared.record.BasicBlock.{BasicBlock}
@@ -21,8 +21,8 @@ use Rattle.ir_core_records.specs.declared.record.Definer.TheVariants.{Op, Block}
 use Rattle.ir_core_records.specs.Links.{LinkedBut, NoHole}
 use Rattle.ir_core_records.specs.Table.{operands_at, successors_at, uses_at, block_uses_at}
 use Rattle.ir_core_data.specs.Side.{nothing as no_side}
-use Rattle.ir_core_context.specs.Calls.{nothing_beside}
-use Rattle.ir_core_context.specs.Sound.{AreLimits, IsSound}
+use Rattle.ir_core_context.specs.Calls.{NoEntity, SameButForest, nothing_beside}
+use Rattle.ir_core_context.specs.Sound.{AreLimits, IsSound, Keeps}
 use Rattle.std.specs.Prelude.{slice_get}
 use Rattle.std.proofs.lemmas.Bool.{le-ltb}
 use Rattle.ir_core_context.specs.State.{ContextState, bare, forest_of}
@@ -88,6 +88,63 @@ listed-nothing nodes containers no_node no_container = record {
   covers = λ x l h. absurd (let n : nodes x ≡ None = no_node x in cc);
 }
 
+-- a context of whose records none is left
+module _ {D A K B S X L : Type 0} (s : ContextState D A K B S X L) (ops : (i : ArenaIndex) → get s.records.ops i ≡ None) (blocks : (i : ArenaIndex) → get s.records.blocks i ≡ None) (regions : (i : ArenaIndex) → get s.records.regions i ≡ None) where
+  no_op : (o : ArenaIndex) → (forest_of s).ops o ≡ None
+  no_op o = rw (ops o) refl
+
+  no_block : (b : ArenaIndex) → (forest_of s).blocks b ≡ None
+  no_block b = rw (blocks b) refl
+
+  no_region : (r : ArenaIndex) → (forest_of s).regions r ≡ None
+  no_region r = rw (regions r) refl
+
+  no_operands : (o : ArenaIndex) → operands_at s.records o ≡ []
+  no_operands o = rw (ops o) refl
+
+  no_successors : (o : ArenaIndex) → successors_at s.records o ≡ []
+  no_successors o = rw (ops o) refl
+
+  no_uses : (v : ValueIndex) → uses_at s.records v ≡ []
+  no_uses v = by v.definer refl
+    where
+      by : (d : DefinerIndex) → v.definer ≡ d → uses_at s.records v ≡ []
+      by (Op o) e = rw (e, ops o) refl
+      by (Block b) e = rw (e, blocks b) refl
+
+  no_block_uses : (b : BlockIndex) → block_uses_at s.records b ≡ []
+  no_block_uses b = rw (blocks b.index) refl
+
+  pub empty-none : NoEntity (forest_of s)
+  empty-none = record { ops = no_op; blocks = no_block; regions = no_region }
+
+  pub empty-sound : s.next_value ≤ s.limits.values → s.next_use ≤ s.limits.uses → AreLimits s.limits → Keeps s.limits s.records.ops → Keeps s.limits s.records.blocks → Keeps s.limits s.records.regions → Keeps s.limits s.side.aux → IsSound s
+  empty-sound value_limit use_limit limits op_slots block_slots region_slots aux_slots = record {
+    linked = record { values = linked-nothing _ _ no_operands no_uses; blocks = linked-nothing _ _ no_successors no_block_uses };
+    nested = record {
+      op_lists = listed-nothing _ _ (λ x. rw (ops x) refl) (λ c. rw (blocks c) refl);
+      block_lists = listed-nothing _ _ (λ x. rw (blocks x) refl) (λ c. rw (regions c) refl);
+      parents = λ o r h. absurd (let k : In r [] = rw (ops o) at h in k);
+    };
+    own = record {
+      ops = λ i op e. absurd (let n : get s.records.ops i ≡ None = ops i in cc);
+      blocks = λ i b e. absurd (let n : get s.records.blocks i ≡ None = blocks i in cc);
+      regions = λ i r e. absurd (let n : get s.records.regions i ≡ None = regions i in cc);
+    };
+    formed = nothing-formed (forest_of s) no_op no_block no_region (length s.types);
+    counted = record {
+      values = λ d n h. absurd (let k : In n [] = subst (In n) (numberless (forest_of s) no_op no_block no_region d) h in k);
+      uses = λ o n h. absurd (let k : In n [] = subst (In n) (useless (forest_of s) no_op no_block no_region o) h in k);
+      value_limit = value_limit;
+      use_limit = use_limit;
+      limits = limits;
+      op_slots = op_slots;
+      block_slots = block_slots;
+      region_slots = region_slots;
+      aux_slots = aux_slots;
+    };
+  }
+
 module _ (D A K B S X L : Type 0) (l : Limits) where
   abbrev pub nothing : ContextState D A K B S X L
   nothing = record {
@@ -99,31 +156,6 @@ module _ (D A K B S X L : Type 0) (l : Limits) where
     limits = l;
   }
 
-  no_op : (o : ArenaIndex) → (forest_of nothing).ops o ≡ None
-  no_op o = rw (get-empty _ l.slots l.last_version o) refl
-
-  no_block : (b : ArenaIndex) → (forest_of nothing).blocks b ≡ None
-  no_block b = rw (get-empty (BasicBlock D A K B S X L) l.slots l.last_version b) refl
-
-  no_region : (r : ArenaIndex) → (forest_of nothing).regions r ≡ None
-  no_region r = rw (get-empty Region l.slots l.last_version r) refl
-
-  no_operands : (o : ArenaIndex) → operands_at (nothing).records o ≡ []
-  no_operands o = rw (get-empty (Operation D A K B S X L) l.slots l.last_version o) refl
-
-  no_successors : (o : ArenaIndex) → successors_at (nothing).records o ≡ []
-  no_successors o = rw (get-empty (Operation D A K B S X L) l.slots l.last_version o) refl
-
-  no_uses : (v : ValueIndex) → uses_at (nothing).records v ≡ []
-  no_uses v = by v.definer refl
-    where
-      by : (d : DefinerIndex) → v.definer ≡ d → uses_at (nothing).records v ≡ []
-      by (Op o) e = rw (e, get-empty (Operation D A K B S X L) l.slots l.last_version o) refl
-      by (Block b) e = rw (e, get-empty (BasicBlock D A K B S X L) l.slots l.last_version b) refl
-
-  no_block_uses : (b : BlockIndex) → block_uses_at (nothing).records b ≡ []
-  no_block_uses b = rw (get-empty (BasicBlock D A K B S X L) l.slots l.last_version b.index) refl
-
   pub nothing-aside : (bare nothing).beside ≡ nothing_beside
   nothing-aside i = record {
     saved = [];
@@ -132,11 +164,14 @@ module _ (D A K B S X L : Type 0) (l : Limits) where
     aux_passed = λ q. passed-empty X l.slots l.last_version q i;
   }
 
+  nothing-none : NoEntity (forest_of nothing)
+  nothing-none = empty-none nothing (get-empty _ l.slots l.last_version) (get-empty _ l.slots l.last_version) (get-empty _ l.slots l.last_version)
+
   pub nothing-new : IsNewSession (bare nothing)
   nothing-new = record {
-    ops = no_op;
-    blocks = no_block;
-    regions = no_region;
+    ops = nothing-none.ops;
+    blocks = nothing-none.blocks;
+    regions = nothing-none.regions;
     store = refl;
     tables = refl;
     none_passed = λ i. record {
@@ -149,28 +184,35 @@ module _ (D A K B S X L : Type 0) (l : Limits) where
   }
 
   pub nothing-sound : AreLimits l → IsSound nothing
-  nothing-sound limits = record {
-    linked = record { values = linked-nothing _ _ no_operands no_uses; blocks = linked-nothing _ _ no_successors no_block_uses };
-    nested = record {
-      op_lists = listed-nothing _ _ (λ x. rw (get-empty (Operation D A K B S X L) l.slots l.last_version x) refl) (λ c. rw (get-empty (BasicBlock D A K B S X L) l.slots l.last_version c) refl);
-      block_lists = listed-nothing _ _ (λ x. rw (get-empty (BasicBlock D A K B S X L) l.slots l.last_version x) refl) (λ c. rw (get-empty Region l.slots l.last_version c) refl);
-      parents = λ o r h. absurd (let k : In r [] = rw (get-empty (Operation D A K B S X L) l.slots l.last_version o) at h in k);
+  nothing-sound limits =
+      empty-sound nothing (get-empty _ l.slots l.last_version) (get-empty _ l.slots l.last_version) (get-empty _ l.slots l.last_version)
+      (omega arith) (omega arith) limits (record { limit = refl; last_version = refl }) (record { limit = refl; last_version = refl }) (record { limit = refl; last_version = refl }) (record { limit = refl; last_version = refl })
+
+module _ {D A K B S X L : Type 0} (s : ContextState D A K B S X L) where
+  -- the context after a call of `clear`
+  abbrev pub emptied_context : ContextState D A K B S X L
+  emptied_context = record s { records = record { ops = cleared s.records.ops; blocks = cleared s.records.blocks; regions = cleared s.records.regions } }
+
+  pub emptied-none : NoEntity (forest_of emptied_context)
+  emptied-none = empty-none emptied_context (get-cleared s.records.ops) (get-cleared s.records.blocks) (get-cleared s.records.regions)
+
+  pub emptied-sound : IsSound s → IsSound emptied_context
+  emptied-sound is =
+      let c = is.counted in
+      empty-sound emptied_context (get-cleared s.records.ops) (get-cleared s.records.blocks) (get-cleared s.records.regions)
+      c.value_limit c.use_limit c.limits (record { limit = c.op_slots.limit; last_version = c.op_slots.last_version }) (record { limit = c.block_slots.limit; last_version = c.block_slots.last_version }) (record { limit = c.region_slots.limit; last_version = c.region_slots.last_version }) c.aux_slots
+
+  -- beside the forest all is as before, and what was handed out stays so
+  pub emptied-rest : SameButForest (bare s) (bare emptied_context)
+  emptied-rest = record {
+    store = refl;
+    beside = refl;
+    passed = λ i. record {
+      ops = λ q. passed-cleared s.records.ops q i;
+      blocks = λ q. passed-cleared s.records.blocks q i;
+      regions = λ q. passed-cleared s.records.regions q i;
+      numbers = λ n. nat_lt n s.next_value;
+      uses = λ n. nat_lt n s.next_use;
     };
-    own = record {
-      ops = λ i op e. absurd (let n : get {T = Operation D A K B S X L} (empty l.slots l.last_version) i ≡ None = get-empty _ l.slots l.last_version i in cc);
-      blocks = λ i b e. absurd (let n : get {T = BasicBlock D A K B S X L} (empty l.slots l.last_version) i ≡ None = get-empty _ l.slots l.last_version i in cc);
-      regions = λ i r e. absurd (let n : get {T = Region} (empty l.slots l.last_version) i ≡ None = get-empty _ l.slots l.last_version i in cc);
-    };
-    formed = nothing-formed (forest_of nothing) no_op no_block no_region 0;
-    counted = record {
-      values = λ d n h. absurd (let k : In n [] = subst (In n) (numberless (forest_of nothing) no_op no_block no_region d) h in k);
-      uses = λ o n h. absurd (let k : In n [] = subst (In n) (useless (forest_of nothing) no_op no_block no_region o) h in k);
-      value_limit = omega arith;
-      use_limit = omega arith;
-      limits = limits;
-      op_slots = record { limit = refl; last_version = refl };
-      block_slots = record { limit = refl; last_version = refl };
-      region_slots = record { limit = refl; last_version = refl };
-      aux_slots = record { limit = refl; last_version = refl };
-    };
+    limits = refl;
   }

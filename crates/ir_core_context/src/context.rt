@@ -18,7 +18,8 @@ ghost use Rattle.ir_core_records.specs.Meaning.{value_of};
 ghost use Rattle.ir_core_context.specs.State.{bare, block_uses_of, forest_of, types_of, uses_of};
 ghost use Rattle.ir_core_context.specs.Sound.{AreLimits};
 ghost use Rattle.ir_core_context.specs.Creation.{HoldTogether};
-ghost use Rattle.ir_core_context.specs.Calls.{IsRoom, LiveWasMade, NoEntity, SameButTypes, TypesAreExact, nothing_beside};
+ghost use Rattle.ir_core_context.specs.Calls.{IsRoom, LiveWasMade, NoEntity, SameButForest, SameButTypes, TypesAreExact, nothing_beside};
+ghost use Rattle.ir_core_context.specs.Removals.{ClearsEachOnce};
 ghost use Rattle.ir_core_records.specs.DialectAnswers.{behaviour_of};
 
 use ir_base_dialects::{Arena, CoreError, Dialects, Limits, Room, TypeHandle, TypeStore};
@@ -113,6 +114,31 @@ impl<D: Dialects> Context<D> {
             return false;
         }
         self.records.regions.is_empty()
+    }
+
+    /// Makes place for so many more operations, where there is less. Their records then take no memory; what they own still may.
+    ///
+    /// # Errors
+    /// `OutOfMemory` where there is no memory for them. The context is the same in either case.
+    pub fn reserve(&mut self, ops: usize) -> Result<(), CoreError>
+        ensures same { self.new ≡ self.old }
+        ensures memory { IfErr result (λ e. e ≡ CoreError.OutOfMemory) }
+    {
+        self.records.ops.reserve(ops)?;
+        Ok(())
+    }
+
+    /// Takes all operations, blocks and regions out, with the memory that they own, and keeps their slots for what is made next. It takes no memory.
+    ///
+    /// Handles of what has gone stay refused. Types, saved and auxiliary data stay.
+    pub fn clear(&mut self)
+        ensures empty { NoEntity (forest_of self.new) }
+        ensures once { ClearsEachOnce self.old self.new }
+        ensures rest { SameButForest (bare self.old) (bare self.new) }
+    {
+        self.records.ops.clear();
+        self.records.blocks.clear();
+        self.records.regions.clear();
     }
 
     /// The type with this key; where there is none it is stored last, with the default body.

@@ -1,12 +1,13 @@
 -- What a caller of `Arena` may cite: what each change does to what stands under an id, and which ids were handed out.
-use Rattle.std.proofs.Common.{◌≡◌, ◌≢◌, ◌⊎◌, ◌↔◌, ℕ, zero, suc, ◌+◌, ◌*◌, ◌-◌, ◌<◌, ◌≤◌, ◌||◌, nat_eq, Bool, true, false, [], length, Some, None, is_some, IsTrue, refl, sym, ap, subst, ◌∙◌, inl, inr, arith, true≢false}
+use Rattle.std.proofs.Common.{◌≡◌, ◌≢◌, ◌⊎◌, ◌↔◌, ℕ, zero, suc, ◌+◌, ◌*◌, ◌-◌, ◌<◌, ◌≤◌, ◌||◌, nat_eq, Bool, true, false, List, [], map, length, Some, None, is_some, IsTrue, refl, sym, ap, subst, ◌∙◌, inl, inr, arith, true≢false}
+use Rattle.std.proofs.Math.ListN.{get_or-map}
 use Rattle.std.proofs.lemmas.Bool.Decides.{eqb_tells}
 use Rattle.std.proofs.lemmas.Bool.{cases_eq, eq-eqb}
 use Rattle.ir_model.specs.declared.ids.ArenaIndex.{ArenaIndex}
 use Rattle.ir_model.specs.declared.ids.Limits.{Limits}
 use Rattle.ir_model.specs.Sessions.{IsNewId}
 use Rattle.ir_model.specs.Slots.{Slot, had_version, never, slot_in, slot_at, put_slot}
-use Rattle.ir_model.specs.Arenas.{Arena, IsInRange, empty, get, IsLiveIn, IsNextVersion, IsNew, IsWhole, is_passed, fill, cut, miss}
+use Rattle.ir_model.specs.Arenas.{Arena, IsInRange, empty, get, IsLiveIn, IsNextVersion, IsNew, IsWhole, is_passed, fill, cleared, cut, emptied, miss}
 use Rattle.ir_model.proofs.Slots.{taken_at, slot_at-place, slot_at-next, length-put, at-put_same, at-put_other, at_zero, at_past, find_vacant, find-put_same, find-put_other}
 
 -- the versions that a slot had
@@ -175,6 +176,18 @@ module _ {T : Type 0} where
   -- a removal that finds nothing leaves each id as it was
   pub get-miss : (a : Arena T) (q : ArenaIndex) → get (miss a) q ≡ get a q
   get-miss a q = refl
+
+  emptied-at : (slots : List (Slot T)) (n : ℕ) → slot_at (map emptied slots) n ≡ emptied (slot_at slots n)
+  unfolding slot_at
+  emptied-at slots zero = refl
+  emptied-at slots (suc k) = get_or-map emptied slots k never
+
+  -- nothing stands in a cleared arena, and what was handed out stays so
+  pub get-cleared : (a : Arena T) (q : ArenaIndex) → get (cleared a) q ≡ None
+  get-cleared a q = find_vacant (map emptied a.slots) q (ap (λ s. s.item) (emptied-at a.slots q.slot))
+
+  pub passed-cleared : (a : Arena T) (q : ArenaIndex) → is_passed (cleared a) q ≡ is_passed a q
+  passed-cleared a q = ap (λ s. had_version s.version q.version) (emptied-at a.slots q.slot)
 
   -- one slot has one live id at most
   pub live-unique : (a : Arena T) (p q : ArenaIndex) → IsLiveIn a p → IsLiveIn a q → p.slot ≡ q.slot → p ≡ q

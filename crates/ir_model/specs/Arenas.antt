@@ -1,5 +1,5 @@
 -- Arenas: records under ids that are never handed out twice.
-use Rattle.std.specs.Prelude.{◌≡◌, ◌⊎◌, ℕ, ◌+◌, ◌-◌, ◌<◌, ◌≤◌, Bool, List, [], length, count_by, Option, Some, None, IsSome, refl}
+use Rattle.std.specs.Prelude.{◌≡◌, ◌⊎◌, ℕ, ◌+◌, ◌-◌, ◌<◌, ◌≤◌, Bool, List, [], map, length, count_by, Option, Some, None, IsSome, refl}
 use Rattle.std.specs.Coded.{Coded, code_by, coded×, coded_ℕ, coded_list}
 use Rattle.ir_model.specs.declared.ids.ArenaIndex.{ArenaIndex}
 use Rattle.ir_model.specs.Slots.{Slot, slot_code, had_version, is_taken, is_retired, slot_in, slot_at, find, put_slot}
@@ -85,6 +85,14 @@ module _ {T : Type 0} where
   -- the arena after a call of `remove` that took the record under an id
   abbrev pub cut : Arena T → ArenaIndex → Arena T
   cut a id = record a { slots = put_slot a.slots id.slot (record { version = id.version; item = None }); removals = a.removals + 1 }
+
+  -- the slot without its record
+  abbrev pub emptied : Slot T → Slot T
+  emptied s = record { version = s.version; item = None }
+
+  -- the arena after a call of `clear`: each slot is empty and keeps its last version, and each record counts as a removal
+  abbrev pub cleared : Arena T → Arena T
+  cleared a = record a { slots = map emptied a.slots; removals = a.removals + arena_len a }
 
   -- a value that was made for a new id was stored under it
   pub record Inserts (made : T → Type 0) (old new : Arena T) (id : ArenaIndex) : Type 0 where
