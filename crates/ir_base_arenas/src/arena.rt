@@ -5,9 +5,10 @@
 ghost use Rattle.std.specs.Prelude.{◌≡◌, ◌⊎◌, ◌+◌, ◌<◌, ◌≤◌, ◌==◌, ◌↔◌, length, IsTrue, IfOk, IfErr, IfNone, OnErr, OnSome, OnOk, Some, None, Err, option_copied, nat_le};
 ghost use Rattle.std.specs.Option.{option_copied_mut};
 ghost use Rattle.std.specs.Borrow.{sem};
+ghost use Rattle.ir_model.specs.declared.ids.ArenaIndex.{ArenaIndex as Index};
 ghost use Rattle.ir_model.specs.Slots.{item_under};
 ghost use Rattle.ir_base_arenas.specs.declared.ptr.Ptr.{Ptr as Handle};
-ghost use Rattle.ir_base_arenas.specs.Arena.{empty, get, IsLiveIn, IsWhole, IsNew, cleared, cut, miss, room, unused, arena_len, Inserts};
+ghost use Rattle.ir_base_arenas.specs.Arena.{empty, get, IsLiveIn, IsWhole, IsNew, cleared, cut, is_passed, miss, room, unused, arena_len, Inserts};
 ghost use Rattle.ir_base_arenas.specs.ArenaSound.{emptied_at};
 
 use crate::take_out::TakeOut;
@@ -302,7 +303,9 @@ impl<T> Arena<T> {
     pub fn clear(&mut self)
     where
         T: TakeOut + Drop,
-        ensures { self.new ≡ cleared self.old }
+        ensures cleared { self.new ≡ cleared self.old }
+        ensures gone { (id : Index) → get self.new id ≡ None }
+        ensures passed { (id : Index) → is_passed self.new id ≡ is_passed self.old id }
     {
         let count = self.slots.len();
         for done in 0..count {

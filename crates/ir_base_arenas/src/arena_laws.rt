@@ -4,7 +4,7 @@ ghost use Rattle.std.specs.Prelude.{◌≡◌, ◌≢◌, ◌↔◌, ◌⊎◌, 
 ghost use Rattle.ir_model.specs.declared.ids.ArenaIndex.{ArenaIndex};
 ghost use Rattle.ir_model.specs.declared.ids.Limits.{Limits};
 ghost use Rattle.ir_model.specs.Sessions.{Number, IsNewId, HasRoom, LacksRoom, TakesSlot};
-ghost use Rattle.ir_base_arenas.specs.Arena.{Arena as Records, get, fill, cut, miss, empty, room, arena_len, is_passed, IsLiveIn, IsNew, IsWhole};
+ghost use Rattle.ir_base_arenas.specs.Arena.{Arena as Records, get, fill, cleared, cut, miss, empty, room, arena_len, is_passed, IsLiveIn, IsNew, IsWhole};
 
 /// A new id was never handed out, nothing stands under it, and where there is one, there is room. It is one that may be handed out next.
 pub fn new_ids_are_new<T>()
@@ -26,6 +26,7 @@ pub fn passed_ids_stay<T>()
     ensures removed { (a : Records T) (id q : ArenaIndex) → IsLiveIn a id
         → is_passed (cut a id) q ≡ is_passed a q }
     ensures missed { (a : Records T) (q : ArenaIndex) → is_passed (miss a) q ≡ is_passed a q }
+    ensures cleared { (a : Records T) (q : ArenaIndex) → is_passed (cleared a) q ≡ is_passed a q }
     ensures live { (a : Records T) (id : ArenaIndex) → IsWhole a → IsLiveIn a id → IsTrue (is_passed a id) }
 {}
 
@@ -46,6 +47,7 @@ pub fn changes_are_read<T>()
     ensures inserted { (a : Records T) (id : ArenaIndex) (v : T) → IsNew a id → get (fill a id v) id ≡ Some v }
     ensures written { (a : Records T) (id : ArenaIndex) (v : T) → IsLiveIn a id → get (fill a id v) id ≡ Some v }
     ensures removed { (a : Records T) (id : ArenaIndex) → IsLiveIn a id → get (cut a id) id ≡ None }
+    ensures cleared { (a : Records T) (q : ArenaIndex) → get (cleared a) q ≡ None }
 {}
 
 /// Each change leaves what stands under every other id.

@@ -41,6 +41,8 @@ pub fn contexts<D: Dialects>() {
     let _ = Context::<D>::new;
     let _ = Context::<D>::with_limits;
     let _ = Context::<D>::is_ir_empty;
+    let _ = Context::<D>::reserve;
+    let _ = Context::<D>::clear;
     let _ = Context::<D>::room;
     let _ = Context::<D>::alloc;
     let _ = Context::<D>::type_at;

@@ -1,4 +1,4 @@
-//! What is asked of a lab as a whole: what room is left, and whether anything is there.
+//! What is asked and done of a lab's context as a whole: what room is left, whether anything is there, place for more, and the way back to nothing.
 
 use crate::lab::Lab;
 use testkit_edit_texts::TextError;
@@ -21,4 +21,25 @@ pub(crate) fn is_empty(lab: &mut Lab, rest: &str) -> Result<(), TextError> {
     }
     let answer = if lab.ctx().is_ir_empty() { "yes" } else { "no" };
     Ok(lab.text.push_str(answer)?)
+}
+
+/// Makes place for so many operations in the context.
+pub(crate) fn reserve(lab: &mut Lab, rest: &str) -> Result<(), TextError> {
+    let Ok(ops) = rest.parse() else {
+        return Err(TextError::Malformed);
+    };
+    let answer = match lab.context.reserve(ops) {
+        Ok(()) => "done",
+        Err(_) => "refused memory",
+    };
+    Ok(lab.text.push_str(answer)?)
+}
+
+/// Takes all operations, blocks and regions out of the context.
+pub(crate) fn clear(lab: &mut Lab, rest: &str) -> Result<(), TextError> {
+    if !rest.is_empty() {
+        return Err(TextError::Malformed);
+    }
+    lab.context.clear();
+    Ok(lab.text.push_str("done")?)
 }

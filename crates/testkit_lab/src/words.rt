@@ -21,6 +21,8 @@ pub fn answer(lab: &mut Lab, word: &str, rest: &str) -> Result<(), TextError> {
         "dump" => write_dump(lab),
         "room" => questions::room(lab, rest),
         "is-empty" => questions::is_empty(lab, rest),
+        "reserve" => questions::reserve(lab, rest),
+        "clear" => questions::clear(lab, rest),
         "run" => run(lab, rest),
         _ => edit(lab, word, rest),
     }

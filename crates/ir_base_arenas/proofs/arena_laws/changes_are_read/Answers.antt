@@ -1,4 +1,4 @@
-use Rattle.ir_model.proofs.Arenas.{get-empty, get-fill_new, get-fill_live, get-cut}
+use Rattle.ir_model.proofs.Arenas.{get-empty, get-fill_new, get-fill_live, get-cut, get-cleared}
 use Rattle.ir_base_arenas.proofs.arena_laws.changes_are_read.Goals as goal
 
 pub returns : goal.returns
@@ -7,4 +7,5 @@ returns g c = record {
   inserted = get-fill_new;
   written = get-fill_live;
   removed = get-cut;
+  cleared = get-cleared;
 }

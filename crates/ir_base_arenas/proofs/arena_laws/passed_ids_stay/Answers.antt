@@ -1,4 +1,4 @@
-use Rattle.ir_model.proofs.Arenas.{passed-empty, passed-fill_new, passed-fill_live, passed-cut, passed-miss, live-passed}
+use Rattle.ir_model.proofs.Arenas.{passed-empty, passed-fill_new, passed-fill_live, passed-cut, passed-cleared, passed-miss, live-passed}
 use Rattle.ir_base_arenas.proofs.arena_laws.passed_ids_stay.Goals as goal
 
 pub returns : goal.returns
@@ -8,5 +8,6 @@ returns g c = record {
   written = passed-fill_live;
   removed = passed-cut;
   missed = passed-miss;
+  cleared = passed-cleared;
   live = live-passed;
 }

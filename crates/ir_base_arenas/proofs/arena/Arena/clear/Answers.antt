@@ -1,5 +1,7 @@
-use Rattle.std.proofs.Common.{◌≡◌, ◌+◌, ◌-◌, suc, length, map, sym, subst, arith}
+use Rattle.std.proofs.Common.{◌≡◌, ◌+◌, ◌-◌, suc, length, map, sym, ap, subst, ◌∙◌, arith}
 use Rattle.std.proofs.lemmas.List.{length-map}
+use Rattle.ir_model.proofs.Arenas.{get-cleared, passed-cleared}
+use Rattle.ir_base_arenas.specs.Arena.{get, is_passed}
 use Rattle.ir_base_arenas.specs.ArenaSound.{emptied_at, slot_shown, held}
 use Rattle.ir_base_arenas.proofs.ArenaCleared.{IsEmptiedFrom, emptied-end, emptied-start, emptied-step, emptied-within}
 use Rattle.ir_base_arenas.proofs.arena.Arena.clear.Goals as goal
@@ -32,9 +34,14 @@ loop-done-preserved g c =
       emptied = subst (λ a. IsEmptiedFrom (n - (c.loop-done.done + 1)) old a) (sym c.empty_slot.ensures) (subst (λ m. IsEmptiedFrom m old (emptied_at now k)) (let is : k ≡ n - (c.loop-done.done + 1) = omega (arith, test) in is) after);
     }
 
-pub returns : goal.returns
-returns g c =
-    let i = c.loop-done.invariant in
+pub returns-clause-cleared : goal.returns-clause-cleared
+returns-clause-cleared g c =
     let over = c.loop-done-test.false in
     let none : c.len-count.result - c.loop-done.done ≡ 0 = omega (arith, over) in
-    emptied-end c.args.self.now c.loop-done.self (subst (λ k. IsEmptiedFrom k c.args.self.now c.loop-done.self) none i.emptied)
+    emptied-end c.args.self.now c.loop-done.self (subst (λ k. IsEmptiedFrom k c.args.self.now c.loop-done.self) none c.loop-done.invariant.emptied)
+
+pub returns-clause-gone : goal.returns-clause-gone
+returns-clause-gone g c = λ id. ap (λ a. get a id) (returns-clause-cleared g c) ∙ get-cleared c.args.self.now id
+
+pub returns-clause-passed : goal.returns-clause-passed
+returns-clause-passed g c = λ id. ap (λ a. is_passed a id) (returns-clause-cleared g c) ∙ passed-cleared c.args.self.now id
