@@ -1,7 +1,7 @@
 //! Arenas as their callers use them: first callers that are proved from the contracts alone, then tests that run.
 
 ghost use Rattle.std.specs.Prelude.{◌≡◌, ◌≢◌, ◌+◌, ◌<◌, ◌↔◌, ◌⊎◌, IfOk, IfErr, IfSome, IfNone, OnErr, OnOk, Some, None, Err};
-ghost use Rattle.ir_base_arenas.specs.Arena.{get, fill, room, unused, is_passed, IsNew};
+ghost use Rattle.ir_base_arenas.specs.Arena.{arena_len, get, fill, room, unused, is_passed, IsNew};
 ghost use Rattle.ir_model.specs.declared.ids.ArenaIndex.{ArenaIndex as Index};
 
 use crate::expecting::{expect_same, shows};
@@ -133,6 +133,22 @@ fn remove_for_good(roots: &mut Arena<Root>, root: Ptr<Root>)
     passed_ids_stay::<Root>();
     other_ids_stay::<Root>();
     roots.remove(root);
+}
+
+/// A clearing, which counts each record once. What was handed out is still handed out, and nothing stands under it.
+fn clear_counted(roots: &mut Arena<Root>)
+    ensures counted { roots.new.removals ≡ roots.old.removals + arena_len roots.old }
+    ensures gone { (q : Index) → get roots.new q ≡ None }
+    ensures passed { (q : Index) → is_passed roots.new q ≡ is_passed roots.old q }
+{
+    roots.clear();
+}
+
+/// Place for a hundred more, which changes nothing that is seen.
+fn make_place(roots: &mut Arena<Root>) -> bool
+    ensures { roots.new ≡ roots.old }
+{
+    roots.reserve(100).is_ok()
 }
 
 /// Stores a root that names nothing.
@@ -275,6 +291,20 @@ fn the_slot_freed_last_is_used_first(rt: HostRuntime) {
         (freed, roots.is_live(in_slot(2))),
         ((true, true), true),
     );
+}
+
+#[test]
+fn cleared_slots_are_used_from_the_first(rt: HostRuntime) {
+    let mut roots = Arena::new(rt.alloc(), 3, 3);
+    expect_same(&rt, make_place(&mut roots), true);
+    expect_places(&rt, &mut roots, &[(1, 1), (2, 1), (3, 1)]);
+    assert!(&rt; free(&mut roots, in_slot(2)));
+    clear_counted(&mut roots);
+    let gone = is_gone(&mut roots, in_slot(1)) && is_gone(&mut roots, in_slot(3));
+    expect_same(&rt, (gone, room_and_len(&roots)), (true, (3, 0)));
+    expect_places(&rt, &mut roots, &[(1, 3), (3, 3), (2, 3)]);
+    clear_counted(&mut roots);
+    expect_same(&rt, room_and_len(&roots), (0, 0));
 }
 
 // Makes a thousand roots, each in the next slot.

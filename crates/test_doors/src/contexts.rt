@@ -17,6 +17,8 @@ use std::hash::Hash;
 /// Arenas, their handles, and what a call may lack.
 pub fn arenas<T: TakeOut + Drop>() {
     let _ = Arena::<T>::new;
+    let _ = Arena::<T>::reserve;
+    let _ = Arena::<T>::clear;
     let _ = Arena::<T>::insert_with::<fn(Ptr<T>) -> T>;
     let _ = Arena::<T>::get;
     let _ = Arena::<T>::get_mut;

@@ -14,6 +14,8 @@ use std::alloc::Global;
 pub enum StoringCall {
     /// `Arena::insert_with`.
     Arena,
+    /// `Arena::reserve`.
+    Place,
     /// `UniqueStore::get_or_create_unique`.
     Unique,
     /// `TypeStore::get_or_insert`.
@@ -26,8 +28,9 @@ pub enum StoringCall {
 
 impl StoringCall {
     /// All of them.
-    pub const ALL: [StoringCall; 5] = [
+    pub const ALL: [StoringCall; 6] = [
         StoringCall::Arena,
+        StoringCall::Place,
         StoringCall::Unique,
         StoringCall::Keys,
         StoringCall::Verifiers,
@@ -46,6 +49,7 @@ impl StoreCall for StoringCall {
     fn name(self) -> &'static str {
         match self {
             StoringCall::Arena => "Arena::insert_with",
+            StoringCall::Place => "Arena::reserve",
             StoringCall::Unique => "get_or_create_unique",
             StoringCall::Keys => "TypeStore::get_or_insert",
             StoringCall::Verifiers => "collect_deduped_interface_verifiers",
@@ -56,6 +60,7 @@ impl StoreCall for StoringCall {
     fn make(self, alloc: Global) -> Result<bool, CoreError> {
         match self {
             StoringCall::Arena => insert_nine(&mut Arena::new(alloc, 100, 100)),
+            StoringCall::Place => makes_place(&mut Arena::new(alloc, 100, 100)),
             StoringCall::Unique => unique_nine(&mut UniqueStore::new(alloc)),
             StoringCall::Keys => keys_nine(&mut TypeStore::new(alloc)),
             StoringCall::Verifiers => collect(alloc),
@@ -87,6 +92,15 @@ fn insert_nine(arena: &mut Arena<u64>) -> Result<bool, CoreError> {
         done &= inserts(arena, number)?;
     }
     Ok(done && arena.len() == 9)
+}
+
+// Whether there is place for nine more numbers. Where memory lacks, the arena is as before, and makes place afterwards.
+fn makes_place(arena: &mut Arena<u64>) -> Result<bool, CoreError> {
+    let done = inserts(arena, 7)?;
+    if arena.reserve(9).is_err() {
+        arena.reserve(9)?;
+    }
+    Ok(done && arena.len() == 1)
 }
 
 // Whether the number gets the place. Where memory lacks, it has none, and gets it afterwards.

@@ -115,6 +115,7 @@ fn make_named(alloc: Global) -> Result<Named, CoreError> {
 // An arena and a store with the number 7.
 fn make_sevens(alloc: Global) -> Result<Sevens, CoreError> {
     let mut arena = Arena::new(alloc, 9, 9);
+    arena.reserve(9)?;
     let first = arena.insert_with(move |_: Ptr<u64>| 7)?;
     let store = store_of_seven(alloc)?;
     Ok(Sevens {
@@ -168,6 +169,8 @@ pub enum StoreReading {
     Arena,
     /// An arena, lent for writing and taken out of.
     ArenaTaken,
+    /// An arena, filled up to the place that was made in it, and cleared.
+    ArenaCleared,
     /// A store of distinct values.
     Store,
     /// Whether dictionary keys differ.
@@ -178,7 +181,7 @@ pub enum StoreReading {
 
 impl StoreReading {
     /// All of them.
-    pub const ALL: [StoreReading; 10] = [
+    pub const ALL: [StoreReading; 11] = [
         StoreReading::Identifiers,
         StoreReading::OfTexts,
         StoreReading::Compared,
@@ -186,6 +189,7 @@ impl StoreReading {
         StoreReading::NamesCompared,
         StoreReading::Arena,
         StoreReading::ArenaTaken,
+        StoreReading::ArenaCleared,
         StoreReading::Store,
         StoreReading::Keys,
         StoreReading::New,
@@ -227,6 +231,7 @@ impl StoreReading {
                 "Arena::room",
             ],
             StoreReading::ArenaTaken => &["Arena::get_mut", "Arena::remove"],
+            StoreReading::ArenaCleared => &["Arena::clear"],
             StoreReading::Store => &["UniqueStore::get", "UniqueStore::get_index"],
             StoreReading::Keys => &["verify_dict_keys"],
             StoreReading::New => &[
@@ -249,6 +254,7 @@ impl StoreReading {
             StoreReading::NamesCompared => names_compared(&fixture.names.id),
             StoreReading::Arena => arena(fixture),
             StoreReading::ArenaTaken => arena_taken(fixture),
+            StoreReading::ArenaCleared => arena_cleared(&mut fixture.sevens.arena),
             StoreReading::Store => store(&fixture.sevens.store),
             StoreReading::Keys => keys(&fixture.names.keys),
             StoreReading::New => new(fixture.alloc),
@@ -327,6 +333,15 @@ fn arena(stores: &Stores) -> bool {
 fn arena_taken(stores: &mut Stores) -> bool {
     let first = stores.sevens.first;
     stores.sevens.arena.get_mut(first).is_some() && stores.sevens.arena.remove(first) == Some(7)
+}
+
+fn arena_cleared(arena: &mut Arena<u64>) -> bool {
+    let mut done = true;
+    for number in 0..7u64 {
+        done &= arena.insert_with(move |_: Ptr<u64>| number).is_ok();
+    }
+    arena.clear();
+    done && arena.is_empty() && arena.room() == 9
 }
 
 fn store(store: &UniqueStore<u64>) -> bool {
