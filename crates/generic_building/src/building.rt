@@ -1,5 +1,9 @@
 //! From the rows of a text to operations in a context.
 
+ghost use Rattle.std.specs.Prelude.{OnErr};
+ghost use Rattle.ir_core_context.specs.Calls.{NoEntity};
+ghost use Rattle.ir_core_context.specs.State.{forest_of};
+
 use crate::blocks::make_block;
 use crate::error::BuildError;
 use crate::made::{Block, Made, Op, Room};
@@ -99,11 +103,18 @@ fn make_or_take_back(
     ctx: &mut Context<Generic>,
     source: Source,
     made: &mut Made,
-) -> Result<(), BuildError> {
+) -> Result<(), BuildError>
+    ensures err { NoEntity (forest_of ctx.old) → OnErr result (NoEntity (forest_of ctx.new)) }
+{
+    let was_empty = ctx.is_ir_empty();
     match make_all(ctx, source, made) {
         Ok(()) => Ok(()),
         Err(error) => {
-            take_back(ctx, made);
+            if was_empty {
+                ctx.clear();
+            } else {
+                take_back(ctx, made);
+            }
             Err(error)
         }
     }
@@ -118,7 +129,9 @@ pub fn build(
     text: &[u8],
     rows: &[Row],
     names: &Names,
-) -> Result<Built, BuildError> {
+) -> Result<Built, BuildError>
+    ensures err { NoEntity (forest_of ctx.old) → OnErr result (NoEntity (forest_of ctx.new)) }
+{
     let source = Source { text, rows, names };
     let mut made = Made::new(ctx.alloc(), rows.len())?;
     make_or_take_back(ctx, source, &mut made)?;

@@ -1,9 +1,10 @@
 //! A text read into a context, with the places of its operations.
-ghost use Rattle.std.specs.Prelude.{IfOk, List, OnOk, true};
+ghost use Rattle.std.specs.Prelude.{IfOk, List, OnErr, OnOk, true};
 ghost use Rattle.generic_described.specs.GenericWords.{block_named, generic_words, value_named};
 ghost use Rattle.ir_model.specs.declared.ids.ArenaIndex.{ArenaIndex};
 ghost use Rattle.ir_model.specs.Forest.{an_op};
 ghost use Rattle.ir_model.specs.Nesting.{IsClosed, IsLive};
+ghost use Rattle.ir_core_context.specs.Calls.{NoEntity};
 ghost use Rattle.ir_core_queries.specs.State.{forest_of};
 ghost use Rattle.ir_opt_run.specs.Modules.{Encloses, IsReadAs, Says};
 
@@ -100,11 +101,8 @@ fn is_alone(root: Op, tops: &[Op]) -> bool {
     }
 }
 
-/// Reads a text into a context. What was built is compared with the text.
-///
-/// # Errors
-/// The first fault in the text; want of memory, numbers or slots; and `Different` where what was built isn't what the text says, which would be a fault of this program.
-pub fn read_module(ctx: &mut Context<Generic>, text: &[u8]) -> Result<Module, Fault>
+// Reads a text into a context. What was built is compared with the text.
+fn read_into(ctx: &mut Context<Generic>, text: &[u8]) -> Result<Module, Fault>
     ensures live { IfOk result (λ m. IsLive (forest_of ctx.new) (an_op m.root.index)) }
     ensures closed { IfOk result (λ m. IsClosed (forest_of ctx.new) (an_op m.root.index)) }
     ensures said { IfOk result (λ m. (operations : List ArenaIndex) × Says (forest_of ctx.new) (generic_words ctx.new) true text.now operations × Encloses (forest_of ctx.new) (generic_words ctx.new) m.root.index operations) }
@@ -132,4 +130,26 @@ pub fn read_module(ctx: &mut Context<Generic>, text: &[u8]) -> Result<Module, Fa
         places,
         blocks: built.blocks,
     })
+}
+
+/// Reads a text into a context. What was built is compared with the text.
+///
+/// # Errors
+/// The first fault in the text; want of memory, numbers or slots; and `Different` where what was built isn't what the text says, which would be a fault of this program. Then a context that had no operation, block or region has none again; only types and saved texts are left.
+pub fn read_module(ctx: &mut Context<Generic>, text: &[u8]) -> Result<Module, Fault>
+    ensures live { IfOk result (λ m. IsLive (forest_of ctx.new) (an_op m.root.index)) }
+    ensures closed { IfOk result (λ m. IsClosed (forest_of ctx.new) (an_op m.root.index)) }
+    ensures said { IfOk result (λ m. (operations : List ArenaIndex) × Says (forest_of ctx.new) (generic_words ctx.new) true text.now operations × Encloses (forest_of ctx.new) (generic_words ctx.new) m.root.index operations) }
+    ensures err { NoEntity (forest_of ctx.old) → OnErr result (NoEntity (forest_of ctx.new)) }
+{
+    let was_empty = ctx.is_ir_empty();
+    match read_into(ctx, text) {
+        Ok(module) => Ok(module),
+        Err(fault) => {
+            if was_empty {
+                ctx.clear();
+            }
+            Err(fault)
+        }
+    }
 }
