@@ -7,3 +7,4 @@ mod PartsMade
 mod PureNames
 mod SaidAlike
 mod WrittenAlike
+mod OnlyInside

@@ -2,8 +2,8 @@
 use Rattle.std.specs.Prelude.{◌≡◌, ℕ, ◌<◌, Bool, List, [], ◌∷◌, length, Option, None, Some, codes}
 use Rattle.ir_model.specs.declared.ids.ArenaIndex.{ArenaIndex}
 use Rattle.ir_model.specs.ContextIds.{context_ids}
-use Rattle.ir_model.specs.Forest.{Dialect, Forest, OpRecord, of_block}
-use Rattle.ir_model.specs.Nesting.{blocks_of, definitions_of, ops_of}
+use Rattle.ir_model.specs.Forest.{Dialect, Entity, Forest, OpRecord, of_block}
+use Rattle.ir_model.specs.Nesting.{Inside, IsLive, blocks_of, definitions_of, ops_of}
 use Rattle.ir_text_tree.specs.declared.row.Row.{Row}
 use Rattle.ir_text_tree.specs.Trees.{Body, tree_rows}
 use Rattle.ir_text_names.specs.Blocks.{IsBlockNamed}
@@ -27,6 +27,10 @@ module _ {W : Dialect} where
     pub blocks : (u : ℕ) → u < length (tree_rows tree) → IsBlockNamed text (tree_rows tree) u (block_named u)
     pub values : (u : ℕ) → u < length (tree_rows tree) → IsValueNamed text (tree_rows tree) u (value_named u)
     pub described : IsDescribedBy f words located (tree_of text tree block_named value_named) operations
+
+  -- all that is live stands inside the entity
+  abbrev pub HasOnly : Forest context_ids W → Entity context_ids → Type 0
+  HasOnly f e = (x : Entity context_ids) → IsLive f x → Inside f e x
 
   -- a module with one region, which neither names nor gives anything, without attributes and without a location
   pub record IsBareModule (words : Words W) (r : OpRecord context_ids W) : Type 0 where

@@ -1,12 +1,12 @@
 //! A text read into a context, with the places of its operations.
-ghost use Rattle.std.specs.Prelude.{IfOk, List, OnErr, OnOk, true};
+ghost use Rattle.std.specs.Prelude.{IfOk, IsTrue, List, OnErr, OnOk, true};
 ghost use Rattle.generic_described.specs.GenericWords.{block_named, generic_words, value_named};
 ghost use Rattle.ir_model.specs.declared.ids.ArenaIndex.{ArenaIndex};
 ghost use Rattle.ir_model.specs.Forest.{an_op};
 ghost use Rattle.ir_model.specs.Nesting.{IsClosed, IsLive};
 ghost use Rattle.ir_core_context.specs.Calls.{NoEntity};
 ghost use Rattle.ir_core_queries.specs.State.{forest_of};
-ghost use Rattle.ir_opt_run.specs.Modules.{Encloses, IsReadAs, Says};
+ghost use Rattle.ir_opt_run.specs.Modules.{Encloses, HasOnly, IsReadAs, Says};
 
 use crate::enclosed::listed;
 use crate::fault::Fault;
@@ -18,6 +18,7 @@ use ir_base_dialects::Ptr;
 use ir_core_queries::{BasicBlock, Context, Entity, Operation, OperationPtr, can_erase};
 use ir_text_names::Wrong;
 use ir_text_reader::Row;
+use ir_view_walks::all_inside;
 use std::alloc::{AllocError, Global};
 
 /// An operation of the dialect.
@@ -101,11 +102,28 @@ fn is_alone(root: Op, tops: &[Op]) -> bool {
     }
 }
 
-// Reads a text into a context. What was built is compared with the text.
-fn read_into(ctx: &mut Context<Generic>, text: &[u8]) -> Result<Module, Fault>
+// Sees to it that all that is live in the context stands inside an operation.
+fn check_only(ctx: &Context<Generic>, root: Op) -> Result<(), Fault>
+    requires { IsLive (forest_of ctx.now) (an_op root.index) }
+    ensures { OnOk result (HasOnly (forest_of ctx.now) (an_op root.index)) }
+{
+    let count = all_inside(ctx, Entity::Op(root))?.len();
+    let records = ctx.records();
+    let ops = records.ops.len();
+    let blocks = records.blocks.len();
+    let regions = records.regions.len();
+    if ops <= count && blocks <= count - ops && regions <= count - ops - blocks {
+        return Ok(());
+    }
+    Err(Fault::Different)
+}
+
+// Reads a text into a context. What was built is compared with the text, and where the context was empty, also with all that is there.
+fn read_into(ctx: &mut Context<Generic>, text: &[u8], was_empty: bool) -> Result<Module, Fault>
     ensures live { IfOk result (λ m. IsLive (forest_of ctx.new) (an_op m.root.index)) }
     ensures closed { IfOk result (λ m. IsClosed (forest_of ctx.new) (an_op m.root.index)) }
     ensures said { IfOk result (λ m. (operations : List ArenaIndex) × Says (forest_of ctx.new) (generic_words ctx.new) true text.now operations × Encloses (forest_of ctx.new) (generic_words ctx.new) m.root.index operations) }
+    ensures only { IsTrue was_empty → IfOk result (λ m. HasOnly (forest_of ctx.new) (an_op m.root.index)) }
 {
     let alloc = ctx.alloc();
     let tree = read_tree(alloc, text)?;
@@ -124,6 +142,9 @@ fn read_into(ctx: &mut Context<Generic>, text: &[u8]) -> Result<Module, Fault>
         text,
         &tree,
     )?;
+    if was_empty {
+        check_only(ctx, root)?;
+    }
     let places = places(alloc, tree.rows.as_slice(), built.ops.as_slice())?;
     Ok(Module {
         root,
@@ -132,7 +153,7 @@ fn read_into(ctx: &mut Context<Generic>, text: &[u8]) -> Result<Module, Fault>
     })
 }
 
-/// Reads a text into a context. What was built is compared with the text.
+/// Reads a text into a context. What was built is compared with the text, and where the context was empty, also with all that is there.
 ///
 /// # Errors
 /// The first fault in the text; want of memory, numbers or slots; and `Different` where what was built isn't what the text says, which would be a fault of this program. Then a context that had no operation, block or region has none again; only types and saved texts are left.
@@ -140,10 +161,11 @@ pub fn read_module(ctx: &mut Context<Generic>, text: &[u8]) -> Result<Module, Fa
     ensures live { IfOk result (λ m. IsLive (forest_of ctx.new) (an_op m.root.index)) }
     ensures closed { IfOk result (λ m. IsClosed (forest_of ctx.new) (an_op m.root.index)) }
     ensures said { IfOk result (λ m. (operations : List ArenaIndex) × Says (forest_of ctx.new) (generic_words ctx.new) true text.now operations × Encloses (forest_of ctx.new) (generic_words ctx.new) m.root.index operations) }
+    ensures only { NoEntity (forest_of ctx.old) → IfOk result (λ m. HasOnly (forest_of ctx.new) (an_op m.root.index)) }
     ensures err { NoEntity (forest_of ctx.old) → OnErr result (NoEntity (forest_of ctx.new)) }
 {
     let was_empty = ctx.is_ir_empty();
-    match read_into(ctx, text) {
+    match read_into(ctx, text, was_empty) {
         Ok(module) => Ok(module),
         Err(fault) => {
             if was_empty {
