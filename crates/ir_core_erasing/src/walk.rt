@@ -63,7 +63,7 @@ fn first_before(items: &[ArenaIndex], item: ArenaIndex) -> Option<ArenaIndex>
 
 // Where an item of a list would stand if the slots were spread evenly from the first item's to the last item's, as they are where regions were made one after the other.
 #[inline(always)]
-fn likely_place(items: &[ArenaIndex], item: ArenaIndex) -> usize {
+fn evenly_spread(items: &[ArenaIndex], item: ArenaIndex) -> usize {
     let (Some(first), Some(last)) = (items.first(), items.last()) else {
         return 0;
     };
@@ -73,13 +73,22 @@ fn likely_place(items: &[ArenaIndex], item: ArenaIndex) -> usize {
     (part.saturating_mul(steps) / whole) as usize
 }
 
+// Where an item of a list is looked for first: where it stood when it came there, if it still does.
+#[inline(always)]
+fn likely_place(items: &[ArenaIndex], item: ArenaIndex, came_to: usize) -> usize {
+    match items.get(came_to) {
+        Some(here) if *here == item => came_to,
+        _ => evenly_spread(items, item),
+    }
+}
+
 // The item before an item in a list that has none twice. The likely place is tried first, and the answer doesn't depend on it.
 #[inline(always)]
-fn item_before(items: &[ArenaIndex], item: ArenaIndex) -> Option<ArenaIndex>
+fn item_before(items: &[ArenaIndex], item: ArenaIndex, came_to: usize) -> Option<ArenaIndex>
     requires { Distinct items.now }
     ensures { result ≡ before_from None item items.now }
 {
-    let place = likely_place(items, item);
+    let place = likely_place(items, item, came_to);
     if 0 < place && place < items.len() && items[place] == item {
         return Some(items[place - 1]);
     }
@@ -102,9 +111,9 @@ fn previous_in_record<D: Dialects>(records: &Records<D>, entity: EntityIndex) ->
             Some(EntityIndex::Block(previous))
         }
         EntityIndex::Region(region) => {
-            let op = records.regions.get(Ptr::from_index(region))?.parent;
-            let regions = &records.ops.get(Ptr::from_index(op))?.regions;
-            let previous = item_before(regions.as_slice(), region)?;
+            let record = records.regions.get(Ptr::from_index(region))?;
+            let regions = &records.ops.get(Ptr::from_index(record.parent))?.regions;
+            let previous = item_before(regions.as_slice(), region, record.place)?;
             Some(EntityIndex::Region(previous))
         }
     }

@@ -101,7 +101,7 @@ module _ {D A K B S X L : Type 0} (t : Records D A K B S X L) (nested : AreNeste
       by None d = tt
       by (Some y) d = Distinct-unmap a_region y.regions d
 
-module _ {D A K B S X L : Type 0} (old : Records D A K B S X L) (op from r : ArenaIndex) (x y : Operation D A K B S X L) (region : Region)
+module _ {D A K B S X L : Type 0} (old : Records D A K B S X L) (op from r : ArenaIndex) (place : ℕ) (x y : Operation D A K B S X L) (region : Region)
     (found : get old.ops op ≡ Some x) (found_from : get old.ops from ≡ Some y) (found_region : get old.regions r ≡ Some region) (knows : region.parent ≡ from) (two : from ≡ op → ⊥)
     (nested : AreNested (tree_of old)) (found_ops : OpsFound D A K B S X L) (found_blocks : BlocksFound D A K B S X L) where
   abbrev taken : Operation D A K B S X L
@@ -114,7 +114,7 @@ module _ {D A K B S X L : Type 0} (old : Records D A K B S X L) (op from r : Are
   pushed = fill old.ops op taken
 
   abbrev pub moved : Records D A K B S X L
-  moved = record { ops = fill pushed from given; blocks = old.blocks; regions = fill old.regions r (record region { parent = op }) }
+  moved = record { ops = fill pushed from given; blocks = old.blocks; regions = fill old.regions r (record region { parent = op; place = place }) }
 
   live : IsLiveIn old.ops op
   live = live-of old.ops op x found
@@ -129,15 +129,15 @@ module _ {D A K B S X L : Type 0} (old : Records D A K B S X L) (op from r : Are
   op_rest : {Y : Type 0} (read : Option (Operation D A K B S X L) → Y) → ((z : Operation D A K B S X L) (rs : List ArenaIndex) → read (Some (record z { regions = rs })) ≡ read (Some z)) → (i : ArenaIndex) → read (get moved.ops i) ≡ read (get old.ops i)
   op_rest read blind i = read-written pushed from read y given still_from (blind y (without same_id r y.regions)) i ∙ read-written old.ops op read x taken found (blind x (x.regions ++ r ∷ [])) i
 
-  -- whatever does not see the parent
-  region_rest : {Y : Type 0} (read : Option Region → Y) → ((z : Region) (p : ArenaIndex) → read (Some (record z { parent = p })) ≡ read (Some z)) → (g : ArenaIndex) → read (get moved.regions g) ≡ read (get old.regions g)
-  region_rest read blind g = read-written old.regions r read region (record region { parent = op }) found_region (blind region op) g
+  -- whatever sees neither the parent nor the place
+  region_rest : {Y : Type 0} (read : Option Region → Y) → ((z : Region) (p : ArenaIndex) (n : ℕ) → read (Some (record z { parent = p; place = n })) ≡ read (Some z)) → (g : ArenaIndex) → read (get moved.regions g) ≡ read (get old.regions g)
+  region_rest read blind g = read-written old.regions r read region (record region { parent = op; place = place }) found_region (blind region op place) g
 
   op_lists : AreLists (tree_of moved).ops (tree_of moved).block_ends (ops_in (tree_of old))
   op_lists = subst (λ h. AreLists h (tree_of old).block_ends (ops_in (tree_of old))) (sym (fun_ext (op_rest (option_map op_links) (λ z rs. refl)))) nested.op_lists
 
   block_lists : AreLists (tree_of moved).blocks (tree_of moved).region_ends (blocks_in (tree_of old))
-  block_lists = subst (λ h. AreLists (tree_of old).blocks h (blocks_in (tree_of old))) (sym (fun_ext (region_rest (option_map region_ends) (λ z p. refl)))) nested.block_lists
+  block_lists = subst (λ h. AreLists (tree_of old).blocks h (blocks_in (tree_of old))) (sym (fun_ext (region_rest (option_map region_ends) (λ z p n. refl)))) nested.block_lists
 
   ops-stay : ops_in (tree_of moved) ≡ ops_in (tree_of old)
   ops-stay = ops-are old moved found_ops op_lists
@@ -159,7 +159,7 @@ module _ {D A K B S X L : Type 0} (old : Records D A K B S X L) (op from r : Are
   elsewhere p z is not_from h = not_from (same_Some _ _ (sym (owned-by old nested p r z is h) ∙ ap (option_map region_parent) found_region ∙ ap Some knows))
 
   parent_still : (g p : ArenaIndex) → (g ≡ r → ⊥) → option_map region_parent (get old.regions g) ≡ Some p → option_map region_parent (get moved.regions g) ≡ Some p
-  parent_still g p ne h = ap (option_map region_parent) (get-fill_live_other old.regions r g (record region { parent = op }) (live-of old.regions r region found_region) ne) ∙ h
+  parent_still g p ne h = ap (option_map region_parent) (get-fill_live_other old.regions r g (record region { parent = op; place = place }) (live-of old.regions r region found_region) ne) ∙ h
 
   by_from : (g : ArenaIndex) → In g (without same_id r y.regions) → (tree_of moved).parent_ops g ≡ Some from
   by_from g h =
@@ -171,7 +171,7 @@ module _ {D A K B S X L : Type 0} (old : Records D A K B S X L) (op from r : Are
   by_op g h = elim (In-append g x.regions (r ∷ []) h) [
     | inl k ↦ parent_still g op (λ e. elsewhere op x found (λ e. two (sym e)) (subst (λ z. In z x.regions) e k)) (owned-by old nested op g x found k)
     | inr k ↦ elim k [
-      | inl e ↦ ap (λ z. option_map region_parent (get moved.regions z)) e ∙ ap (option_map region_parent) (get-fill_live old.regions r (record region { parent = op }) (live-of old.regions r region found_region))
+      | inl e ↦ ap (λ z. option_map region_parent (get moved.regions z)) e ∙ ap (option_map region_parent) (get-fill_live old.regions r (record region { parent = op; place = place }) (live-of old.regions r region found_region))
       | inr n ↦ absurd n
     ]
   ]
@@ -218,7 +218,7 @@ module _ {D A K B S X L : Type 0} (old : Records D A K B S X L) (op from r : Are
     forest = λ i. record {
       ops = fun_ext ops_moved i;
       blocks = λ b. option_map (block_record (ops-stay i b)) (get old.blocks b);
-      regions = fun_ext (λ g. ap (λ (f : ArenaIndex → List ArenaIndex). option_map (λ (_ : Region). f g) (get moved.regions g)) blocks-stay ∙ region_rest (option_map (λ _. blocks_in (tree_of old) g)) (λ z p. refl) g) i;
+      regions = fun_ext (λ g. ap (λ (f : ArenaIndex → List ArenaIndex). option_map (λ (_ : Region). f g) (get moved.regions g)) blocks-stay ∙ region_rest (option_map (λ _. blocks_in (tree_of old) g)) (λ z p n. refl) g) i;
     };
     nested = nested-still old moved ops-stay blocks-stay op_lists block_lists parents;
     keeps = record {
@@ -230,11 +230,11 @@ module _ {D A K B S X L : Type 0} (old : Records D A K B S X L) (op from r : Are
           (λ b. refl);
       op_ids = SameIds-trans old.ops pushed moved.ops (SameIds-written old.ops op taken live) (SameIds-written pushed from given live_from);
       block_ids = SameIds-none old.blocks;
-      region_ids = SameIds-written old.regions r (record region { parent = op }) (live-of old.regions r region found_region);
+      region_ids = SameIds-written old.regions r (record region { parent = op; place = place }) (live-of old.regions r region found_region);
       own = λ know. record {
         ops = own-read (λ z. z.index) old.ops moved.ops (op_rest (option_map (λ z. z.index)) (λ z rs. refl)) know.ops;
         blocks = know.blocks;
-        regions = own-read region_index old.regions moved.regions (region_rest (option_map region_index) (λ z p. refl)) know.regions;
+        regions = own-read region_index old.regions moved.regions (region_rest (option_map region_index) (λ z p n. refl)) know.regions;
       };
     };
   }

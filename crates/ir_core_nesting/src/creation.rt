@@ -217,15 +217,17 @@ pub fn add_region<D: Dialects>(
     lists_are_one::<Operation<D>, BasicBlock<D>>();
     container_changes_keep_lists::<BasicBlock<D>, Region>();
     lists_are_one::<BasicBlock<D>, Region>();
+    let place = records.ops.at(Ptr::from_index(op)).regions.len();
     let inserted = records.regions.insert_with(
         move |made: Ptr<Region>|
-            ensures { result ≡ record { index = made.index; parent = op; first = None; last = None } }
+            ensures { result ≡ record { index = made.index; parent = op; first = None; last = None; place = place } }
         {
             Region {
                 index: made.index,
                 parent: op,
                 first: Link::none(),
                 last: Link::none(),
+                place,
             }
         },
     );

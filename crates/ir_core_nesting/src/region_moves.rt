@@ -73,8 +73,11 @@ pub fn move_region<D: Dialects>(
     if from == op {
         return Ok(());
     }
+    let place = records.ops.at(Ptr::from_index(op)).regions.len();
     push_region(&mut records.ops, op, region)?;
     drop_region(&mut records.ops, from, region);
-    records.regions.at_mut(Ptr::from_index(region)).parent = op;
+    let record = records.regions.at_mut(Ptr::from_index(region));
+    record.parent = op;
+    record.place = place;
     Ok(())
 }

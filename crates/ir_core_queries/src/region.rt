@@ -25,11 +25,14 @@ fn find_item(items: &[ArenaIndex], item: ArenaIndex) -> Option<usize>
     items.iter().position(|x| *x == item)
 }
 
-// Where an item of a list stands first.
-fn index_of_item(items: &[ArenaIndex], item: ArenaIndex) -> usize
+// Where an item of a list stands: at the likely place, or else where it stands first.
+fn index_of_item(items: &[ArenaIndex], item: ArenaIndex, likely: usize) -> usize
     requires { In item items.now }
     ensures { slice_get items.now result ≡ Some item }
 {
+    if likely < items.len() && items[likely] == item {
+        return likely;
+    }
     match find_item(items, item) {
         Some(index) => index,
         None => unreachable!(),
@@ -123,7 +126,8 @@ impl<D: Dialects> RegionPlace<D> for Ptr<Region> {
 
     fn find_index_in_parent(self, ctx: &Context<D>) -> usize {
         let op = ctx.records().ops.at(self.get_parent_op(ctx));
-        index_of_item(op.regions.as_slice(), self.index())
+        let likely = region(ctx, self).place;
+        index_of_item(op.regions.as_slice(), self.index(), likely)
     }
 
     fn has_ssa_dominance(self, ctx: &Context<D>) -> bool {

@@ -174,6 +174,8 @@ pub struct Region {
     pub first: Link,
     /// The last of its blocks.
     pub last: Link,
+    /// Where it stood in the list of its operation when it came there. A search for it begins here, and no clause speaks of it.
+    pub place: usize,
 }
 
 // No index: what fills the places in a record that no item has.

@@ -53,6 +53,7 @@ impl TakeOut for Region {
             parent: self.parent,
             first: self.first,
             last: self.last,
+            place: self.place,
         }
     }
 }

@@ -23,7 +23,7 @@ returns-then-is_err-clause-op_ids g c =
     let op = c.args.op in
     let id = c.in-Ok.region.index in
     let h = c.in-Ok.ensures.inserted in
-    let region : Region = record { index = id; parent = op; first = None; last = None } in
+    let region : Region = record { index = id; parent = op; first = None; last = None; place = c.len-place.result } in
     let is : h.value ≡ region = search rules in
     let at = found-at old.ops op c.requires.live in
     let denied : is_ok c.push_region.result ≡ false = c.is_err.ensures.negation ∙ ap not c.if-is_err.true in
@@ -39,7 +39,7 @@ returns-then-is_err-clause-nested g c =
     let op = c.args.op in
     let id = c.in-Ok.region.index in
     let h = c.in-Ok.ensures.inserted in
-    let region : Region = record { index = id; parent = op; first = None; last = None } in
+    let region : Region = record { index = id; parent = op; first = None; last = None; place = c.len-place.result } in
     let is : h.value ≡ region = search rules in
     let at = found-at old.ops op c.requires.live in
     let denied : is_ok c.push_region.result ≡ false = c.is_err.ensures.negation ∙ ap not c.if-is_err.true in
@@ -56,7 +56,7 @@ returns-then-is_err-clause-chains g c =
     let op = c.args.op in
     let id = c.in-Ok.region.index in
     let h = c.in-Ok.ensures.inserted in
-    let region : Region = record { index = id; parent = op; first = None; last = None } in
+    let region : Region = record { index = id; parent = op; first = None; last = None; place = c.len-place.result } in
     let is : h.value ≡ region = search rules in
     let at = found-at old.ops op c.requires.live in
     let denied : is_ok c.push_region.result ≡ false = c.is_err.ensures.negation ∙ ap not c.if-is_err.true in
@@ -76,7 +76,7 @@ returns-then-is_err-clause-own g c =
     let op = c.args.op in
     let id = c.in-Ok.region.index in
     let h = c.in-Ok.ensures.inserted in
-    let region : Region = record { index = id; parent = op; first = None; last = None } in
+    let region : Region = record { index = id; parent = op; first = None; last = None; place = c.len-place.result } in
     let is : h.value ≡ region = search rules in
     let at = found-at old.ops op c.requires.live in
     let denied : is_ok c.push_region.result ≡ false = c.is_err.ensures.negation ∙ ap not c.if-is_err.true in
@@ -93,7 +93,7 @@ returns-then-is_err-clause-same g c =
     let op = c.args.op in
     let id = c.in-Ok.region.index in
     let h = c.in-Ok.ensures.inserted in
-    let region : Region = record { index = id; parent = op; first = None; last = None } in
+    let region : Region = record { index = id; parent = op; first = None; last = None; place = c.len-place.result } in
     let is : h.value ≡ region = search rules in
     let at = found-at old.ops op c.requires.live in
     let denied : is_ok c.push_region.result ≡ false = c.is_err.ensures.negation ∙ ap not c.if-is_err.true in
@@ -110,7 +110,7 @@ returns-then-is_err-clause-skipped g c =
     let op = c.args.op in
     let id = c.in-Ok.region.index in
     let h = c.in-Ok.ensures.inserted in
-    let region : Region = record { index = id; parent = op; first = None; last = None } in
+    let region : Region = record { index = id; parent = op; first = None; last = None; place = c.len-place.result } in
     let is : h.value ≡ region = search rules in
     let at = found-at old.ops op c.requires.live in
     let denied : is_ok c.push_region.result ≡ false = c.is_err.ensures.negation ∙ ap not c.if-is_err.true in
@@ -133,7 +133,7 @@ returns-clause-forest g c =
     let op = c.args.op in
     let id = c.in-Ok.region.index in
     let h = c.in-Ok.ensures.inserted in
-    let region : Region = record { index = id; parent = op; first = None; last = None } in
+    let region : Region = record { index = id; parent = op; first = None; last = None; place = c.len-place.result } in
     let is : h.value ≡ region = search rules in
     let at = found-at old.ops op c.requires.live in
     let done : is_ok c.push_region.result ≡ true = c.is_err.ensures.negation ∙ ap not c.if-is_err.false in
@@ -149,7 +149,7 @@ returns-clause-op_ids g c =
     let op = c.args.op in
     let id = c.in-Ok.region.index in
     let h = c.in-Ok.ensures.inserted in
-    let region : Region = record { index = id; parent = op; first = None; last = None } in
+    let region : Region = record { index = id; parent = op; first = None; last = None; place = c.len-place.result } in
     let is : h.value ≡ region = search rules in
     let at = found-at old.ops op c.requires.live in
     let done : is_ok c.push_region.result ≡ true = c.is_err.ensures.negation ∙ ap not c.if-is_err.false in
@@ -163,7 +163,7 @@ returns-clause-nested g c =
     let op = c.args.op in
     let id = c.in-Ok.region.index in
     let h = c.in-Ok.ensures.inserted in
-    let region : Region = record { index = id; parent = op; first = None; last = None } in
+    let region : Region = record { index = id; parent = op; first = None; last = None; place = c.len-place.result } in
     let is : h.value ≡ region = search rules in
     let at = found-at old.ops op c.requires.live in
     let done : is_ok c.push_region.result ≡ true = c.is_err.ensures.negation ∙ ap not c.if-is_err.false in
@@ -179,7 +179,7 @@ returns-clause-chains g c =
     let op = c.args.op in
     let id = c.in-Ok.region.index in
     let h = c.in-Ok.ensures.inserted in
-    let region : Region = record { index = id; parent = op; first = None; last = None } in
+    let region : Region = record { index = id; parent = op; first = None; last = None; place = c.len-place.result } in
     let is : h.value ≡ region = search rules in
     let at = found-at old.ops op c.requires.live in
     let done : is_ok c.push_region.result ≡ true = c.is_err.ensures.negation ∙ ap not c.if-is_err.false in
@@ -198,7 +198,7 @@ returns-clause-own g c =
     let op = c.args.op in
     let id = c.in-Ok.region.index in
     let h = c.in-Ok.ensures.inserted in
-    let region : Region = record { index = id; parent = op; first = None; last = None } in
+    let region : Region = record { index = id; parent = op; first = None; last = None; place = c.len-place.result } in
     let is : h.value ≡ region = search rules in
     let at = found-at old.ops op c.requires.live in
     let done : is_ok c.push_region.result ≡ true = c.is_err.ensures.negation ∙ ap not c.if-is_err.false in

@@ -109,7 +109,7 @@ drop_region-requires-clause-live g c =
     let at_from = found-at old.ops from (owner-held old c.requires.nested r from has) in
     let done : is_ok c.push_region.result ≡ true = ap is_ok c.in_ok-push_region.was in
     let pushed : c.push_region.new.ops ≡ fill old.ops op (record (at.0) { regions = at.0.regions ++ r ∷ [] }) = c.push_region.ensures ∙ edited-at _ old.ops op at.0 at.1 ∙ ap (λ b. fill old.ops op (record (at.0) { regions = cond b (at.0.regions ++ r ∷ []) at.0.regions })) done in
-    ap is_some (ap (λ a. get a from) pushed ∙ kept-from old op from r at.0 at_from.0 region at.1 at_from.1 found_region refl two c.requires.nested c.lists_are_one.ensures c.lists_are_one-2.ensures) ∙ owner-held old c.requires.nested r from has
+    ap is_some (ap (λ a. get a from) pushed ∙ kept-from old op from r c.len-place.result at.0 at_from.0 region at.1 at_from.1 found_region refl two c.requires.nested c.lists_are_one.ensures c.lists_are_one-2.ensures) ∙ owner-held old c.requires.nested r from has
 
 pub drop_region-requires-clause-once : goal.drop_region-requires-clause-once
 drop_region-requires-clause-once g c =
@@ -126,7 +126,7 @@ drop_region-requires-clause-once g c =
     let at_from = found-at old.ops from (owner-held old c.requires.nested r from has) in
     let done : is_ok c.push_region.result ≡ true = ap is_ok c.in_ok-push_region.was in
     let pushed : c.push_region.new.ops ≡ fill old.ops op (record (at.0) { regions = at.0.regions ++ r ∷ [] }) = c.push_region.ensures ∙ edited-at _ old.ops op at.0 at.1 ∙ ap (λ b. fill old.ops op (record (at.0) { regions = cond b (at.0.regions ++ r ∷ []) at.0.regions })) done in
-    subst (λ m. Distinct (in_record op_regions [] m)) (sym (ap (λ a. get a from) pushed ∙ kept-from old op from r at.0 at_from.0 region at.1 at_from.1 found_region refl two c.requires.nested c.lists_are_one.ensures c.lists_are_one-2.ensures)) (regions-once old c.requires.nested c.requires.formed from)
+    subst (λ m. Distinct (in_record op_regions [] m)) (sym (ap (λ a. get a from) pushed ∙ kept-from old op from r c.len-place.result at.0 at_from.0 region at.1 at_from.1 found_region refl two c.requires.nested c.lists_are_one.ensures c.lists_are_one-2.ensures)) (regions-once old c.requires.nested c.requires.formed from)
 
 pub returns-clause-forest : goal.returns-clause-forest
 returns-clause-forest g c =
@@ -143,10 +143,10 @@ returns-clause-forest g c =
     let at_from = found-at old.ops from (owner-held old c.requires.nested r from has) in
     let done : is_ok c.push_region.result ≡ true = ap is_ok c.in_ok-push_region.was in
     let pushed : c.push_region.new.ops ≡ fill old.ops op (record (at.0) { regions = at.0.regions ++ r ∷ [] }) = c.push_region.ensures ∙ edited-at _ old.ops op at.0 at.1 ∙ ap (λ b. fill old.ops op (record (at.0) { regions = cond b (at.0.regions ++ r ∷ []) at.0.regions })) done in
-    let value : c.at_mut.result.now ≡ region = same_Some _ _ (sym c.at_mut.ensures.value ∙ ap (get old.regions) c.from_index-2.ensures ∙ found_region) in
-    let dropped = drops old op from r at.0 at_from.0 region at.1 at_from.1 found_region refl two c.requires.nested c.lists_are_one.ensures c.lists_are_one-2.ensures c.push_region.new.ops c.drop_region.new.ops pushed c.drop_region.ensures in
-    let told = records-moved old op from r at.0 at_from.0 region at.1 at_from.1 found_region refl two c.requires.nested c.lists_are_one.ensures c.lists_are_one-2.ensures c.drop_region.new.ops _ dropped
-    (λ i. fill old.regions (c.from_index-2.ensures i) (record (value i) { parent = op })) in
+    let value : c.at_mut.result.now ≡ region = same_Some _ _ (sym c.at_mut.ensures.value ∙ ap (get old.regions) c.from_index-3.ensures ∙ found_region) in
+    let dropped = drops old op from r c.len-place.result at.0 at_from.0 region at.1 at_from.1 found_region refl two c.requires.nested c.lists_are_one.ensures c.lists_are_one-2.ensures c.push_region.new.ops c.drop_region.new.ops pushed c.drop_region.ensures in
+    let told = records-moved old op from r c.len-place.result at.0 at_from.0 region at.1 at_from.1 found_region refl two c.requires.nested c.lists_are_one.ensures c.lists_are_one-2.ensures c.drop_region.new.ops _ dropped
+    (λ i. fill old.regions (c.from_index-3.ensures i) (record (value i) { parent = op; place = c.len-place.result })) in
     elim (any_in same_id id_tells r (regions_of (forest_in old) op)) [
       | inl k ↦ absurd (absent k.1)
       | inr k ↦ told.forest ∙ sym (ap (λ b. cond b (forest_in old) (move_region (forest_in old) r op)) k.0)
@@ -167,10 +167,10 @@ returns-clause-nested g c =
     let at_from = found-at old.ops from (owner-held old c.requires.nested r from has) in
     let done : is_ok c.push_region.result ≡ true = ap is_ok c.in_ok-push_region.was in
     let pushed : c.push_region.new.ops ≡ fill old.ops op (record (at.0) { regions = at.0.regions ++ r ∷ [] }) = c.push_region.ensures ∙ edited-at _ old.ops op at.0 at.1 ∙ ap (λ b. fill old.ops op (record (at.0) { regions = cond b (at.0.regions ++ r ∷ []) at.0.regions })) done in
-    let value : c.at_mut.result.now ≡ region = same_Some _ _ (sym c.at_mut.ensures.value ∙ ap (get old.regions) c.from_index-2.ensures ∙ found_region) in
-    let dropped = drops old op from r at.0 at_from.0 region at.1 at_from.1 found_region refl two c.requires.nested c.lists_are_one.ensures c.lists_are_one-2.ensures c.push_region.new.ops c.drop_region.new.ops pushed c.drop_region.ensures in
-    let told = records-moved old op from r at.0 at_from.0 region at.1 at_from.1 found_region refl two c.requires.nested c.lists_are_one.ensures c.lists_are_one-2.ensures c.drop_region.new.ops _ dropped
-    (λ i. fill old.regions (c.from_index-2.ensures i) (record (value i) { parent = op })) in
+    let value : c.at_mut.result.now ≡ region = same_Some _ _ (sym c.at_mut.ensures.value ∙ ap (get old.regions) c.from_index-3.ensures ∙ found_region) in
+    let dropped = drops old op from r c.len-place.result at.0 at_from.0 region at.1 at_from.1 found_region refl two c.requires.nested c.lists_are_one.ensures c.lists_are_one-2.ensures c.push_region.new.ops c.drop_region.new.ops pushed c.drop_region.ensures in
+    let told = records-moved old op from r c.len-place.result at.0 at_from.0 region at.1 at_from.1 found_region refl two c.requires.nested c.lists_are_one.ensures c.lists_are_one-2.ensures c.drop_region.new.ops _ dropped
+    (λ i. fill old.regions (c.from_index-3.ensures i) (record (value i) { parent = op; place = c.len-place.result })) in
     told.nested
 
 pub returns-clause-keeps : goal.returns-clause-keeps
@@ -188,8 +188,8 @@ returns-clause-keeps g c =
     let at_from = found-at old.ops from (owner-held old c.requires.nested r from has) in
     let done : is_ok c.push_region.result ≡ true = ap is_ok c.in_ok-push_region.was in
     let pushed : c.push_region.new.ops ≡ fill old.ops op (record (at.0) { regions = at.0.regions ++ r ∷ [] }) = c.push_region.ensures ∙ edited-at _ old.ops op at.0 at.1 ∙ ap (λ b. fill old.ops op (record (at.0) { regions = cond b (at.0.regions ++ r ∷ []) at.0.regions })) done in
-    let value : c.at_mut.result.now ≡ region = same_Some _ _ (sym c.at_mut.ensures.value ∙ ap (get old.regions) c.from_index-2.ensures ∙ found_region) in
-    let dropped = drops old op from r at.0 at_from.0 region at.1 at_from.1 found_region refl two c.requires.nested c.lists_are_one.ensures c.lists_are_one-2.ensures c.push_region.new.ops c.drop_region.new.ops pushed c.drop_region.ensures in
-    let told = records-moved old op from r at.0 at_from.0 region at.1 at_from.1 found_region refl two c.requires.nested c.lists_are_one.ensures c.lists_are_one-2.ensures c.drop_region.new.ops _ dropped
-    (λ i. fill old.regions (c.from_index-2.ensures i) (record (value i) { parent = op })) in
+    let value : c.at_mut.result.now ≡ region = same_Some _ _ (sym c.at_mut.ensures.value ∙ ap (get old.regions) c.from_index-3.ensures ∙ found_region) in
+    let dropped = drops old op from r c.len-place.result at.0 at_from.0 region at.1 at_from.1 found_region refl two c.requires.nested c.lists_are_one.ensures c.lists_are_one-2.ensures c.push_region.new.ops c.drop_region.new.ops pushed c.drop_region.ensures in
+    let told = records-moved old op from r c.len-place.result at.0 at_from.0 region at.1 at_from.1 found_region refl two c.requires.nested c.lists_are_one.ensures c.lists_are_one-2.ensures c.drop_region.new.ops _ dropped
+    (λ i. fill old.regions (c.from_index-3.ensures i) (record (value i) { parent = op; place = c.len-place.result })) in
     told.keeps
