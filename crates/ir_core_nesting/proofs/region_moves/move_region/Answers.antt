@@ -143,7 +143,7 @@ returns-clause-forest g c =
     let at_from = found-at old.ops from (owner-held old c.requires.nested r from has) in
     let done : is_ok c.push_region.result ≡ true = ap is_ok c.in_ok-push_region.was in
     let pushed : c.push_region.new.ops ≡ fill old.ops op (record (at.0) { regions = at.0.regions ++ r ∷ [] }) = c.push_region.ensures ∙ edited-at _ old.ops op at.0 at.1 ∙ ap (λ b. fill old.ops op (record (at.0) { regions = cond b (at.0.regions ++ r ∷ []) at.0.regions })) done in
-    let value : c.at_mut.result.now ≡ region = same_Some _ _ (sym c.at_mut.ensures.value ∙ ap (get old.regions) c.from_index-3.ensures ∙ found_region) in
+    let value : c.at_mut-record.result.now ≡ region = same_Some _ _ (sym c.at_mut-record.ensures.value ∙ ap (get old.regions) c.from_index-3.ensures ∙ found_region) in
     let dropped = drops old op from r c.len-place.result at.0 at_from.0 region at.1 at_from.1 found_region refl two c.requires.nested c.lists_are_one.ensures c.lists_are_one-2.ensures c.push_region.new.ops c.drop_region.new.ops pushed c.drop_region.ensures in
     let told = records-moved old op from r c.len-place.result at.0 at_from.0 region at.1 at_from.1 found_region refl two c.requires.nested c.lists_are_one.ensures c.lists_are_one-2.ensures c.drop_region.new.ops _ dropped
     (λ i. fill old.regions (c.from_index-3.ensures i) (record (value i) { parent = op; place = c.len-place.result })) in
@@ -167,7 +167,7 @@ returns-clause-nested g c =
     let at_from = found-at old.ops from (owner-held old c.requires.nested r from has) in
     let done : is_ok c.push_region.result ≡ true = ap is_ok c.in_ok-push_region.was in
     let pushed : c.push_region.new.ops ≡ fill old.ops op (record (at.0) { regions = at.0.regions ++ r ∷ [] }) = c.push_region.ensures ∙ edited-at _ old.ops op at.0 at.1 ∙ ap (λ b. fill old.ops op (record (at.0) { regions = cond b (at.0.regions ++ r ∷ []) at.0.regions })) done in
-    let value : c.at_mut.result.now ≡ region = same_Some _ _ (sym c.at_mut.ensures.value ∙ ap (get old.regions) c.from_index-3.ensures ∙ found_region) in
+    let value : c.at_mut-record.result.now ≡ region = same_Some _ _ (sym c.at_mut-record.ensures.value ∙ ap (get old.regions) c.from_index-3.ensures ∙ found_region) in
     let dropped = drops old op from r c.len-place.result at.0 at_from.0 region at.1 at_from.1 found_region refl two c.requires.nested c.lists_are_one.ensures c.lists_are_one-2.ensures c.push_region.new.ops c.drop_region.new.ops pushed c.drop_region.ensures in
     let told = records-moved old op from r c.len-place.result at.0 at_from.0 region at.1 at_from.1 found_region refl two c.requires.nested c.lists_are_one.ensures c.lists_are_one-2.ensures c.drop_region.new.ops _ dropped
     (λ i. fill old.regions (c.from_index-3.ensures i) (record (value i) { parent = op; place = c.len-place.result })) in
@@ -188,7 +188,7 @@ returns-clause-keeps g c =
     let at_from = found-at old.ops from (owner-held old c.requires.nested r from has) in
     let done : is_ok c.push_region.result ≡ true = ap is_ok c.in_ok-push_region.was in
     let pushed : c.push_region.new.ops ≡ fill old.ops op (record (at.0) { regions = at.0.regions ++ r ∷ [] }) = c.push_region.ensures ∙ edited-at _ old.ops op at.0 at.1 ∙ ap (λ b. fill old.ops op (record (at.0) { regions = cond b (at.0.regions ++ r ∷ []) at.0.regions })) done in
-    let value : c.at_mut.result.now ≡ region = same_Some _ _ (sym c.at_mut.ensures.value ∙ ap (get old.regions) c.from_index-3.ensures ∙ found_region) in
+    let value : c.at_mut-record.result.now ≡ region = same_Some _ _ (sym c.at_mut-record.ensures.value ∙ ap (get old.regions) c.from_index-3.ensures ∙ found_region) in
     let dropped = drops old op from r c.len-place.result at.0 at_from.0 region at.1 at_from.1 found_region refl two c.requires.nested c.lists_are_one.ensures c.lists_are_one-2.ensures c.push_region.new.ops c.drop_region.new.ops pushed c.drop_region.ensures in
     let told = records-moved old op from r c.len-place.result at.0 at_from.0 region at.1 at_from.1 found_region refl two c.requires.nested c.lists_are_one.ensures c.lists_are_one-2.ensures c.drop_region.new.ops _ dropped
     (λ i. fill old.regions (c.from_index-3.ensures i) (record (value i) { parent = op; place = c.len-place.result })) in
