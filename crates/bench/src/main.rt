@@ -1,8 +1,10 @@
 //! The program `bench`: it times calls of the library, to be measured beside other libraries.
 //!
-//!     bench WORKLOAD N REPS    prints a line for the workload, or for each one where it is `all`
+//!     bench WORKLOAD N REPS [again|room]    prints a line for the workload, or for each one where it is `all`
 //!
 //! A line has the program's name, the workload, N, the median, the least and the greatest nanoseconds of thread time by unit, a checksum, the peak of the memory in kB, and the number of units. With REPS 0 the workload runs once, and `-` stands for what differs from run to run.
+//!
+//! Each repetition runs on a new context. With `room`, place for N + 2 operations is made in it first, which isn't timed. With `again` all run on one context, which is cleared before each. One repetition more runs first, which isn't counted, so the times are those of a context that has its memory already, and its types.
 #![tactic(auto)]
 
 mod building;
@@ -14,6 +16,7 @@ mod operands;
 mod outcome;
 mod passes;
 mod random;
+mod repeats;
 mod settled;
 mod settled_building;
 mod settled_chains;
@@ -26,6 +29,7 @@ mod uses;
 mod verifying;
 mod workloads;
 
+use crate::repeats::{Settings, Start, repeat};
 use crate::workloads::Workload;
 use anyhow::{Context, bail};
 use bench_clock::{Outcome, Timing, peak_memory};
@@ -35,41 +39,8 @@ use std::rt::Files;
 use std::time::CpuClock;
 use std::{env, io};
 
-// Runs a workload that ran once until it ran so often, each time on a new context and to the same outcome, and adds the times.
-fn repeat_same<C: CpuClock>(
-    rt: &C,
-    alloc: Global,
-    workload: Workload,
-    count: usize,
-    times: usize,
-    outcome: Outcome,
-    timing: &mut Timing,
-) -> anyhow::Result<()> {
-    for _ in 1..times {
-        let (nanos, again) = workload.run(rt, alloc, count)?;
-        if again != outcome {
-            bail!("the checksum differs between repetitions");
-        }
-        timing.add(nanos)?;
-    }
-    Ok(())
-}
-
-// Runs a workload so often, once at least, each time on a new context, adds the times and puts them in order, and gives what came out.
-fn repeat<C: CpuClock>(
-    rt: &C,
-    alloc: Global,
-    workload: Workload,
-    count: usize,
-    times: usize,
-    timing: &mut Timing,
-) -> anyhow::Result<Outcome> {
-    let (nanos, outcome) = workload.run(rt, alloc, count)?;
-    timing.add(nanos)?;
-    repeat_same(rt, alloc, workload, count, times, outcome, timing)?;
-    timing.sort()?;
-    Ok(outcome)
-}
+// What is told where the command line is wrong.
+const USAGE: &str = "usage: bench WORKLOAD N REPS [again|room]";
 
 // Writes the line of a workload that ran with these times to this outcome.
 fn print_times<R: Print>(
@@ -112,15 +83,14 @@ fn run_and_print<R: CpuClock + Files + Print + Alloc<A = Global>>(
     rt: &R,
     workload: Workload,
     name: &str,
-    count: usize,
-    times: usize,
+    settings: Settings,
     timing: &mut Timing,
 ) -> anyhow::Result<()> {
-    let outcome = repeat(rt, rt.alloc(), workload, count, times, timing)?;
-    let printed = if times == 0 {
-        print_outcome(rt, name, count, outcome)
+    let outcome = repeat(rt, rt.alloc(), workload, settings, timing)?;
+    let printed = if settings.times == 0 {
+        print_outcome(rt, name, settings.count, outcome)
     } else {
-        print_with_memory(rt, name, count, timing, outcome)
+        print_with_memory(rt, name, settings.count, timing, outcome)
     };
     Ok(printed?)
 }
@@ -130,24 +100,22 @@ fn print_line<R: CpuClock + Files + Print + Alloc<A = Global>>(
     rt: &R,
     workload: Workload,
     name: &str,
-    count: usize,
-    times: usize,
+    settings: Settings,
 ) -> anyhow::Result<()> {
     let mut timing = Timing::new(rt.alloc());
-    run_and_print(rt, workload, name, count, times, &mut timing)
+    run_and_print(rt, workload, name, settings, &mut timing)
 }
 
 // The lines of the wanted workloads.
 fn print_lines<R: CpuClock + Files + Print + Alloc<A = Global>>(
     rt: &R,
     wanted: &str,
-    count: usize,
-    times: usize,
+    settings: Settings,
 ) -> anyhow::Result<()> {
     let mut printed = 0u32;
     for (workload, name) in Workload::all() {
         if wanted == "all" || wanted == name {
-            print_line(rt, workload, name, count, times)?;
+            print_line(rt, workload, name, settings)?;
             printed = 1;
         }
     }
@@ -159,7 +127,7 @@ fn print_lines<R: CpuClock + Files + Print + Alloc<A = Global>>(
 
 // The next word of the command line.
 fn word(words: &mut Args) -> anyhow::Result<String> {
-    words.next().context("usage: bench WORKLOAD N REPS")
+    words.next().context(USAGE)
 }
 
 // The number that a text is.
@@ -173,15 +141,31 @@ fn number(words: &mut Args) -> anyhow::Result<usize> {
     parsed(word.as_str())
 }
 
-// The lines of the wanted workloads, by the numbers that come next on the command line.
+// The contexts that the next word asks for, where there is one.
+fn read_start(words: &mut Args) -> anyhow::Result<Start> {
+    match words.next() {
+        Some(word) => Start::named(word.as_str()).context(USAGE),
+        None => Ok(Start::New),
+    }
+}
+
+// What comes next on the command line, behind the workload.
+fn read_settings(words: &mut Args) -> anyhow::Result<Settings> {
+    Ok(Settings {
+        count: number(words)?,
+        times: number(words)?,
+        start: read_start(words)?,
+    })
+}
+
+// The lines of the wanted workloads, by what comes next on the command line.
 fn print_wanted<R: CpuClock + Files + Print + Alloc<A = Global>>(
     rt: &R,
     wanted: &str,
     words: &mut Args,
 ) -> anyhow::Result<()> {
-    let count = number(words)?;
-    let times = number(words)?;
-    print_lines(rt, wanted, count, times)
+    let settings = read_settings(words)?;
+    print_lines(rt, wanted, settings)
 }
 
 // What the command line asks for.

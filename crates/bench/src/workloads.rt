@@ -17,11 +17,8 @@ use crate::types::interning;
 use crate::uses::{argument_users, replacing, replacing_in_one};
 use crate::verifying::{verifying, verifying_deep};
 use crate::{settled_building, settled_chains, settled_lists, settled_nests, settled_operands};
-use anyhow::Context as _;
 use bench_clock::{Outcome, Stopwatch};
 use ir_base::types::TypeHandle;
-use ir_checked::context;
-use ir_core::context::Context;
 use ir_run::toy::ToyType;
 use std::alloc::Global;
 use std::time::CpuClock;
@@ -185,8 +182,8 @@ impl Workload {
         ]
     }
 
-    // Runs the workload in an empty context, to which it gives a type. The lists are empty.
-    fn run_in<C: CpuClock>(
+    /// Runs the workload in an empty context, to which it gives a type. The lists are empty.
+    pub(crate) fn run_in<C: CpuClock>(
         self,
         watch: &mut Stopwatch<'_, C>,
         ctx: &mut ToyContext,
@@ -274,37 +271,11 @@ impl Workload {
             Workload::DeepProved => settled_nests::deep(watch, ctx, count),
         }
     }
-
-    // Runs the workload on a new context.
-    fn run_new<C: CpuClock>(
-        self,
-        watch: &mut Stopwatch<'_, C>,
-        alloc: Global,
-        count: usize,
-    ) -> Result<Outcome, BenchErr> {
-        let mut ctx = Context::new(alloc);
-        let mut lists = Lists::new(alloc);
-        let outcome = self.run_in(watch, &mut ctx, count, &mut lists);
-        context::end(ctx, outcome)
-    }
-
-    /// Runs the workload on a new context. Gives the nanoseconds of the timed part, and what came out.
-    pub(crate) fn run<C: CpuClock>(
-        self,
-        rt: &C,
-        alloc: Global,
-        count: usize,
-    ) -> anyhow::Result<(u64, Outcome)> {
-        let mut watch = Stopwatch::new(rt);
-        let outcome = self.run_new(&mut watch, alloc, count)?;
-        let nanos = watch.nanos().context("the clock can't be read")?;
-        Ok((nanos, outcome))
-    }
 }
 
 /// What a workload keeps beside its context.
 #[derive(Drop)]
-struct Lists {
+pub(crate) struct Lists {
     ops: Vec<ToyOp>,
     values: Vec<ToyValue>,
     types: Vec<TypeHandle>,
@@ -312,13 +283,21 @@ struct Lists {
 }
 
 impl Lists {
-    // Nothing is kept.
-    fn new(alloc: Global) -> Self {
+    /// Nothing is kept.
+    pub(crate) fn new(alloc: Global) -> Self {
         Lists {
             ops: Vec::new(alloc),
             values: Vec::new(alloc),
             types: Vec::new(alloc),
             order: Vec::new(alloc),
         }
+    }
+
+    /// Keeps nothing any more but the memory.
+    pub(crate) fn clear(&mut self) {
+        self.ops.clear();
+        self.values.clear();
+        self.types.clear();
+        self.order.clear();
     }
 }
