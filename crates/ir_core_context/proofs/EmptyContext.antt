@@ -1,5 +1,5 @@
 -- A context without an operation, block or region: one in which nothing was made, and one that was cleared.
-use Rattle.std.proofs.Common.{◌≡◌, ◌≤◌, refl, sym, subst, ℕ, nat_lt, List, [], length, Some, None, arith}
+use Rattle.std.proofs.Common.{◌≡◌, ◌≤◌, refl, sym, subst, ℕ, zero, suc, nat_lt, List, [], length, Some, None, arith}
 use Rattle.ir_model.specs.declared.ids.ArenaIndex.{ArenaIndex}
 use Rattle.ir_model.specs.declared.ids.Limits.{Limits}
 use Rattle.ir_model.specs.Ids.{Ids, Distinct}
@@ -9,6 +9,7 @@ use Rattle.ir_model.specs.Sessions.{IsNewSession}
 use Rattle.ir_base_arenas.specs.Arena.{cleared, empty, get}
 use Rattle.ir_model.proofs.Arenas.{get-cleared, get-empty, passed-cleared, passed-empty}
 use Rattle.ir_base_arenas.specs.Lists.{Links, Ends, Heap, AreLists}
+use Rattle.ir_base_arenas.specs.Walks.{walk_to}
 use Rattle.ir_core_records.specs.declared.record.Operation.{Operation}
 use Rattle.ir_core_records.specs.declared.record.BasicBlock.{BasicBlock}
 use Rattle.ir_core_records.specs.declared.record.Region.{Region}
@@ -19,6 +20,7 @@ use Rattle.ir_core_records.specs.declared.record.BlockIndex.{BlockIndex}
 use Rattle.ir_core_records.specs.declared.record.Definer.{Definer as DefinerIndex}
 use Rattle.ir_core_records.specs.declared.record.Definer.TheVariants.{Op, Block}
 use Rattle.ir_core_records.specs.Links.{LinkedBut, NoHole}
+use Rattle.ir_core_records.specs.Tree.{blocks_in, ops_in, tree_of}
 use Rattle.ir_core_records.specs.Table.{operands_at, successors_at, uses_at, block_uses_at}
 use Rattle.ir_core_data.specs.Side.{nothing as no_side}
 use Rattle.ir_core_context.specs.Calls.{NoEntity, SameButForest, nothing_beside}
@@ -88,6 +90,11 @@ listed-nothing nodes containers no_node no_container = record {
   covers = λ x l h. absurd (let n : nodes x ≡ None = no_node x in cc);
 }
 
+-- a walk that begins nowhere
+walk-nothing : (n : ℕ) (h : Heap Links) → walk_to n h None None ≡ []
+walk-nothing zero h = refl
+walk-nothing (suc n) h = refl
+
 -- a context of whose records none is left
 module _ {D A K B S X L : Type 0} (s : ContextState D A K B S X L) (ops : (i : ArenaIndex) → get s.records.ops i ≡ None) (blocks : (i : ArenaIndex) → get s.records.blocks i ≡ None) (regions : (i : ArenaIndex) → get s.records.regions i ≡ None) where
   no_op : (o : ArenaIndex) → (forest_of s).ops o ≡ None
@@ -115,6 +122,18 @@ module _ {D A K B S X L : Type 0} (s : ContextState D A K B S X L) (ops : (i : A
   no_block_uses : (b : BlockIndex) → block_uses_at s.records b ≡ []
   no_block_uses b = rw (blocks b.index) refl
 
+  no_list_of_ops : ops_in (tree_of s.records) ≡ (λ b. [])
+  no_list_of_ops = λ i. λ b. by b i
+    where
+      by : (b : ArenaIndex) → ops_in (tree_of s.records) b ≡ []
+      by b = rw (blocks b) (walk-nothing (length s.records.ops.slots) (tree_of s.records).ops)
+
+  no_list_of_blocks : blocks_in (tree_of s.records) ≡ (λ g. [])
+  no_list_of_blocks = λ i. λ g. by g i
+    where
+      by : (g : ArenaIndex) → blocks_in (tree_of s.records) g ≡ []
+      by g = rw (regions g) (walk-nothing (length s.records.blocks.slots) (tree_of s.records).blocks)
+
   pub empty-none : NoEntity (forest_of s)
   empty-none = record { ops = no_op; blocks = no_block; regions = no_region }
 
@@ -122,8 +141,8 @@ module _ {D A K B S X L : Type 0} (s : ContextState D A K B S X L) (ops : (i : A
   empty-sound value_limit use_limit limits op_slots block_slots region_slots aux_slots = record {
     linked = record { values = linked-nothing _ _ no_operands no_uses; blocks = linked-nothing _ _ no_successors no_block_uses };
     nested = record {
-      op_lists = listed-nothing _ _ (λ x. rw (ops x) refl) (λ c. rw (blocks c) refl);
-      block_lists = listed-nothing _ _ (λ x. rw (blocks x) refl) (λ c. rw (regions c) refl);
+      op_lists = subst (AreLists (tree_of s.records).ops (tree_of s.records).block_ends) (sym no_list_of_ops) (listed-nothing _ _ (λ x. rw (ops x) refl) (λ c. rw (blocks c) refl));
+      block_lists = subst (AreLists (tree_of s.records).blocks (tree_of s.records).region_ends) (sym no_list_of_blocks) (listed-nothing _ _ (λ x. rw (blocks x) refl) (λ c. rw (regions c) refl));
       parents = λ o r h. absurd (let k : In r [] = rw (ops o) at h in k);
     };
     own = record {

@@ -3,7 +3,7 @@ use Rattle.std.proofs.Common.{◌≡◌, ◌⊎◌, ◌+◌, ◌≤◌, true, Li
 use Rattle.std.proofs.lemmas.List.{length-append, length-map}
 use Rattle.ir_model.specs.ContextIds.{context_ids}
 use Rattle.ir_model.specs.Forest.{Dialect, Entity, Forest, an_op, a_block, a_region, same_entity}
-use Rattle.ir_model.specs.Nesting.{In, Inside, IsLive}
+use Rattle.ir_model.specs.Nesting.{In, IsLive}
 use Rattle.ir_model.specs.Subtree.{ListsSubtree}
 use Rattle.ir_model.proofs.KeepsErase.{same_self, same_tells}
 use Rattle.ir_model.proofs.KeepsNew.{any_in}
