@@ -13,8 +13,8 @@ returns-then-eq c =
     let is : slice_index_or xs c.args.likely none ≡ c.args.item = (id_tells (slice_index_or xs c.args.likely none) c.args.item).0 (sym c.eq.ensures ∙ c.if-eq.true) in
     slice_get-get_or xs c.args.likely none within ∙ ap Some is
 
-pub returns-in-Some : goal.returns-in-Some
-returns-in-Some c = found-item c.args.items.now c.args.item c.in-Some.index (sym c.find_item.ensures ∙ c.in-Some.is)
+pub returns : goal.returns
+returns c = found-item c.args.items.now c.args.item c.in-Some.index (sym c.find_item.ensures ∙ c.in-Some.is)
 
 pub unreachable-requires : goal.unreachable-requires
 unreachable-requires c = missed-item c.args.items.now c.args.item (sym c.find_item.ensures ∙ c.in-None.is) c.requires

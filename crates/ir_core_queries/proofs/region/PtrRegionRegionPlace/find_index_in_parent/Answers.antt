@@ -1,6 +1,4 @@
-use Rattle.std.proofs.Common.{◌≡◌, List, Option, Some, ap, ◌∙◌, sym, subst, slice_get}
-use Rattle.std.specs.Option.{option_map}
-use Rattle.ir_model.specs.declared.ids.ArenaIndex.{ArenaIndex}
+use Rattle.std.proofs.Common.{◌≡◌, Some, ap, ◌∙◌, sym, subst, slice_get}
 use Rattle.ir_model.specs.Nesting.{In, regions_of}
 use Rattle.ir_core_context.specs.State.{forest_of}
 use Rattle.ir_core_queries.proofs.Places.{index-of, region-in, regions-read}
