@@ -1,6 +1,7 @@
 -- Where no more is live than what stands inside an entity, nothing else is.
-use Rattle.std.proofs.Common.{◌≡◌, ◌⊎◌, ◌+◌, ◌≤◌, true, List, ◌∷◌, ◌++◌, length, map, subst, sym, inl, inr, arith}
+use Rattle.std.proofs.Common.{◌≡◌, ◌⊎◌, ◌+◌, ◌≤◌, true, All, List, [], ◌∷◌, ◌++◌, length, map, subst, sym, inl, inr, arith}
 use Rattle.std.proofs.lemmas.List.{length-append, length-map}
+use Rattle.std.proofs.lemmas.List.Elements.{All-head, All-tail}
 use Rattle.ir_model.specs.ContextIds.{context_ids}
 use Rattle.ir_model.specs.Forest.{Dialect, Entity, Forest, an_op, a_block, a_region, same_entity}
 use Rattle.ir_model.specs.Nesting.{In, IsLive}
@@ -17,6 +18,11 @@ use Rattle.ir_core_records.specs.Meaning.{block_record, forest_in, op_record}
 use Rattle.ir_core_records.specs.Tree.{blocks_in, ops_in, tree_of}
 use Rattle.ir_run_passes.proofs.LiveIds.{ids_count, kept_by, live_entities, live_ids, lists_live}
 use Rattle.ir_opt_run.specs.Modules.{HasOnly}
+
+-- what holds of all that a list is made of holds of each in it
+pub all_mapped : {A B : Type 0} (P : B → Type 0) (g : A → B) (xs : List A) → All (λ a. P (g a)) xs → (x : B) → In x (map g xs) → P x
+all_mapped P g [] all x h = absurd h
+all_mapped P g (y ∷ ys) all x h = elim h [ inl e ↦ subst P (sym e) (All-head (λ a. P (g a)) y ys all) | inr k ↦ all_mapped P g ys (All-tail (λ a. P (g a)) y ys all) x k ]
 
 -- an entity is in a list, or it isn't
 listed_or_not : (y : Entity context_ids) (xs : List (Entity context_ids)) → In y xs ⊎ (In y xs → ⊥)
@@ -38,16 +44,16 @@ module _ {D A K B S X L : Type 0} (t : Records D A K B S X L) where
 
   all_count : length all_live ≡ arena_len t.ops + (arena_len t.blocks + arena_len t.regions)
   all_count =
-      let ops = map an_op (live_ids t.ops) in
-      let blocks = map a_block (live_ids t.blocks) in
-      let regions = map a_region (live_ids t.regions) in
+      let ops : List (Entity context_ids) = map an_op (live_ids t.ops) in
+      let blocks : List (Entity context_ids) = map a_block (live_ids t.blocks) in
+      let regions : List (Entity context_ids) = map a_region (live_ids t.regions) in
       omega (
         arith,
         length-append ops (blocks ++ regions),
         length-append blocks regions,
-        length-map (live_ids t.ops) an_op,
-        length-map (live_ids t.blocks) a_block,
-        length-map (live_ids t.regions) a_region,
+        length-map {B = Entity context_ids} (live_ids t.ops) an_op,
+        length-map {B = Entity context_ids} (live_ids t.blocks) a_block,
+        length-map {B = Entity context_ids} (live_ids t.regions) a_region,
         ids_count t.ops,
         ids_count t.blocks,
         ids_count t.regions,
