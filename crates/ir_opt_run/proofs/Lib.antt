@@ -7,4 +7,5 @@ mod PartsMade
 mod PureNames
 mod SaidAlike
 mod WrittenAlike
+mod LiveIds
 mod OnlyInside

@@ -1,5 +1,6 @@
 -- Where no more is live than what stands inside an entity, nothing else is.
-use Rattle.std.proofs.Common.{◌≡◌, ◌⊎◌, ◌+◌, ◌≤◌, true, All, List, [], ◌∷◌, ◌++◌, length, map, subst, sym, inl, inr, arith}
+use Rattle.std.proofs.Common.{◌≡◌, ◌⊎◌, ◌+◌, ◌≤◌, true, All, List, [], ◌∷◌, ◌++◌, length, map, Option, Some, None, IsSome, refl, subst, sym, inl, inr, arith}
+use Rattle.std.specs.Option.{option_map}
 use Rattle.std.proofs.lemmas.List.{length-append, length-map}
 use Rattle.std.proofs.lemmas.List.Elements.{All-head, All-tail}
 use Rattle.ir_model.specs.ContextIds.{context_ids}
@@ -8,15 +9,15 @@ use Rattle.ir_model.specs.Nesting.{In, IsLive}
 use Rattle.ir_model.specs.Subtree.{ListsSubtree}
 use Rattle.ir_model.proofs.KeepsErase.{same_self, same_tells}
 use Rattle.ir_model.proofs.KeepsNew.{any_in}
-use Rattle.ir_model.proofs.Nests.{Absent-not_in}
+use Rattle.ir_model.proofs.Nests.{Absent-not_in, In-left, In-map, In-right}
 use Rattle.ir_model.proofs.Removal.{length-within}
 use Rattle.ir_model.proofs.TwoRuns.{lawful}
 use Rattle.ir_model_passes.specs.SweepInside.{ListsLive}
-use Rattle.ir_base_arenas.specs.Arena.{arena_len}
+use Rattle.ir_base_arenas.specs.Arena.{arena_len, get}
 use Rattle.ir_core_records.specs.declared.records.Records.{Records}
 use Rattle.ir_core_records.specs.Meaning.{block_record, forest_in, op_record}
 use Rattle.ir_core_records.specs.Tree.{blocks_in, ops_in, tree_of}
-use Rattle.ir_run_passes.proofs.LiveIds.{ids_count, kept_by, live_entities, live_ids, lists_live}
+use Rattle.ir_opt_run.proofs.LiveIds.{ids_count, live_ids, live_listed}
 use Rattle.ir_opt_run.specs.Modules.{HasOnly}
 
 -- what holds of all that a list is made of holds of each in it
@@ -37,16 +38,23 @@ has_only f e inside all is live lists few x there = elim (listed_or_not x inside
       absurd (omega (arith, more, few))
 ]
 
-module _ {D A K B S X L : Type 0} (t : Records D A K B S X L) where
-  -- all that is live
-  abbrev all_live : List (Entity context_ids)
-  all_live = live_entities t.ops t.blocks t.regions
+-- what is made of a record is there where the record is
+unmap : {R S : Type 0} (f : R → S) (m : Option R) → IsSome (option_map f m) → IsSome m
+unmap f None h = h
+unmap f (Some r) h = refl
 
-  all_count : length all_live ≡ arena_len t.ops + (arena_len t.blocks + arena_len t.regions)
+module _ {D A K B S X L : Type 0} (t : Records D A K B S X L) where
+  abbrev ops : List (Entity context_ids)
+  ops = map an_op (live_ids t.ops)
+
+  abbrev blocks : List (Entity context_ids)
+  blocks = map a_block (live_ids t.blocks)
+
+  abbrev regions : List (Entity context_ids)
+  regions = map a_region (live_ids t.regions)
+
+  all_count : length (ops ++ (blocks ++ regions)) ≡ arena_len t.ops + (arena_len t.blocks + arena_len t.regions)
   all_count =
-      let ops : List (Entity context_ids) = map an_op (live_ids t.ops) in
-      let blocks : List (Entity context_ids) = map a_block (live_ids t.blocks) in
-      let regions : List (Entity context_ids) = map a_region (live_ids t.regions) in
       omega (
         arith,
         length-append ops (blocks ++ regions),
@@ -59,9 +67,13 @@ module _ {D A K B S X L : Type 0} (t : Records D A K B S X L) where
         ids_count t.regions,
       )
 
+  all_listed : ListsLive (forest_in t) (ops ++ (blocks ++ regions))
+  all_listed (an_op o) live = In-left (an_op o) ops (blocks ++ regions) (In-map an_op o (live_ids t.ops) (live_listed t.ops o (unmap op_record (get t.ops o) live)))
+  all_listed (a_block b) live =
+      In-right (a_block b) ops (blocks ++ regions) (In-left (a_block b) blocks regions (In-map a_block b (live_ids t.blocks) (live_listed t.blocks b (unmap (block_record (ops_in (tree_of t) b)) (get t.blocks b) live))))
+  all_listed (a_region r) live =
+      In-right (a_region r) ops (blocks ++ regions) (In-right (a_region r) blocks regions (In-map a_region r (live_ids t.regions) (live_listed t.regions r (unmap (λ _. blocks_in (tree_of t) r) (get t.regions r) live))))
+
   pub only-inside : (e : Entity context_ids) (inside : List (Entity context_ids)) → ListsSubtree (forest_in t) e inside → ((x : Entity context_ids) → In x inside → IsLive (forest_in t) x)
       → arena_len t.ops + (arena_len t.blocks + arena_len t.regions) ≤ length inside → HasOnly (forest_in t) e
-  only-inside e inside is live few =
-      has_only (forest_in t) e inside all_live is live
-      (lists_live (forest_in t) t.ops t.blocks t.regions (kept_by (λ _. op_record) t.ops) (kept_by (λ i. block_record (ops_in (tree_of t) i)) t.blocks) (kept_by (λ i. λ _. blocks_in (tree_of t) i) t.regions))
-      (omega (arith, all_count, few))
+  only-inside e inside is live few = has_only (forest_in t) e inside (ops ++ (blocks ++ regions)) is live all_listed (omega (arith, all_count, few))
