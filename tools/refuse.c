@@ -34,6 +34,14 @@ __attribute__((destructor)) static void end(void) {
     close(file);
 }
 
+/* A program that gives up writes its numbers too. */
+__attribute__((noreturn)) void abort(void) {
+    void (*next)(void) = (void (*)(void))dlsym(RTLD_NEXT, "abort");
+    end();
+    if (next) next();
+    _exit(134);
+}
+
 static int is_refused(void) {
     asked++;
     between += watching;

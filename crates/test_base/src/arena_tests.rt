@@ -8,7 +8,7 @@ use crate::expecting::{expect_same, shows};
 use crate::storing::{in_slot, store};
 use ir_base_arenas::arena_laws::{other_ids_stay, passed_ids_stay};
 use ir_base_arenas::{Arena, ArenaIndex, CoreError, Ptr, Room, Seq, ShortSeq, TakeOut};
-use std::alloc::Global;
+use std::alloc::{AllocError, Global};
 use std::hash::{BuildHasher, BuildHasherDefault, FoldHasher};
 use std::process::Abort;
 use std::rc::Rc;
@@ -145,10 +145,10 @@ fn clear_counted(roots: &mut Arena<Root>)
 }
 
 /// Place for a hundred more, which changes nothing that is seen.
-fn make_place(roots: &mut Arena<Root>) -> bool
+fn make_place(roots: &mut Arena<Root>) -> Result<(), AllocError>
     ensures { roots.new ≡ roots.old }
 {
-    roots.reserve(100).is_ok()
+    roots.reserve(100)
 }
 
 /// Stores a root that names nothing.
@@ -296,7 +296,7 @@ fn the_slot_freed_last_is_used_first(rt: HostRuntime) {
 #[test]
 fn cleared_slots_are_used_from_the_first(rt: HostRuntime) {
     let mut roots = Arena::new(rt.alloc(), 3, 3);
-    expect_same(&rt, make_place(&mut roots), true);
+    make_place(&mut roots).expect(&rt, "memory");
     expect_places(&rt, &mut roots, &[(1, 1), (2, 1), (3, 1)]);
     assert!(&rt; free(&mut roots, in_slot(2)));
     clear_counted(&mut roots);
