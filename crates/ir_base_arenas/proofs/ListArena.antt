@@ -1,25 +1,14 @@
 -- What a write, an insertion or a removal of one record leaves of an arena.
-use Rattle.std.proofs.Common.{◌≡◌, ℕ, zero, suc, ◌-◌, ◌<◌, ◌≤◌, eqb, Bool, true, false, cond, List, [], ◌∷◌, length, map, Option, Some, None, is_some, refl, sym, ap, ◌∙◌, inl, inr, arith}
-use Rattle.std.specs.List.{IsDistinct, AllByRecursion, list_any}
-use Rattle.std.proofs.lemmas.Map.Steps.{length-le_from_distinct_below}
-use Rattle.std.proofs.lemmas.Bool.{cases_eq, ne_eqb}
-use Rattle.std.proofs.lemmas.List.{length-map}
+use Rattle.std.proofs.Common.{◌≡◌, ℕ, zero, suc, ◌-◌, ◌<◌, eqb, Bool, true, false, cond, List, [], ◌∷◌, length, map, Option, Some, None, is_some, refl, sym, ap, ◌∙◌, arith}
 use Rattle.std.specs.Option.{option_map}
 use Rattle.ir_model.specs.declared.ids.ArenaIndex.{ArenaIndex}
 use Rattle.ir_model.specs.Slots.{Slot, slot_in, slot_at, find, put_in, put_slot}
 use Rattle.ir_base_arenas.specs.Arena.{Arena, get, fill, IsLiveIn}
-use Rattle.ir_model.specs.Ids.{Absent, Distinct}
-use Rattle.ir_model.specs.Nesting.{In}
 use Rattle.ir_base_arenas.specs.Lists.{map_slot, map_records}
 use Rattle.ir_model.proofs.Slots.{taken_at, put-place}
-use Rattle.ir_model.proofs.Arenas.{live-unique}
 
 pub live-at : {T : Type 0} (a : Arena T) (i : ArenaIndex) (x : T) → get a i ≡ Some x → IsLiveIn a i
 live-at a i x e = ap is_some e
-
--- the place of an id's slot, from 0
-abbrev place_of : ArenaIndex → ℕ
-place_of id = id.slot - 1
 
 module _ {T : Type 0} where
   map-put_in : (f : Slot T → Slot T) (slots : List (Slot T)) (k : ℕ) (s : Slot T) → k < length slots → f s ≡ f (slot_in slots k) → map f (put_in slots k s) ≡ map f slots
@@ -58,36 +47,3 @@ module _ {T : Type 0} where
   get-map_records f a id =
       ap (λ (s : Slot T). cond (eqb s.version id.version) s.item None) (slot_at-map f a.slots id.slot)
       ∙ cond-map f (eqb (slot_at a.slots id.slot).version id.version) (slot_at a.slots id.slot).item
-
-  -- a place has one live id at most
-  same_live : (a : Arena T) (i j : ArenaIndex) → IsLiveIn a i → IsLiveIn a j → place_of i ≡ place_of j → i ≡ j
-  same_live a i j li lj same =
-      let s = taken_at a.slots i li in
-      let t = taken_at a.slots j lj in
-      live-unique a i j li lj (omega (arith, s.numbered, t.numbered, same))
-
-  apart_places : (a : Arena T) (x : ArenaIndex) (xs : List ArenaIndex) → Absent x xs → IsLiveIn a x → ((q : ArenaIndex) → In q xs → IsLiveIn a q) → AllByRecursion (λ n. eqb (place_of x) n ≡ false) (map place_of xs)
-  apart_places a x [] out lx live = tt
-  apart_places a x (y ∷ ys) out lx live = (
-    ne_eqb (place_of x) (place_of y) (λ e. out.0 (same_live a x y lx (live y (inl refl)) e)),
-    apart_places a x ys out.1 lx (λ q i. live q (inr i)),
-  )
-
-  distinct_places : (a : Arena T) (xs : List ArenaIndex) → Distinct xs → ((q : ArenaIndex) → In q xs → IsLiveIn a q) → IsDistinct eqb (map place_of xs)
-  unfolding IsDistinct
-  distinct_places a [] apart live = tt
-  distinct_places a (x ∷ xs) apart live =
-      (apart_places a x xs apart.0 (live x (inl refl)) (λ q i. live q (inr i)), distinct_places a xs apart.1 (λ q i. live q (inr i)))
-
-  places_below : (a : Arena T) (xs : List ArenaIndex) (n : ℕ) → ((q : ArenaIndex) → In q xs → IsLiveIn a q) → list_any (eqb n) (map place_of xs) ≡ true → n < length a.slots
-  places_below a [] n live e = cc
-  places_below a (x ∷ xs) n live e = elim (cases_eq n (place_of x)) [
-    | inl same ↦ let t = taken_at a.slots x (live x (inl refl)) in omega (arith, t.within, same)
-    | inr ne ↦ places_below a xs n (λ q i. live q (inr i)) (rw (ne_eqb n (place_of x) ne) at e)
-  ]
-
-  -- there are no more live ids than slots
-  pub live-fit : (a : Arena T) (xs : List ArenaIndex) → Distinct xs → ((q : ArenaIndex) → In q xs → IsLiveIn a q) → length xs ≤ length a.slots
-  live-fit a xs apart live =
-      let short = length-le_from_distinct_below (map place_of xs) (length a.slots) (distinct_places a xs apart live) (λ q e. places_below a xs q live e) in
-      omega (arith, short, length-map xs place_of)

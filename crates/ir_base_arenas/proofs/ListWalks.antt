@@ -13,7 +13,7 @@ use Rattle.ir_model.proofs.TwoRuns.{id_tells}
 use Rattle.ir_base_arenas.specs.Lists.{seen, Links, Ends, Heap, IsChain, linked, head_or, last_or, last_from, AreLists}
 use Rattle.ir_base_arenas.specs.Walks.{next_linked, head_in, walk_to, piece, list_in, IsPiece}
 use Rattle.ir_model.proofs.IdCases.{id_same, id_differs}
-use Rattle.ir_base_arenas.proofs.ListArena.{live-fit}
+use Rattle.ir_model.proofs.LiveIds.{live-fit}
 use Rattle.ir_base_arenas.proofs.ListChains.{head-None, last_of-In, chain-apart, chain-at, chain-split, apart-both}
 use Rattle.ir_base_arenas.proofs.ListPlaces.{live-from_seen}
 

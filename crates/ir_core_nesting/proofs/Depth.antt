@@ -6,6 +6,7 @@ use Rattle.ir_model.specs.ContextIds.{context_ids}
 use Rattle.ir_model.specs.Ids.{Distinct}
 use Rattle.ir_model.specs.Forest.{Entity, an_op, a_block, a_region}
 use Rattle.ir_model.specs.Nesting.{In, children, IsLive, Nested}
+use Rattle.ir_model.proofs.LiveIds.{live-fit}
 use Rattle.ir_model.proofs.Nests.{Absent-not_in, not_in-Absent}
 use Rattle.ir_base_arenas.specs.Arena.{get}
 use Rattle.ir_base_arenas.specs.Lists.{container_of}
@@ -15,7 +16,6 @@ use Rattle.ir_core_records.specs.Nested.{AreNested}
 use Rattle.ir_core_records.specs.Tree.{tree_of, ops_in, blocks_in}
 use Rattle.ir_core_nesting.specs.Climbs.{climb, above, depth, kept_parent, size}
 use Rattle.ir_core_nesting.proofs.Climbs.{climb-None, climb-stable, climb-apart, climb-live}
-use Rattle.ir_core_nesting.proofs.LiveIds.{live-fit}
 use Rattle.ir_core_nesting.proofs.ForestParents.{parent-to, owner-live}
 
 abbrev add : Option ArenaIndex → List ArenaIndex → List ArenaIndex

@@ -11,7 +11,6 @@ pub mod Relisted
 pub mod ListWords
 pub mod ListEdits
 pub mod Climbs
-pub mod LiveIds
 pub mod ForestParents
 pub mod Depth
 pub mod MovedRegions

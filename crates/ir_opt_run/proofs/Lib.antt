@@ -7,5 +7,4 @@ mod PartsMade
 mod PureNames
 mod SaidAlike
 mod WrittenAlike
-mod LiveIds
 mod OnlyInside

@@ -17,7 +17,7 @@ use Rattle.ir_base_arenas.specs.Arena.{arena_len, get}
 use Rattle.ir_core_records.specs.declared.records.Records.{Records}
 use Rattle.ir_core_records.specs.Meaning.{block_record, forest_in, op_record}
 use Rattle.ir_core_records.specs.Tree.{blocks_in, ops_in, tree_of}
-use Rattle.ir_opt_run.proofs.LiveIds.{ids_count, live_ids, live_listed}
+use Rattle.ir_model.proofs.LiveIds.{ids_count, live_ids, live_listed}
 use Rattle.ir_opt_run.specs.Modules.{HasOnly}
 
 -- what holds of all that a list is made of holds of each in it

@@ -7,7 +7,8 @@ use Rattle.ir_model.specs.Nesting.{WellFormed}
 use Rattle.ir_model.specs.Arenas.{Arena, arena_len}
 use Rattle.ir_model_passes.specs.SweepInside.{SweepsInside, SweepsBlocks, NoneIsClosedInside}
 use Rattle.ir_model_passes.specs.PassLaws.{BlocksSweepInside, SweepInsideIsOne}
-use Rattle.ir_run_passes.proofs.LiveIds.{IsKeptIn, live_ids, ids_count, live_entities, lists_ops, lists_live}
+use Rattle.ir_model.proofs.LiveIds.{live_ids, ids_count}
+use Rattle.ir_run_passes.proofs.LiveForests.{IsKeptIn, live_entities, lists_ops, lists_live}
 
 module _ {W : Dialect} (steps : BlocksSweepInside W) (one : SweepInsideIsOne W) (B : Behaviour W) (f g : Forest context_ids W) (keys : ℕ) (root : Entity context_ids) (formed : WellFormed f keys)
     {O P R : Type 0} (a : Arena O) (b : Arena P) (c : Arena R) (ops : IsKeptIn f.ops a) (blocks : IsKeptIn f.blocks b) (regions : IsKeptIn f.regions c)

@@ -18,7 +18,8 @@ use Rattle.ir_core_records.specs.declared.records.Records.{Records}
 use Rattle.ir_core_records.specs.Meaning.{closed, forest_in, op_record, block_record}
 use Rattle.ir_core_records.specs.Tree.{tree_of, ops_in, blocks_in}
 use Rattle.ir_run_passes.specs.Walks.{CanBeSwept}
-use Rattle.ir_run_passes.proofs.LiveIds.{IsKeptIn, kept_by, fewer_live, live_ids, ids_count, lists_ops}
+use Rattle.ir_model.proofs.LiveIds.{live_ids, ids_count}
+use Rattle.ir_run_passes.proofs.LiveForests.{IsKeptIn, kept_by, fewer_live, lists_ops}
 use Rattle.ir_run_passes.proofs.Swept.{op_was, closed_gone}
 use Rattle.ir_run_passes.proofs.Counted.{so_many, is_counted}
 

@@ -1,4 +1,4 @@
-mod LiveIds
+mod LiveForests
 mod Swept
 mod Walks
 mod Counted

@@ -1,21 +1,14 @@
--- The walk from a place of a block to its end or to its front, and how long the list of a block can be.
+-- The walk from a place of a block to its end or to its front.
 use mathlib.Core.Path.{◌≡◌, refl, sym, ap, ◌∙◌, subst}
-use Rattle.std.proofs.Common.{ℕ, zero, suc, ◌+◌, ◌-◌, ◌≤◌, ◌<◌, ◌⊎◌, inl, inr, Bool, true, false, cond, Option, Some, None, List, [], ◌∷◌, length, count_by, IsSome, arith}
-use Rattle.std.proofs.lemmas.List.Sums.{sum_by-cons}
+use Rattle.std.proofs.Common.{suc, ◌≤◌, ◌<◌, ◌⊎◌, inl, inr, Bool, true, false, Option, Some, None, IsSome, arith}
 use Rattle.std.specs.Option.{option_map}
 use Rattle.std.specs.Prelude.{IfSome}
 use Rattle.ir_model.specs.declared.ids.ArenaIndex.{ArenaIndex}
 use Rattle.ir_model.specs.ContextIds.{context_ids}
-use Rattle.ir_model.specs.Ids.{Distinct}
 use Rattle.ir_model.specs.Forest.{Dialect, Behaviour, Forest}
 use Rattle.ir_model.specs.Nesting.{In, Nested, ops_of}
 use Rattle.ir_model.specs.Parent.{first_of, last_of}
 use Rattle.ir_model.specs.SweepLaws.{NoneIsClosed}
-use Rattle.ir_model.specs.Slots.{Slot, is_taken, slot_in}
-use Rattle.ir_model.specs.Arenas.{Arena, IsLiveIn, arena_len}
-use Rattle.ir_model.proofs.Slots.{taken_at}
-use Rattle.ir_model.proofs.Arenas.{same_id}
-use Rattle.ir_model.proofs.Removal.{length-within}
 use Rattle.ir_run_sweep.specs.Going.{CanGo, NoneGoesUpTo, rank, way_of}
 use Rattle.ir_run_sweep.proofs.Ranks.{first_listed, last_listed, rank_first, rank_last, tell, way_first, way_one}
 
@@ -70,40 +63,6 @@ module _ {W : Dialect} (B : Behaviour W) (f : Forest context_ids W) (b : ArenaIn
 
     pub none_from_tail : option_map index m ≡ last_of (ops_of f b) → NoneGoesUpTo B f false b (rank false (option_map index m) (ops_of f b)) → NoneIsClosed B f b
     none_from_tail e = closed_from false (last_of (ops_of f b)) e (rank_last f b n)
-
--- ## How long a list of live ids is
-
-module _ {T : Type 0} where
-  -- the ids of the slots that have a record, where the first slot has the number n
-  abbrev live_ids : ℕ → List (Slot T) → List ArenaIndex
-  live_ids n [] = []
-  live_ids n (s ∷ rest) = cond (is_taken s) (record { slot = n; version = s.version } ∷ live_ids (n + 1) rest) (live_ids (n + 1) rest)
-
-  count_ids : (n : ℕ) (slots : List (Slot T)) → length (live_ids n slots) ≡ count_by is_taken slots
-  count_ids n [] = refl
-  count_ids n (s ∷ rest) = by (is_taken s) (count_ids (n + 1) rest) ∙ sym (sum_by-cons (λ x. cond (is_taken x) 1 0) s rest)
-    where
-      by : (t : Bool) → length (live_ids (n + 1) rest) ≡ count_by is_taken rest → length (cond t (record { slot = n; version = s.version } ∷ live_ids (n + 1) rest) (live_ids (n + 1) rest)) ≡ cond t 1 0 + count_by is_taken rest
-      by true more = omega (arith, more)
-      by false more = omega (arith, more)
-
-  listed_id : (n : ℕ) (slots : List (Slot T)) (x : ArenaIndex) (k : ℕ) → k < length slots → x.slot ≡ n + k → x.version ≡ (slot_in slots k).version → is_taken (slot_in slots k) ≡ true → In x (live_ids n slots)
-  listed_id n [] x k within slot version is = absurd (omega arith)
-  listed_id n (s ∷ rest) x zero within slot version is =
-      subst (λ t. In x (cond t (record { slot = n; version = s.version } ∷ live_ids (n + 1) rest) (live_ids (n + 1) rest))) (sym is)
-      (inl (same_id x (record { slot = n; version = s.version }) (omega (arith, slot)) version))
-  listed_id n (s ∷ rest) x (suc k) within slot version is = by (is_taken s) (listed_id (n + 1) rest x k (omega arith) (omega (arith, slot)) version is)
-    where
-      by : (t : Bool) → In x (live_ids (n + 1) rest) → In x (cond t (record { slot = n; version = s.version } ∷ live_ids (n + 1) rest) (live_ids (n + 1) rest))
-      by true there = inr there
-      by false there = there
-
-  -- there are no more than the arena has records
-  pub live_few : (a : Arena T) (xs : List ArenaIndex) → Distinct xs → ((x : ArenaIndex) → In x xs → IsLiveIn a x) → length xs ≤ arena_len a
-  live_few a xs once live =
-      let most = length-within xs (live_ids 1 a.slots) once (λ x h. (let t = taken_at a.slots x (live x h) in listed_id 1 a.slots x (x.slot - 1) t.within (let g = t.numbered in omega (arith, g)) (sym t.version) t.some)) in
-      let e = count_ids 1 a.slots in
-      omega (arith, most, e)
 
 -- what is made of a record is there where the record is
 pub live_under : {R S : Type 0} (f : R → S) (m : Option R) → IsSome (option_map f m) → IsSome m

@@ -5,7 +5,8 @@ use Rattle.ir_core_records.specs.declared.records.Records.{Records}
 use Rattle.ir_core_records.specs.Meaning.{op_record}
 use Rattle.ir_core_queries.specs.State.{forest_of}
 use Rattle.ir_run_sweep.proofs.Ranks.{listed_live, once}
-use Rattle.ir_run_sweep.proofs.Walks.{live_few, live_under}
+use Rattle.ir_model.proofs.LiveIds.{live_few}
+use Rattle.ir_run_sweep.proofs.Walks.{live_under}
 use Rattle.ir_run_sweep.proofs.dead.recall_lists_short.Goals as goal
 
 pub returns : goal.returns
