@@ -113,14 +113,13 @@ fn count_part(counts: &mut PartCounts, part: Part, at: usize)
     ensures result_types { counts.new.result_types.items ≡ one_more counted.ResultTypes part at counts.old.result_types.items }
     ensures keys { counts.new.keys.items ≡ one_more counted.Keys part at counts.old.keys.items }
 {
-    let operands = is_counted(Counted::Operands, part);
-    let operand_types = is_counted(Counted::OperandTypes, part);
-    let result_types = is_counted(Counted::ResultTypes, part);
-    let keys = is_counted(Counted::Keys, part);
-    count_if(&mut counts.operands, operands, at);
-    count_if(&mut counts.operand_types, operand_types, at);
-    count_if(&mut counts.result_types, result_types, at);
-    count_if(&mut counts.keys, keys, at);
+    match part {
+        Part::Operand => counts.operands[at] += 1,
+        Part::OperandType => counts.operand_types[at] += 1,
+        Part::ResultType | Part::OnlyResultType => counts.result_types[at] += 1,
+        Part::Key => counts.keys[at] += 1,
+        _ => {}
+    }
 }
 
 /// How many parts of each sort each operation has, by its number.
@@ -160,6 +159,9 @@ fn first_different(rows: &[Row], some: &[u32], others: &[u32]) -> Option<usize>
     requires others { length others.now ≡ number_of rows.now (length rows.now) + 1 }
     ensures { IsFirst (λ i. (part_of rows.now i ≡ parts.Name) × (slice_index_or some.now (number_of rows.now (i + 1)) 0 ≢ slice_index_or others.now (number_of rows.now (i + 1)) 0)) (length rows.now) result }
 {
+    if some == others {
+        return None;
+    }
     let mut first = None;
     let mut number = 0;
     for (at, row) in rows.iter().enumerate() {

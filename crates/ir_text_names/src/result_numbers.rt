@@ -10,7 +10,7 @@ ghost use Rattle.ir_text_names.specs.Rows.{part_of, piece};
 
 use crate::counting::{PartCounts, part_counts};
 use crate::fault::{Fault, Wrong};
-use crate::firsts::{Found, fault_of, noted, sooner, told};
+use crate::firsts::{Found, fault_of, sooner, told};
 use crate::numbers::{Amount, is_number, is_zero, number_in, or_zero, sum_of};
 use crate::rows::{are_few, next_number, operations, piece};
 use ir_text_tree::{Part, Row, Span};
@@ -85,11 +85,12 @@ fn is_other(part: Part, results: Amount, number: usize) -> bool
 fn first_bad_count(text: &[u8], rows: &[Row]) -> Option<usize>
     ensures { IsFirst (IsNoCount text.now rows.now) (length rows.now) result }
 {
-    let mut first = None;
     for (at, row) in rows.iter().enumerate() {
-        first = noted(first, at, is_bad_count(row.part, text, row.span));
+        if is_bad_count(row.part, text, row.span) {
+            return Some(at);
+        }
     }
-    first
+    None
 }
 
 // The first operation that has not as many results as these numbers say, of which each stands at the operation's number.
@@ -98,19 +99,16 @@ fn first_other_results(text: &[u8], rows: &[Row], types: &[u32]) -> Option<usize
     requires types { length types.now ≡ number_of rows.now (length rows.now) + 1 }
     ensures { IsFirst (λ i. (part_of rows.now i ≡ parts.Name) × (results_before text.now rows.now i ≢ slice_index_or types.now (number_of rows.now (i + 1)) 0)) (length rows.now) result }
 {
-    let mut first = None;
     let mut results = Amount::Small(0);
     let mut number = 0;
     for (at, row) in rows.iter().enumerate() {
         number = next_number(row.part, number);
-        first = noted(
-            first,
-            at,
-            is_other(row.part, results, types[number] as usize),
-        );
+        if is_other(row.part, results, types[number] as usize) {
+            return Some(at);
+        }
         results = results_behind(row.part, text, rows, at, results);
     }
-    first
+    None
 }
 
 /// The first number of results that is none, or operation that has more or fewer result types than results.

@@ -4,7 +4,6 @@ ghost use Rattle.ir_text_names.specs.Firsts.{IsFirst};
 ghost use Rattle.ir_text_names.specs.Indices.{is_index, which, IsOneOf, IsEntryBeyond};
 ghost use Rattle.ir_text_names.specs.Numbers.{amount_of};
 
-use crate::firsts::noted;
 use crate::numbers::{Amount, number_in};
 use crate::result_numbers::width;
 use crate::row_table::RowTable;
@@ -80,9 +79,10 @@ pub(crate) fn first_beyond(text: &[u8], rows: &[Row], table: &RowTable) -> Optio
     requires { length table.now ≡ length rows.now }
     ensures { IsFirst (IsEntryBeyond text.now rows.now table.now) (length rows.now) result }
 {
-    let mut first = None;
     for (at, _) in rows.iter().enumerate() {
-        first = noted(first, at, is_beyond(text, rows, at, table.get(at)));
+        if is_beyond(text, rows, at, table.get(at)) {
+            return Some(at);
+        }
     }
-    first
+    None
 }

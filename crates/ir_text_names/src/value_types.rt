@@ -10,7 +10,6 @@ ghost use Rattle.ir_text_names.specs.TypeTables.{AreTypeTables};
 ghost use Rattle.ir_text_names.specs.Values.{IsNamedUnlessAgain, IsValueAgain};
 
 use crate::counting::{Counted, PartCounts};
-use crate::firsts::noted;
 use crate::numbers::Amount;
 use crate::row_table::RowTable;
 use crate::rows::{NumberedOperations, number_at, piece};
@@ -196,11 +195,12 @@ fn first_other_type(tables: &TypeTables, table: &RowTable) -> Option<usize>
     requires room { length table.now ≡ length tables.now.rows.now }
     ensures { IsFirst (IsEntryOther tables.now.text.now tables.now.rows.now table.now) (length tables.now.rows.now) result }
 {
-    let mut first = None;
     for (at, _) in tables.rows.iter().enumerate() {
-        first = noted(first, at, is_entry_other(tables, at, table.get(at)));
+        if is_entry_other(tables, at, table.get(at)) {
+            return Some(at);
+        }
     }
-    first
+    None
 }
 
 /// The first operand that has another type than the value that it names, where nothing is defined twice.

@@ -1,4 +1,4 @@
-use Rattle.std.proofs.Common.{◌≡◌, ◌≢◌, ◌+◌, get_or, Some}
+use Rattle.std.proofs.Common.{◌≡◌, ◌≢◌, ◌+◌, get_or, Some, None}
 use Rattle.ir_text_tree.specs.declared.row.Part.TheVariants as parts
 use Rattle.ir_text_names.specs.Firsts.{IsFirst}
 use Rattle.ir_text_names.specs.Numbers.{amount_of, results_before}
@@ -9,6 +9,6 @@ use Rattle.ir_text_names.proofs.result_numbers.first_other_results.Given as goal
 abbrev pub invariant-loop-at : goal.invariant-loop-at
 invariant-loop-at l = record {
   number : l.number ≡ number_of l.rows l.at;
-  first : IsFirst (λ i. (part_of l.rows i ≡ parts.Name) × (results_before l.text l.rows i ≢ get_or l.types (number_of l.rows (i + 1)) 0)) l.at l.first;
+  first : IsFirst (λ i. (part_of l.rows i ≡ parts.Name) × (results_before l.text l.rows i ≢ get_or l.types (number_of l.rows (i + 1)) 0)) l.at None;
   results : l.results ≡ amount_of (Some (results_before l.text l.rows l.at));
 }

@@ -1,6 +1,7 @@
+use Rattle.std.proofs.Common.{None}
 use Rattle.ir_text_names.specs.Firsts.{IsFirst}
 use Rattle.ir_text_names.specs.Types.{IsEntryOther}
 use Rattle.ir_text_names.proofs.value_types.first_other_type.Given as goal
 
 abbrev pub invariant-loop-at : goal.invariant-loop-at
-invariant-loop-at l = IsFirst (IsEntryOther l.tables.text.now l.tables.rows.now l.table) l.at l.first
+invariant-loop-at l = IsFirst (IsEntryOther l.tables.text.now l.tables.rows.now l.table) l.at None
