@@ -23,3 +23,7 @@ name_piece w kind = get_by (nat_eq kind) w.operation_names
 -- the piece that the type at this place is, if it was written
 abbrev pub type_piece : TreeWriter → ℕ → Option TypePiece
 type_piece w place = get_by (nat_eq place) w.types
+
+-- No name of operations and no type is written or lost.
+abbrev pub SamePieces : TreeWriter → TreeWriter → Type 0
+SamePieces old new = ((kind : ℕ) → name_piece new kind ≡ name_piece old kind) × ((place : ℕ) → type_piece new place ≡ type_piece old place)

@@ -1,5 +1,5 @@
 //! Which types can stand behind an arrow in no parentheses: those that are a name, or a name and one group in angle brackets.
-ghost use Rattle.std.specs.Prelude.{◌≤◌, length, IfOk, IfSome};
+ghost use Rattle.std.specs.Prelude.{◌≡◌, ◌⊎◌, ◌≤◌, ◌^◌, length, IfOk, IfErr, IfSome};
 ghost use Rattle.ir_text_tokens.specs.Coverings.{IsWithin};
 
 use crate::error::DescribeErr;
@@ -10,6 +10,7 @@ fn token_at(text: &[u8], at: u32, brackets: &mut Vec<Bracket>) -> Result<Option<
     requires short { length text.now ≤ 4294967295 }
     requires within { at ≤ length text.now }
     ensures within { IfOk result (λ o. IfSome o (IsWithin text.now)) }
+    ensures error { IfErr result (λ e. e ≡ DescribeErr.OutOfMemory) }
 {
     match next_token(text, at, at > 0, brackets) {
         Ok(token) => Ok(token),
@@ -31,6 +32,7 @@ fn is_type_name(text: &[u8], token: Token) -> bool {
 fn is_one_group(text: &[u8], at: u32, brackets: &mut Vec<Bracket>) -> Result<bool, DescribeErr>
     requires short { length text.now ≤ 4294967295 }
     requires within { at ≤ length text.now }
+    ensures { IfErr result (λ e. e ≡ DescribeErr.OutOfMemory) }
 {
     match token_at(text, at, brackets)? {
         Some(token) => Ok(token.kind == Kind::Group && token.end as usize == text.len()),
@@ -42,7 +44,10 @@ fn is_one_group(text: &[u8], at: u32, brackets: &mut Vec<Bracket>) -> Result<boo
 ///
 /// # Errors
 /// `OutOfMemory`, and `TooLong` where the text is longer than 4,294,967,295 bytes.
-pub(crate) fn is_bare_type(text: &[u8], brackets: &mut Vec<Bracket>) -> Result<bool, DescribeErr> {
+pub(crate) fn is_bare_type(text: &[u8], brackets: &mut Vec<Bracket>) -> Result<bool, DescribeErr>
+    ensures long { IfErr result (λ e. e ≡ DescribeErr.TooLong → 2 ^ 32 ≤ length text.now) }
+    ensures error { IfErr result (λ e. (e ≡ DescribeErr.OutOfMemory) ⊎ (e ≡ DescribeErr.TooLong)) }
+{
     if text.len() > 4294967295 {
         return Err(DescribeErr::TooLong);
     }
