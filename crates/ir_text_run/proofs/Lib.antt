@@ -1,3 +1,5 @@
+pub mod LinesTold
 pub mod PartSteps
 pub mod RowsWithin
+pub mod RunSteps
 pub mod TextLines

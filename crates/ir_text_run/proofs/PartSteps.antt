@@ -1,5 +1,5 @@
 -- Parts that were spelled again, one behind the other.
-use Rattle.std.proofs.Common.{◌≡◌, ◌≢◌, inl, inr, ℕ, MatchOption, OnOk, arith, Result, Ok, Err, IfErr, ◌++◌, List, [], ◌∷◌, Option, None, Some, IfSome, refl, sym, ap, subst, ◌∙◌, append-nil, codes}
+use Rattle.std.proofs.Common.{◌≡◌, ◌≢◌, inl, inr, ℕ, MatchOption, arith, Result, Ok, Err, IfErr, ◌++◌, List, [], ◌∷◌, Option, None, Some, refl, sym, ap, subst, ◌∙◌, append-nil, codes}
 use Rattle.std.specs.Io.KnownBytes.{Keeps, Appends}
 use Rattle.std.proofs.KnownBytes.{Keeps-refl, Keeps-trans, Appends-kept}
 use Rattle.ir_text_spelling.specs.TreeTexts.{tree_text}
@@ -53,20 +53,6 @@ if_told (Err e) u P p = λ _. p
 -- what is said of the value that an option has
 pub of_its_value : {X : Type 0} (o : Option X) (x : X) (A : Type 0) (B : X → Type 0) → o ≡ Some x → MatchOption o A B → B x
 of_its_value {X = X} o x A B e h = subst (λ (p : Option X). MatchOption p A B) e h
-
--- what holds of a text holds of the known bytes that it is
-pub of_known : (o : Option (List ℕ)) (text : List ℕ) (P : List ℕ → Type 0) → IfSome o (λ bytes. text ≡ bytes) → P text → IfSome o P
-of_known None text P h p = tt
-of_known (Some bytes) text P h p = subst P h p
-
--- under status 0 nothing was wrong
-pub told_right : (P : Type 0) (r : Result (Unit {0}) Fault) → status_of r ≡ 0 → OnOk r P → P
-told_right P (Ok x) e p = p
-told_right P (Err faults.OutOfMemory) e p = absurd (omega (arith, e))
-told_right P (Err faults.Unreadable) e p = absurd (omega (arith, e))
-told_right P (Err faults.Unwritable) e p = absurd (omega (arith, e))
-told_right P (Err (faults.Reading f)) e p = absurd (omega (arith, e))
-told_right P (Err (faults.Naming f)) e p = absurd (omega (arith, e))
 
 -- under status 1 nothing was written
 pub told_wrong : {O : Type 0} (known : O → Option (List ℕ)) (o n : O) (r : Result (Unit {0}) Fault) → status_of r ≡ 1 → IfErr r (λ e. e ≢ faults.Unwritable → n ≡ o) → Keeps (known o) (known n)

@@ -5,17 +5,26 @@ ghost use Rattle.ir_text_run.specs.Faults.{place_of};
 
 use thiserror::Error;
 
+/// What is said where memory was wanting.
+pub(crate) const OUT_OF_MEMORY: &str = "out of memory";
+
+/// What is said of input that can't be read.
+pub(crate) const UNREADABLE: &str = "unreadable input";
+
+/// What is said of output that can't be written.
+pub(crate) const UNWRITABLE: &str = "unwritable output";
+
 /// Why a text isn't spelled again.
 #[derive(Clone, Copy, Debug, Drop, PartialEq, Eq, Error)]
 pub enum Fault {
     /// There was no memory.
-    #[error("out of memory")]
+    #[error("{OUT_OF_MEMORY}")]
     OutOfMemory,
     /// The input can't be read.
-    #[error("unreadable input")]
+    #[error("{UNREADABLE}")]
     Unreadable,
     /// The output can't be written.
-    #[error("unwritable output")]
+    #[error("{UNWRITABLE}")]
     Unwritable,
     /// The text is no tree, or too long.
     #[error("{0}")]

@@ -50,5 +50,6 @@ fn main(rt: HostRuntime) -> ExitCode {
     let Ok(mut output) = BufWriter::with_capacity(rt.alloc(), AT_ONCE, rt.stdout()) else {
         return tell_memory(&mut fault);
     };
-    ExitCode::from(run(rt.alloc(), form, NAME, &mut input, &mut output, &mut fault))
+    let ending = run(rt.alloc(), form, NAME, &mut input, &mut output, &mut fault);
+    ExitCode::from(ending.status)
 }
