@@ -48,11 +48,11 @@ pub(crate) fn misses(is: bool, block: Option<usize>) -> bool
 
 // The blocks that rows name, where these are the blocks of each region.
 fn named(
-    alloc: Global,
     text: &[u8],
     rows: &[Row],
     regions: &[u32],
     places: &HashMap<(usize, &[u8]), usize>,
+    room: Vec<u32>,
 ) -> Result<NamedBlocks, AllocError>
     requires few { length rows.now < 4294967295 }
     requires regions { regions.now ≡ row_regions rows.now }
@@ -61,7 +61,7 @@ fn named(
     ensures table { IfOk result (λ n. AreBlocksNamed text.now rows.now (length rows.now) n.table) }
     ensures unknown { IfOk result (λ n. IsFirst (NamesNoBlock text.now rows.now) (length rows.now) n.unknown) }
 {
-    let mut table = RowTable::with_room(alloc, rows.len())?;
+    let mut table = RowTable::in_room(room, rows.len())?;
     let mut unknown = None;
     for (at, row) in rows.iter().enumerate() {
         let is = is_successor(row.part);
@@ -87,6 +87,7 @@ pub(crate) fn block_table(
     text: &[u8],
     rows: &[Row],
     regions: &[u32],
+    room: Vec<u32>,
 ) -> Result<BlockTable, AllocError>
     requires few { length rows.now < 4294967295 }
     requires regions { regions.now ≡ row_regions rows.now }
@@ -94,7 +95,7 @@ pub(crate) fn block_table(
     ensures found { IfOk result (λ b. IsFirstWrong (IsBlockWrong text.now rows.now) (length rows.now) b.found) }
 {
     let given = given(alloc, NameKind::Block, text, &text[..0], rows, regions, &[])?;
-    let named = named(alloc, text, rows, regions, &given.places)?;
+    let named = named(text, rows, regions, &given.places, room)?;
     let twice = told(given.again, Wrong::BlockTwice);
     let unknown = told(named.unknown, Wrong::UnknownBlock);
     let found = sooner(twice, unknown);
@@ -115,8 +116,8 @@ pub fn blocks(alloc: Global, text: &[u8], rows: &[Row]) -> Result<RowTable, Faul
     ensures checked { IsChecked (IsBlockWrong text.now rows.now) rows.now result }
 {
     are_few(rows)?;
-    let regions = regions(alloc, rows)?;
-    let blocks = block_table(alloc, text, rows, &regions)?;
+    let regions = regions(alloc, rows, Vec::new(alloc))?;
+    let blocks = block_table(alloc, text, rows, &regions, Vec::new(alloc))?;
     match fault_of(rows, blocks.found) {
         Some(fault) => Err(fault),
         None => Ok(blocks.table),

@@ -44,11 +44,11 @@ pub fn resolve(alloc: Global, text: &[u8], rows: &[Row]) -> Result<Names, Fault>
     let keys = key_fault(alloc, text, rows, &operations, &counts)?;
     let types = type_fault(rows, &counts);
     let results = result_fault(text, rows, &counts);
-    let for_values = regions(alloc, rows)?;
+    let for_values = regions(alloc, rows, Vec::new(alloc))?;
     let values = value_table(alloc, text, rows, operations, counts, for_values)?;
     // They are told anew, so that no table of blocks is held beside those of values.
-    let for_blocks = regions(alloc, rows)?;
-    let blocks = block_table(alloc, text, rows, &for_blocks)?;
+    let for_blocks = regions(alloc, rows, values.spare.one)?;
+    let blocks = block_table(alloc, text, rows, &for_blocks, values.spare.other)?;
     let places = sooner(blocks.found, keys);
     let numbers = sooner(types, results);
     let uses = sooner(numbers, values.found);

@@ -61,11 +61,13 @@ impl RowTable {
         }
     }
 
-    /// An empty table with room for so many rows.
-    pub(crate) fn with_room(alloc: Global, rows: usize) -> Result<RowTable, AllocError>
+    /// An empty table with room for so many rows, in that of another table.
+    pub(crate) fn in_room(room: Vec<u32>, rows: usize) -> Result<RowTable, AllocError>
         ensures { IfOk result (λ t. t ≡ []) }
     {
-        let entries = Vec::with_capacity(alloc, rows)?;
+        let mut entries = room;
+        entries.clear();
+        entries.reserve(rows)?;
         Ok(RowTable { entries })
     }
 

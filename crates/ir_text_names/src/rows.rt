@@ -53,12 +53,14 @@ fn nest(around: &mut Vec<u32>, part: Part, behind: u32) -> Result<(), AllocError
     Ok(())
 }
 
-/// For each row the region that it stands in, by the index of the region's first row; 0 outside all regions.
-pub(crate) fn regions(alloc: Global, rows: &[Row]) -> Result<Vec<u32>, AllocError>
+/// For each row the region that it stands in, by the index of the region's first row; 0 outside all regions. What stood in the room before is gone.
+pub(crate) fn regions(alloc: Global, rows: &[Row], room: Vec<u32>) -> Result<Vec<u32>, AllocError>
     requires { length rows.now < 4294967295 }
     ensures { IfOk result (λ v. v.items ≡ row_regions rows.now) }
 {
-    let mut regions = Vec::with_capacity(alloc, rows.len())?;
+    let mut regions = room;
+    regions.clear();
+    regions.reserve(rows.len())?;
     let mut around = Vec::new(alloc);
     for (at, row) in rows.iter().enumerate() {
         regions.push(top(&around))?;

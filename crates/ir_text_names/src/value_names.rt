@@ -17,7 +17,7 @@ use crate::named_rows::NamedRows;
 use crate::row_table::RowTable;
 use crate::rows::{NumberedOperations, are_few, operations, piece, regions};
 use crate::value_numbers::first_beyond;
-use crate::value_types::{other_type, type_tables};
+use crate::value_types::{SpareRoom, other_type, type_tables};
 use ir_text_tree::{Part, Row};
 use std::alloc::{AllocError, Global};
 
@@ -129,7 +129,7 @@ fn named_before(
 {
     let mut last = NamedRows::new(alloc, rows.len());
     let mut ends = RowTable::of_none(alloc, rows.len())?;
-    let mut table = RowTable::with_room(alloc, rows.len())?;
+    let mut table = RowTable::in_room(Vec::new(alloc), rows.len())?;
     let mut again = None;
     let mut missing = None;
     for (at, row) in rows.iter().enumerate() {
@@ -285,6 +285,8 @@ pub(crate) struct ValueTable {
     pub(crate) table: RowTable,
     /// The first fault.
     pub(crate) found: Option<Found>,
+    /// Room for two tables more.
+    pub(crate) spare: SpareRoom,
 }
 
 // The first operand that names a definition and none of its values, where nothing is defined twice.
@@ -340,6 +342,7 @@ pub(crate) fn value_table(
     Ok(ValueTable {
         table: entries.table,
         found,
+        spare: tables.into_room(),
     })
 }
 
@@ -355,7 +358,7 @@ pub fn values(alloc: Global, text: &[u8], rows: &[Row]) -> Result<RowTable, Faul
 {
     are_few(rows)?;
     let operations = operations(alloc, rows)?;
-    let regions = regions(alloc, rows)?;
+    let regions = regions(alloc, rows, Vec::new(alloc))?;
     let counts = part_counts(alloc, rows, &operations)?;
     let values = value_table(alloc, text, rows, operations, counts, regions)?;
     match fault_of(rows, values.found) {

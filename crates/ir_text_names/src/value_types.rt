@@ -37,6 +37,25 @@ pub(crate) struct TypeTables<'a> {
     before: Vec<u32>,
 }
 
+/// Memory that two tables had.
+#[derive(Drop)]
+pub(crate) struct SpareRoom {
+    /// That of one.
+    pub(crate) one: Vec<u32>,
+    /// That of the other.
+    pub(crate) other: Vec<u32>,
+}
+
+impl<'a> TypeTables<'a> {
+    /// The memory of two tables, for others.
+    pub(crate) fn into_room(self) -> SpareRoom {
+        SpareRoom {
+            one: self.next,
+            other: self.before,
+        }
+    }
+}
+
 /// What is known of the types of that tree.
 pub(crate) fn type_tables<'a>(
     alloc: Global,
