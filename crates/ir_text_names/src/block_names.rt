@@ -1,11 +1,11 @@
 //! Blocks' names: which block a successor names.
-ghost use Rattle.std.specs.Prelude.{◌≡◌, ◌<◌, length, IfOk, IsTrue, ◌↔◌};
+ghost use Rattle.std.specs.Prelude.{◌≡◌, ◌<◌, length, IfOk, IsTrue, ◌↔◌, if◌then◌else◌};
 ghost use Rattle.ir_text_tree.specs.declared.row.Part.TheVariants as parts;
 ghost use Rattle.ir_text_names.specs.Blocks.{AreBlocksNamed, IsBlockWrong, NamesNoBlock, misses};
 ghost use Rattle.ir_text_names.specs.Firsts.{IsChecked, IsFirst, IsFirstWrong};
 ghost use Rattle.ir_text_names.specs.Given.{AreGiven, anywhere};
 ghost use Rattle.ir_text_names.specs.Places.{row_at};
-ghost use Rattle.ir_text_names.specs.Rows.{row_regions};
+ghost use Rattle.ir_text_names.specs.Rows.{piece, row_regions};
 
 use crate::fault::{Fault, Wrong};
 use crate::firsts::{Found, fault_of, noted, sooner, told};
@@ -13,7 +13,7 @@ use crate::given::{NameKind, given};
 use crate::places::find_if;
 use crate::row_table::RowTable;
 use crate::rows::{are_few, piece, regions};
-use ir_text_tree::{Part, Row};
+use ir_text_tree::{Part, Row, Span};
 use std::alloc::{AllocError, Global};
 use std::collections::HashMap;
 
@@ -46,6 +46,24 @@ pub(crate) fn misses(is: bool, block: Option<usize>) -> bool
     }
 }
 
+// The block that a row in that region names, if it is a successor.
+#[inline(always)]
+fn block_of(
+    places: &HashMap<(usize, &[u8]), usize>,
+    is: bool,
+    region: usize,
+    text: &[u8],
+    span: Span,
+) -> Option<usize>
+    ensures { result ≡ (if is then row_at places.now region (piece text.now span) else None) }
+{
+    if is {
+        find_if(places, true, region, piece(text, span))
+    } else {
+        None
+    }
+}
+
 // The blocks that rows name, where these are the blocks of each region.
 fn named(
     text: &[u8],
@@ -65,7 +83,7 @@ fn named(
     let mut unknown = None;
     for (at, row) in rows.iter().enumerate() {
         let is = is_successor(row.part);
-        let block = find_if(places, is, regions[at] as usize, piece(text, row.span));
+        let block = block_of(places, is, regions[at] as usize, text, row.span);
         unknown = noted(unknown, at, misses(is, block));
         table.push(block)?;
     }

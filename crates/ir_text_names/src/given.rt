@@ -1,8 +1,9 @@
 //! Names that rows give: where each was given last, and the first that was given before.
-ghost use Rattle.std.specs.Prelude.{◌≡◌, length, IfOk, IsTrue, ◌↔◌, ◌++◌, drop};
+ghost use Rattle.std.specs.Prelude.{◌≡◌, length, IfOk, OnOk, IsTrue, ◌↔◌, ◌++◌, drop};
 ghost use Rattle.ir_text_names.specs.Firsts.{IsFirst};
 ghost use Rattle.ir_text_names.specs.Given.{giver, is_quoted, between_quotes, plain_name, is_escaped, escaped_name, escaped_names, name_of, is_asked, IsAgain, AreAsked, AreGiven};
 ghost use Rattle.ir_text_names.specs.Places.{row_at};
+ghost use Rattle.ir_text_names.specs.Rows.{piece};
 
 use crate::firsts::noted;
 use crate::places::put_if;
@@ -94,6 +95,25 @@ fn is_escaped(kind: NameKind, part: Part, text: &[u8]) -> bool
     }
 }
 
+// Puts the name that the row gives behind the others, if it has escapes.
+#[inline(always)]
+fn extend_escaped(
+    names: &mut Vec<u8>,
+    kind: NameKind,
+    text: &[u8],
+    row: Row,
+) -> Result<(), AllocError>
+    ensures { OnOk result (names.new.items ≡ names.old.items ++ escaped_name kind row.part (piece text.now row.span)) }
+{
+    if gives(kind, row.part) {
+        let name = piece(text, row.span);
+        if is_escaped(kind, row.part, name) {
+            extend_unescaped(names, between_quotes(name))?;
+        }
+    }
+    Ok(())
+}
+
 /// The names with escapes that rows give, behind one another.
 pub(crate) fn escaped_names(
     alloc: Global,
@@ -105,10 +125,7 @@ pub(crate) fn escaped_names(
 {
     let mut names = Vec::new(alloc);
     for row in rows {
-        let name = piece(text, row.span);
-        if is_escaped(kind, row.part, name) {
-            extend_unescaped(&mut names, between_quotes(name))?;
-        }
+        extend_escaped(&mut names, kind, text, *row)?;
     }
     Ok(names)
 }

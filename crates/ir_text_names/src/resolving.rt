@@ -14,6 +14,7 @@ use crate::result_numbers::result_fault;
 use crate::row_table::RowTable;
 use crate::rows::{are_few, operations, regions};
 use crate::value_names::value_table;
+use crate::value_types::SpareRoom;
 use ir_text_tree::Row;
 use std::alloc::Global;
 
@@ -46,9 +47,10 @@ pub fn resolve(alloc: Global, text: &[u8], rows: &[Row]) -> Result<Names, Fault>
     let results = result_fault(text, rows, &counts);
     let for_values = regions(alloc, rows, Vec::new(alloc))?;
     let values = value_table(alloc, text, rows, operations, counts, for_values)?;
+    let SpareRoom { one, other } = values.spare;
     // They are told anew, so that no table of blocks is held beside those of values.
-    let for_blocks = regions(alloc, rows, values.spare.one)?;
-    let blocks = block_table(alloc, text, rows, &for_blocks, values.spare.other)?;
+    let for_blocks = regions(alloc, rows, one)?;
+    let blocks = block_table(alloc, text, rows, &for_blocks, other)?;
     let places = sooner(blocks.found, keys);
     let numbers = sooner(types, results);
     let uses = sooner(numbers, values.found);

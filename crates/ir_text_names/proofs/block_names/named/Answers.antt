@@ -16,9 +16,9 @@ push-requires c =
     let rows = c.args.rows.now in
     let known = row_at c.args.places.now in
     let holds = c.is_successor-is.result in
-    let block = c.find_if-block.result in
+    let block = c.block_of-block.result in
     let found : block ≡ cond holds (known (region_of rows l.at) (text_of text rows l.at)) None =
-    c.find_if-block.ensures ∙ ap (λ (t : List ℕ). cond holds (known (get_or c.args.regions.now l.at 0) t) None) c.piece.ensures ∙ ap (λ (r : List ℕ). cond holds (known (get_or r l.at 0) (text_of text rows l.at)) None) c.requires.regions in
+    c.block_of-block.ensures ∙ ap (λ (r : List ℕ). cond holds (known (get_or r l.at 0) (text_of text rows l.at)) None) c.requires.regions in
     let places : AreGiven parts.Label text rows (row_regions rows) anywhere (length rows) known = subst (λ (r : List ℕ). AreGiven parts.Label text rows r anywhere (length rows) known) c.requires.regions c.requires.places in
     block_few text rows l.at 4294967295 block c.requires.few (block_is text rows l.at known holds block places c.is_successor-is.ensures found)
 
@@ -29,9 +29,9 @@ loop-at-preserved c =
     let rows = c.args.rows.now in
     let known = row_at c.args.places.now in
     let holds = c.is_successor-is.result in
-    let block = c.find_if-block.result in
+    let block = c.block_of-block.result in
     let found : block ≡ cond holds (known (region_of rows l.at) (text_of text rows l.at)) None =
-    c.find_if-block.ensures ∙ ap (λ (t : List ℕ). cond holds (known (get_or c.args.regions.now l.at 0) t) None) c.piece.ensures ∙ ap (λ (r : List ℕ). cond holds (known (get_or r l.at 0) (text_of text rows l.at)) None) c.requires.regions in
+    c.block_of-block.ensures ∙ ap (λ (r : List ℕ). cond holds (known (get_or r l.at 0) (text_of text rows l.at)) None) c.requires.regions in
     let places : AreGiven parts.Label text rows (row_regions rows) anywhere (length rows) known = subst (λ (r : List ℕ). AreGiven parts.Label text rows r anywhere (length rows) known) c.requires.regions c.requires.places in
     let named : IsBlockNamed text rows l.at block = block_is text rows l.at known holds block places c.is_successor-is.ensures found in
     let pushed : c.push.new.self ≡ l.table ++ block ∷ [] = search rules in
