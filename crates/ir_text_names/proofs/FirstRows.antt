@@ -14,7 +14,7 @@ first_more P n None true holds known h = (omega arith, holds refl, h)
 first_more P n None false holds known h = below_more (λ (k : ℕ). P k → ⊥) n h (λ p. false≢true (known p))
 first_more P n (Some i) b holds known h = let lt : i < n = h.0 in (omega arith, h.1, h.2)
 
-noted_not : (o : Option ℕ) (n : ℕ) → noted o n false ≡ o
+pub noted_not : (o : Option ℕ) (n : ℕ) → noted o n false ≡ o
 noted_not None n = refl
 noted_not (Some i) n = refl
 

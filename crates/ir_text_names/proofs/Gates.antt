@@ -1,26 +1,26 @@
 -- Names are looked for only at rows that give or use one.
-use Rattle.std.proofs.Common.{◌≡◌, ◌||◌, ℕ, ◌<◌, Bool, true, false, cond, leb, List, length, get_or, set, Option, Some, None, IfSome, refl, sym, ap, subst, ◌∙◌}
+use Rattle.std.proofs.Common.{◌≡◌, ◌↔◌, ◌||◌, ℕ, ◌<◌, Bool, true, false, cond, leb, List, length, get_or, set, Option, Some, None, IfSome, refl, sym, ap, subst, ◌∙◌, ⊎_elim}
+use Rattle.std.proofs.lemmas.Bool.{or_cases, false≢true}
 use Rattle.std.proofs.lemmas.List.{length-set, get_or-set_same, get_or-set_other}
-use Rattle.ir_text_names.specs.Values.{still_open, unless_ended, clashes, reached, begins_before}
+use Rattle.ir_text_tree.specs.declared.row.Part.{Part}
+use Rattle.ir_text_tree.specs.declared.row.Part.TheVariants as parts
+use Rattle.ir_text_names.specs.Values.{defines, still_open, unless_ended, clashes, reached, begins_before}
 
 -- what is found, where it is looked for at a row of either sort
 pub asked_is : (holds uses any : Bool) (k o : Option ℕ) → any ≡ (holds || uses) → o ≡ cond any k None → o ≡ cond (holds || uses) k None
 asked_is holds uses any k o e f = f ∙ ap (λ (b : Bool). cond b k None) e
 
-no_clash : (o a : Option ℕ) (r : ℕ) → clashes false o a r ≡ false
-no_clash None a r = refl
-no_clash (Some d) a r = refl
+close_is_no_operand : parts.Close ≡ parts.Operand → ⊥
+close_is_no_operand e = cc
 
--- a row that defines nothing clashes with nothing
-pub clash_gated : (holds uses : Bool) (k : Option ℕ) (f : Option ℕ → Option ℕ) (r : ℕ) → clashes holds (cond (holds || uses) k None) (f (cond (holds || uses) k None)) r ≡ clashes holds k (f k) r
-clash_gated true uses k f r = refl
-clash_gated false uses k f r = no_clash (cond (false || uses) k None) (f (cond (false || uses) k None)) r ∙ sym (no_clash k (f k) r)
+pub or_none : (a b : Bool) → (a || b) ≡ false → (a ≡ false) × (b ≡ false)
+or_none false b e = (refl, e)
+or_none true b e = absurd (false≢true (sym e))
 
-pub use_gated : (holds uses : Bool) (k : Option ℕ) (f : Option ℕ → Option ℕ) → cond uses (f (cond (holds || uses) k None)) None ≡ cond uses (f k) None
-use_gated true true k f = refl
-use_gated false true k f = refl
-use_gated true false k f = refl
-use_gated false false k f = refl
+-- a row that gives or uses a name ends no region
+pub named_is_no_close : (p : Part) (holds uses : Bool) → holds ≡ defines p → ((uses ≡ true) ↔ (p ≡ parts.Operand)) → (holds || uses) ≡ true → p ≡ parts.Close → ⊥
+named_is_no_close p holds uses e f any is =
+    ⊎_elim (λ (h : holds ≡ true). false≢true (sym (e ∙ ap (λ (q : Part). defines q) is) ∙ h)) (λ (u : uses ≡ true). close_is_no_operand (sym is ∙ f.0 u)) (or_cases holds uses any)
 
 no_begin : (regions : List ℕ) (n : ℕ) (o : Option ℕ) → begins_before false regions n o ≡ false
 no_begin regions n None = refl

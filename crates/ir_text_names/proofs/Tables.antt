@@ -1,5 +1,5 @@
 -- Tables with an entry for each row, from one row to the next.
-use Rattle.std.proofs.Common.{◌≡◌, ℕ, ◌+◌, ◌<◌, ◌≤◌, Bool, true, List, [], ◌∷◌, ◌++◌, length, get_or, set, Option, Some, None, refl, sym, ap, subst, ◌∙◌, ⊎_elim, arith}
+use Rattle.std.proofs.Common.{◌≡◌, ℕ, ◌+◌, ◌<◌, ◌≤◌, Bool, true, false, List, [], ◌∷◌, ◌++◌, length, get_or, set, Option, Some, None, refl, sym, ap, subst, ◌∙◌, ⊎_elim, arith}
 use Rattle.std.proofs.lemmas.Bool.{cases_lt, cases_eq, false≢true}
 use Rattle.std.proofs.lemmas.List.{get_or_push, get_or_append_left, length_push, get_or-set_same, get_or-set_other}
 use Rattle.ir_text_tree.specs.declared.row.Part.TheVariants as parts
@@ -8,7 +8,7 @@ use Rattle.ir_text_names.specs.Blocks.{misses}
 use Rattle.ir_text_names.specs.Firsts.{IsFirst, noted}
 use Rattle.ir_text_names.specs.Rows.{part_of}
 use Rattle.ir_text_names.specs.Values.{IsMissing}
-use Rattle.ir_text_names.proofs.FirstRows.{first_as, first_more}
+use Rattle.ir_text_names.proofs.FirstRows.{first_as, first_more, noted_not}
 
 -- one entry more
 pub entries_more : (P : ℕ → Option ℕ → Type 0) (n : ℕ) (o : Option ℕ) (table out : List (Option ℕ)) → P n o → out ≡ table ++ o ∷ [] → (length table ≡ n) × ((u : ℕ) → u < n → P u (get_or table u None)) → (length out ≡ n + 1) × ((u : ℕ) → u < n + 1 → P u (get_or out u None))
@@ -43,6 +43,11 @@ missing_more rows n o b e table out pushed long holds known h =
     λ k lt. ap (λ (t : List (Option ℕ)). get_or t k None) pushed ∙ get_or_append_left table (e ∷ []) None k (omega (arith, lt, long)) in
     first_more (IsMissing rows out) n o b (λ t. let m = holds t in (m.0, here ∙ m.1)) (λ m. known (m.0, sym here ∙ m.1))
     (first_as (IsMissing rows table) (IsMissing rows out) n o (λ k lt m. (m.0, before k lt ∙ m.1)) (λ k lt m. (m.0, sym (before k lt) ∙ m.1)) h)
+
+-- the same, where the row is no operand
+pub missing_kept : (rows : List Row) (n : ℕ) (o e : Option ℕ) (table out : List (Option ℕ)) → out ≡ table ++ e ∷ [] → length table ≡ n → (part_of rows n ≡ parts.Operand → ⊥) → IsFirst (IsMissing rows table) n o → IsFirst (IsMissing rows out) (n + 1) o
+missing_kept rows n o e table out pushed long other h =
+    subst (λ (r : Option ℕ). IsFirst (IsMissing rows out) (n + 1) r) (noted_not o n) (missing_more rows n o false e table out pushed long (λ f. absurd (false≢true f)) (λ m. absurd (other m.0)) h)
 
 -- one item more, of any sort
 pub items_more : (X : Type 0) (P : ℕ → X → Type 0) (d : X) (n : ℕ) (o : X) (table out : List X) → P n o → out ≡ table ++ o ∷ [] → length table ≡ n → ((u : ℕ) → u < n → P u (get_or table u d)) → (u : ℕ) → u < n + 1 → P u (get_or out u d)

@@ -133,17 +133,21 @@ fn named_before(
     let mut again = None;
     let mut missing = None;
     for (at, row) in rows.iter().enumerate() {
-        let name = piece(text, row.span);
         let is = defines(row.part);
         let uses = is_operand(row.part);
-        let before = last.find_if(any(is, uses), name);
-        let around = still_open(&ends, regions, before);
-        again = noted(again, at, clashes(is, before, around, regions[at] as usize));
-        let found = only_if(uses, around);
-        missing = noted(missing, at, misses(uses, found));
-        table.push(found)?;
-        last.put_if(is, name, at)?;
-        end_if(&mut ends, is_close(row.part), regions[at] as usize, at);
+        if any(is, uses) {
+            let name = piece(text, row.span);
+            let before = last.find_if(true, name);
+            let around = still_open(&ends, regions, before);
+            again = noted(again, at, clashes(is, before, around, regions[at] as usize));
+            let found = only_if(uses, around);
+            missing = noted(missing, at, misses(uses, found));
+            table.push(found)?;
+            last.put_if(is, name, at)?;
+        } else {
+            table.push(None)?;
+            end_if(&mut ends, is_close(row.part), regions[at] as usize, at);
+        }
     }
     Ok(Before {
         table,
