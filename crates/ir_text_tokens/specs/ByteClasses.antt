@@ -18,6 +18,10 @@ hex_letter b = (nat_le 97 b && nat_le b 102) || (nat_le 65 b && nat_le b 70)
 unfoldable pub escape_letter : ℕ → Bool
 escape_letter b = b == 110 || b == 116
 
+-- a to z, A to Z
+unfoldable pub letter : ℕ → Bool
+letter b = (nat_le 97 b && nat_le b 122) || (nat_le 65 b && nat_le b 90)
+
 -- a to z, A to Z, _ $ .
 unfoldable pub other_letter : ℕ → Bool
 other_letter b = (nat_le 97 b && nat_le b 122) || (nat_le 65 b && nat_le b 90) || b == 95 || b == 36 || b == 46

@@ -3,6 +3,7 @@
 
 mod byte_class;
 mod fault;
+mod going_on;
 mod place;
 mod reader_step;
 mod scanning;

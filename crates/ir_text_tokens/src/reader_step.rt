@@ -1,13 +1,16 @@
 //! What a byte does to the reader: the table of the tokens.
-ghost use Rattle.std.specs.Prelude.{◌≡◌, ◌+◌, ◌<◌, drop, length, slice_index_or};
+ghost use Rattle.std.specs.Prelude.{◌≡◌, ◌+◌, ◌<◌, if◌then◌else◌, drop, length, slice_index_or};
 ghost use Rattle.ir_text_tokens.specs.ByteClasses.{class_of_byte, class_ahead};
 ghost use Rattle.ir_text_tokens.specs.declared.byte_class.Class.TheVariants as classes;
+ghost use Rattle.ir_text_tokens.specs.declared.reader_step.Mode.TheVariants as modes;
 ghost use Rattle.ir_text_tokens.specs.declared.reader_step.Step.TheVariants.{Go};
 ghost use Rattle.ir_text_tokens.specs.declared.reader_step.Nesting.TheVariants.{Kept};
-ghost use Rattle.ir_text_tokens.specs.ReaderSteps.{is_hex, goes_on_word, goes_on_name, word_step, number_step, name_step, name_begins, lone_sign, sign_step, begin_step, same_bracket, closing_step, group_step, quote_step, string_step, escape_step, hex_step, comment_step, reader_step, is_digit, is_gap, is_inner, is_plain, start_at, glued_behind, missing_at_end};
+ghost use Rattle.ir_text_tokens.specs.Readings.{innermost};
+ghost use Rattle.ir_text_tokens.specs.ReaderSteps.{go, is_hex, word_step, number_step, name_step, lone_sign, sign_step, begin_step, same_bracket, closing_step, group_step, quote_step, string_step, escape_step, hex_step, comment_step, reader_step, start_at, glued_behind, missing_at_end};
 
 use crate::byte_class::{Class, class_at, class_of};
 use crate::fault::Problem;
+use crate::going_on::{name_goes_on, number_goes_on, word_goes_on};
 use crate::token::{Bracket, Kind, Mark, Sign};
 
 /// What a string stands in.
@@ -82,33 +85,11 @@ fn is_hex(class: Class) -> bool
     matches!(class, Class::Digit | Class::HexLetter)
 }
 
-/// A byte of a word.
-#[inline(always)]
-pub(crate) fn goes_on_word(class: Class) -> bool
-    ensures { result ≡ goes_on_word class }
+// What follows a byte of a word, where that index is the next.
+fn word_step(text: &[u8], next: usize) -> Step
+    ensures { result ≡ word_step (class_ahead (drop next text.now)) }
 {
-    matches!(
-        class,
-        Class::Digit | Class::HexLetter | Class::EscapeLetter | Class::Letter
-    )
-}
-
-/// A byte of a name.
-#[inline(always)]
-pub(crate) fn goes_on_name(class: Class) -> bool
-    ensures { result ≡ goes_on_name class }
-{
-    match class {
-        Class::Dash => true,
-        _ => goes_on_word(class),
-    }
-}
-
-// What follows a byte of a word.
-fn word_step(next: Class) -> Step
-    ensures { result ≡ word_step next }
-{
-    if goes_on_word(next) {
+    if word_goes_on(text, next) {
         go(Mode::Word)
     } else {
         Step::Emit(Kind::Word)
@@ -116,33 +97,35 @@ fn word_step(next: Class) -> Step
 }
 
 // What follows a digit of a name of digits.
-fn number_step(sign: Sign, next: Class) -> Step
-    ensures { result ≡ number_step sign next }
+fn number_step(text: &[u8], sign: Sign, next: usize) -> Step
+    ensures { result ≡ number_step sign (class_ahead (drop next text.now)) }
 {
-    match next {
-        Class::Digit => go(Mode::Number(sign)),
-        _ => Step::Emit(Kind::Name(sign)),
+    if number_goes_on(text, next) {
+        go(Mode::Number(sign))
+    } else {
+        Step::Emit(Kind::Name(sign))
     }
 }
 
 // What follows a byte of another name.
-fn name_step(sign: Sign, next: Class) -> Step
-    ensures { result ≡ name_step sign next }
+fn name_step(text: &[u8], sign: Sign, next: usize) -> Step
+    ensures { result ≡ name_step sign (class_ahead (drop next text.now)) }
 {
-    if goes_on_name(next) {
+    if name_goes_on(text, next) {
         go(Mode::Name(sign))
     } else {
         Step::Emit(Kind::Name(sign))
     }
 }
 
-// What a sign does where the first byte of its name follows.
-fn name_begins(sign: Sign, next: Class) -> Step
-    ensures { result ≡ name_begins sign next }
+// What a sign does where its name follows; `number` says whether it begins with a digit.
+fn name_begins(sign: Sign, number: bool) -> Step
+    ensures { result ≡ (if number then go (modes.Number sign) else go (modes.Name sign)) }
 {
-    match next {
-        Class::Digit => go(Mode::Number(sign)),
-        _ => go(Mode::Name(sign)),
+    if number {
+        go(Mode::Number(sign))
+    } else {
+        go(Mode::Name(sign))
     }
 }
 
@@ -157,11 +140,11 @@ fn lone_sign(sign: Sign) -> Step
 }
 
 // What a sign does.
-fn sign_step(sign: Sign, next: Class) -> Step
-    ensures { result ≡ sign_step sign next }
+fn sign_step(text: &[u8], sign: Sign, next: usize) -> Step
+    ensures { result ≡ sign_step sign (class_ahead (drop next text.now)) }
 {
-    if goes_on_name(next) {
-        name_begins(sign, next)
+    if name_goes_on(text, next) {
+        name_begins(sign, number_goes_on(text, next))
     } else {
         lone_sign(sign)
     }
@@ -196,9 +179,9 @@ fn begin_step(text: &[u8], class: Class, next: usize) -> Step
         Class::Newline | Class::Blank => go(Mode::Between),
         Class::Slash => slash_step(class_at(text, next)),
         Class::Digit | Class::HexLetter | Class::EscapeLetter | Class::Letter => {
-            word_step(class_at(text, next))
+            word_step(text, next)
         }
-        Class::Sign(sign) => sign_step(sign, class_at(text, next)),
+        Class::Sign(sign) => sign_step(text, sign, next),
         Class::Quote => go(Mode::Quoted(Around::Nothing)),
         Class::Dash => dash_step(class_at(text, next)),
         Class::Less => go(Mode::Group),
@@ -221,6 +204,13 @@ fn same_bracket(first: Bracket, second: Bracket) -> bool
         (Bracket::Angle, Bracket::Angle) => true,
         _ => false,
     }
+}
+
+// The last of the open brackets.
+fn innermost(brackets: &Vec<Bracket>) -> Option<Bracket>
+    ensures { result ≡ innermost brackets.now.items }
+{
+    brackets.last().copied()
 }
 
 // What a closing bracket does in a group: it closes the last that was opened, or the group.
@@ -317,69 +307,28 @@ fn comment_step(class: Class) -> Step
     }
 }
 
-/// What the byte at that index does; `last` is the last bracket that was opened in the group, behind its first. Its class and that of the byte behind it are looked up only where they count.
+/// What the byte at that index does; `brackets` are those that are open in the group, behind its first. The byte and the one behind it are looked at only where they count.
 #[inline(always)]
-pub(crate) fn reader_step(text: &[u8], mode: Mode, last: Option<Bracket>, at: usize) -> Step
+pub(crate) fn reader_step(text: &[u8], mode: Mode, brackets: &Vec<Bracket>, at: usize) -> Step
     requires { at < length text.now }
-    ensures { result ≡ reader_step mode last (class_of_byte (slice_index_or text.now at 0)) (class_ahead (drop (at + 1) text.now)) }
+    ensures { result ≡ reader_step mode (innermost brackets.now.items) (class_of_byte (slice_index_or text.now at 0)) (class_ahead (drop (at + 1) text.now)) }
 {
     match mode {
         Mode::Between => begin_step(text, class_of(text[at]), at + 1),
         Mode::Comment => comment_step(class_of(text[at])),
-        Mode::Word => word_step(class_at(text, at + 1)),
-        Mode::Number(sign) => number_step(sign, class_at(text, at + 1)),
-        Mode::Name(sign) => name_step(sign, class_at(text, at + 1)),
+        Mode::Word => word_step(text, at + 1),
+        Mode::Number(sign) => number_step(text, sign, at + 1),
+        Mode::Name(sign) => name_step(text, sign, at + 1),
         Mode::Arrow => Step::Emit(Kind::Arrow),
         Mode::Quoted(around) => string_step(around, class_of(text[at])),
         Mode::Escape(around) => escape_step(around, class_of(text[at])),
         Mode::Hex(around) => hex_step(around, class_of(text[at])),
-        Mode::Group => group_step(last, class_of(text[at]), class_at(text, at + 1)),
+        Mode::Group => group_step(
+            innermost(brackets),
+            class_of(text[at]),
+            class_at(text, at + 1),
+        ),
         Mode::GroupArrow => go(Mode::Group),
-    }
-}
-
-/// A digit.
-#[inline(always)]
-pub(crate) fn is_digit(class: Class) -> bool
-    ensures { result ≡ is_digit class }
-{
-    match class {
-        Class::Digit => true,
-        _ => false,
-    }
-}
-
-/// A blank, or the end of a line.
-#[inline(always)]
-pub(crate) fn is_gap(class: Class) -> bool
-    ensures { result ≡ is_gap class }
-{
-    match class {
-        Class::Newline | Class::Blank => true,
-        _ => false,
-    }
-}
-
-/// A byte of a string that stands for itself.
-#[inline(always)]
-pub(crate) fn is_plain(class: Class) -> bool
-    ensures { result ≡ is_plain class }
-{
-    match class {
-        Class::Quote | Class::Backslash | Class::Newline => false,
-        _ => true,
-    }
-}
-
-/// A byte of a group that is no part of a bracket or a string.
-#[inline(always)]
-pub(crate) fn is_inner(class: Class) -> bool
-    ensures { result ≡ is_inner class }
-{
-    match class {
-        Class::Quote | Class::Dash | Class::Less | Class::Greater => false,
-        Class::Open(_) | Class::Close(_) => false,
-        _ => true,
     }
 }
 

@@ -6,27 +6,19 @@ ghost use Rattle.ir_text_tokens.specs.Faults.{StopsWithin};
 ghost use Rattle.ir_text_tokens.specs.ByteClasses.{class_of_byte, class_ahead};
 ghost use Rattle.ir_text_tokens.specs.declared.token.Bracket.{Bracket};
 ghost use Rattle.ir_text_tokens.specs.ReaderSteps.{glued_behind, start_at, stays};
-ghost use Rattle.ir_text_tokens.specs.Readings.{IsReading, IsNext, innermost, renested, read_of, scanning};
+ghost use Rattle.ir_text_tokens.specs.Readings.{IsReading, IsNext, renested, read_of, scanning};
 ghost use Rattle.ir_text_tokens.specs.Coverings.{Covers, GoForward, IsWithin, Lexeme, HaveSpelling, spelling, lexemes, GivesAgain};
 
-use crate::byte_class::{class_at, class_of};
 use crate::fault::{Fault, fault_of};
+use crate::going_on::{is_gap, is_inner, is_plain, name_goes_on, number_goes_on, word_goes_on};
 use crate::reader_step::{
-    Mode, Nesting, Step, glued_behind, goes_on_name, goes_on_word, is_digit, is_gap, is_inner,
-    is_plain, missing_at_end, reader_step, start_at,
+    Mode, Nesting, Step, glued_behind, missing_at_end, reader_step, start_at,
 };
 use crate::token::{Bracket, Token};
 use std::alloc::{AllocError, Global};
 
 // Spans are numbers of 32 bits.
 const LONGEST: usize = 4294967295;
-
-// The last of the open brackets.
-fn innermost(brackets: &Vec<Bracket>) -> Option<Bracket>
-    ensures { result ≡ innermost brackets.now.items }
-{
-    brackets.last().copied()
-}
 
 // Opens a bracket, or closes the last.
 fn renest(brackets: &mut Vec<Bracket>, nesting: Nesting) -> Result<(), AllocError>
@@ -49,12 +41,12 @@ fn stays(text: &[u8], mode: Mode, at: usize) -> bool
     ensures { result ≡ stays mode (class_of_byte (slice_index_or text.now at 0)) (class_ahead (drop (at + 1) text.now)) }
 {
     match mode {
-        Mode::Between => is_gap(class_of(text[at])),
-        Mode::Word => goes_on_word(class_at(text, at + 1)),
-        Mode::Number(_) => is_digit(class_at(text, at + 1)),
-        Mode::Name(_) => goes_on_name(class_at(text, at + 1)),
-        Mode::Quoted(_) => is_plain(class_of(text[at])),
-        Mode::Group => is_inner(class_of(text[at])),
+        Mode::Between => is_gap(text[at]),
+        Mode::Word => word_goes_on(text, at + 1),
+        Mode::Number(_) => number_goes_on(text, at + 1),
+        Mode::Name(_) => name_goes_on(text, at + 1),
+        Mode::Quoted(_) => is_plain(text[at]),
+        Mode::Group => is_inner(text[at]),
         _ => false,
     }
 }
@@ -109,8 +101,7 @@ pub fn next_token(
     let mut glued = is_glued(behind, start, at);
     while index < text.len() {
         let place = index as u32;
-        let last = innermost(brackets);
-        match reader_step(text, mode, last, index) {
+        match reader_step(text, mode, brackets, index) {
             Step::Go(to, nesting) => {
                 renest(brackets, nesting)?;
                 index = run_end(text, to, index + 1);

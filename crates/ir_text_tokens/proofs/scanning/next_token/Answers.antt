@@ -5,7 +5,7 @@ use Rattle.ir_text_tokens.specs.declared.reader_step.Step.TheVariants.{Go, Emit,
 use Rattle.ir_text_tokens.specs.declared.token.Bracket.{Bracket}
 use Rattle.ir_text_tokens.specs.ByteClasses.{class_of_byte, class_ahead}
 use Rattle.ir_text_tokens.specs.ReaderSteps.{glued_behind}
-use Rattle.ir_text_tokens.specs.Readings.{renested, scan_from, scanning}
+use Rattle.ir_text_tokens.specs.Readings.{innermost, renested, scan_from, scanning}
 use Rattle.ir_text_tokens.proofs.ReadingSteps.{step_is}
 use Rattle.ir_text_tokens.proofs.NextTokens.{next_goes, next_emits, next_stops, next_ends, next_breaks_off, begins, gap_passed, passed, start_is}
 use Rattle.ir_text_tokens.proofs.scanning.next_token.Goals as goal
@@ -29,7 +29,7 @@ returns-in-Emit-clause-reads c =
     let b = get_or text l.index 0 in
     let rest = drop (l.index + 1) text in
     let cut : drop l.index text ≡ b ∷ rest = drop_more text l.index 0 c.loop-index-test.true in
-    let d = step_is l.mode c.innermost-last.result l.brackets.items b (class_of_byte b) (class_ahead rest) rest c.reader_step.result (Emit c.in-Emit.kind) c.reader_step.ensures c.innermost-last.ensures refl refl c.in-Emit.is in
+    let d = step_is l.mode (innermost l.brackets.items) l.brackets.items b (class_of_byte b) (class_ahead rest) rest c.reader_step.result (Emit c.in-Emit.kind) c.reader_step.ensures refl refl refl c.in-Emit.is in
     next_emits l.index l.start l.glued l.mode l.brackets.items b (drop l.index text) rest c.in-Emit.kind (scan_from c.args.at c.args.behind text) cut d l.invariant.reads
 
 pub returns-in-Bad-clause-reads : goal.returns-in-Bad-clause-reads
@@ -39,7 +39,7 @@ returns-in-Bad-clause-reads c =
     let b = get_or text l.index 0 in
     let rest = drop (l.index + 1) text in
     let cut : drop l.index text ≡ b ∷ rest = drop_more text l.index 0 c.loop-index-test.true in
-    let d = step_is l.mode c.innermost-last.result l.brackets.items b (class_of_byte b) (class_ahead rest) rest c.reader_step.result (Bad c.in-Bad.problem) c.reader_step.ensures c.innermost-last.ensures refl refl c.in-Bad.is in
+    let d = step_is l.mode (innermost l.brackets.items) l.brackets.items b (class_of_byte b) (class_ahead rest) rest c.reader_step.result (Bad c.in-Bad.problem) c.reader_step.ensures refl refl refl c.in-Bad.is in
     rw c.fault_of.ensures.value (next_stops c.args.at c.args.behind text l.index l.start l.glued l.mode l.brackets.items b (drop l.index text) rest c.in-Bad.problem cut d l.invariant.reads)
 
 pub loop-index-preserved : goal.loop-index-preserved
@@ -50,7 +50,7 @@ loop-index-preserved c =
     let rest = drop (l.index + 1) text in
     let cut : drop l.index text ≡ b ∷ rest = drop_more text l.index 0 c.loop-index-test.true in
     let w = c.in-Go in
-    let d = step_is l.mode c.innermost-last.result l.brackets.items b (class_of_byte b) (class_ahead rest) rest c.reader_step.result (Go w.to w.nesting) c.reader_step.ensures c.innermost-last.ensures refl refl w.is in
+    let d = step_is l.mode (innermost l.brackets.items) l.brackets.items b (class_of_byte b) (class_ahead rest) rest c.reader_step.result (Go w.to w.nesting) c.reader_step.ensures refl refl refl w.is in
     let end = c.run_end-index-in-Go.result in
     let forward = c.run_end-index-in-Go.ensures.forward in
     let begun = begins w.to l.start l.index end l.invariant.started (omega (arith, forward)) in
