@@ -39,18 +39,23 @@ fn top(around: &Vec<u32>) -> u32
     }
 }
 
-// Opens a region whose first row has that index, or ends the last.
-fn nest(around: &mut Vec<u32>, part: Part, behind: u32) -> Result<(), AllocError>
-    ensures { OnOk result (reverse around.new.items ≡ regions_behind part behind (reverse around.old.items)) }
+// Opens a region whose first row has that index, or ends the last; the innermost region behind, where that was the innermost.
+fn nest(around: &mut Vec<u32>, part: Part, behind: u32, innermost: u32) -> Result<u32, AllocError>
+    requires { innermost ≡ top (reverse around.old.items) }
+    ensures around { OnOk result (reverse around.new.items ≡ regions_behind part behind (reverse around.old.items)) }
+    ensures innermost { IfOk result (λ i. i ≡ top (reverse around.new.items)) }
 {
     match part {
-        Part::Open => around.push(behind)?,
+        Part::Open => {
+            around.push(behind)?;
+            Ok(behind)
+        }
         Part::Close => {
             around.pop();
+            Ok(top(around))
         }
-        _ => {}
+        _ => Ok(innermost),
     }
-    Ok(())
 }
 
 /// For each row the region that it stands in, by the index of the region's first row; 0 outside all regions. What stood in the room before is gone.
@@ -62,29 +67,36 @@ pub(crate) fn regions(alloc: Global, rows: &[Row], room: Vec<u32>) -> Result<Vec
     regions.clear();
     regions.reserve(rows.len())?;
     let mut around = Vec::new(alloc);
+    let mut innermost = 0;
     for (at, row) in rows.iter().enumerate() {
-        regions.push(top(&around))?;
-        nest(&mut around, row.part, (at + 1) as u32)?;
+        regions.push(innermost)?;
+        innermost = nest(&mut around, row.part, (at + 1) as u32, innermost)?;
     }
     Ok(regions)
 }
 
-// Goes into a region or out of it, or on to the operation with that number.
-fn follow(around: &mut Vec<u32>, part: Part, number: u32) -> Result<(), AllocError>
-    ensures { OnOk result (reverse around.new.items ≡ operations_behind part number (reverse around.old.items)) }
+// Goes into a region or out of it, or on to the operation with that number; the last operation of the innermost region behind, where that was the last.
+fn follow(around: &mut Vec<u32>, part: Part, number: u32, innermost: u32) -> Result<u32, AllocError>
+    requires { innermost ≡ top (reverse around.old.items) }
+    ensures around { OnOk result (reverse around.new.items ≡ operations_behind part number (reverse around.old.items)) }
+    ensures innermost { IfOk result (λ i. i ≡ top (reverse around.new.items)) }
 {
     match part {
-        Part::Open => around.push(0)?,
+        Part::Open => {
+            around.push(0)?;
+            Ok(0)
+        }
         Part::Close => {
             around.pop();
+            Ok(top(around))
         }
         Part::Name => {
             around.pop();
             around.push(number)?;
+            Ok(number)
         }
-        _ => {}
+        _ => Ok(innermost),
     }
-    Ok(())
 }
 
 /// How many operations' names there are, where there were so many before the part.
@@ -115,10 +127,11 @@ pub(crate) fn operations(alloc: Global, rows: &[Row]) -> Result<NumberedOperatio
     let mut numbers = Vec::with_capacity(alloc, rows.len())?;
     let mut around = Vec::new(alloc);
     let mut count = 0;
+    let mut innermost = 0;
     for (_at, row) in rows.iter().enumerate() {
-        numbers.push(top(&around))?;
+        numbers.push(innermost)?;
         count = next_number(row.part, count);
-        follow(&mut around, row.part, count as u32)?;
+        innermost = follow(&mut around, row.part, count as u32, innermost)?;
     }
     Ok(NumberedOperations { count, numbers })
 }

@@ -6,7 +6,7 @@ ghost use Rattle.ir_text_names.specs.Operations.{AreCounted, AreOperations};
 ghost use Rattle.ir_text_names.specs.declared.counting.Counted.TheVariants as counted;
 ghost use Rattle.ir_text_names.specs.Rows.{part_of, row_regions};
 ghost use Rattle.ir_text_names.specs.Values.{defines, still_open, clashes, reached, begins_before, IsValueAgain, AreValuesNamed, AreNamedBefore, AreNamedUnlessAgain, IsMissing, IsNamedUnlessAgain};
-ghost use Rattle.ir_text_names.specs.Indices.{IsBeyond};
+ghost use Rattle.ir_text_names.specs.Indices.{IsBeyond, IsEntryBeyond};
 ghost use Rattle.ir_text_names.specs.Uses.{IsUseWrong};
 
 use crate::block_names::misses;
@@ -17,7 +17,7 @@ use crate::named_rows::NamedRows;
 use crate::row_table::RowTable;
 use crate::rows::{NumberedOperations, are_few, operations, piece, regions};
 use crate::value_numbers::first_beyond;
-use crate::value_types::{SpareRoom, other_type, type_tables};
+use crate::value_types::{SpareRoom, are_well, other_type, type_tables};
 use ir_text_tree::{Part, Row};
 use std::alloc::{AllocError, Global};
 
@@ -293,16 +293,29 @@ pub(crate) struct ValueTable {
     pub(crate) spare: SpareRoom,
 }
 
-// The first operand that names a definition and none of its values, where nothing is defined twice.
-fn beyond(text: &[u8], rows: &[Row], again: Option<usize>, table: &RowTable) -> Option<usize>
+// The first operand that names a definition and none of its values, where nothing is defined twice; none where all are well.
+fn beyond(
+    text: &[u8],
+    rows: &[Row],
+    again: Option<usize>,
+    table: &RowTable,
+    well: bool,
+) -> Option<usize>
     requires again { IsFirst (IsValueAgain text.now rows.now) (length rows.now) again }
     requires room { length table.now ≡ length rows.now }
     requires named { (u : ℕ) → u < length rows.now → IsNamedUnlessAgain text.now rows.now u (slice_index_or table.now u None) }
+    requires well { IsTrue well → IsFirst (IsEntryBeyond text.now rows.now table.now) (length rows.now) None }
     ensures { IsFirst (IsBeyond text.now rows.now) (length rows.now) result }
 {
     match again {
         Some(_) => None,
-        None => first_beyond(text, rows, table),
+        None => {
+            if well {
+                None
+            } else {
+                first_beyond(text, rows, table)
+            }
+        }
     }
 }
 
@@ -328,9 +341,6 @@ pub(crate) fn value_table(
     let twice = told(again, Wrong::ValueTwice);
     let unknown = told(entries.missing, Wrong::UnknownValue);
     let named = sooner(twice, unknown);
-    let past = beyond(text, rows, again, &entries.table);
-    let numbered = told(past, Wrong::UnknownValue);
-    let names = sooner(named, numbered);
     let tables = type_tables(
         alloc,
         text,
@@ -340,7 +350,11 @@ pub(crate) fn value_table(
         regions,
         entries.spare,
     )?;
-    let odd = other_type(&tables, again, &entries.table);
+    let well = are_well(&tables, &entries.table);
+    let past = beyond(text, rows, again, &entries.table, well);
+    let numbered = told(past, Wrong::UnknownValue);
+    let names = sooner(named, numbered);
+    let odd = other_type(&tables, again, &entries.table, well);
     let typed = told(odd, Wrong::TypeOther);
     let found = sooner(names, typed);
     Ok(ValueTable {

@@ -1,6 +1,7 @@
 //! Operands' types against those of the values that they name.
 ghost use Rattle.std.specs.Prelude.{◌≡◌, ◌≢◌, ℕ, ◌<◌, Some, None, length, slice_index_or, IfOk, IsTrue, ◌↔◌};
 ghost use Rattle.ir_text_names.specs.Firsts.{IsFirst};
+ghost use Rattle.ir_text_names.specs.Indices.{IsEntryBeyond, IsOneOf};
 ghost use Rattle.ir_text_names.specs.Operations.{AreCounted, AreOperations};
 ghost use Rattle.ir_text_names.specs.declared.counting.Counted.TheVariants as counted;
 ghost use Rattle.ir_text_names.specs.Rows.{text_of};
@@ -16,7 +17,7 @@ use crate::rows::{NumberedOperations, number_at, piece};
 use crate::type_places::{
     PlacedRows, find_spot, next_operations, own_types, placed, results_table,
 };
-use crate::value_numbers::which;
+use crate::value_numbers::{is_beyond, which};
 use ir_text_tree::{Part, Row};
 use std::alloc::{AllocError, Global};
 
@@ -208,6 +209,31 @@ fn is_entry_other(tables: &TypeTables, operand: usize, entry: Option<usize>) -> 
     }
 }
 
+// Whether an operand is one of the values of an entry and has its type, if there is an entry.
+fn is_well(tables: &TypeTables, operand: usize, entry: Option<usize>) -> bool
+    requires tables { AreTypeTables tables.now }
+    requires operand { operand < length tables.now.rows.now }
+    ensures number { IsTrue result → (d : ℕ) → entry ≡ Some d → d < length tables.now.rows.now → ¬ ¬ IsOneOf tables.now.text.now tables.now.rows.now operand d }
+    ensures own_type { IsTrue result → (d : ℕ) → entry ≡ Some d → d < length tables.now.rows.now → ¬ HasOtherType tables.now.text.now tables.now.rows.now operand d }
+{
+    !is_beyond(tables.text, tables.rows, operand, entry) && !is_entry_other(tables, operand, entry)
+}
+
+/// Whether each operand is one of the values that it names, and has its type.
+pub(crate) fn are_well(tables: &TypeTables, table: &RowTable) -> bool
+    requires tables { AreTypeTables tables.now }
+    requires room { length table.now ≡ length tables.now.rows.now }
+    ensures numbers { IsTrue result → IsFirst (IsEntryBeyond tables.now.text.now tables.now.rows.now table.now) (length tables.now.rows.now) None }
+    ensures types { IsTrue result → IsFirst (IsEntryOther tables.now.text.now tables.now.rows.now table.now) (length tables.now.rows.now) None }
+{
+    for (at, _) in tables.rows.iter().enumerate() {
+        if !is_well(tables, at, table.get(at)) {
+            return false;
+        }
+    }
+    true
+}
+
 // The first operand that has another type than the value that it names.
 fn first_other_type(tables: &TypeTables, table: &RowTable) -> Option<usize>
     requires tables { AreTypeTables tables.now }
@@ -222,20 +248,28 @@ fn first_other_type(tables: &TypeTables, table: &RowTable) -> Option<usize>
     None
 }
 
-/// The first operand that has another type than the value that it names, where nothing is defined twice.
+/// The first operand that has another type than the value that it names, where nothing is defined twice; none where all are well.
 pub(crate) fn other_type(
     tables: &TypeTables,
     again: Option<usize>,
     table: &RowTable,
+    well: bool,
 ) -> Option<usize>
     requires tables { AreTypeTables tables.now }
     requires again { IsFirst (IsValueAgain tables.now.text.now tables.now.rows.now) (length tables.now.rows.now) again }
     requires room { length table.now ≡ length tables.now.rows.now }
     requires named { (u : ℕ) → u < length tables.now.rows.now → IsNamedUnlessAgain tables.now.text.now tables.now.rows.now u (slice_index_or table.now u None) }
+    requires well { IsTrue well → IsFirst (IsEntryOther tables.now.text.now tables.now.rows.now table.now) (length tables.now.rows.now) None }
     ensures { IsFirst (IsTypeOther tables.now.text.now tables.now.rows.now) (length tables.now.rows.now) result }
 {
     match again {
         Some(_) => None,
-        None => first_other_type(tables, table),
+        None => {
+            if well {
+                None
+            } else {
+                first_other_type(tables, table)
+            }
+        }
     }
 }

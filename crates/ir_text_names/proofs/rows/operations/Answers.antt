@@ -12,6 +12,7 @@ loop-at-init c =
     record {
       count = sym (number_none rows);
       around = empty ∙ sym (ap (map (number_of rows)) (stack_none rows));
+      innermost = sym (ap top empty);
       long = search rules;
       numbers = λ i lt. absurd (omega (arith, lt));
     }
@@ -32,14 +33,15 @@ loop-at-preserved c =
     let l = c.loop-at in
     let rows = c.args.rows.now in
     let count : c.next_number-count.result ≡ number_of rows (l._at + 1) = c.next_number-count.ensures ∙ ap (number_on (part_of rows l._at)) l.invariant.count ∙ number_more rows l._at in
-    let here : c.top.result ≡ number_of rows (get_or (row_operations rows) l._at 0) = c.top.ensures ∙ ap top l.invariant.around ∙ top_number rows l._at c.loop-at-test.true in
-    let pushed : c.push.new.self.items ≡ l.numbers.items ++ c.top.result ∷ [] = search rules in
+    let here : l.innermost ≡ number_of rows (get_or (row_operations rows) l._at 0) = l.invariant.innermost ∙ ap top l.invariant.around ∙ top_number rows l._at c.loop-at-test.true in
+    let pushed : c.push.new.self.items ≡ l.numbers.items ++ l.innermost ∷ [] = search rules in
     record {
       count = count;
-      around = c.in_ok-follow.ensures ∙ ap (operations_behind (part_of rows l._at) c.next_number-count.result) l.invariant.around
+      innermost = c.in_ok-innermost.ensures.innermost;
+      around = c.in_ok-innermost.ensures.around ∙ ap (operations_behind (part_of rows l._at) c.next_number-count.result) l.invariant.around
           ∙ ap (λ (k : ℕ). operations_behind (part_of rows l._at) k (map (number_of rows) (stack_at rows l._at))) count ∙ stack_more rows l._at;
-      long = items_long ℕ l._at c.top.result l.numbers.items c.push.new.self.items pushed l.invariant.long;
-      numbers = items_more ℕ (λ (i o : ℕ). o ≡ number_of rows (get_or (row_operations rows) i 0)) 0 l._at c.top.result l.numbers.items c.push.new.self.items here pushed l.invariant.long l.invariant.numbers;
+      long = items_long ℕ l._at l.innermost l.numbers.items c.push.new.self.items pushed l.invariant.long;
+      numbers = items_more ℕ (λ (i o : ℕ). o ≡ number_of rows (get_or (row_operations rows) i 0)) 0 l._at l.innermost l.numbers.items c.push.new.self.items here pushed l.invariant.long l.invariant.numbers;
     }
 
 pub returns : goal.returns

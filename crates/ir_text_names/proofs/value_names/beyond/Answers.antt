@@ -1,11 +1,17 @@
-use Rattle.std.proofs.Common.{ℕ, length, Option, subst}
+use Rattle.std.proofs.Common.{ℕ, length, Option, None, subst}
 use Rattle.ir_text_names.specs.Firsts.{IsFirst}
 use Rattle.ir_text_names.specs.Values.{IsValueAgain}
 use Rattle.ir_text_names.proofs.Indices.{beyond_is}
 use Rattle.ir_text_names.proofs.value_names.beyond.Goals as goal
 
-pub returns-in-None : goal.returns-in-None
-returns-in-None c =
+pub returns-then-well : goal.returns-then-well
+returns-then-well c =
+    let text = c.args.text.now in
+    let rows = c.args.rows.now in
+    beyond_is text rows c.args.table.now None (subst (λ (o : Option ℕ). IsFirst (IsValueAgain text rows) (length rows) o) c.in-None.is c.requires.again) c.requires.named (c.requires.well c.if-well.true)
+
+pub returns-else-well : goal.returns-else-well
+returns-else-well c =
     let text = c.args.text.now in
     let rows = c.args.rows.now in
     beyond_is text rows c.args.table.now c.first_beyond.result (subst (λ (o : Option ℕ). IsFirst (IsValueAgain text rows) (length rows) o) c.in-None.is c.requires.again) c.requires.named c.first_beyond.ensures

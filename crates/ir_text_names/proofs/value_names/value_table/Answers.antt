@@ -1,7 +1,8 @@
-use Rattle.std.proofs.Common.{◌≡◌, ℕ, List, ◌<◌, length, get_or, Option, None, sym, ap, subst, subst₂, ◌∙◌, inl}
+use Rattle.std.proofs.Common.{◌≡◌, ℕ, List, ◌<◌, length, get_or, Option, None, true, sym, ap, subst, subst₂, ◌∙◌, inl}
 use Rattle.ir_text_names.specs.declared.firsts.Found.{Found}
 use Rattle.ir_text_names.specs.declared.fault.Wrong.TheVariants as wrongs
 use Rattle.ir_text_names.specs.Firsts.{IsFirst, IsFirstWrong, told, sooner}
+use Rattle.ir_text_names.specs.Indices.{IsEntryBeyond}
 use Rattle.ir_text_names.specs.Types.{IsTypeOther}
 use Rattle.ir_text_names.specs.Values.{IsValueWrong, IsValueAgain, IsNamedUnlessAgain}
 use Rattle.ir_text_tree.specs.declared.row.Row.{Row}
@@ -15,6 +16,10 @@ beyond-past-requires-clause-room c = c.in_ok-entries.ensures.table.0
 
 pub beyond-past-requires-clause-named : goal.beyond-past-requires-clause-named
 beyond-past-requires-clause-named c = c.in_ok-entries.ensures.table.1
+
+pub beyond-past-requires-clause-well : goal.beyond-past-requires-clause-well
+beyond-past-requires-clause-well c =
+    subst₂ (λ (t : List ℕ) (r : List Row). (c.are_well-well.result ≡ true) → IsFirst (IsEntryBeyond t r c.in_ok-entries.entries.table) (length r) None) c.in_ok-tables.ensures.text c.in_ok-tables.ensures.rows c.are_well-well.ensures.numbers
 
 pub other_type-odd-requires-clause-tables : goal.other_type-odd-requires-clause-tables
 other_type-odd-requires-clause-tables c = c.in_ok-tables.ensures.tables
