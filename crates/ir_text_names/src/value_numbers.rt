@@ -58,6 +58,7 @@ fn is_below(number: Amount, width: Amount) -> bool
 }
 
 /// Whether the operand names a definition, and its number is none of the values there.
+#[inline(always)]
 pub(crate) fn is_beyond(text: &[u8], rows: &[Row], row: usize, entry: Option<usize>) -> bool
     requires { row < length rows.now }
     ensures { IsTrue result ↔ ((d : ℕ) × (entry ≡ Some d) × (d < length rows.now) × ¬ IsOneOf text.now rows.now row d) }

@@ -179,6 +179,7 @@ fn has_other_type_at(tables: &TypeTables, operand: usize, definition: usize, num
 }
 
 // Whether an operand has another type than the value that it names.
+#[inline(always)]
 fn has_other_type(tables: &TypeTables, operand: usize, definition: usize) -> bool
     requires tables { AreTypeTables tables.now }
     requires operand { operand < length tables.now.rows.now }
@@ -192,6 +193,7 @@ fn has_other_type(tables: &TypeTables, operand: usize, definition: usize) -> boo
 }
 
 // Whether an operand has another type than the value of an entry.
+#[inline(always)]
 fn is_entry_other(tables: &TypeTables, operand: usize, entry: Option<usize>) -> bool
     requires tables { AreTypeTables tables.now }
     requires operand { operand < length tables.now.rows.now }
