@@ -14,7 +14,6 @@ use crate::error::DescribeErr;
 use crate::names::{Name, NameSort, Names};
 use crate::numbered::Numbered;
 use crate::quoting::{write_key, write_quoted};
-use ir_text_tokens::Bracket;
 use ir_text_tree::{Part, Span};
 use itoa::Buffer;
 use std::alloc::Global;
@@ -44,7 +43,7 @@ pub struct TreeWriter {
     indices: Numbered,
     operation_names: HashMap<u32, Span>,
     types: HashMap<usize, TypePiece>,
-    brackets: Vec<Bracket>,
+    alloc: Global,
     braces: (Span, Span),
 }
 
@@ -79,7 +78,7 @@ impl TreeWriter {
             indices: Numbered::new(alloc, "#"),
             operation_names: HashMap::new(alloc),
             types: HashMap::new(alloc),
-            brackets: Vec::new(alloc),
+            alloc,
             braces,
         })
     }
@@ -409,7 +408,7 @@ impl TreeWriter {
         ensures error { IfErr result (λ e. (e ≡ DescribeErr.OutOfMemory) ⊎ (e ≡ DescribeErr.TooLong)) }
         ensures stand { PiecesStand self.old → PiecesStand self.new }
     {
-        let is_bare = is_bare_type(text, &mut self.brackets)?;
+        let is_bare = is_bare_type(self.alloc, text)?;
         let span = self.description.write(text)?;
         let piece = TypePiece { span, is_bare };
         self.types.insert(place, piece)?;
