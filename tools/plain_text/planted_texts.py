@@ -33,6 +33,7 @@ PLANTED = {
     'ir_text_tree/index-dropped': 'which of several values an operand is, is dropped',
     'ir_text_names/operand-taken-of-another-row': 'an operand names what stands before it, in a region that has ended too',
     'ir_text_names/type-of-the-first-result': "an operand's type is compared with that of the first result",
+    'ir_text_names/region-is-not-entered': 'a block of the region around is taken',
     'ir_text_names/regions-nearby-are-one': 'a block of a region nearby is taken',
     'ir_text_names/region-that-ended-goes-on': 'a value of a region that has ended is taken',
     'ir_text_names/inner-definition-behind-taken': 'a value of a region that begins later is taken',
