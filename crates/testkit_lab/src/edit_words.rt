@@ -1,12 +1,15 @@
-//! Direct calls that change a context and are no edits of a session.
+//! Direct calls that change a context and are no edits of a session. Each is an arm of the `match` for what its fields name.
 
-use crate::fields::{count, one, two};
+use crate::items::{Item, Items, items_of};
 use crate::lab::{Lab, Mode};
 use crate::telling::{tell_done, tell_name, tell_number};
 use crate::{redirecting, setting};
+use ir_base_dialects::Ptr;
 use ir_checked_core::{basic_block, operation};
 use ir_checked_view::dead::sweep;
+use ir_view_parts::{BasicBlock, Operation};
 use testkit_edit_texts::TextError;
+use toy_dialect::Toy;
 
 /// Answers a line in a context: a word of the group `edit`, and its fields.
 ///
@@ -19,98 +22,108 @@ pub fn answer_edit(lab: &mut Lab, word: &str, rest: &str) -> Result<(), TextErro
     }
 }
 
-// Answers a line in a context.
+// Answers a line in a context. The fields of the first words don't all name items.
 fn edit(lab: &mut Lab, word: &str, rest: &str) -> Result<(), TextError> {
     match word {
-        "edit.pop_result" => pop_result(lab, rest),
-        "edit.pop_argument" => pop_argument(lab, rest),
-        "edit.pop_operand" => pop_operand(lab, rest),
-        "edit.pop_successor" => pop_successor(lab, rest),
-        "edit.push_operand" => push_operand(lab, rest),
-        "edit.push_successor" => push_successor(lab, rest),
-        "edit.remove_operand" => remove_operand(lab, rest),
-        "edit.remove_successor" => remove_successor(lab, rest),
-        "edit.replace_use_with" => redirecting::replace_use_with(lab, rest),
-        "edit.replace_some_uses_with" => redirecting::replace_some_uses_with(lab, rest),
-        "edit.retarget_pred_to" => redirecting::retarget_pred_to(lab, rest),
-        "edit.retarget_some_preds_to" => redirecting::retarget_some_preds_to(lab, rest),
-        "edit.set_type" => setting::set_type(lab, rest),
         "edit.set_name" => setting::set_name(lab, rest),
-        "edit.take_name" => setting::take_name(lab, rest),
         "edit.set_label" => setting::set_label(lab, rest),
-        "edit.take_label" => setting::take_label(lab, rest),
-        "edit.set_op_loc" => setting::set_op_loc(lab, rest),
-        "edit.set_block_loc" => setting::set_block_loc(lab, rest),
-        "edit.lent_op" => setting::lent_op(lab, rest),
-        "edit.lent_block" => setting::lent_block(lab, rest),
-        "edit.sweep" => sweep_block(lab, rest),
-        _ => Err(TextError::Malformed),
+        "edit.replace_some_uses_with" => redirecting::replace_some_uses_with(lab, rest),
+        "edit.retarget_some_preds_to" => redirecting::retarget_some_preds_to(lab, rest),
+        _ => {
+            let items = items_of(lab, rest)?;
+            edit_items(lab, word, items);
+            Ok(())
+        }
     }
 }
 
-// `OP`: its last result goes.
-fn pop_result(lab: &mut Lab, rest: &str) -> Result<(), TextError> {
-    let op = lab.op(one(rest)?)?;
-    let answer = operation::pop_result(op, &mut lab.context);
-    tell_done(lab, answer)
+fn edit_items(lab: &mut Lab, word: &str, items: Items) {
+    match items {
+        Items::One(Item::Op(op)) => edit_op(lab, word, op),
+        Items::One(Item::Block(block)) => edit_block(lab, word, block),
+        Items::Two(Item::Op(op), other) => edit_op_by(lab, word, op, other),
+        _ => edit_other(lab, word, items),
+    }
 }
 
-// `BLOCK`: its last argument goes.
-fn pop_argument(lab: &mut Lab, rest: &str) -> Result<(), TextError> {
-    let block = lab.block(one(rest)?)?;
-    let answer = basic_block::pop_argument(block, &mut lab.context);
-    tell_done(lab, answer)
+// `pop_result`, `pop_operand`, `pop_successor`: the last one goes. It answers what an operand or a successor named.
+fn edit_op(lab: &mut Lab, word: &str, op: Ptr<Operation<Toy>>) {
+    match word {
+        "edit.pop_result" => {
+            let answer = operation::pop_result(op, &mut lab.context);
+            tell_done(&mut lab.text, answer);
+        }
+        "edit.pop_operand" => {
+            let answer = operation::pop_operand(op, &mut lab.context);
+            tell_name(lab, answer);
+        }
+        "edit.pop_successor" => {
+            let answer = operation::pop_successor(op, &mut lab.context);
+            tell_name(lab, answer);
+        }
+        "edit.lent_op" => setting::lent_op(lab, op),
+        _ => lab.text.fail(TextError::Malformed),
+    }
 }
 
-// `OP`: its last operand goes. It answers the value that this named.
-fn pop_operand(lab: &mut Lab, rest: &str) -> Result<(), TextError> {
-    let op = lab.op(one(rest)?)?;
-    let answer = operation::pop_operand(op, &mut lab.context);
-    tell_name(lab, answer)
+// `pop_argument`: its last argument goes. `sweep`: its dead operations go. It answers how many these were.
+fn edit_block(lab: &mut Lab, word: &str, block: Ptr<BasicBlock<Toy>>) {
+    match word {
+        "edit.pop_argument" => {
+            let answer = basic_block::pop_argument(block, &mut lab.context);
+            tell_done(&mut lab.text, answer);
+        }
+        "edit.sweep" => {
+            let answer = sweep(block, &mut lab.context);
+            tell_number(&mut lab.text, answer);
+        }
+        "edit.take_label" => setting::label_block(lab, block, None),
+        "edit.lent_block" => setting::lent_block(lab, block),
+        _ => lab.text.fail(TextError::Malformed),
+    }
 }
 
-// `OP`: its last successor goes. It answers the block that this named.
-fn pop_successor(lab: &mut Lab, rest: &str) -> Result<(), TextError> {
-    let op = lab.op(one(rest)?)?;
-    let answer = operation::pop_successor(op, &mut lab.context);
-    tell_name(lab, answer)
+// `push_operand OP VALUE`, `push_successor OP BLOCK`: it gets one behind the others, whose index is answered. `remove_operand OP INDEX`, `remove_successor OP INDEX`: the one there goes, and what it named is answered.
+fn edit_op_by(lab: &mut Lab, word: &str, op: Ptr<Operation<Toy>>, other: Item) {
+    match (word, other) {
+        ("edit.push_operand", Item::Value(value)) => {
+            let answer = operation::push_operand(op, &mut lab.context, value);
+            tell_number(&mut lab.text, answer);
+        }
+        ("edit.push_successor", Item::Block(block)) => {
+            let answer = operation::push_successor(op, &mut lab.context, block);
+            tell_number(&mut lab.text, answer);
+        }
+        ("edit.remove_operand", Item::Number(index)) => {
+            let answer = operation::remove_operand(op, &mut lab.context, index);
+            tell_name(lab, answer);
+        }
+        ("edit.remove_successor", Item::Number(index)) => {
+            let answer = operation::remove_successor(op, &mut lab.context, index);
+            tell_name(lab, answer);
+        }
+        ("edit.set_op_loc", line) => setting::set_op_loc(lab, op, line),
+        _ => lab.text.fail(TextError::Malformed),
+    }
 }
 
-// `OP VALUE`: it gets an operand behind the others. It answers this one's index.
-fn push_operand(lab: &mut Lab, rest: &str) -> Result<(), TextError> {
-    let (op, value) = two(rest)?;
-    let (op, value) = (lab.op(op)?, lab.value(value)?);
-    let answer = operation::push_operand(op, &mut lab.context, value);
-    tell_number(lab, answer)
-}
-
-// `OP BLOCK`: it gets a successor behind the others. It answers this one's index.
-fn push_successor(lab: &mut Lab, rest: &str) -> Result<(), TextError> {
-    let (op, block) = two(rest)?;
-    let (op, block) = (lab.op(op)?, lab.block(block)?);
-    let answer = operation::push_successor(op, &mut lab.context, block);
-    tell_number(lab, answer)
-}
-
-// `OP INDEX`: the operand there goes. It answers the value that this named.
-fn remove_operand(lab: &mut Lab, rest: &str) -> Result<(), TextError> {
-    let (op, index) = two(rest)?;
-    let (op, index) = (lab.op(op)?, count(index)?);
-    let answer = operation::remove_operand(op, &mut lab.context, index);
-    tell_name(lab, answer)
-}
-
-// `OP INDEX`: the successor there goes. It answers the block that this named.
-fn remove_successor(lab: &mut Lab, rest: &str) -> Result<(), TextError> {
-    let (op, index) = two(rest)?;
-    let (op, index) = (lab.op(op)?, count(index)?);
-    let answer = operation::remove_successor(op, &mut lab.context, index);
-    tell_name(lab, answer)
-}
-
-// `BLOCK`: its dead operations go. It answers how many these were.
-fn sweep_block(lab: &mut Lab, rest: &str) -> Result<(), TextError> {
-    let block = lab.block(one(rest)?)?;
-    let answer = sweep(block, &mut lab.context);
-    tell_number(lab, answer)
+fn edit_other(lab: &mut Lab, word: &str, items: Items) {
+    match (word, items) {
+        ("edit.take_name", Items::One(Item::Value(value))) => {
+            setting::name_value(lab, value, None);
+        }
+        ("edit.set_type", Items::Two(Item::Value(value), Item::Type(ty))) => {
+            setting::set_type(lab, value, ty);
+        }
+        ("edit.set_block_loc", Items::Two(Item::Block(block), line)) => {
+            setting::set_block_loc(lab, block, line);
+        }
+        ("edit.replace_use_with", Items::Two(Item::ValueUse(used), Item::Value(value))) => {
+            redirecting::replace_use_with(lab, used, value);
+        }
+        ("edit.retarget_pred_to", Items::Two(Item::BlockUse(used), Item::Block(block))) => {
+            redirecting::retarget_pred_to(lab, used, block);
+        }
+        _ => lab.text.fail(TextError::Malformed),
+    }
 }

@@ -4,6 +4,7 @@ ghost use Rattle.std.specs.Prelude.{◌<◌, ◌≤◌};
 
 use crate::beside::{Beside, Saved};
 use crate::entering::read_session;
+use crate::reply::Reply;
 use ir_base_dialects::{Limits, Ptr, TypeHandle};
 use ir_core_context::AuxDataIndex;
 use ir_run_sessions::Session;
@@ -49,7 +50,7 @@ pub struct Lab {
     /// A context of the small dialect.
     pub small: SmallLab,
     /// The answer, without its last newline.
-    pub text: String,
+    pub text: Reply,
 }
 
 impl Lab {
@@ -58,8 +59,6 @@ impl Lab {
     /// # Errors
     /// Where a growth was refused.
     pub fn new(alloc: Global) -> Result<Lab, AllocError> {
-        let mut text = String::new(alloc);
-        text.reserve(ANSWER_ROOM)?;
         Ok(Lab {
             mode: Mode::Session,
             session: new_session(alloc, Limits::default())?,
@@ -69,7 +68,7 @@ impl Lab {
             block_uses: Vec::with_capacity(alloc, USE_ROOM)?,
             beside: Beside::new(alloc)?,
             small: SmallLab::new(alloc)?,
-            text,
+            text: Reply::with_room(alloc, ANSWER_ROOM)?,
         })
     }
 

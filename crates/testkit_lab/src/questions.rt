@@ -9,9 +9,12 @@ pub(crate) fn room(lab: &mut Lab, rest: &str) -> Result<(), TextError> {
         return Err(TextError::Malformed);
     }
     let room = lab.ctx().room();
-    write!(lab.text, "values {} uses {}", room.values, room.uses)?;
-    write!(lab.text, " ops {} blocks {}", room.ops, room.blocks)?;
-    Ok(write!(lab.text, " regions {}", room.regions)?)
+    lab.text.show("values ", room.values);
+    lab.text.show(" uses ", room.uses);
+    lab.text.show(" ops ", room.ops);
+    lab.text.show(" blocks ", room.blocks);
+    lab.text.show(" regions ", room.regions);
+    Ok(())
 }
 
 /// Writes whether there is no operation, block and region.
@@ -20,7 +23,8 @@ pub(crate) fn is_empty(lab: &mut Lab, rest: &str) -> Result<(), TextError> {
         return Err(TextError::Malformed);
     }
     let answer = if lab.ctx().is_ir_empty() { "yes" } else { "no" };
-    Ok(lab.text.push_str(answer)?)
+    lab.text.say(answer);
+    Ok(())
 }
 
 /// Makes place for so many operations in the context.
@@ -32,7 +36,8 @@ pub(crate) fn reserve(lab: &mut Lab, rest: &str) -> Result<(), TextError> {
         Ok(()) => "done",
         Err(_) => "refused memory",
     };
-    Ok(lab.text.push_str(answer)?)
+    lab.text.say(answer);
+    Ok(())
 }
 
 /// Takes all operations, blocks and regions out of the context.
@@ -41,5 +46,6 @@ pub(crate) fn clear(lab: &mut Lab, rest: &str) -> Result<(), TextError> {
         return Err(TextError::Malformed);
     }
     lab.context.clear();
-    Ok(lab.text.push_str("done")?)
+    lab.text.say("done");
+    Ok(())
 }

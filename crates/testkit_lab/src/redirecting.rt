@@ -1,6 +1,6 @@
 //! Direct calls by which uses come to name something else: one use, or those that a predicate chooses.
 
-use crate::fields::{count, three, two};
+use crate::fields::{count, three};
 use crate::lab::Lab;
 use crate::telling::tell_done;
 use ir_base_dialects::Ptr;
@@ -31,20 +31,20 @@ fn retarget_use(
     basic_block::retarget_pred_to(named, ctx, used, other)
 }
 
-/// `USE VALUE`: the operand comes to name the value.
-pub(crate) fn replace_use_with(lab: &mut Lab, rest: &str) -> Result<(), TextError> {
-    let (used, value) = two(rest)?;
-    let (used, value) = (lab.value_use(used)?, lab.value(value)?);
+/// The operand comes to name the value.
+pub(crate) fn replace_use_with(lab: &mut Lab, used: Use<Value<Toy>>, value: Value<Toy>) {
     let answer = replace_use(&mut lab.context, used, value);
-    tell_done(lab, answer)
+    tell_done(&mut lab.text, answer);
 }
 
-/// `USE BLOCK`: the successor comes to name the block.
-pub(crate) fn retarget_pred_to(lab: &mut Lab, rest: &str) -> Result<(), TextError> {
-    let (used, block) = two(rest)?;
-    let (used, block) = (lab.block_use(used)?, lab.block(block)?);
+/// The successor comes to name the block.
+pub(crate) fn retarget_pred_to(
+    lab: &mut Lab,
+    used: Use<Ptr<BasicBlock<Toy>>>,
+    block: Ptr<BasicBlock<Toy>>,
+) {
     let answer = retarget_use(&mut lab.context, used, block);
-    tell_done(lab, answer)
+    tell_done(&mut lab.text, answer);
 }
 
 // Which uses of a value come to name another one.
@@ -75,7 +75,8 @@ pub(crate) fn replace_some_uses_with(lab: &mut Lab, rest: &str) -> Result<(), Te
         first: is_or_first(word)?,
     };
     let answer = replace_chosen(&mut lab.context, chosen, other);
-    tell_done(lab, answer)
+    tell_done(&mut lab.text, answer);
+    Ok(())
 }
 
 // Whether a predicate's word chooses that of a first operand too.
@@ -118,7 +119,8 @@ pub(crate) fn retarget_some_preds_to(lab: &mut Lab, rest: &str) -> Result<(), Te
     let (block, other) = (lab.block(block)?, lab.block(other)?);
     let meant = meant_by(lab, pred)?;
     let answer = retarget_meant(&mut lab.context, block, meant, other);
-    tell_done(lab, answer)
+    tell_done(&mut lab.text, answer);
+    Ok(())
 }
 
 // The block that a predicate's word means.

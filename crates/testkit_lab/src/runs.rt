@@ -4,7 +4,7 @@ use crate::lab::{Lab, Mode};
 use ir_base_dialects::Answer;
 use ir_run_sessions::Edit;
 use std::alloc::Global;
-use testkit_edit_texts::{TextError, letter_of, parse_edit, write_answer};
+use testkit_edit_texts::{TextError, letter_of, parse_edit};
 use toy_dialect::Toy;
 
 /// Carries the edits of a text, with `;` between them, out in one run, and writes how each ends.
@@ -43,8 +43,9 @@ fn write_answers(lab: &mut Lab, text: &str, answers: &[Answer]) -> Result<(), Te
 // Writes the answer to the edit of a line.
 fn write_one(lab: &mut Lab, line: &str, answer: Answer) -> Result<(), TextError> {
     let letter = letter_of(&parse_edit(lab.alloc(), line)?);
-    if !lab.text.is_empty() {
-        lab.text.push_str(" ; ")?;
+    if !lab.text.as_str().is_empty() {
+        lab.text.say(" ; ");
     }
-    Ok(write_answer(&mut lab.text, letter, answer)?)
+    lab.text.answer(letter, answer);
+    Ok(())
 }

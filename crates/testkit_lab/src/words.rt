@@ -8,7 +8,7 @@ use crate::runs::run;
 use ir_base_dialects::{Answer, Limits};
 use ir_run_sessions::Edit;
 use testkit_dumps::dump;
-use testkit_edit_texts::{TextError, edit_of, letter_of, take_field, write_answer};
+use testkit_edit_texts::{TextError, edit_of, letter_of, take_field};
 use toy_dialect::Toy;
 
 /// Answers a line: a word of this crate, and its fields.
@@ -33,7 +33,8 @@ fn begin(lab: &mut Lab, rest: &str) -> Result<(), TextError> {
     let (word, limits) = take_field(rest).ok_or(TextError::Malformed)?;
     let mode = mode_of(word)?;
     lab.begin(mode, limits_of(limits)?)?;
-    Ok(lab.text.push_str("done")?)
+    lab.text.say("done");
+    Ok(())
 }
 
 // The mode of a word.
@@ -76,10 +77,9 @@ fn limits_of(text: &str) -> Result<Limits, TextError> {
 // Writes the dump below its word.
 fn write_dump(lab: &mut Lab) -> Result<(), TextError> {
     let lines = dump(lab.ctx(), &lab.tables)?;
-    lab.text.push_str("dump")?;
+    lab.text.say("dump");
     for line in lines.lines() {
-        lab.text.push_str("\n  ")?;
-        lab.text.push_str(line)?;
+        lab.text.show("\n  ", line);
     }
     Ok(())
 }
@@ -93,7 +93,8 @@ fn edit(lab: &mut Lab, word: &str, rest: &str) -> Result<(), TextError> {
         Mode::Session => run_one(lab, edit)?,
         Mode::Context => carry_out(&mut lab.context, &mut lab.tables, edit)?,
     };
-    Ok(write_answer(&mut lab.text, letter, answer)?)
+    lab.text.answer(letter, answer);
+    Ok(())
 }
 
 // Carries an edit out in a run of its own.

@@ -1,91 +1,155 @@
-//! The words of calls that change a context.
+//! The words of calls that change a context, by what their fields name; other words go to those that ask.
 
-use crate::{block_edits, handles, operation_edits, others, passes, region_calls, value_calls};
-use testkit_lab::{Lab, Mode, TextError};
+use crate::block_edits::{edit_block, edit_block_at, edit_of_blocks, new_block};
+use crate::op_edits::{edit_op, edit_op_at, edit_op_in, new_op};
+use crate::told::tell_edit;
+use crate::words::read;
+use ir_base_dialects::{Identifier, Ptr, TypeHandle};
+use ir_checked_core::{operation, region as regions, types, value as values};
+use ir_checked_view::passes;
+use ir_view_parts::{Context, Operation, Region, Use, Value};
+use testkit_lab::{Item, Items, Lab, TextError, type_of};
+use toy_dialect::Toy;
 
-/// Answers a line in a context: one of these calls, and its fields. It answers nothing where the call is none of them.
-pub(crate) fn edit(lab: &mut Lab, call: &str, rest: &str) -> Option<Result<(), TextError>> {
-    if lab.mode == Mode::Session {
-        return None;
-    }
-    match call.split_once("::") {
-        Some(("operation", name)) => edit_operation(lab, name, rest),
-        Some(("basic_block", name)) => edit_block(lab, name, rest),
-        _ => edit_other(lab, call, rest),
-    }
-}
-
-fn edit_operation(lab: &mut Lab, name: &str, rest: &str) -> Option<Result<(), TextError>> {
-    match name {
-        "new" => Some(operation_edits::new(lab, rest)),
-        "deref_mut" => Some(operation_edits::deref_mut(lab, rest)),
-        "add_region" => Some(operation_edits::add_region(lab, rest)),
-        "push_operand" => Some(operation_edits::push_operand(lab, rest)),
-        "insert_operand" => Some(operation_edits::insert_operand(lab, rest)),
-        "replace_operand" => Some(operation_edits::replace_operand(lab, rest)),
-        "remove_operand" => Some(operation_edits::remove_operand(lab, rest)),
-        "pop_operand" => Some(operation_edits::pop_operand(lab, rest)),
-        "push_successor" => Some(operation_edits::push_successor(lab, rest)),
-        "insert_successor" => Some(operation_edits::insert_successor(lab, rest)),
-        "replace_successor" => Some(operation_edits::replace_successor(lab, rest)),
-        "remove_successor" => Some(operation_edits::remove_successor(lab, rest)),
-        "pop_successor" => Some(operation_edits::pop_successor(lab, rest)),
-        "push_result" => Some(operation_edits::push_result(lab, rest)),
-        "insert_result" => Some(operation_edits::insert_result(lab, rest)),
-        "remove_result" => Some(operation_edits::remove_result(lab, rest)),
-        "pop_result" => Some(operation_edits::pop_result(lab, rest)),
-        "insert_at_front" => Some(operation_edits::insert_at_front(lab, rest)),
-        "insert_at_back" => Some(operation_edits::insert_at_back(lab, rest)),
-        "insert_before" => Some(operation_edits::insert_before(lab, rest)),
-        "insert_after" => Some(operation_edits::insert_after(lab, rest)),
-        "unlink" => Some(operation_edits::unlink(lab, rest)),
-        "drop_all_uses" => Some(operation_edits::drop_all_uses(lab, rest)),
-        "erase" => Some(operation_edits::erase(lab, rest)),
-        "erase_region" => Some(operation_edits::erase_region(lab, rest)),
-        _ => None,
+/// Answers a line in a context.
+pub(crate) fn edit(lab: &mut Lab, call: &str, items: Items) {
+    match items {
+        Items::None => read(lab, call, items),
+        Items::One(item) => edit_one(lab, call, item),
+        Items::Two(item, other) => edit_two(lab, call, item, other),
+        Items::Three(item, other, third) => edit_three(lab, call, item, other, third),
     }
 }
 
-fn edit_block(lab: &mut Lab, name: &str, rest: &str) -> Option<Result<(), TextError>> {
-    match name {
-        "new" => Some(block_edits::new(lab, rest)),
-        "deref_mut" => Some(block_edits::deref_mut(lab, rest)),
-        "push_argument" => Some(block_edits::push_argument(lab, rest)),
-        "insert_argument" => Some(block_edits::insert_argument(lab, rest)),
-        "remove_argument" => Some(block_edits::remove_argument(lab, rest)),
-        "pop_argument" => Some(block_edits::pop_argument(lab, rest)),
-        "insert_at_front" => Some(block_edits::insert_at_front(lab, rest)),
-        "insert_at_back" => Some(block_edits::insert_at_back(lab, rest)),
-        "insert_before" => Some(block_edits::insert_before(lab, rest)),
-        "insert_after" => Some(block_edits::insert_after(lab, rest)),
-        "unlink" => Some(block_edits::unlink(lab, rest)),
-        "append_linked_list" => Some(block_edits::append_linked_list(lab, rest)),
-        "drop_all_uses" => Some(block_edits::drop_all_uses(lab, rest)),
-        "erase" => Some(block_edits::erase(lab, rest)),
-        "retarget_all_preds_to" => Some(block_edits::retarget_all_preds_to(lab, rest)),
-        "retarget_some_preds_to" => Some(block_edits::retarget_some_preds_to(lab, rest)),
-        "retarget_pred_to" => Some(block_edits::retarget_pred_to(lab, rest)),
-        _ => None,
+fn edit_one(lab: &mut Lab, call: &str, item: Item) {
+    match item {
+        Item::Op(op) => edit_op(lab, call, op),
+        Item::Block(block) => edit_block(lab, call, block),
+        Item::Region(region) => edit_region(lab, call, region),
+        Item::Value(value) => edit_value(lab, call, value),
+        _ => edit_type(lab, call, item),
     }
 }
 
-fn edit_other(lab: &mut Lab, call: &str, rest: &str) -> Option<Result<(), TextError>> {
+fn edit_two(lab: &mut Lab, call: &str, item: Item, other: Item) {
+    match (item, other) {
+        (Item::Op(op), _) => edit_op_in(lab, call, op, other),
+        (Item::Block(block), _) => edit_of_blocks(lab, call, block, other),
+        (Item::Region(region), _) => edit_region_in(lab, call, region, other),
+        (Item::Value(value), Item::Value(other)) => edit_values(lab, call, value, other),
+        (Item::Value(value), _) => set_type(lab, call, value, other),
+        _ => set_body(lab, call, item, other),
+    }
+}
+
+fn edit_three(lab: &mut Lab, call: &str, item: Item, other: Item, third: Item) {
+    match (item, other, third) {
+        (Item::Op(op), Item::Number(index), _) => edit_op_at(lab, call, op, index, third),
+        (Item::Block(block), _, _) => edit_block_at(lab, call, block, other, third),
+        (Item::Value(value), Item::ValueUse(used), Item::Value(other)) => {
+            replace_use(lab, call, value, used, other)
+        }
+        _ => new_op(lab, call, item, other, third),
+    }
+}
+
+fn edit_region(lab: &mut Lab, call: &str, region: Ptr<Region>) {
     match call {
-        "region::append_linked_list" => Some(region_calls::append_linked_list(lab, rest)),
-        "region::move_to_op" => Some(region_calls::move_to_op(lab, rest)),
-        "region::drop_all_uses" => Some(region_calls::drop_all_uses(lab, rest)),
-        "value::set_type" => Some(value_calls::set_type(lab, rest)),
-        "value::set_name" => Some(value_calls::set_name(lab, rest)),
-        "value::replace_all_uses_with" => Some(value_calls::replace_all_uses_with(lab, rest)),
-        "value::replace_some_uses_with" => Some(value_calls::replace_some_uses_with(lab, rest)),
-        "value::replace_use_with" => Some(value_calls::replace_use_with(lab, rest)),
-        "types::set_body" => Some(handles::set_body(lab, rest)),
-        "dead::sweep" => Some(others::sweep(lab, rest)),
-        "passes::sweep_inside" => Some(passes::sweep_inside(lab, rest)),
-        "passes::merge_common" => Some(passes::merge_common(lab, rest)),
-        "passes::merge_common_inside" => Some(passes::merge_common_inside(lab, rest)),
-        "passes::remove_unreached" => Some(passes::remove_unreached(lab, rest)),
-        "passes::remove_unreached_inside" => Some(passes::remove_unreached_inside(lab, rest)),
-        _ => None,
+        "region::drop_all_uses" => {
+            let answer = regions::drop_all_uses(region, &mut lab.context);
+            tell_edit(lab, answer);
+        }
+        "passes::remove_unreached" => {
+            let answer = passes::remove_unreached(region, &mut lab.context);
+            tell_edit(lab, answer);
+        }
+        _ => read(lab, call, Items::One(Item::Region(region))),
+    }
+}
+
+fn edit_region_in(lab: &mut Lab, call: &str, region: Ptr<Region>, other: Item) {
+    match (call, other) {
+        ("region::append_linked_list", Item::Region(other)) => {
+            let answer = regions::append_linked_list(region, &mut lab.context, other);
+            tell_edit(lab, answer);
+        }
+        ("region::move_to_op", Item::Op(op)) => {
+            let answer = regions::move_to_op(region, op, &mut lab.context);
+            tell_edit(lab, answer);
+        }
+        _ => lab.text.fail(TextError::Malformed),
+    }
+}
+
+// A value gets the name `named`.
+fn edit_value(lab: &mut Lab, call: &str, value: Value<Toy>) {
+    if call != "value::set_name" {
+        return read(lab, call, Items::One(Item::Value(value)));
+    }
+    let name = Box::new(lab.alloc(), Identifier::new("named"))?;
+    let answer = values::set_name(value, &mut lab.context, Some(name));
+    tell_edit(lab, answer);
+}
+
+fn edit_values(lab: &mut Lab, call: &str, value: Value<Toy>, other: Value<Toy>) {
+    match call {
+        "value::replace_all_uses_with" => {
+            let answer = values::replace_all_uses_with(value, &mut lab.context, other);
+            tell_edit(lab, answer);
+        }
+        // All uses are chosen.
+        "value::replace_some_uses_with" => {
+            let answer = values::replace_some_uses_with(
+                value,
+                &mut lab.context,
+                |_shown: &Context<Toy>, _used: Use<Value<Toy>>| true,
+                other,
+            );
+            tell_edit(lab, answer);
+        }
+        _ => lab.text.fail(TextError::Malformed),
+    }
+}
+
+fn replace_use(
+    lab: &mut Lab,
+    call: &str,
+    value: Value<Toy>,
+    used: Use<Value<Toy>>,
+    other: Value<Toy>,
+) {
+    if call != "value::replace_use_with" {
+        return lab.text.fail(TextError::Malformed);
+    }
+    let answer = values::replace_use_with(value, &mut lab.context, used, other);
+    tell_edit(lab, answer);
+}
+
+fn set_type(lab: &mut Lab, call: &str, value: Value<Toy>, ty: Item) {
+    match (call, type_of(ty)) {
+        ("value::set_type", Ok(ty)) => {
+            let answer = values::set_type(value, &mut lab.context, ty);
+            tell_edit(lab, answer);
+        }
+        _ => lab.text.fail(TextError::Malformed),
+    }
+}
+
+// A block with one argument of a type.
+fn edit_type(lab: &mut Lab, call: &str, item: Item) {
+    match (call, type_of(item)) {
+        ("basic_block::new", Ok(ty)) => new_block(lab, ty),
+        _ => read(lab, call, Items::One(item)),
+    }
+}
+
+// `TYPE OTHER`: the other one becomes the body.
+fn set_body(lab: &mut Lab, call: &str, item: Item, other: Item) {
+    match (call, type_of(item), type_of(other)) {
+        ("types::set_body", Ok(ty), Ok(body)) => {
+            let answer = types::set_body(ty, &mut lab.context, Some(body));
+            tell_edit(lab, answer);
+        }
+        _ => read(lab, call, Items::Two(item, other)),
     }
 }

@@ -2,22 +2,20 @@
 //!
 //! It supports tests, and promises nothing but safety: no contract says what a call answers.
 //!
-//! A word is `checked.` and the module and the name of a call, and its fields are the call's arguments in their order, without the context: names of the lab, or numbers. The answer is `done`, a number, names with single blanks between them, `-` for nothing, or the text of the `CheckedErr`; of a call that was made and refused for memory, numbers or slots, what other words say. Calls that change something are for contexts alone. What is made isn't entered. The functions here have the names of the calls; whose arguments or answers are of another form says so.
+//! A word is `checked.` and the module and the name of a call, and its fields are the call's arguments in their order, without the context: names of the lab, or numbers. The answer is `done`, a number, names with single blanks between them, `-` for nothing, or the text of the `CheckedErr`; of a call that was made and refused for memory, numbers or slots, what other words say. Calls that change something are for contexts alone. What is made isn't entered.
+//!
+//! A call is an arm of the `match` for what its fields name, since the prover follows all that comes behind an early end twice, and an arm costs it little.
 #![tactic(auto)]
 
+mod asks;
 mod block_asks;
 mod block_edits;
 mod edits;
-mod handles;
-mod operands;
-mod operation_asks;
-mod operation_edits;
-mod others;
-mod passes;
-mod region_calls;
-mod successors;
+mod op_asks;
+mod op_edits;
+mod small_types;
 mod told;
-mod value_calls;
+mod walked;
 mod words;
 
 pub use words::answer;
