@@ -13,6 +13,12 @@ const MALFORMED: &str = "malformed";
 
 // Answers a line into the lab's text.
 fn answer(lab: &mut Lab, line: &str) -> Result<(), TextError> {
+    find_answer(lab, line)?;
+    lab.text.end()
+}
+
+// The same, where the end of the text may tell that there is no answer.
+fn find_answer(lab: &mut Lab, line: &str) -> Result<(), TextError> {
     let Some((word, rest)) = take_field(line) else {
         return Err(TextError::Malformed);
     };
@@ -41,12 +47,13 @@ fn follow_line<W: Write>(out: &mut W, lab: &mut Lab, line: &str, marks: bool) ->
     }
     if ended == Err(TextError::Malformed) {
         lab.text.clear();
-        lab.text.push_str(MALFORMED)?;
+        lab.text.say(MALFORMED);
     } else {
         ended?;
     }
-    lab.text.push_str("\n")?;
-    out.write_all(lab.text.as_bytes())?;
+    lab.text.say("\n");
+    lab.text.end()?;
+    out.write_all(lab.text.as_str().as_bytes())?;
     Ok(())
 }
 

@@ -2,7 +2,7 @@
 
 use ir_base_dialects::Answer;
 use std::alloc::{AllocError, Global};
-use std::fmt::Display;
+use std::fmt::{Debug, Display};
 use testkit_edit_texts::{TextError, write_answer};
 
 /// A text that is written piece by piece. What goes wrong is told by `end` alone: so the pieces need no early ends, after each of which the prover would follow all that comes behind.
@@ -44,6 +44,13 @@ impl Reply {
     /// Puts words and an item behind the text.
     pub fn show<T: Display + Drop>(&mut self, words: &str, item: T) {
         if write!(self.text, "{words}{item}").is_err() {
+            self.fail(TextError::OutOfMemory);
+        }
+    }
+
+    /// Puts an item behind the text, as its `Debug` writes it.
+    pub fn debug<T: Debug + Drop>(&mut self, item: T) {
+        if write!(self.text, "{item:?}").is_err() {
             self.fail(TextError::OutOfMemory);
         }
     }

@@ -167,7 +167,11 @@ pub(crate) fn edit_block_at(
 }
 
 fn insert_argument(lab: &mut Lab, block: Ptr<BasicBlock<Toy>>, index: usize, ty: Item) {
-    let ty = type_of(ty)?;
-    let answer = basic_block::insert_argument(block, &mut lab.context, index, ty);
-    tell_edit(lab, answer);
+    match type_of(ty) {
+        Ok(ty) => {
+            let answer = basic_block::insert_argument(block, &mut lab.context, index, ty);
+            tell_edit(lab, answer);
+        }
+        Err(error) => lab.text.fail(error),
+    }
 }

@@ -83,12 +83,16 @@ fn edit_region_in(lab: &mut Lab, call: &str, region: Ptr<Region>, other: Item) {
 
 // A value gets the name `named`.
 fn edit_value(lab: &mut Lab, call: &str, value: Value<Toy>) {
-    if call != "value::set_name" {
-        return read(lab, call, Items::One(Item::Value(value)));
+    match call {
+        "value::set_name" => match Box::new(lab.alloc(), Identifier::new("named")) {
+            Ok(name) => {
+                let answer = values::set_name(value, &mut lab.context, Some(name));
+                tell_edit(lab, answer);
+            }
+            Err(_) => lab.text.fail(TextError::OutOfMemory),
+        },
+        _ => read(lab, call, Items::One(Item::Value(value))),
     }
-    let name = Box::new(lab.alloc(), Identifier::new("named"))?;
-    let answer = values::set_name(value, &mut lab.context, Some(name));
-    tell_edit(lab, answer);
 }
 
 fn edit_values(lab: &mut Lab, call: &str, value: Value<Toy>, other: Value<Toy>) {
@@ -118,11 +122,13 @@ fn replace_use(
     used: Use<Value<Toy>>,
     other: Value<Toy>,
 ) {
-    if call != "value::replace_use_with" {
-        return lab.text.fail(TextError::Malformed);
+    match call {
+        "value::replace_use_with" => {
+            let answer = values::replace_use_with(value, &mut lab.context, used, other);
+            tell_edit(lab, answer);
+        }
+        _ => lab.text.fail(TextError::Malformed),
     }
-    let answer = values::replace_use_with(value, &mut lab.context, used, other);
-    tell_edit(lab, answer);
 }
 
 fn set_type(lab: &mut Lab, call: &str, value: Value<Toy>, ty: Item) {

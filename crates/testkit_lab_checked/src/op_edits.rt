@@ -208,7 +208,7 @@ fn values_in(alloc: Global, item: Item) -> Result<Vec<Value<Toy>>, TextError> {
     match item {
         Item::Nothing => {}
         Item::Value(value) => values.push(value)?,
-        _ => return lab.text.fail(TextError::Malformed),
+        _ => return Err(TextError::Malformed),
     }
     Ok(values)
 }
@@ -219,20 +219,24 @@ fn blocks_in(alloc: Global, item: Item) -> Result<Vec<Ptr<BasicBlock<Toy>>>, Tex
     match item {
         Item::Nothing => {}
         Item::Block(block) => blocks.push(block)?,
-        _ => return lab.text.fail(TextError::Malformed),
+        _ => return Err(TextError::Malformed),
     }
     Ok(blocks)
 }
 
 /// `TYPE VALUE BLOCK`, each of which may be `-`: an operation of kind 4 with one such result, operand and successor.
 pub(crate) fn new_op(lab: &mut Lab, call: &str, ty: Item, value: Item, block: Item) {
-    if call != "operation::new" {
-        return lab.text.fail(TextError::Malformed);
-    }
     let alloc = lab.alloc();
-    let types = types_in(alloc, ty)?;
-    let operands = values_in(alloc, value)?;
-    let successors = blocks_in(alloc, block)?;
-    let answer = operation::new(&mut lab.context, 4, &types, &operands, &successors, 0);
-    tell_edit(lab, answer);
+    match (
+        call,
+        types_in(alloc, ty),
+        values_in(alloc, value),
+        blocks_in(alloc, block),
+    ) {
+        ("operation::new", Ok(types), Ok(operands), Ok(successors)) => {
+            let answer = operation::new(&mut lab.context, 4, &types, &operands, &successors, 0);
+            tell_edit(lab, answer);
+        }
+        _ => lab.text.fail(TextError::Malformed),
+    }
 }

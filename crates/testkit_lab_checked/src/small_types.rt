@@ -64,7 +64,7 @@ fn ask_interface(
     match call {
         // The key of the type.
         "type_interface_handle::deref" => match type_interface_handle::deref(sized, ctx) {
-            Ok(key) => Ok(write!(text, "{key:?}")?),
+            Ok(key) => text.debug(key),
             Err(error) => tell_error(text, error),
         },
         "type_interface_handle::verify" => {
