@@ -1,12 +1,12 @@
 //! Edits carried out by direct calls of a context.
 
 use crate::entering::{Made, enter};
-use crate::finding::{Unmade, picked};
-use crate::{context_definitions as definitions, context_lists as lists, context_uses as uses};
-use ir_base_dialects::{Answer, CoreError, Identifier, Refused};
+use crate::finding::{Unmade, both, entry, picked};
+use crate::settled_edits::carry_out_settled;
+use ir_base_dialects::{Answer, CoreError, Identifier, Ptr, Refused, TypeHandle};
 use ir_checked_core::{CheckedErr, basic_block, operation};
 use ir_run_sessions::Edit;
-use ir_view_parts::Context;
+use ir_view_parts::{BasicBlock, Context, Operation, Region};
 use testkit_dumps::Tables;
 use testkit_edit_texts::TextError;
 use toy_dialect::{Toy, ToyType};
@@ -57,49 +57,87 @@ fn step(ctx: &mut Context<Toy>, tables: &Tables, edit: Edit<Toy>) -> Result<Made
             regions,
         } => new_op(ctx, tables, kind, [&types, &operands, &successors], regions),
         Edit::NewBlock { label, types } => new_block(ctx, tables, label, &types),
-        Edit::PushResult { op, ty } => definitions::push_result(ctx, tables, op, ty),
-        Edit::InsertResult { op, at, ty } => definitions::insert_result(ctx, tables, op, at, ty),
-        Edit::RemoveResult { op, at } => definitions::remove_result(ctx, tables, op, at),
-        Edit::PushArgument { block, ty } => definitions::push_argument(ctx, tables, block, ty),
-        Edit::InsertArgument { block, at, ty } => definitions::insert_argument(
-            ctx, tables, block, at, ty,
-        ),
-        Edit::RemoveArgument { block, at } => definitions::remove_argument(ctx, tables, block, at),
-        Edit::PushOperand { op, value } => uses::push_operand(ctx, tables, op, value),
-        Edit::InsertOperand { op, at, value } => uses::insert_operand(ctx, tables, op, at, value),
-        Edit::RemoveOperand { op, at } => uses::remove_operand(ctx, tables, op, at),
-        Edit::ReplaceOperand { op, at, value } => uses::replace_operand(ctx, tables, op, at, value),
-        Edit::PushSuccessor { op, block } => uses::push_successor(ctx, tables, op, block),
-        Edit::InsertSuccessor { op, at, block } => uses::insert_successor(
-            ctx, tables, op, at, block,
-        ),
-        Edit::RemoveSuccessor { op, at } => uses::remove_successor(ctx, tables, op, at),
-        Edit::ReplaceSuccessor { op, at, block } => uses::replace_successor(
-            ctx, tables, op, at, block,
-        ),
-        Edit::ReplaceAllUses { old, new } => uses::replace_all_uses(ctx, tables, old, new),
-        Edit::RetargetAll { old, new } => uses::retarget_all(ctx, tables, old, new),
-        Edit::OpFront { op, block } => lists::op_at_front(ctx, tables, op, block),
-        Edit::OpBack { op, block } => lists::op_at_back(ctx, tables, op, block),
-        Edit::OpBefore { op, mark } => lists::op_before(ctx, tables, op, mark),
-        Edit::OpAfter { op, mark } => lists::op_after(ctx, tables, op, mark),
-        Edit::UnlinkOp { op } => lists::unlink_op(ctx, tables, op),
-        Edit::BlockFront { block, region } => lists::block_at_front(ctx, tables, block, region),
-        Edit::BlockBack { block, region } => lists::block_at_back(ctx, tables, block, region),
-        Edit::BlockBefore { block, mark } => lists::block_before(ctx, tables, block, mark),
-        Edit::BlockAfter { block, mark } => lists::block_after(ctx, tables, block, mark),
-        Edit::UnlinkBlock { block } => lists::unlink_block(ctx, tables, block),
-        Edit::AppendOps { donee, donor } => lists::append_ops(ctx, tables, donee, donor),
-        Edit::AppendBlocks { donee, donor } => lists::append_blocks(ctx, tables, donee, donor),
-        Edit::MoveRegion { region, op } => lists::move_region(ctx, tables, region, op),
-        Edit::DropOpUses { op } => lists::drop_op_uses(ctx, tables, op),
-        Edit::DropBlockUses { block } => lists::drop_block_uses(ctx, tables, block),
-        Edit::DropRegionUses { region } => lists::drop_region_uses(ctx, tables, region),
-        Edit::EraseOp { op } => lists::erase_op(ctx, tables, op),
-        Edit::EraseBlock { block } => lists::erase_block(ctx, tables, block),
-        Edit::EraseRegion { op, at } => lists::erase_region(ctx, tables, op, at),
-        Edit::AddRegion { op } => definitions::add_region(ctx, tables, op),
+        Edit::AddRegion { op } => match entry(&tables.ops, op) {
+            Some(op) => made_region(operation::add_region(op, ctx)),
+            None => Err(Unmade::NoEntry),
+        },
+        other => add_definition(ctx, tables, &other),
     }
+}
+
+// Adds a result or an argument, or carries an edit out that adds nothing.
+fn add_definition(
+    ctx: &mut Context<Toy>,
+    tables: &Tables,
+    edit: &Edit<Toy>,
+) -> Result<Made, Unmade> {
+    match *edit {
+        Edit::PushResult { op, ty } => match both(&tables.ops, op, &tables.types, ty) {
+            Some((op, ty)) => push_result(ctx, op, ty),
+            None => Err(Unmade::NoEntry),
+        },
+        Edit::InsertResult { op, at, ty } => match both(&tables.ops, op, &tables.types, ty) {
+            Some((op, ty)) => insert_result(ctx, op, at, ty),
+            None => Err(Unmade::NoEntry),
+        },
+        Edit::PushArgument { block, ty } => match both(&tables.blocks, block, &tables.types, ty) {
+            Some((block, ty)) => push_argument(ctx, block, ty),
+            None => Err(Unmade::NoEntry),
+        },
+        Edit::InsertArgument { block, at, ty } => {
+            match both(&tables.blocks, block, &tables.types, ty) {
+                Some((block, ty)) => insert_argument(ctx, block, at, ty),
+                None => Err(Unmade::NoEntry),
+            }
+        }
+        _ => carry_out_settled(ctx, tables, edit),
+    }
+}
+
+// The region that a call made.
+fn made_region(answer: Result<Ptr<Region>, CheckedErr>) -> Result<Made, Unmade> {
+    match answer {
+        Ok(region) => Ok(Made::Region(region)),
+        Err(error) => Err(Unmade::Checked(error)),
+    }
+}
+
+fn push_result(
+    ctx: &mut Context<Toy>,
+    op: Ptr<Operation<Toy>>,
+    ty: TypeHandle,
+) -> Result<Made, Unmade> {
+    let at = operation::push_result(op, ctx, ty)?;
+    Ok(Made::Value(operation::get_result(op, ctx, at)?))
+}
+
+fn insert_result(
+    ctx: &mut Context<Toy>,
+    op: Ptr<Operation<Toy>>,
+    at: usize,
+    ty: TypeHandle,
+) -> Result<Made, Unmade> {
+    operation::insert_result(op, ctx, at, ty)?;
+    Ok(Made::Value(operation::get_result(op, ctx, at)?))
+}
+
+fn push_argument(
+    ctx: &mut Context<Toy>,
+    block: Ptr<BasicBlock<Toy>>,
+    ty: TypeHandle,
+) -> Result<Made, Unmade> {
+    let at = basic_block::push_argument(block, ctx, ty)?;
+    Ok(Made::Value(basic_block::get_argument(block, ctx, at)?))
+}
+
+fn insert_argument(
+    ctx: &mut Context<Toy>,
+    block: Ptr<BasicBlock<Toy>>,
+    at: usize,
+    ty: TypeHandle,
+) -> Result<Made, Unmade> {
+    basic_block::insert_argument(block, ctx, at, ty)?;
+    Ok(Made::Value(basic_block::get_argument(block, ctx, at)?))
 }
 
 // Makes an operation of parts that have these numbers: types, values and blocks.

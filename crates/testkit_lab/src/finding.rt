@@ -1,5 +1,6 @@
 //! Entries of tables by their numbers, and why an edit isn't made.
 
+use crate::entering::Made;
 use ir_base_dialects::CoreError;
 use ir_checked_core::CheckedErr;
 use std::alloc::Global;
@@ -23,14 +24,19 @@ impl From<CheckedErr> for Unmade {
     }
 }
 
+/// The answer of a call that makes nothing to be entered.
+pub(crate) fn done<T: Drop>(answer: Result<T, CheckedErr>) -> Result<Made, Unmade> {
+    match answer {
+        Ok(_) => Ok(Made::Nothing),
+        Err(error) => Err(Unmade::Checked(error)),
+    }
+}
+
 /// The entry with this number.
-///
-/// # Errors
-/// `NoEntry` where there is none, as with those below.
-pub(crate) fn entry<T: Copy + Drop>(table: &[T], number: usize) -> Result<T, Unmade> {
+pub(crate) fn entry<T: Copy + Drop>(table: &[T], number: usize) -> Option<T> {
     match table.get(number) {
-        Some(entry) => Ok(*entry),
-        None => Err(Unmade::NoEntry),
+        Some(entry) => Some(*entry),
+        None => None,
     }
 }
 
@@ -40,10 +46,10 @@ pub(crate) fn both<T: Copy + Drop, S: Copy + Drop>(
     number: usize,
     other_table: &[S],
     other: usize,
-) -> Result<(T, S), Unmade> {
+) -> Option<(T, S)> {
     match (table.get(number), other_table.get(other)) {
-        (Some(entry), Some(other)) => Ok((*entry, *other)),
-        _ => Err(Unmade::NoEntry),
+        (Some(entry), Some(other)) => Some((*entry, *other)),
+        _ => None,
     }
 }
 
@@ -55,7 +61,10 @@ pub(crate) fn picked<T: Copy + Drop>(
 ) -> Result<Vec<T>, Unmade> {
     let mut entries = Vec::new(alloc);
     for number in numbers {
-        if entries.push(entry(table, *number)?).is_err() {
+        let Some(entry) = entry(table, *number) else {
+            return Err(Unmade::NoEntry);
+        };
+        if entries.push(entry).is_err() {
             return Err(Unmade::Checked(CheckedErr::Core(CoreError::OutOfMemory)));
         }
     }

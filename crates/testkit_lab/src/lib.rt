@@ -13,10 +13,7 @@
 #![tactic(auto)]
 
 mod beside;
-mod context_definitions;
 mod context_edits;
-mod context_lists;
-mod context_uses;
 mod edit_words;
 mod entering;
 mod fields;
@@ -29,6 +26,7 @@ mod redirecting;
 mod reply;
 mod runs;
 mod setting;
+mod settled_edits;
 mod telling;
 mod toy_ops;
 mod words;
