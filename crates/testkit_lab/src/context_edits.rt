@@ -3,11 +3,11 @@
 use crate::entering::{Made, enter};
 use crate::finding::{Unmade, both, entry, picked};
 use crate::settled_edits::carry_out_settled;
+use crate::tables::Tables;
 use ir_base_dialects::{Answer, CoreError, Identifier, Ptr, Refused, TypeHandle};
 use ir_checked_core::{CheckedErr, basic_block, operation};
 use ir_run_sessions::Edit;
 use ir_view_parts::{BasicBlock, Context, Operation, Region};
-use testkit_dumps::Tables;
 use testkit_edit_texts::TextError;
 use toy_dialect::{Toy, ToyType};
 

@@ -1,10 +1,10 @@
 //! What was made, entered into the tables.
 
+use crate::tables::Tables;
 use ir_base_dialects::{Answer, Ptr, TypeHandle};
 use ir_run_sessions::Session;
 use ir_view_parts::{BasicBlock, BlockPtr, Context, Operation, OperationPtr, Region, Value};
 use std::alloc::AllocError;
-use testkit_dumps::Tables;
 use toy_dialect::Toy;
 
 /// What a call made.

@@ -5,14 +5,14 @@ ghost use Rattle.std.specs.Prelude.{◌<◌, ◌≤◌};
 use crate::beside::{Beside, Saved};
 use crate::entering::read_session;
 use crate::reply::Reply;
+use crate::small_lab::SmallLab;
+use crate::tables::Tables;
 use ir_base_dialects::{Limits, Ptr, TypeHandle};
 use ir_core_context::AuxDataIndex;
 use ir_run_sessions::Session;
 use ir_view_parts::{BasicBlock, Context, Entity, Operation, Region, Use, Value};
 use std::alloc::{AllocError, Global};
-use testkit_dumps::Tables;
 use testkit_edit_texts::{TextError, number};
-use testkit_small_dialect::SmallLab;
 use toy_dialect::Toy;
 
 // How many bytes an answer may have before it asks for memory.

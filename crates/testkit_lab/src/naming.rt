@@ -1,13 +1,13 @@
 //! What stands for things in answers.
 
 use crate::lab::Lab;
+use crate::tables::{NOWHERE, number_in};
 use ir_base_dialects::{Ptr, TypeHandle};
 use ir_view_parts::{
     BasicBlock, BlockUseQueries, IndexErr, Operation, Region, Use, UseQueries, Value,
 };
 use std::fmt;
 use std::fmt::{Display, Formatter, Write};
-use testkit_dumps::{NOWHERE, number_in};
 use toy_dialect::{Toy, ToyLoc};
 
 /// What stands for something in an answer.

@@ -2,10 +2,10 @@
 
 use crate::entering::Made;
 use crate::finding::{Unmade, both, done, entry};
+use crate::tables::Tables;
 use ir_checked_core::{basic_block, operation, region, value};
 use ir_run_sessions::Edit;
 use ir_view_parts::Context;
-use testkit_dumps::Tables;
 use toy_dialect::Toy;
 
 /// Carries such an edit out.

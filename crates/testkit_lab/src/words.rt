@@ -1,13 +1,13 @@
 //! The words that change a lab, and its dump.
 
 use crate::context_edits::carry_out;
+use crate::dumps::dump;
 use crate::fields::two;
 use crate::lab::{Lab, Mode};
 use crate::questions;
 use crate::runs::run;
 use ir_base_dialects::{Answer, Limits};
 use ir_run_sessions::Edit;
-use testkit_dumps::dump;
 use testkit_edit_texts::{TextError, edit_of, letter_of, take_field};
 use toy_dialect::Toy;
 

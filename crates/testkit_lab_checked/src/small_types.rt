@@ -5,8 +5,7 @@ use crate::told::{tell, tell_error};
 use ir_base_dialects::TypeHandle;
 use ir_checked_view::{type_interface_handle, typed_handle};
 use ir_view_types::{TypeInterfaceHandle, TypedHandle};
-use testkit_lab::{Lab, Reply, TextError};
-use testkit_small_dialect::{Judge, SizedInterface, SizedType, Small};
+use testkit_lab::{Judge, Lab, Reply, SizedInterface, SizedType, Small, TextError};
 
 /// Those that are given the type at a place.
 pub(crate) fn ask_place(text: &mut Reply, lab: &Lab, call: &str, at: TypeHandle) {

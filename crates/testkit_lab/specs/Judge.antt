@@ -4,10 +4,10 @@ use Rattle.ir_model.specs.declared.ids.ArenaIndex.{ArenaIndex}
 use Rattle.ir_model.specs.Verifiers.{Answers, Verifiers}
 use Rattle.ir_core_records.specs.Meaning.{closed}
 use Rattle.ir_verify_checks.specs.Shown.{Shown}
-use Rattle.testkit_small_dialect.specs.declared.small_dialect.SmallAttr.{SmallAttr}
-use Rattle.testkit_small_dialect.specs.declared.small_dialect.SmallAttr.TheVariants.{Marked, Plain}
-use Rattle.testkit_small_dialect.specs.declared.small_dialect.SmallType.{SmallType}
-use Rattle.testkit_small_dialect.specs.declared.small_dialect.SmallType.TheVariants.{Bare, Listed, Pair, Sized}
+use Rattle.testkit_lab.specs.declared.small_dialect.SmallAttr.{SmallAttr}
+use Rattle.testkit_lab.specs.declared.small_dialect.SmallAttr.TheVariants.{Marked, Plain}
+use Rattle.testkit_lab.specs.declared.small_dialect.SmallType.{SmallType}
+use Rattle.testkit_lab.specs.declared.small_dialect.SmallType.TheVariants.{Bare, Listed, Pair, Sized}
 
 -- the numbers that are listed for a kind of operations
 abbrev pub op_list : ℕ → List ℕ

@@ -3,7 +3,7 @@
 ghost use Rattle.std.specs.Prelude.{◌≡◌, IfErr, OnOk};
 ghost use Rattle.ir_view_parts.specs.Wrapped.{operation_in};
 ghost use Rattle.ir_verify_checks.specs.Told.{MayFail, MayPass};
-ghost use Rattle.testkit_small_dialect.specs.Judge.{itself, judging, number_in, number_of};
+ghost use Rattle.testkit_lab.specs.Judge.{itself, judging, number_in, number_of};
 
 use crate::small_dialect::{Small, SmallAttr, SmallType};
 use ir_verify_checks::{CheckErr, Context, OpObj, Verifiers};

@@ -2,7 +2,7 @@
 
 ghost use Rattle.std.specs.Prelude.{◌≡◌, ◌==◌, ◌&&◌, ◌||◌, None, codes, false, refl};
 ghost use Rattle.std.proofs.Common.{rules, sym, true≢false};
-ghost use Rattle.testkit_small_dialect.specs.Names.{type_name};
+ghost use Rattle.testkit_lab.specs.Names.{type_name};
 
 use crate::small_attributes::{MarkedAttr, PlainAttr};
 use crate::small_types::{COMPOUND, ListedType, PairType, SIZED, SizedType};
@@ -52,8 +52,8 @@ fn type_name(kind: u32) -> Identifier
 }
 
 impl Dialects for Small {
-    ghost use Rattle.testkit_small_dialect.specs.declared.small_dialect.SmallAttr.TheVariants as attr;
-    ghost use Rattle.testkit_small_dialect.specs.declared.small_dialect.SmallType.TheVariants as ty;
+    ghost use Rattle.testkit_lab.specs.declared.small_dialect.SmallAttr.TheVariants as attr;
+    ghost use Rattle.testkit_lab.specs.declared.small_dialect.SmallType.TheVariants as ty;
 
     type Attr = SmallAttr;
 

@@ -21,7 +21,7 @@ pub struct PlainAttr {
 }
 
 impl Attribute<Small> for MarkedAttr {
-    ghost use Rattle.testkit_small_dialect.specs.declared.small_dialect.SmallAttr.TheVariants as attr;
+    ghost use Rattle.testkit_lab.specs.declared.small_dialect.SmallAttr.TheVariants as attr;
 
     ghost KIND = { 0 };
 
@@ -63,7 +63,7 @@ impl Attribute<Small> for MarkedAttr {
 }
 
 impl Attribute<Small> for PlainAttr {
-    ghost use Rattle.testkit_small_dialect.specs.declared.small_dialect.SmallAttr.TheVariants as attr;
+    ghost use Rattle.testkit_lab.specs.declared.small_dialect.SmallAttr.TheVariants as attr;
 
     ghost KIND = { 1 };
 

@@ -1,11 +1,11 @@
 //! What verification finds at each root of the forest over the small dialect in which each sort of check is run somewhere.
 
-use crate::finding::{
+use crate::marked::{MarkedForest, MarkedTypes, argument_of, result_of};
+use crate::small_dialect::Small;
+use crate::small_finding::{
     block_found, interface_found, op_found, op_found_by_call, op_found_with_kind, region_found,
     type_found, type_found_by_call, typed_found, value_found,
 };
-use crate::marked::{MarkedForest, MarkedTypes, argument_of, result_of};
-use crate::small_dialect::Small;
 use crate::small_types::{ListedType, SizedInterface};
 use ir_verify_checks::{Context, Verifiers, VerifyErr};
 

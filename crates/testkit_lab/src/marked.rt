@@ -1,8 +1,8 @@
 //! A forest over the small dialect in which each sort of check is run somewhere: with types of each kind, and with attributes. Each function here tests the condition of its call.
 
-use crate::error::LabErr;
 use crate::small_attributes::{MarkedAttr, PlainAttr};
 use crate::small_dialect::{Small, SmallType};
+use crate::small_error::LabErr;
 use crate::small_types::{ListedType, SizedType};
 use ir_base_dialects::attribute::Attribute;
 use ir_base_dialects::{CoreError, Identifier, Ptr, TypeHandle};

@@ -2,13 +2,13 @@
 //!
 //! Two sessions have one text exactly where their tables mean the same, whatever slots and numbers stand behind them.
 
-use crate::parts::{arguments, operands, regions, results, successors};
+use crate::dump_parts::{arguments, operands, regions, results, successors};
+use crate::dump_uses::{block_count, block_places, value_count, value_places};
 use crate::places::{
     Place, block_place, blocks_of, blocks_of_back, first_block, first_op, last_block, last_op,
     op_place, ops_of, ops_of_back, parent_of_region,
 };
 use crate::tables::{NOWHERE, Tables};
-use crate::uses::{block_count, block_places, value_count, value_places};
 use ir_base_dialects::{CoreError, Ptr, TypeHandle};
 use ir_core_queries::{
     BasicBlock, BlockPtr, Context, DefiningEntity, Operation, OperationPtr, Region, RegionPtr,

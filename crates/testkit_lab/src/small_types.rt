@@ -37,7 +37,7 @@ pub struct PairType {
 }
 
 impl IrType<Small> for SizedType {
-    ghost use Rattle.testkit_small_dialect.specs.declared.small_dialect.SmallType.TheVariants as ty;
+    ghost use Rattle.testkit_lab.specs.declared.small_dialect.SmallType.TheVariants as ty;
 
     ghost KIND = { 0 };
 
@@ -68,7 +68,7 @@ impl IrType<Small> for SizedType {
 }
 
 impl IrType<Small> for ListedType {
-    ghost use Rattle.testkit_small_dialect.specs.declared.small_dialect.SmallType.TheVariants as ty;
+    ghost use Rattle.testkit_lab.specs.declared.small_dialect.SmallType.TheVariants as ty;
 
     ghost KIND = { 1 };
 
@@ -99,7 +99,7 @@ impl IrType<Small> for ListedType {
 }
 
 impl IrType<Small> for PairType {
-    ghost use Rattle.testkit_small_dialect.specs.declared.small_dialect.SmallType.TheVariants as ty;
+    ghost use Rattle.testkit_lab.specs.declared.small_dialect.SmallType.TheVariants as ty;
 
     ghost KIND = { 2 };
 
