@@ -6,3 +6,4 @@ pub mod RunLaws
 pub mod PureNames
 pub mod SaidLaws
 pub mod WrittenAlike
+pub mod GenericVerifiers

@@ -3,6 +3,7 @@
 
 mod enclosed;
 mod fault;
+mod generic_verifiers;
 mod optimising;
 mod options;
 mod passes;
@@ -17,6 +18,7 @@ mod trees;
 mod verifying;
 
 pub use fault::{Fault, Finding};
+pub use generic_verifiers::GenericVerifiers;
 pub use options::{Options, Pass};
 pub use printing::print_operation;
 pub use reading::{Block, Module, Op, read_module};

@@ -1,8 +1,9 @@
 //! Verification, and where what it finds stands in the text.
 
 use crate::fault::{Fault, Finding};
+use crate::generic_verifiers::GenericVerifiers;
 use crate::reading::{Block, Module, Op};
-use generic_checks::{Generic, GenericVerifiers};
+use generic_dialect::Generic;
 use ir_base_dialects::interfaces::TERMINATOR;
 use ir_base_dialects::{Dialects, Identifier};
 use ir_checked_core::basic_block;

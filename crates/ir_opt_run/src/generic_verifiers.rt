@@ -1,6 +1,6 @@
 //! The own checks of the dialect Generic: there are none, since nobody knows what its operations, types and attributes mean.
 
-ghost use Rattle.generic_checks.specs.GenericVerifiers.{nothing};
+ghost use Rattle.ir_opt_run.specs.GenericVerifiers.{nothing};
 
 use generic_dialect::{Generic, GenericType, KeptAttr};
 use ir_verify_checks::{CheckErr, Context, OpObj, OwnChecks};
