@@ -1,17 +1,11 @@
-//! Tests of passes over all that stands inside an operation, and of what rewrites.
+//! Tests of what rewrites, and laws of sweeps, mergings and removals of unreached blocks.
 #![tactic(auto)]
 
 #[cfg(test)]
 mod driver_tests;
 #[cfg(test)]
-mod merge_tests;
+mod law_tests;
 #[cfg(test)]
 mod nests;
 #[cfg(test)]
-mod plans;
-#[cfg(test)]
 mod rewrite_tests;
-#[cfg(test)]
-mod sweep_tests;
-#[cfg(test)]
-mod unreached_tests;
