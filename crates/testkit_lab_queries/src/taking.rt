@@ -2,19 +2,31 @@
 
 use ir_base_dialects::Ptr;
 use ir_view_parts::{BasicBlock, Context, Operation, OperationPtr, Use, Value};
-use std::alloc::AllocError;
-use testkit_lab::{Lab, NOWHERE, TextError, number_in, one};
+use testkit_lab::{Item, Items, Lab, NOWHERE, Reply, TextError, items_of, number_in};
 use toy_dialect::Toy;
 
-// The number of the use in the table, behind which it is put where it isn't there.
-fn enter<T: Copy + PartialEq + Drop>(table: &mut Vec<T>, used: T) -> Result<usize, AllocError> {
-    let number = number_in(table, used);
-    if number != NOWHERE {
-        return Ok(number);
+/// Answers a line that enters uses.
+pub(crate) fn take(lab: &mut Lab, word: &str, rest: &str) {
+    let items = items_of(lab, rest);
+    match (word, items) {
+        ("use.operands", Ok(Items::One(Item::Op(op)))) => operands(lab, op),
+        ("use.successors", Ok(Items::One(Item::Op(op)))) => successors(lab, op),
+        _ => lab.text.fail(TextError::Malformed),
     }
-    let number = table.len();
-    table.push(used)?;
-    Ok(number)
+}
+
+// Writes the number of the use in the table, behind which it is put where it isn't there.
+fn enter<T: Copy + PartialEq + Drop>(text: &mut Reply, words: &str, table: &mut Vec<T>, used: T) {
+    match number_in(table, used) {
+        NOWHERE => {
+            let number = table.len();
+            match table.push(used) {
+                Ok(()) => text.show(words, number),
+                Err(_) => text.fail(TextError::OutOfMemory),
+            }
+        }
+        number => text.show(words, number),
+    }
 }
 
 fn operand_at(
@@ -22,26 +34,27 @@ fn operand_at(
     op: Ptr<Operation<Toy>>,
     index: usize,
 ) -> Option<Use<Value<Toy>>> {
-    let record = op.try_deref(ctx).ok()?;
-    if index < record.get_num_operands() {
-        Some(record.get_operand_as_use(index))
-    } else {
-        None
+    match op.try_deref(ctx) {
+        Ok(record) => {
+            if index < record.get_num_operands() {
+                Some(record.get_operand_as_use(index))
+            } else {
+                None
+            }
+        }
+        Err(_) => None,
     }
 }
 
-/// `OP`: its operands as uses, each of which is entered where it isn't there.
-pub(crate) fn operands(lab: &mut Lab, rest: &str) -> Result<(), TextError> {
-    let op = lab.op(one(rest)?)?;
-    lab.text.push_str("uses")?;
+// `OP`: its operands as uses, each of which is entered where it isn't there.
+fn operands(lab: &mut Lab, op: Ptr<Operation<Toy>>) {
+    lab.text.say("uses");
     for index in 0..usize::MAX {
-        let Some(used) = operand_at(lab.ctx(), op, index) else {
-            break;
-        };
-        let number = enter(&mut lab.value_uses, used)?;
-        write!(lab.text, " u{number}")?;
+        match operand_at(lab.ctx(), op, index) {
+            Some(used) => enter(&mut lab.text, " u", &mut lab.value_uses, used),
+            None => break,
+        }
     }
-    Ok(())
 }
 
 fn successor_at(
@@ -49,24 +62,25 @@ fn successor_at(
     op: Ptr<Operation<Toy>>,
     index: usize,
 ) -> Option<Use<Ptr<BasicBlock<Toy>>>> {
-    let record = op.try_deref(ctx).ok()?;
-    if index < record.get_num_successors() {
-        Some(record.get_successor_as_use(index))
-    } else {
-        None
+    match op.try_deref(ctx) {
+        Ok(record) => {
+            if index < record.get_num_successors() {
+                Some(record.get_successor_as_use(index))
+            } else {
+                None
+            }
+        }
+        Err(_) => None,
     }
 }
 
-/// `OP`: its successors as uses, each of which is entered where it isn't there.
-pub(crate) fn successors(lab: &mut Lab, rest: &str) -> Result<(), TextError> {
-    let op = lab.op(one(rest)?)?;
-    lab.text.push_str("uses")?;
+// `OP`: its successors as uses, each of which is entered where it isn't there.
+fn successors(lab: &mut Lab, op: Ptr<Operation<Toy>>) {
+    lab.text.say("uses");
     for index in 0..usize::MAX {
-        let Some(used) = successor_at(lab.ctx(), op, index) else {
-            break;
-        };
-        let number = enter(&mut lab.block_uses, used)?;
-        write!(lab.text, " w{number}")?;
+        match successor_at(lab.ctx(), op, index) {
+            Some(used) => enter(&mut lab.text, " w", &mut lab.block_uses, used),
+            None => break,
+        }
     }
-    Ok(())
 }
