@@ -1,11 +1,11 @@
 //! Attributes as texts, and what is changed in a dictionary.
 
 use crate::known_names::identifier;
-use crate::telling::{tell_done, tell_end};
+use crate::telling::{tell_end, tell_whether};
 use ir_base_dialects::attribute::AttributeDict;
-use ir_base_dialects::{Identifier, TypeHandle};
+use ir_base_dialects::{CoreError, Identifier, TypeHandle};
 use std::alloc::Global;
-use testkit_lab::{TextError, count, two};
+use testkit_lab::{Reply, TextError, count, one, two};
 use toy_dialect::{Toy, ToyAttr, ToyInt, ToyOutlined, ToyText};
 
 /// The attribute of a text: `int:VALUE:PLACE`, `text:TEXT` or `outlined:TEXT`.
@@ -36,14 +36,14 @@ fn number_of(text: &str) -> Result<ToyAttr, TextError> {
 }
 
 /// Writes the text of an attribute.
-pub(crate) fn tell_attribute(text: &mut String, attr: &ToyAttr) -> Result<(), TextError> {
+pub(crate) fn tell_attribute(text: &mut Reply, attr: &ToyAttr) {
     match attr {
         ToyAttr::Int(number) => {
-            let (value, place) = (number.value, number.ty.index());
-            Ok(write!(text, "int:{value}:{place}")?)
+            text.show("int:", number.value);
+            text.show(":", number.ty.index());
         }
-        ToyAttr::Text(held) => Ok(write!(text, "text:{}", held.0)?),
-        ToyAttr::Outlined(held) => Ok(write!(text, "outlined:{}", held.0)?),
+        ToyAttr::Text(held) => text.show("text:", &held.0),
+        ToyAttr::Outlined(held) => text.show("outlined:", &held.0),
     }
 }
 
@@ -58,15 +58,25 @@ pub(crate) enum Change {
     Remove(Identifier),
 }
 
-/// The change `set`, of `KEY ATTRIBUTE`.
-pub(crate) fn set_of(alloc: Global, text: &str) -> Result<Change, TextError> {
+/// The change `set`, `get_mut` or `remove`, of the fields behind the owner.
+pub(crate) fn change_of(alloc: Global, call: &str, text: &str) -> Result<Change, TextError> {
+    match call {
+        "set" => set_of(alloc, text),
+        "get_mut" => write_of(text),
+        "remove" => remove_of(text),
+        _ => Err(TextError::Malformed),
+    }
+}
+
+// The change `set`, of `KEY ATTRIBUTE`.
+fn set_of(alloc: Global, text: &str) -> Result<Change, TextError> {
     let (key, attr) = two(text)?;
     let attr = attribute_of(alloc, attr)?;
     Ok(Change::Set(identifier(key)?, attr))
 }
 
-/// The change `get_mut`, of `KEY VALUE`.
-pub(crate) fn write_of(text: &str) -> Result<Change, TextError> {
+// The change `get_mut`, of `KEY VALUE`.
+fn write_of(text: &str) -> Result<Change, TextError> {
     let (key, value) = two(text)?;
     match value.parse() {
         Ok(value) => Ok(Change::Write(identifier(key)?, value)),
@@ -74,53 +84,47 @@ pub(crate) fn write_of(text: &str) -> Result<Change, TextError> {
     }
 }
 
+// The change `remove`, of `KEY`.
+fn remove_of(text: &str) -> Result<Change, TextError> {
+    Ok(Change::Remove(identifier(one(text)?)?))
+}
+
 /// Makes the change, and writes how it ends.
-pub(crate) fn make(
-    text: &mut String,
-    attributes: &mut AttributeDict<Toy>,
-    change: Change,
-) -> Result<(), TextError> {
+pub(crate) fn make(text: &mut Reply, attributes: &mut AttributeDict<Toy>, change: Change) {
     match change {
-        Change::Set(key, attr) => set(text, attributes, key, attr),
-        Change::Write(key, value) => write_number(text, attributes, key, value),
-        Change::Remove(key) => remove(text, attributes, key),
+        Change::Set(key, attr) => tell_end(text, set(attributes, key, attr)),
+        Change::Write(key, value) => tell_whether(text, write_number(attributes, &key, value)),
+        Change::Remove(key) => tell_removed(text, attributes.remove(&key)),
     }
 }
 
 fn set(
-    text: &mut String,
     attributes: &mut AttributeDict<Toy>,
     key: Identifier,
     attr: ToyAttr,
-) -> Result<(), TextError> {
-    let ended = match attr {
+) -> Result<(), CoreError> {
+    match attr {
         ToyAttr::Int(number) => attributes.set(key, number),
         ToyAttr::Text(held) => attributes.set(key, held),
         ToyAttr::Outlined(held) => attributes.set(key, held),
-    };
-    tell_end(text, ended)
-}
-
-fn write_number(
-    text: &mut String,
-    attributes: &mut AttributeDict<Toy>,
-    key: Identifier,
-    value: i64,
-) -> Result<(), TextError> {
-    match attributes.get_mut::<ToyInt>(&key) {
-        Some(number) => number.value = value,
-        None => return Ok(text.push_str("-")?),
     }
-    tell_done(text)
 }
 
-fn remove(
-    text: &mut String,
-    attributes: &mut AttributeDict<Toy>,
-    key: Identifier,
-) -> Result<(), TextError> {
-    match attributes.remove(&key) {
+// Writes into the number at the key, and answers whether there is one.
+fn write_number(attributes: &mut AttributeDict<Toy>, key: &Identifier, value: i64) -> bool {
+    match attributes.get_mut::<ToyInt>(key) {
+        Some(number) => {
+            number.value = value;
+            true
+        }
+        None => false,
+    }
+}
+
+// Writes what was taken out.
+fn tell_removed(text: &mut Reply, removed: Option<ToyAttr>) {
+    match removed {
         Some(attr) => tell_attribute(text, &attr),
-        None => Ok(text.push_str("-")?),
+        None => text.say("-"),
     }
 }

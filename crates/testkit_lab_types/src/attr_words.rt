@@ -7,7 +7,7 @@
 //! - `compare o0 b0`: whether the attributes of both are equal, and hash equally.
 //! - `clone o0`, `clone_skip_outlined o0`: a copy, told as `read` tells the attributes, and whether it is equal to them.
 
-use crate::attr_calls::{Change, make, set_of, tell_attribute, write_of};
+use crate::attr_calls::{Change, change_of, make, tell_attribute};
 use crate::known_names::identifier;
 use crate::telling::{Maybe, tell_refusal};
 use crate::type_words::{hash_of, place_of};
@@ -19,21 +19,20 @@ use ir_base_dialects::{CoreError, Identifier, Ptr};
 use ir_view_parts::{
     BasicBlock, BlockPtr, BlockPtrMut, Context, Operation, OperationPtr, OperationPtrMut,
 };
-use testkit_lab::{Lab, TextError, asked, one, take_field, tell_condition, two};
-use toy_dialect::{Toy, ToyInt, ToyOutlined, ToyText};
+use testkit_lab::{Lab, Reply, TextError, asked, one, take_field, tell_condition};
+use toy_dialect::{Toy, ToyAttr, ToyInt, ToyOutlined, ToyText};
 
 /// Answers a word.
 pub(crate) fn answer(lab: &mut Lab, call: &str, rest: &str) -> Result<(), TextError> {
     match call {
-        "set" => set(lab, rest),
-        "get_mut" => get_mut(lab, rest),
-        "remove" => remove(lab, rest),
-        "read" => read(lab, rest),
+        "set" | "get_mut" | "remove" => change(lab, call, rest),
+        "read" | "clone" | "clone_skip_outlined" => ask(lab, call, rest),
         "get" => get(lab, rest),
-        "kinds" => kinds(lab),
         "compare" => compare(lab, rest),
-        "clone" => clone(lab, rest),
-        "clone_skip_outlined" => clone_skip_outlined(lab, rest),
+        "kinds" => {
+            tell_tables(&mut lab.text);
+            Ok(())
+        }
         _ => Err(TextError::Malformed),
     }
 }
@@ -62,6 +61,23 @@ fn owner_before<'a>(lab: &Lab, text: &'a str) -> Result<(Owner, &'a str), TextEr
     Ok((owner_of(lab, name)?, rest))
 }
 
+// The operation or block of the only field.
+fn only_owner(lab: &Lab, text: &str) -> Result<Owner, TextError> {
+    owner_of(lab, one(text)?)
+}
+
+// The operation or block of the first field, and the key of the other one.
+fn owner_and_key(lab: &Lab, text: &str) -> Result<(Owner, Identifier), TextError> {
+    let (owner, rest) = owner_before(lab, text)?;
+    Ok((owner, identifier(one(rest)?)?))
+}
+
+// Those of both fields.
+fn two_owners(lab: &Lab, text: &str) -> Result<(Owner, Owner), TextError> {
+    let (owner, rest) = owner_before(lab, text)?;
+    Ok((owner, only_owner(lab, rest)?))
+}
+
 // The attributes of what is live.
 fn attributes_of(ctx: &Context<Toy>, owner: Owner) -> Option<&AttributeDict<Toy>> {
     match owner {
@@ -76,189 +92,163 @@ fn attributes_of(ctx: &Context<Toy>, owner: Owner) -> Option<&AttributeDict<Toy>
     }
 }
 
+fn change(lab: &mut Lab, call: &str, rest: &str) -> Result<(), TextError> {
+    let (owner, rest) = owner_before(lab, rest)?;
+    let wanted = change_of(lab.alloc(), call, rest)?;
+    make_at(&mut lab.text, &mut lab.context, owner, wanted);
+    Ok(())
+}
+
 // Makes a change in the attributes of what is live.
-fn change(lab: &mut Lab, owner: Owner, change: Change) -> Result<(), TextError> {
+fn make_at(text: &mut Reply, ctx: &mut Context<Toy>, owner: Owner, change: Change) {
     match owner {
-        Owner::Op(op) => change_op(&mut lab.text, &mut lab.context, op, change),
-        Owner::Block(block) => change_block(&mut lab.text, &mut lab.context, block, change),
+        Owner::Op(op) => match OperationPtrMut::try_deref_mut(ctx, op) {
+            Ok(written) => make(text, &mut written.attributes, change),
+            Err(_) => tell_condition(text),
+        },
+        Owner::Block(block) => match BlockPtrMut::try_deref_mut(ctx, block) {
+            Ok(written) => make(text, &mut written.attributes, change),
+            Err(_) => tell_condition(text),
+        },
     }
 }
 
-fn change_op(
-    text: &mut String,
-    ctx: &mut Context<Toy>,
-    op: Ptr<Operation<Toy>>,
-    change: Change,
-) -> Result<(), TextError> {
-    match OperationPtrMut::try_deref_mut(ctx, op) {
-        Ok(written) => make(text, &mut written.attributes, change),
-        Err(_) => tell_condition(text),
-    }
-}
-
-fn change_block(
-    text: &mut String,
-    ctx: &mut Context<Toy>,
-    block: Ptr<BasicBlock<Toy>>,
-    change: Change,
-) -> Result<(), TextError> {
-    match BlockPtrMut::try_deref_mut(ctx, block) {
-        Ok(written) => make(text, &mut written.attributes, change),
-        Err(_) => tell_condition(text),
-    }
-}
-
-fn set(lab: &mut Lab, rest: &str) -> Result<(), TextError> {
-    let (owner, rest) = owner_before(lab, rest)?;
-    let wanted = set_of(lab.alloc(), rest)?;
-    change(lab, owner, wanted)
-}
-
-fn get_mut(lab: &mut Lab, rest: &str) -> Result<(), TextError> {
-    let (owner, rest) = owner_before(lab, rest)?;
-    let wanted = write_of(rest)?;
-    change(lab, owner, wanted)
-}
-
-fn remove(lab: &mut Lab, rest: &str) -> Result<(), TextError> {
-    let (owner, rest) = owner_before(lab, rest)?;
-    let key = identifier(one(rest)?)?;
-    change(lab, owner, Change::Remove(key))
-}
-
-fn read(lab: &mut Lab, rest: &str) -> Result<(), TextError> {
-    let owner = owner_of(lab, one(rest)?)?;
+// The words `read`, `clone` and `clone_skip_outlined`.
+fn ask(lab: &mut Lab, call: &str, rest: &str) -> Result<(), TextError> {
+    let owner = only_owner(lab, rest)?;
     let ctx = asked(lab.mode, &lab.session, &lab.context);
-    match attributes_of(ctx, owner) {
-        Some(attributes) => tell_all(&mut lab.text, attributes),
-        None => tell_condition(&mut lab.text),
+    tell_asked(&mut lab.text, call, attributes_of(ctx, owner));
+    Ok(())
+}
+
+fn tell_asked(text: &mut Reply, call: &str, attributes: Option<&AttributeDict<Toy>>) {
+    match (call, attributes) {
+        (_, None) => tell_condition(text),
+        ("read", Some(attributes)) => tell_all(text, attributes),
+        ("clone", Some(attributes)) => tell_copy(text, attributes, attributes.clone()),
+        (_, Some(attributes)) => { tell_copy(text, attributes, attributes.clone_skip_outlined()) }
     }
 }
 
 // Writes all attributes.
-fn tell_all(text: &mut String, attributes: &AttributeDict<Toy>) -> Result<(), TextError> {
-    let (length, is_empty) = (attributes.len(), attributes.is_empty());
-    write!(text, "len {length} empty {is_empty}")?;
+fn tell_all(text: &mut Reply, attributes: &AttributeDict<Toy>) {
+    text.show("len ", attributes.len());
+    text.show(" empty ", attributes.is_empty());
     for (key, attr) in attributes.iter() {
-        write!(text, "\n  {key} ")?;
-        tell_attribute(text, attr)?;
+        text.show("\n  ", key);
+        text.say(" ");
+        tell_attribute(text, attr);
     }
-    Ok(())
 }
 
 fn get(lab: &mut Lab, rest: &str) -> Result<(), TextError> {
-    let (name, key) = two(rest)?;
-    let owner = owner_of(lab, name)?;
-    let key = identifier(key)?;
+    let (owner, key) = owner_and_key(lab, rest)?;
     let ctx = asked(lab.mode, &lab.session, &lab.context);
-    match attributes_of(ctx, owner) {
-        Some(attributes) => tell_at(&mut lab.text, attributes, &key),
-        None => tell_condition(&mut lab.text),
-    }
-}
-
-// Writes what is at a key.
-fn tell_at(
-    text: &mut String,
-    attributes: &AttributeDict<Toy>,
-    key: &Identifier,
-) -> Result<(), TextError> {
-    tell_kinds(text, attributes, key)?;
-    for (other, attr) in attributes.iter() {
-        if other == key {
-            let typed = attr_impls::<TypedAttrInterface, Toy>(attr);
-            let outlined = attr_impls::<OutlinedAttr, Toy>(attr);
-            let place = place_of(attr_type::<Toy>(attr));
-            let is_outlined = attr_should_outline::<Toy>(attr);
-            write!(
-                text,
-                " impls {typed} {outlined} type {place} outlined {is_outlined}"
-            )?;
-        }
-    }
+    tell_at(&mut lab.text, attributes_of(ctx, owner), &key);
     Ok(())
 }
 
-// Writes as what a dictionary gives what is at a key.
-fn tell_kinds(
-    text: &mut String,
-    attributes: &AttributeDict<Toy>,
-    key: &Identifier,
-) -> Result<(), TextError> {
-    let number = match attributes.get::<ToyInt>(key) {
-        Some(number) => Maybe(Some(number.value)),
-        None => Maybe(None),
-    };
-    let is_text = attributes.get::<ToyText>(key).is_some();
-    let is_outlined = attributes.get::<ToyOutlined>(key).is_some();
-    let typed = attributes.get_as::<TypedAttrInterface>(key).is_some();
-    let outlined = attributes.get_as::<OutlinedAttr>(key).is_some();
-    Ok(write!(
-        text,
-        "int {number} text {is_text} outlined {is_outlined} as {typed} {outlined}"
-    )?)
+// Writes what is at a key.
+fn tell_at(text: &mut Reply, attributes: Option<&AttributeDict<Toy>>, key: &Identifier) {
+    match attributes {
+        Some(attributes) => {
+            tell_kinds(text, attributes, key);
+            tell_each(text, attributes, key);
+        }
+        None => tell_condition(text),
+    }
 }
 
-fn kinds(lab: &mut Lab) -> Result<(), TextError> {
-    let typed = [
+// Writes of each attribute at a key what the tables say of it.
+fn tell_each(text: &mut Reply, attributes: &AttributeDict<Toy>, key: &Identifier) {
+    for (other, attr) in attributes.iter() {
+        if other == key {
+            tell_impls(text, attr);
+        }
+    }
+}
+
+// Writes what the tables say of an attribute.
+fn tell_impls(text: &mut Reply, attr: &ToyAttr) {
+    text.show(" impls ", attr_impls::<TypedAttrInterface, Toy>(attr));
+    text.show(" ", attr_impls::<OutlinedAttr, Toy>(attr));
+    text.show(" type ", place_of(attr_type::<Toy>(attr)));
+    text.show(" outlined ", attr_should_outline::<Toy>(attr));
+}
+
+// Writes as what a dictionary gives what is at a key.
+fn tell_kinds(text: &mut Reply, attributes: &AttributeDict<Toy>, key: &Identifier) {
+    text.show("int ", number_at(attributes, key));
+    text.show(" text ", attributes.get::<ToyText>(key).is_some());
+    text.show(" outlined ", attributes.get::<ToyOutlined>(key).is_some());
+    text.show(
+        " as ",
+        attributes.get_as::<TypedAttrInterface>(key).is_some(),
+    );
+    text.show(" ", attributes.get_as::<OutlinedAttr>(key).is_some());
+}
+
+// The number at a key.
+fn number_at(attributes: &AttributeDict<Toy>, key: &Identifier) -> Maybe<i64> {
+    match attributes.get::<ToyInt>(key) {
+        Some(number) => Maybe(Some(number.value)),
+        None => Maybe(None),
+    }
+}
+
+// Writes which kinds implement which interfaces.
+fn tell_tables(text: &mut Reply) {
+    text.say("typed ");
+    text.debug([
         attr_impls_static::<ToyInt, TypedAttrInterface, Toy>(),
         attr_impls_static::<ToyText, TypedAttrInterface, Toy>(),
         attr_impls_static::<ToyOutlined, TypedAttrInterface, Toy>(),
-    ];
-    let outlined = [
+    ]);
+    text.say(" outlined ");
+    text.debug([
         attr_impls_static::<ToyInt, OutlinedAttr, Toy>(),
         attr_impls_static::<ToyText, OutlinedAttr, Toy>(),
         attr_impls_static::<ToyOutlined, OutlinedAttr, Toy>(),
-    ];
-    Ok(write!(lab.text, "typed {typed:?} outlined {outlined:?}")?)
+    ]);
 }
 
 fn compare(lab: &mut Lab, rest: &str) -> Result<(), TextError> {
-    let (first, second) = two(rest)?;
-    let first = owner_of(lab, first)?;
-    let second = owner_of(lab, second)?;
+    let (first, second) = two_owners(lab, rest)?;
     let ctx = asked(lab.mode, &lab.session, &lab.context);
-    match (attributes_of(ctx, first), attributes_of(ctx, second)) {
+    tell_compared(
+        &mut lab.text,
+        attributes_of(ctx, first),
+        attributes_of(ctx, second),
+    );
+    Ok(())
+}
+
+// Writes whether both are equal, and hash equally.
+fn tell_compared(
+    text: &mut Reply,
+    first: Option<&AttributeDict<Toy>>,
+    second: Option<&AttributeDict<Toy>>,
+) {
+    match (first, second) {
         (Some(first), Some(second)) => {
-            let equal = *first == *second;
-            let hash = hash_of(first) == hash_of(second);
-            Ok(write!(lab.text, "equal {equal} hash {hash}")?)
+            text.show("equal ", *first == *second);
+            text.show(" hash ", hash_of(first) == hash_of(second));
         }
-        _ => tell_condition(&mut lab.text),
-    }
-}
-
-fn clone(lab: &mut Lab, rest: &str) -> Result<(), TextError> {
-    let owner = owner_of(lab, one(rest)?)?;
-    let ctx = asked(lab.mode, &lab.session, &lab.context);
-    match attributes_of(ctx, owner) {
-        Some(attributes) => tell_copy(&mut lab.text, attributes, attributes.clone()),
-        None => tell_condition(&mut lab.text),
-    }
-}
-
-fn clone_skip_outlined(lab: &mut Lab, rest: &str) -> Result<(), TextError> {
-    let owner = owner_of(lab, one(rest)?)?;
-    let ctx = asked(lab.mode, &lab.session, &lab.context);
-    match attributes_of(ctx, owner) {
-        Some(attributes) => {
-            tell_copy(&mut lab.text, attributes, attributes.clone_skip_outlined())
-        }
-        None => tell_condition(&mut lab.text),
+        _ => tell_condition(text),
     }
 }
 
 // Writes whether a copy is equal, and all that it has.
 fn tell_copy(
-    text: &mut String,
+    text: &mut Reply,
     attributes: &AttributeDict<Toy>,
     copy: Result<AttributeDict<Toy>, CoreError>,
-) -> Result<(), TextError> {
+) {
     match copy {
         Ok(copy) => {
-            let equal = copy == *attributes;
-            write!(text, "equal {equal} ")?;
-            tell_all(text, &copy)
+            text.show("equal ", copy == *attributes);
+            text.say(" ");
+            tell_all(text, &copy);
         }
         Err(error) => tell_refusal(text, error),
     }

@@ -3,19 +3,32 @@
 //! - `above o0 COUNT`, `below o0 COUNT`: so many operations of kind 5, each in a block of the region of the one before it, from `o0` inward or outward, whose last is entered.
 //! - `read o0 o1`: whether the second stands inside the first and the first inside the second, whether the first stands in no block, and whether the second is the first of its block.
 
+use crate::telling::enter;
 use ir_base_dialects::{Dialects, Ptr};
 use ir_checked_core::{CheckedErr, basic_block, operation};
-use ir_view_parts::{Context, Entity, Operation, is_inside};
-use testkit_lab::{Lab, TextError, count, one, tell_refused, two};
+use ir_view_parts::{BasicBlock, Context, Entity, Operation, Region, is_inside};
+use testkit_lab::{Item, Items, Lab, Reply, TextError, asked, items_of, tell_refused};
+use toy_dialect::Toy;
 
 /// Answers a word.
 pub(crate) fn answer(lab: &mut Lab, call: &str, rest: &str) -> Result<(), TextError> {
-    match call {
-        "above" => nest(lab, Way::Inward, rest),
-        "below" => nest(lab, Way::Outward, rest),
-        "read" => read(lab, rest),
-        _ => Err(TextError::Malformed),
+    let items = items_of(lab, rest)?;
+    match (call, items) {
+        ("above", Items::Two(Item::Op(op), Item::Number(levels))) => {
+            nest(lab, Way::Inward, op, levels)
+        }
+        ("below", Items::Two(Item::Op(op), Item::Number(levels))) => {
+            nest(lab, Way::Outward, op, levels)
+        }
+        ("read", Items::Two(Item::Op(outer), Item::Op(inner))) => read(
+            &mut lab.text,
+            asked(lab.mode, &lab.session, &lab.context),
+            outer,
+            inner,
+        ),
+        _ => lab.text.fail(TextError::Malformed),
     }
+    Ok(())
 }
 
 // Which way a nest grows.
@@ -25,7 +38,7 @@ enum Way {
     Outward,
 }
 
-// Puts the inner operation into a new block in the region of the outer one. A nest that grows inward has its block in place first.
+// Puts the inner operation into a new block in the region of the outer one.
 fn put_inside<D: Dialects>(
     ctx: &mut Context<D>,
     way: Way,
@@ -34,6 +47,17 @@ fn put_inside<D: Dialects>(
 ) -> Result<(), CheckedErr> {
     let block = basic_block::new(ctx, None, &[])?;
     let inside = operation::get_region(outer, ctx, 0)?;
+    put_into(ctx, way, inside, block, inner)
+}
+
+// Puts the operation into the block, and that into the region. A nest that grows inward has its block in place first.
+fn put_into<D: Dialects>(
+    ctx: &mut Context<D>,
+    way: Way,
+    inside: Ptr<Region>,
+    block: Ptr<BasicBlock<D>>,
+    inner: Ptr<Operation<D>>,
+) -> Result<(), CheckedErr> {
     match way {
         Way::Inward => {
             basic_block::insert_at_back(block, inside, ctx)?;
@@ -53,10 +77,11 @@ fn grow<D: Dialects>(
     last: Ptr<Operation<D>>,
 ) -> Result<Ptr<Operation<D>>, CheckedErr> {
     let next = operation::new(ctx, 5, &[], &[], &[], 1)?;
-    match way {
-        Way::Inward => put_inside(ctx, way, last, next)?,
-        Way::Outward => put_inside(ctx, way, next, last)?,
-    }
+    let (outer, inner) = match way {
+        Way::Inward => (last, next),
+        Way::Outward => (next, last),
+    };
+    put_inside(ctx, way, outer, inner)?;
     Ok(next)
 }
 
@@ -74,29 +99,29 @@ fn grow_by<D: Dialects>(
     Ok(last)
 }
 
-fn nest(lab: &mut Lab, way: Way, rest: &str) -> Result<(), TextError> {
-    let (op, levels) = two(rest)?;
-    let op = lab.op(op)?;
-    match grow_by(&mut lab.context, way, op, count(levels)?) {
-        Ok(last) => {
-            let number = lab.tables.ops.len();
-            lab.tables.ops.push(last)?;
-            Ok(write!(lab.text, "made o{number}")?)
-        }
+fn nest(lab: &mut Lab, way: Way, op: Ptr<Operation<Toy>>, levels: usize) {
+    match grow_by(&mut lab.context, way, op, levels) {
+        Ok(last) => enter(&mut lab.text, "made o", &mut lab.tables.ops, last),
         Err(error) => tell_refused(&mut lab.text, error),
     }
 }
 
-fn read(lab: &mut Lab, rest: &str) -> Result<(), TextError> {
-    let (outer, inner) = two(rest)?;
-    let outer = lab.op(outer)?;
-    let inner = lab.op(inner)?;
-    let ctx = lab.ctx();
-    let down = is_inside(ctx, Entity::Op(inner), Entity::Op(outer));
-    let up = is_inside(ctx, Entity::Op(outer), Entity::Op(inner));
-    let alone = operation::get_parent_block(outer, ctx) == Ok(None);
-    let first = is_first(ctx, inner);
-    Ok(write!(lab.text, "inside {down} {up} alone {alone} first {first}")?)
+fn read(
+    text: &mut Reply,
+    ctx: &Context<Toy>,
+    outer: Ptr<Operation<Toy>>,
+    inner: Ptr<Operation<Toy>>,
+) {
+    text.show(
+        "inside ",
+        is_inside(ctx, Entity::Op(inner), Entity::Op(outer)),
+    );
+    text.show(" ", is_inside(ctx, Entity::Op(outer), Entity::Op(inner)));
+    text.show(
+        " alone ",
+        operation::get_parent_block(outer, ctx) == Ok(None),
+    );
+    text.show(" first ", is_first(ctx, inner));
 }
 
 // Whether the operation is the first of a block.

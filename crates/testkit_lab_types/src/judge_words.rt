@@ -7,14 +7,13 @@
 //! - `get_opid`, `op_id`, `op_static_id`, `attr_id`, `attr_static_id`: ids, of the operation in the block and of a marked attribute.
 
 use crate::asking::Asking;
-use crate::small_words::type_at;
-use crate::telling::{tell, tell_done, tell_refusal};
+use crate::telling::{tell, tell_refusal};
 use crate::verify_words::tell_found;
 use ir_base_dialects::attribute::Attribute;
-use ir_base_dialects::{CoreError, Ptr};
+use ir_base_dialects::{CoreError, Ptr, TypeHandle};
 use ir_verify_checks::{VerifierErr, Verifiers, VerifyErr, verify_attr};
 use ir_view_parts::{Context, Op, Operation, OperationKind, OperationPtr};
-use testkit_lab::{Lab, TextError, one, tell_condition, three};
+use testkit_lab::{Item, Items, Lab, Reply, TextError, items_of, one, tell_condition};
 use testkit_small_dialect::{
     InnerOp, Judge, JudgedRoot, LabErr, MarkedAttr, MarkedForest, PlainAttr, Small, SmallAttr,
     judged_found, make_marked, type_found,
@@ -26,29 +25,51 @@ const END_OF_CODES: u32 = 300;
 /// Answers a word.
 pub(crate) fn answer(lab: &mut Lab, call: &str, rest: &str) -> Result<(), TextError> {
     match call {
-        "make" => make(lab),
-        "codes" => tell_codes(lab, Judging::Asked, rest),
-        "spent" => tell_codes(lab, Judging::Spent, rest),
-        "type" => find_at_type(lab, rest),
-        "well" => find_by(lab, rest, &Judge { asked: 0, spent: 0 }),
-        "asking" => find_by(lab, rest, &Asking),
-        "get_opid" => get_opid(lab),
-        "op_id" => op_id(lab),
-        "op_static_id" => op_static_id(lab),
-        "attr_id" => attr_id(lab),
-        "attr_static_id" => attr_static_id(lab),
-        _ => Err(TextError::Malformed),
+        "codes" | "spent" | "well" | "asking" => judge(lab, call, rest),
+        "type" => judge_type(lab, rest),
+        _ => {
+            answer_alone(lab, call);
+            Ok(())
+        }
     }
 }
 
-fn make(lab: &mut Lab) -> Result<(), TextError> {
+// The words that stand alone.
+fn answer_alone(lab: &mut Lab, call: &str) {
+    match call {
+        "make" => make(lab),
+        "get_opid" | "op_id" => tell_inner(lab, call),
+        "op_static_id" => {
+            let id = InnerOp::get_opid_static(lab.alloc());
+            tell(&mut lab.text, id);
+        }
+        "attr_id" => {
+            let id = MarkedAttr { number: 4 }.get_attr_id(lab.alloc());
+            tell(&mut lab.text, id);
+        }
+        "attr_static_id" => {
+            let id = MarkedAttr::get_attr_id_static(lab.alloc());
+            tell(&mut lab.text, id);
+        }
+        _ => lab.text.fail(TextError::Malformed),
+    }
+}
+
+fn make(lab: &mut Lab) {
     match make_marked(&mut lab.small.context) {
         Ok(forest) => {
             lab.small.forest = Some(forest);
-            tell_done(&mut lab.text)
+            lab.text.say("done");
         }
-        Err(LabErr::OutOfMemory) => tell_refusal(&mut lab.text, CoreError::OutOfMemory),
-        Err(_) => tell_condition(&mut lab.text),
+        Err(error) => tell_unmade(&mut lab.text, error),
+    }
+}
+
+// Writes why the forest isn't made.
+fn tell_unmade(text: &mut Reply, error: LabErr) {
+    match error {
+        LabErr::OutOfMemory => tell_refusal(text, CoreError::OutOfMemory),
+        _ => tell_condition(text),
     }
 }
 
@@ -83,6 +104,28 @@ fn root_of(name: &str) -> Result<Root, TextError> {
         "listed_typed" => Ok(Root::Forest(JudgedRoot::ListedTyped)),
         "sized_interface" => Ok(Root::Forest(JudgedRoot::SizedInterface)),
         _ => Err(TextError::Malformed),
+    }
+}
+
+// The words that verify a root.
+fn judge(lab: &mut Lab, call: &str, rest: &str) -> Result<(), TextError> {
+    let root = root_of(one(rest)?)?;
+    match lab.small.forest {
+        Some(forest) => judge_in(&mut lab.text, &lab.small.context, call, &forest, root),
+        None => tell_condition(&mut lab.text),
+    }
+    Ok(())
+}
+
+fn judge_in(text: &mut Reply, ctx: &Context<Small>, call: &str, forest: &MarkedForest, root: Root) {
+    match call {
+        "codes" => tell_codes(text, ctx, Judging::Asked, forest, root),
+        "spent" => tell_codes(text, ctx, Judging::Spent, forest, root),
+        "well" => {
+            let quiet = Judge { asked: 0, spent: 0 };
+            tell_found(text, found_at(ctx, forest, root, &quiet));
+        }
+        _ => tell_found(text, found_at(ctx, forest, root, &Asking)),
     }
 }
 
@@ -137,104 +180,88 @@ fn is_told(judging: Judging, code: u32, fault: &VerifyErr) -> bool {
 }
 
 // Writes the code, where something is found.
-fn tell_code(
-    text: &mut String,
-    judging: Judging,
-    code: u32,
-    found: Option<Result<(), VerifyErr>>,
-) -> Result<(), TextError> {
+fn tell_code(text: &mut Reply, judging: Judging, code: u32, found: Option<Result<(), VerifyErr>>) {
     match found {
-        Some(Ok(())) => Ok(()),
-        Some(Err(fault)) => {
-            if is_told(judging, code, &fault) {
-                Ok(write!(text, " {code}")?)
-            } else {
-                Ok(write!(text, " {code}?")?)
-            }
-        }
-        None => Ok(write!(text, " {code}?")?),
+        Some(Ok(())) => {}
+        Some(Err(fault)) => tell_at(text, code, is_told(judging, code, &fault)),
+        None => tell_at(text, code, false),
     }
 }
 
-fn tell_codes(lab: &mut Lab, judging: Judging, rest: &str) -> Result<(), TextError> {
-    let root = root_of(one(rest)?)?;
-    let Some(forest) = lab.small.forest else {
-        return tell_condition(&mut lab.text);
-    };
-    lab.text.push_str("codes")?;
+// Writes the code at which something is found, and whether it is something else.
+fn tell_at(text: &mut Reply, code: u32, is_told: bool) {
+    text.show(" ", code);
+    if !is_told {
+        text.say("?");
+    }
+}
+
+fn tell_codes(
+    text: &mut Reply,
+    ctx: &Context<Small>,
+    judging: Judging,
+    forest: &MarkedForest,
+    root: Root,
+) {
+    text.say("codes");
     for code in 1..END_OF_CODES {
         let judge = judge_of(judging, code);
-        let found = found_at(&lab.small.context, &forest, root, &judge);
-        tell_code(&mut lab.text, judging, code, found)?;
+        tell_code(text, judging, code, found_at(ctx, forest, root, &judge));
     }
-    Ok(())
 }
 
-// The judge of two texts.
-fn judge_with(asked: &str, spent: &str) -> Result<Judge, TextError> {
-    match (asked.parse(), spent.parse()) {
+// The type at a place and the judge of three fields.
+fn type_and_judge(lab: &Lab, rest: &str) -> Result<(TypeHandle, Judge), TextError> {
+    match items_of(lab, rest)? {
+        Items::Three(Item::Number(place), Item::Number(asked), Item::Number(spent)) => {
+            Ok((TypeHandle::at(place), judge_with(asked, spent)?))
+        }
+        _ => Err(TextError::Malformed),
+    }
+}
+
+// The judge of two numbers.
+fn judge_with(asked: usize, spent: usize) -> Result<Judge, TextError> {
+    match (u32::try_from(asked), u32::try_from(spent)) {
         (Ok(asked), Ok(spent)) => Ok(Judge { asked, spent }),
         _ => Err(TextError::Malformed),
     }
 }
 
 // Writes what is found, also where memory ran out.
-fn tell_text(text: &mut String, found: Option<Result<(), VerifyErr>>) -> Result<(), TextError> {
+fn tell_text(text: &mut Reply, found: Option<Result<(), VerifyErr>>) {
     match found {
-        Some(Err(fault)) => Ok(write!(text, "{fault}")?),
+        Some(Err(fault)) => text.show("", fault),
         _ => tell_found(text, found),
     }
 }
 
-fn find_at_type(lab: &mut Lab, rest: &str) -> Result<(), TextError> {
-    let (ty, asked, spent) = three(rest)?;
-    let judge = judge_with(asked, spent)?;
-    let found = type_found(&lab.small.context, type_at(ty)?, &judge);
-    tell_text(&mut lab.text, found)
+fn judge_type(lab: &mut Lab, rest: &str) -> Result<(), TextError> {
+    let (ty, judge) = type_and_judge(lab, rest)?;
+    let found = type_found(&lab.small.context, ty, &judge);
+    tell_text(&mut lab.text, found);
+    Ok(())
 }
 
-fn find_by<V: Verifiers<Small>>(lab: &mut Lab, rest: &str, verifiers: &V) -> Result<(), TextError> {
-    let root = root_of(one(rest)?)?;
-    let Some(forest) = lab.small.forest else {
-        return tell_condition(&mut lab.text);
-    };
-    let found = found_at(&lab.small.context, &forest, root, verifiers);
-    tell_found(&mut lab.text, found)
-}
-
-// The operation in the block of the forest.
-fn inner(lab: &Lab) -> Result<Ptr<Operation<Small>>, TextError> {
+// The ids of the operation in the block of the forest.
+fn tell_inner(lab: &mut Lab, call: &str) {
     match lab.small.forest {
-        Some(forest) => Ok(forest.inner),
-        None => Err(TextError::Malformed),
+        Some(forest) => tell_id(&mut lab.text, &lab.small.context, call, forest.inner),
+        None => lab.text.fail(TextError::Malformed),
     }
 }
 
-fn get_opid(lab: &mut Lab) -> Result<(), TextError> {
-    let op = inner(lab)?;
-    if !op.is_live(&lab.small.context) {
-        return tell_condition(&mut lab.text);
+fn tell_id(text: &mut Reply, ctx: &Context<Small>, call: &str, op: Ptr<Operation<Small>>) {
+    match call {
+        "get_opid" => get_opid(text, ctx, op),
+        _ => tell(text, InnerOp::from_operation(op).get_opid(ctx.alloc())),
     }
-    let id = op.get_opid(&lab.small.context);
-    tell(&mut lab.text, id)
 }
 
-fn op_id(lab: &mut Lab) -> Result<(), TextError> {
-    let id = InnerOp::from_operation(inner(lab)?).get_opid(lab.alloc());
-    tell(&mut lab.text, id)
-}
-
-fn op_static_id(lab: &mut Lab) -> Result<(), TextError> {
-    let id = InnerOp::get_opid_static(lab.alloc());
-    tell(&mut lab.text, id)
-}
-
-fn attr_id(lab: &mut Lab) -> Result<(), TextError> {
-    let id = MarkedAttr { number: 4 }.get_attr_id(lab.alloc());
-    tell(&mut lab.text, id)
-}
-
-fn attr_static_id(lab: &mut Lab) -> Result<(), TextError> {
-    let id = MarkedAttr::get_attr_id_static(lab.alloc());
-    tell(&mut lab.text, id)
+fn get_opid(text: &mut Reply, ctx: &Context<Small>, op: Ptr<Operation<Small>>) {
+    if op.is_live(ctx) {
+        tell(text, op.get_opid(ctx));
+    } else {
+        tell_condition(text);
+    }
 }

@@ -9,20 +9,19 @@ use crate::telling::{Maybe, tell};
 use ir_base_dialects::{CoreError, Dialects, Identifier, Ptr};
 use ir_core_queries::Named;
 use ir_view_parts::{BasicBlock, BlockPtr, Context, Value, ValueQueries};
-use testkit_lab::{Lab, TextError, one, tell_condition};
+use testkit_lab::{Item, Items, Lab, Reply, TextError, asked, items_of, tell_condition};
 use toy_dialect::Toy;
 
 /// Answers a word.
 pub(crate) fn answer(lab: &mut Lab, call: &str, rest: &str) -> Result<(), TextError> {
-    match call {
-        "given_name" => of_handle(lab, Naming::Given, rest),
-        "id" => of_handle(lab, Naming::Id, rest),
-        "unique_name" => of_handle(lab, Naming::Unique, rest),
-        "record_given_name" => of_record(lab, Naming::Given, rest),
-        "record_id" => of_record(lab, Naming::Id, rest),
-        "record_unique_name" => of_record(lab, Naming::Unique, rest),
-        _ => Err(TextError::Malformed),
+    let items = items_of(lab, rest)?;
+    let ctx = asked(lab.mode, &lab.session, &lab.context);
+    match items {
+        Items::One(Item::Value(value)) => of_value(&mut lab.text, ctx, call, value),
+        Items::One(Item::Block(block)) => of_block(&mut lab.text, ctx, call, block),
+        _ => lab.text.fail(TextError::Malformed),
     }
+    Ok(())
 }
 
 // Which name is asked.
@@ -48,25 +47,33 @@ fn named<D: Dialects, T: Named<D>>(
     }
 }
 
-fn of_handle(lab: &mut Lab, naming: Naming, rest: &str) -> Result<(), TextError> {
-    let name = one(rest)?;
-    let told = if name.starts_with('v') {
-        value_name(lab.ctx(), lab.value(name)?, naming)
-    } else {
-        block_name(lab.ctx(), lab.block(name)?, naming)
-    };
-    tell_name(&mut lab.text, told)
+// Of a value.
+fn of_value(text: &mut Reply, ctx: &Context<Toy>, call: &str, value: Value<Toy>) {
+    match call {
+        "given_name" => tell_name(text, value_name(ctx, value, Naming::Given)),
+        "id" => tell_name(text, value_name(ctx, value, Naming::Id)),
+        "unique_name" => tell_name(text, value_name(ctx, value, Naming::Unique)),
+        _ => text.fail(TextError::Malformed),
+    }
 }
 
-fn of_record(lab: &mut Lab, naming: Naming, rest: &str) -> Result<(), TextError> {
-    let told = record_name(lab.ctx(), lab.block(one(rest)?)?, naming);
-    tell_name(&mut lab.text, told)
+// Of a block, by its handle or by its record.
+fn of_block(text: &mut Reply, ctx: &Context<Toy>, call: &str, block: Ptr<BasicBlock<Toy>>) {
+    match call {
+        "given_name" => tell_name(text, block_name(ctx, block, Naming::Given)),
+        "id" => tell_name(text, block_name(ctx, block, Naming::Id)),
+        "unique_name" => tell_name(text, block_name(ctx, block, Naming::Unique)),
+        "record_given_name" => tell_name(text, record_name(ctx, block, Naming::Given)),
+        "record_id" => tell_name(text, record_name(ctx, block, Naming::Id)),
+        "record_unique_name" => tell_name(text, record_name(ctx, block, Naming::Unique)),
+        _ => text.fail(TextError::Malformed),
+    }
 }
 
 // A name, or none of what isn't live.
 type Told = Option<Result<Maybe<Identifier>, CoreError>>;
 
-fn tell_name(text: &mut String, told: Told) -> Result<(), TextError> {
+fn tell_name(text: &mut Reply, told: Told) {
     match told {
         Some(told) => tell(text, told),
         None => tell_condition(text),

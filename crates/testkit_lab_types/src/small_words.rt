@@ -10,13 +10,13 @@
 //! - the words of `small_handles`.
 
 use crate::small_handles as handles;
-use crate::telling::{tell, tell_done, tell_refusal};
+use crate::telling::{tell, tell_refusal};
 use crate::type_words::place_of;
-use ir_base_dialects::{CoreError, TypeHandle, TypeId};
+use ir_base_dialects::{CoreError, TypeHandle};
 use ir_view_parts::{Context, TypeQueries};
 use ir_view_types::{IrType, type_impls, type_impls_static};
 use std::alloc::Global;
-use testkit_lab::{Lab, TextError, count, one, tell_condition, two};
+use testkit_lab::{Lab, Reply, TextError, count, one, tell_condition, two};
 use testkit_small_dialect::{
     CompoundInterface, ListedType, PairType, SizedInterface, SizedType, Small, SmallType,
 };
@@ -25,20 +25,13 @@ use testkit_small_dialect::{
 pub(crate) fn answer(lab: &mut Lab, call: &str, rest: &str) -> Result<(), TextError> {
     match call {
         "begin" => begin(lab),
-        "instantiate" | "again" => instantiate(lab, rest),
-        "instantiate_key" => instantiate_key(lab, rest),
-        "get_self_handle" => get_self_handle(lab, rest),
-        "read" => read(lab, rest),
+        "read" | "shown" => at_place(lab, call, rest),
         "set_body" => set_body(lab, rest),
-        "impls" => impls(lab, rest),
-        "type_id" => type_id(lab, rest),
         "static_type_id" => static_type_id(lab, rest),
-        "shown" => handles::shown(lab, rest),
-        "turn" => handles::turn(lab, rest),
+        "turn" | "keep" => handles::answer(lab, call, rest),
         "compare" => handles::compare(lab, rest),
-        "keep" => handles::keep(lab, rest),
         "kept" => handles::kept(lab, rest),
-        _ => Err(TextError::Malformed),
+        _ => of_type(lab, call, rest),
     }
 }
 
@@ -82,13 +75,52 @@ fn numbered(kind: &str, number: &str) -> Result<SmallType, TextError> {
 fn begin(lab: &mut Lab) -> Result<(), TextError> {
     let alloc = lab.alloc();
     lab.small.begin(alloc)?;
-    tell_done(&mut lab.text)
+    lab.text.say("done");
+    Ok(())
+}
+
+// The type of the only field.
+fn only_type(rest: &str) -> Result<SmallType, TextError> {
+    type_of(one(rest)?)
+}
+
+// The words that are given a type.
+fn of_type(lab: &mut Lab, call: &str, rest: &str) -> Result<(), TextError> {
+    let ty = only_type(rest)?;
+    match call {
+        "instantiate_key" => {
+            let stored = lab.small.context.instantiate_key(ty);
+            tell_stored(&mut lab.text, stored);
+        }
+        _ => of_own(&mut lab.text, &mut lab.small.context, call, ty),
+    }
+    Ok(())
+}
+
+// Those that are given a type of its own.
+fn of_own(text: &mut Reply, ctx: &mut Context<Small>, call: &str, ty: SmallType) {
+    match ty {
+        SmallType::Sized(ty) => of_kind(text, ctx, call, ty),
+        SmallType::Listed(ty) => of_kind(text, ctx, call, ty),
+        SmallType::Pair(ty) => of_kind(text, ctx, call, ty),
+        SmallType::Bare(_) => text.fail(TextError::Malformed),
+    }
+}
+
+fn of_kind<T: IrType<Small> + Drop>(text: &mut Reply, ctx: &mut Context<Small>, call: &str, ty: T) {
+    match call {
+        "instantiate" | "again" => tell_stored(text, store(ctx, ty)),
+        "get_self_handle" => text.show("", place_of(ty.get_self_handle(ctx))),
+        "impls" => tell_impls(text, questions(ty)),
+        "type_id" => tell(text, ty.get_type_id(ctx.alloc())),
+        _ => text.fail(TextError::Malformed),
+    }
 }
 
 // Writes where a type is stored.
-fn tell_stored(text: &mut String, stored: Result<TypeHandle, CoreError>) -> Result<(), TextError> {
+fn tell_stored(text: &mut Reply, stored: Result<TypeHandle, CoreError>) {
     match stored {
-        Ok(ty) => Ok(write!(text, "made {}", ty.index())?),
+        Ok(ty) => text.show("made ", ty.index()),
         Err(error) => tell_refusal(text, error),
     }
 }
@@ -96,74 +128,6 @@ fn tell_stored(text: &mut String, stored: Result<TypeHandle, CoreError>) -> Resu
 // Stores a type of its own.
 fn store<T: IrType<Small>>(ctx: &mut Context<Small>, ty: T) -> Result<TypeHandle, CoreError> {
     Ok(ty.instantiate(ctx)?.to_handle())
-}
-
-fn instantiate(lab: &mut Lab, rest: &str) -> Result<(), TextError> {
-    let ctx = &mut lab.small.context;
-    let stored = match type_of(one(rest)?)? {
-        SmallType::Sized(ty) => store(ctx, ty),
-        SmallType::Listed(ty) => store(ctx, ty),
-        SmallType::Pair(ty) => store(ctx, ty),
-        SmallType::Bare(_) => return Err(TextError::Malformed),
-    };
-    tell_stored(&mut lab.text, stored)
-}
-
-fn instantiate_key(lab: &mut Lab, rest: &str) -> Result<(), TextError> {
-    let key = type_of(one(rest)?)?;
-    let stored = lab.small.context.instantiate_key(key);
-    tell_stored(&mut lab.text, stored)
-}
-
-fn get_self_handle(lab: &mut Lab, rest: &str) -> Result<(), TextError> {
-    let ctx = &lab.small.context;
-    let found = match type_of(one(rest)?)? {
-        SmallType::Sized(ty) => ty.get_self_handle(ctx),
-        SmallType::Listed(ty) => ty.get_self_handle(ctx),
-        SmallType::Pair(ty) => ty.get_self_handle(ctx),
-        SmallType::Bare(_) => return Err(TextError::Malformed),
-    };
-    Ok(write!(lab.text, "{}", place_of(found))?)
-}
-
-fn read(lab: &mut Lab, rest: &str) -> Result<(), TextError> {
-    let ty = type_at(one(rest)?)?;
-    tell_type(&mut lab.text, &lab.small.context, ty)
-}
-
-// Writes what is told of a type.
-fn tell_type(text: &mut String, ctx: &Context<Small>, ty: TypeHandle) -> Result<(), TextError> {
-    let place = ty.index();
-    let there = place_of(ctx.type_at(place));
-    if !ty.is_known(ctx) {
-        return Ok(write!(text, "place {place} known false at {there}")?);
-    }
-    let body = place_of(*ty.body(ctx));
-    let key = ty.deref(ctx);
-    write!(
-        text,
-        "place {place} known true at {there} body {body} key {key:?}"
-    )?;
-    handles::tell_handles(text, ctx, ty)
-}
-
-// The body of this text.
-fn body_of(text: &str) -> Result<Option<TypeHandle>, TextError> {
-    match text {
-        "-" => Ok(None),
-        _ => Ok(Some(type_at(text)?)),
-    }
-}
-
-fn set_body(lab: &mut Lab, rest: &str) -> Result<(), TextError> {
-    let (ty, body) = two(rest)?;
-    let ty = type_at(ty)?;
-    let body = body_of(body)?;
-    if !ty.is_known(&lab.small.context) {
-        return tell_condition(&mut lab.text);
-    }
-    ty.set_body(&mut lab.small.context, body);
-    tell_done(&mut lab.text)
 }
 
 // Whether a type's kind implements the interfaces: asked of the type, and of its key; and whether the key gives the type back.
@@ -180,42 +144,80 @@ fn questions<T: IrType<Small>>(ty: T) -> [bool; 5] {
     ]
 }
 
-fn impls(lab: &mut Lab, rest: &str) -> Result<(), TextError> {
-    let answers = match type_of(one(rest)?)? {
-        SmallType::Sized(ty) => questions(ty),
-        SmallType::Listed(ty) => questions(ty),
-        SmallType::Pair(ty) => questions(ty),
-        SmallType::Bare(_) => return Err(TextError::Malformed),
-    };
+// Writes the five answers.
+fn tell_impls(text: &mut Reply, answers: [bool; 5]) {
     let [sized, compound, sized_key, compound_key, given_back] = answers;
-    Ok(write!(
-        lab.text,
-        "sized {sized} compound {compound} key {sized_key} {compound_key} back {given_back}"
-    )?)
+    text.show("sized ", sized);
+    text.show(" compound ", compound);
+    text.show(" key ", sized_key);
+    text.show(" ", compound_key);
+    text.show(" back ", given_back);
 }
 
-fn type_id(lab: &mut Lab, rest: &str) -> Result<(), TextError> {
-    let alloc = lab.alloc();
-    let id = match type_of(one(rest)?)? {
-        SmallType::Sized(ty) => ty.get_type_id(alloc),
-        SmallType::Listed(ty) => ty.get_type_id(alloc),
-        SmallType::Pair(ty) => ty.get_type_id(alloc),
-        SmallType::Bare(_) => return Err(TextError::Malformed),
-    };
-    tell(&mut lab.text, id)
+// The type at the place of the only field.
+fn only_place(rest: &str) -> Result<TypeHandle, TextError> {
+    type_at(one(rest)?)
 }
 
-// The id of the type of a text, by the type alone.
-fn static_id(alloc: Global, text: &str) -> Result<Result<TypeId, CoreError>, TextError> {
-    match text {
-        "sized" => Ok(SizedType::get_type_id_static(alloc)),
-        "listed" => Ok(ListedType::get_type_id_static(alloc)),
-        "pair" => Ok(PairType::get_type_id_static(alloc)),
-        _ => Err(TextError::Malformed),
+// The words that are given a place.
+fn at_place(lab: &mut Lab, call: &str, rest: &str) -> Result<(), TextError> {
+    let ty = only_place(rest)?;
+    match call {
+        "read" => tell_type(&mut lab.text, &lab.small.context, ty),
+        _ => handles::show_faults(&mut lab.text, &lab.small.context, ty),
+    }
+    Ok(())
+}
+
+// Writes what is told of a type.
+fn tell_type(text: &mut Reply, ctx: &Context<Small>, ty: TypeHandle) {
+    text.show("place ", ty.index());
+    text.show(" known ", ty.is_known(ctx));
+    text.show(" at ", place_of(ctx.type_at(ty.index())));
+    if ty.is_known(ctx) {
+        let body = *ty.body(ctx);
+        let key = ty.deref(ctx);
+        text.show(" body ", place_of(body));
+        text.say(" key ");
+        text.debug(key);
+        handles::tell_handles(text, ctx, ty);
     }
 }
 
+// The type and the body of two fields.
+fn type_and_body(rest: &str) -> Result<(TypeHandle, Option<TypeHandle>), TextError> {
+    let (ty, body) = two(rest)?;
+    let ty = type_at(ty)?;
+    match body {
+        "-" => Ok((ty, None)),
+        _ => Ok((ty, Some(type_at(body)?))),
+    }
+}
+
+fn set_body(lab: &mut Lab, rest: &str) -> Result<(), TextError> {
+    let (ty, body) = type_and_body(rest)?;
+    if ty.is_known(&lab.small.context) {
+        ty.set_body(&mut lab.small.context, body);
+        lab.text.say("done");
+    } else {
+        tell_condition(&mut lab.text);
+    }
+    Ok(())
+}
+
 fn static_type_id(lab: &mut Lab, rest: &str) -> Result<(), TextError> {
-    let id = static_id(lab.alloc(), one(rest)?)?;
-    tell(&mut lab.text, id)
+    let kind = one(rest)?;
+    let alloc = lab.alloc();
+    tell_static_id(&mut lab.text, alloc, kind);
+    Ok(())
+}
+
+// Writes the id of the types of a kind, by the kind alone.
+fn tell_static_id(text: &mut Reply, alloc: Global, kind: &str) {
+    match kind {
+        "sized" => tell(text, SizedType::get_type_id_static(alloc)),
+        "listed" => tell(text, ListedType::get_type_id_static(alloc)),
+        "pair" => tell(text, PairType::get_type_id_static(alloc)),
+        _ => text.fail(TextError::Malformed),
+    }
 }

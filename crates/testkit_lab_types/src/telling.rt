@@ -4,7 +4,7 @@ use ir_base_dialects::CoreError;
 use ir_checked_core::CheckedErr;
 use std::fmt;
 use std::fmt::{Display, Formatter, Write};
-use testkit_lab::{TextError, tell_refused};
+use testkit_lab::{Reply, TextError, tell_refused};
 
 /// Something, or `-` where there is none.
 #[derive(Drop)]
@@ -19,31 +19,36 @@ impl<T: Display> Display for Maybe<T> {
     }
 }
 
-/// Writes that something is done.
-pub(crate) fn tell_done(text: &mut String) -> Result<(), TextError> {
-    Ok(text.push_str("done")?)
-}
-
 /// Writes why a call was refused.
-pub(crate) fn tell_refusal(text: &mut String, error: CoreError) -> Result<(), TextError> {
-    tell_refused(text, CheckedErr::Core(error))
+pub(crate) fn tell_refusal(text: &mut Reply, error: CoreError) {
+    tell_refused(text, CheckedErr::Core(error));
 }
 
 /// Writes what a call answers that may be refused.
-pub(crate) fn tell<T: Display + Drop>(
-    text: &mut String,
-    answer: Result<T, CoreError>,
-) -> Result<(), TextError> {
+pub(crate) fn tell<T: Display + Drop>(text: &mut Reply, answer: Result<T, CoreError>) {
     match answer {
-        Ok(told) => Ok(write!(text, "{told}")?),
+        Ok(told) => text.show("", told),
         Err(error) => tell_refusal(text, error),
     }
 }
 
 /// Writes how a call ends that answers nothing.
-pub(crate) fn tell_end(text: &mut String, ended: Result<(), CoreError>) -> Result<(), TextError> {
+pub(crate) fn tell_end(text: &mut Reply, ended: Result<(), CoreError>) {
     match ended {
-        Ok(()) => tell_done(text),
+        Ok(()) => text.say("done"),
         Err(error) => tell_refusal(text, error),
+    }
+}
+
+/// Writes that something is done, or `-` where there is nothing to which it could be.
+pub(crate) fn tell_whether(text: &mut Reply, is_done: bool) {
+    text.say(if is_done { "done" } else { "-" });
+}
+
+/// Enters what was made behind the others, and writes its name, which begins so.
+pub(crate) fn enter<T: Copy + Drop>(text: &mut Reply, name: &str, table: &mut Vec<T>, made: T) {
+    text.show(name, table.len());
+    if table.push(made).is_err() {
+        text.fail(TextError::OutOfMemory);
     }
 }

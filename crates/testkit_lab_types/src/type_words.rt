@@ -6,28 +6,25 @@
 //! - `of_value v0`, `of_owned v0`, `of_operand o0 AT`, `of_type t0`: the type of what has one, and of what lends or owns it.
 //! - `clone_signature PLACES PLACES`: whether a copy of the signature with these arguments and results is equal to it, hashes equally, and differs from the signature with both exchanged.
 
-use crate::telling::{Maybe, tell, tell_done, tell_refusal};
-use ir_base_dialects::{CoreError, Dialects, TypeHandle};
-use ir_view_parts::{Context, OperationPtr, TypeQueries, Use, UseQueries, Value, ValueQueries};
+use crate::telling::{Maybe, tell, tell_refusal};
+use ir_base_dialects::{CoreError, Dialects, Ptr, TypeHandle};
+use ir_view_parts::{
+    Context, Operation, OperationPtr, TypeQueries, Use, UseQueries, Value, ValueQueries,
+};
 use ir_view_types::{TypeSig, Typed};
 use std::alloc::Global;
 use std::hash::{DefaultHasher, Hash, Hasher};
-use testkit_lab::{Lab, TextError, asked, count, one, tell_condition, two};
+use testkit_lab::{
+    Item, Items, Lab, Reply, TextError, asked, count, items_of, tell_condition, two,
+};
 use toy_dialect::{Toy, ToyType};
 
 /// Answers a word.
 pub(crate) fn answer(lab: &mut Lab, call: &str, rest: &str) -> Result<(), TextError> {
     match call {
-        "read" => read(lab, rest),
-        "at" => at(lab, rest),
-        "find_type" => find_type(lab, rest),
         "set_body" => set_body(lab, rest),
-        "of_value" => of_value(lab, rest),
-        "of_owned" => of_owned(lab, rest),
-        "of_operand" => of_operand(lab, rest),
-        "of_type" => of_type(lab, rest),
         "clone_signature" => clone_signature(lab, rest),
-        _ => Err(TextError::Malformed),
+        _ => answer_of(lab, call, rest),
     }
 }
 
@@ -39,74 +36,108 @@ pub(crate) fn place_of(ty: Option<TypeHandle>) -> Maybe<usize> {
     }
 }
 
-fn read(lab: &mut Lab, rest: &str) -> Result<(), TextError> {
-    let ty = lab.ty(one(rest)?)?;
-    tell_type(
-        &mut lab.text,
-        asked(lab.mode, &lab.session, &lab.context),
-        ty,
-    )
+// The words whose fields are items.
+fn answer_of(lab: &mut Lab, call: &str, rest: &str) -> Result<(), TextError> {
+    let items = items_of(lab, rest)?;
+    match items {
+        Items::One(Item::Type(ty)) => of_known(lab, call, ty),
+        _ => ask(
+            &mut lab.text,
+            asked(lab.mode, &lab.session, &lab.context),
+            call,
+            items,
+        ),
+    }
+    Ok(())
 }
 
-fn at(lab: &mut Lab, rest: &str) -> Result<(), TextError> {
-    let ty = TypeHandle::at(count(one(rest)?)?);
-    tell_type(
-        &mut lab.text,
-        asked(lab.mode, &lab.session, &lab.context),
-        ty,
-    )
+// Those that are given the name of a type.
+fn of_known(lab: &mut Lab, call: &str, ty: TypeHandle) {
+    match call {
+        "read" => tell_type(
+            &mut lab.text,
+            asked(lab.mode, &lab.session, &lab.context),
+            ty,
+        ),
+        "of_type" => of_type(lab, ty),
+        _ => lab.text.fail(TextError::Malformed),
+    }
+}
+
+// Those that are given something else.
+fn ask(text: &mut Reply, ctx: &Context<Toy>, call: &str, items: Items) {
+    match items {
+        Items::One(Item::Number(number)) => of_number(text, ctx, call, number),
+        Items::One(Item::Value(value)) => of_value(text, ctx, call, value),
+        Items::Two(Item::Op(op), Item::Number(at)) => of_operand(text, ctx, call, op, at),
+        _ => text.fail(TextError::Malformed),
+    }
+}
+
+fn of_number(text: &mut Reply, ctx: &Context<Toy>, call: &str, number: usize) {
+    match call {
+        "at" => tell_type(text, ctx, TypeHandle::at(number)),
+        "find_type" => find_type(text, ctx, number),
+        _ => text.fail(TextError::Malformed),
+    }
+}
+
+fn of_value(text: &mut Reply, ctx: &Context<Toy>, call: &str, value: Value<Toy>) {
+    match call {
+        "of_value" => tell_lent(text, value_types(ctx, value)),
+        "of_owned" => tell(text, owned_type(ctx, value)),
+        _ => text.fail(TextError::Malformed),
+    }
 }
 
 // Writes what is told of a type.
-fn tell_type(text: &mut String, ctx: &Context<Toy>, ty: TypeHandle) -> Result<(), TextError> {
-    let place = ty.index();
-    let there = place_of(ctx.type_at(place));
-    if !ty.is_known(ctx) {
-        return Ok(write!(text, "place {place} known false at {there}")?);
+fn tell_type(text: &mut Reply, ctx: &Context<Toy>, ty: TypeHandle) {
+    text.show("place ", ty.index());
+    text.show(" known ", ty.is_known(ctx));
+    text.show(" at ", place_of(ctx.type_at(ty.index())));
+    if ty.is_known(ctx) {
+        let body = *ty.body(ctx);
+        let key = ty.deref(ctx);
+        text.show(" found ", place_of(ctx.find_type(key)));
+        text.show(" body ", place_of(body));
+        tell_key(text, key);
     }
-    let body = place_of(*ty.body(ctx));
-    let key = ty.deref(ctx);
-    let found = place_of(ctx.find_type(key));
-    write!(
-        text,
-        "place {place} known true at {there} found {found} body {body} key "
-    )?;
-    tell_key(text, key)
 }
 
 // Writes the key of a type.
-fn tell_key(text: &mut String, key: &ToyType) -> Result<(), TextError> {
+fn tell_key(text: &mut Reply, key: &ToyType) {
     match key {
-        ToyType::Int { width } => Ok(write!(text, "i{width}")?),
-        ToyType::Named(name) => Ok(write!(text, "{name}")?),
+        ToyType::Int { width } => text.show(" key i", width),
+        ToyType::Named(name) => text.show(" key ", name),
     }
 }
 
-fn find_type(lab: &mut Lab, rest: &str) -> Result<(), TextError> {
-    let Ok(width) = one(rest)?.parse() else {
-        return Err(TextError::Malformed);
-    };
-    let found = place_of(lab.ctx().find_type(&ToyType::Int { width }));
-    Ok(write!(lab.text, "{found}")?)
+fn find_type(text: &mut Reply, ctx: &Context<Toy>, width: usize) {
+    match u32::try_from(width) {
+        Ok(width) => text.show("", place_of(ctx.find_type(&ToyType::Int { width }))),
+        Err(_) => text.fail(TextError::Malformed),
+    }
 }
 
-// The body of this name.
-fn body_of(lab: &Lab, name: &str) -> Result<Option<TypeHandle>, TextError> {
-    match name {
-        "-" => Ok(None),
-        _ => Ok(Some(lab.ty(name)?)),
+// The type and the body of two fields.
+fn type_and_body(lab: &Lab, rest: &str) -> Result<(TypeHandle, Option<TypeHandle>), TextError> {
+    let (ty, body) = two(rest)?;
+    let ty = lab.ty(ty)?;
+    match body {
+        "-" => Ok((ty, None)),
+        _ => Ok((ty, Some(lab.ty(body)?))),
     }
 }
 
 fn set_body(lab: &mut Lab, rest: &str) -> Result<(), TextError> {
-    let (ty, body) = two(rest)?;
-    let ty = lab.ty(ty)?;
-    let body = body_of(lab, body)?;
-    if !ty.is_known(&lab.context) {
-        return tell_condition(&mut lab.text);
+    let (ty, body) = type_and_body(lab, rest)?;
+    if ty.is_known(&lab.context) {
+        ty.set_body(&mut lab.context, body);
+        lab.text.say("done");
+    } else {
+        tell_condition(&mut lab.text);
     }
-    ty.set_body(&mut lab.context, body);
-    tell_done(&mut lab.text)
+    Ok(())
 }
 
 // The place of the type of what is live, or known.
@@ -116,11 +147,14 @@ fn type_of<D: Dialects, T: Typed<D>>(ctx: &Context<D>, item: &T) -> usize
     item.get_type(ctx).index()
 }
 
-fn of_value(lab: &mut Lab, rest: &str) -> Result<(), TextError> {
-    let value = lab.value(one(rest)?)?;
-    match value_types(lab.ctx(), value) {
-        Some((place, lent)) => Ok(write!(lab.text, "{place} lent {lent}")?),
-        None => tell_condition(&mut lab.text),
+// Writes the places of both types.
+fn tell_lent(text: &mut Reply, places: Option<(usize, usize)>) {
+    match places {
+        Some((place, lent)) => {
+            text.show("", place);
+            text.show(" lent ", lent);
+        }
+        None => tell_condition(text),
     }
 }
 
@@ -132,12 +166,6 @@ fn value_types(ctx: &Context<Toy>, value: Value<Toy>) -> Option<(usize, usize)> 
     Some((type_of(ctx, &value), type_of(ctx, &&value)))
 }
 
-fn of_owned(lab: &mut Lab, rest: &str) -> Result<(), TextError> {
-    let value = lab.value(one(rest)?)?;
-    let place = owned_type(lab.ctx(), value);
-    tell(&mut lab.text, place)
-}
-
 // The place of the type of a box with a live value.
 fn owned_type(ctx: &Context<Toy>, value: Value<Toy>) -> Result<Maybe<usize>, CoreError> {
     let owned = Box::new(ctx.alloc(), value)?;
@@ -147,21 +175,31 @@ fn owned_type(ctx: &Context<Toy>, value: Value<Toy>) -> Result<Maybe<usize>, Cor
     Ok(Maybe(Some(type_of(ctx, &owned))))
 }
 
-fn of_operand(lab: &mut Lab, rest: &str) -> Result<(), TextError> {
-    let (op, at) = two(rest)?;
-    let op = lab.op(op)?;
-    let at = count(at)?;
-    let place = match op.try_deref(lab.ctx()) {
+fn of_operand(
+    text: &mut Reply,
+    ctx: &Context<Toy>,
+    call: &str,
+    op: Ptr<Operation<Toy>>,
+    at: usize,
+) {
+    match call {
+        "of_operand" => text.show("", Maybe(operand_type(ctx, op, at))),
+        _ => text.fail(TextError::Malformed),
+    }
+}
+
+// The place of the type of an operand of a live operation.
+fn operand_type(ctx: &Context<Toy>, op: Ptr<Operation<Toy>>, at: usize) -> Option<usize> {
+    match op.try_deref(ctx) {
         Ok(record) => {
             if at < record.get_num_operands() {
-                use_type(lab.ctx(), record.get_operand_as_use(at))
+                use_type(ctx, record.get_operand_as_use(at))
             } else {
                 None
             }
         }
         Err(_) => None,
-    };
-    Ok(write!(lab.text, "{}", Maybe(place))?)
+    }
 }
 
 // The place of the type of a use that an operation has.
@@ -172,12 +210,21 @@ fn use_type(ctx: &Context<Toy>, used: Use<Value<Toy>>) -> Option<usize> {
     Some(type_of(ctx, &used))
 }
 
-fn of_type(lab: &mut Lab, rest: &str) -> Result<(), TextError> {
-    let ty = lab.ty(one(rest)?)?;
+fn of_type(lab: &mut Lab, ty: TypeHandle) {
     *lab.beside.held = ty;
-    match type_types(lab.ctx(), ty, &lab.beside.held) {
-        Some((place, lent, boxed)) => { Ok(write!(lab.text, "{place} lent {lent} boxed {boxed}")?) }
-        None => tell_condition(&mut lab.text),
+    let places = type_types(lab.ctx(), ty, &lab.beside.held);
+    tell_boxed(&mut lab.text, places);
+}
+
+// Writes the places of the three types.
+fn tell_boxed(text: &mut Reply, places: Option<(usize, usize, usize)>) {
+    match places {
+        Some((place, lent, boxed)) => {
+            text.show("", place);
+            text.show(" lent ", lent);
+            text.show(" boxed ", boxed);
+        }
+        None => tell_condition(text),
     }
 }
 
@@ -200,16 +247,17 @@ fn type_types(
 }
 
 fn clone_signature(lab: &mut Lab, rest: &str) -> Result<(), TextError> {
-    let alloc = lab.alloc();
+    let signature = signature_of(lab.alloc(), rest)?;
+    tell_copy(&mut lab.text, compare_copy(signature));
+    Ok(())
+}
+
+// The signature of two fields.
+fn signature_of(alloc: Global, rest: &str) -> Result<TypeSig, TextError> {
     let (arguments, results) = two(rest)?;
     let arguments = places(alloc, arguments)?;
     let results = places(alloc, results)?;
-    match compare_copy(TypeSig { arguments, results }) {
-        Ok((equal, hash, turned)) => {
-            Ok(write!(lab.text, "equal {equal} hash {hash} turned {turned}")?)
-        }
-        Err(error) => tell_refusal(&mut lab.text, error),
-    }
+    Ok(TypeSig { arguments, results })
 }
 
 // The types at these places.
@@ -238,4 +286,16 @@ fn compare_copy(signature: TypeSig) -> Result<(bool, bool, bool), CoreError> {
         results: copy.arguments,
     };
     Ok((equal, hash, turned == signature))
+}
+
+// Writes the three answers.
+fn tell_copy(text: &mut Reply, compared: Result<(bool, bool, bool), CoreError>) {
+    match compared {
+        Ok((equal, hash, turned)) => {
+            text.show("equal ", equal);
+            text.show(" hash ", hash);
+            text.show(" turned ", turned);
+        }
+        Err(error) => tell_refusal(text, error),
+    }
 }

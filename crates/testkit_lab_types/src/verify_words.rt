@@ -7,12 +7,13 @@
 
 use crate::attr_calls::attribute_of;
 use ir_verify_checks::{Verifiers, VerifyErr, verify_attr};
-use testkit_lab::{Lab, TextError, one, tell_condition};
+use ir_view_parts::Context;
+use testkit_lab::{Item, Items, Lab, Reply, TextError, items_of, one, tell_condition};
 use testkit_small_dialect::{
     block_found, op_found, op_found_by_call, op_found_with_kind, region_found, type_found,
     type_found_by_call, value_found,
 };
-use toy_dialect::Toy;
+use toy_dialect::{Toy, ToyAttr};
 
 // What is found, or none where the root isn't there.
 type Found = Option<Result<(), VerifyErr>>;
@@ -24,43 +25,61 @@ pub(crate) fn answer<V: Verifiers<Toy>>(
     rest: &str,
     verifiers: &V,
 ) -> Result<(), TextError> {
-    let found = found_by(lab, call, one(rest)?, verifiers)?;
-    tell_found(&mut lab.text, found)
+    let found = found_by(lab, call, rest, verifiers)?;
+    tell_found(&mut lab.text, found);
+    Ok(())
 }
 
 /// Writes what is found.
-pub(crate) fn tell_found(text: &mut String, found: Found) -> Result<(), TextError> {
+pub(crate) fn tell_found(text: &mut Reply, found: Found) {
     match found {
-        Some(Ok(())) => Ok(text.push_str("ok")?),
-        Some(Err(VerifyErr::OutOfMemory)) => Ok(text.push_str("refused memory")?),
-        Some(Err(fault)) => Ok(write!(text, "{fault}")?),
+        Some(Ok(())) => text.say("ok"),
+        Some(Err(VerifyErr::OutOfMemory)) => text.say("refused memory"),
+        Some(Err(fault)) => text.show("", fault),
         None => tell_condition(text),
     }
 }
 
-// What a call finds at what has the name.
+// What a call finds.
 fn found_by<V: Verifiers<Toy>>(
     lab: &Lab,
     call: &str,
-    name: &str,
+    rest: &str,
     verifiers: &V,
 ) -> Result<Found, TextError> {
     match call {
-        "op" => Ok(op_found(lab.ctx(), lab.op(name)?, verifiers)),
-        "verify_operation" => Ok(op_found_by_call(lab.ctx(), lab.op(name)?, verifiers)),
-        "verify_op" => Ok(op_found_with_kind(lab.ctx(), lab.op(name)?, verifiers)),
-        "block" => Ok(block_found(lab.ctx(), lab.block(name)?, verifiers)),
-        "region" => Ok(region_found(lab.ctx(), lab.region(name)?, verifiers)),
-        "value" => Ok(value_found(lab.ctx(), lab.value(name)?, verifiers)),
-        "type" => Ok(type_found(lab.ctx(), lab.ty(name)?, verifiers)),
-        "verify_type" => Ok(type_found_by_call(lab.ctx(), lab.ty(name)?, verifiers)),
-        "verify_attr" => attribute(lab, name, verifiers),
-        _ => Err(TextError::Malformed),
+        "verify_attr" => {
+            let attr = attribute(lab, rest)?;
+            Ok(Some(verify_attr(&attr, lab.ctx(), verifiers)))
+        }
+        _ => {
+            let items = items_of(lab, rest)?;
+            found_at(lab.ctx(), call, items, verifiers)
+        }
     }
 }
 
-// What is found at an attribute.
-fn attribute<V: Verifiers<Toy>>(lab: &Lab, text: &str, verifiers: &V) -> Result<Found, TextError> {
-    let attr = attribute_of(lab.alloc(), text)?;
-    Ok(Some(verify_attr(&attr, lab.ctx(), verifiers)))
+// The attribute that is the only field.
+fn attribute(lab: &Lab, rest: &str) -> Result<ToyAttr, TextError> {
+    attribute_of(lab.alloc(), one(rest)?)
+}
+
+// What a call finds at what has a name.
+fn found_at<V: Verifiers<Toy>>(
+    ctx: &Context<Toy>,
+    call: &str,
+    items: Items,
+    verifiers: &V,
+) -> Result<Found, TextError> {
+    match (call, items) {
+        ("op", Items::One(Item::Op(op))) => Ok(op_found(ctx, op, verifiers)),
+        ("verify_operation", Items::One(Item::Op(op))) => Ok(op_found_by_call(ctx, op, verifiers)),
+        ("verify_op", Items::One(Item::Op(op))) => Ok(op_found_with_kind(ctx, op, verifiers)),
+        ("block", Items::One(Item::Block(block))) => Ok(block_found(ctx, block, verifiers)),
+        ("region", Items::One(Item::Region(region))) => Ok(region_found(ctx, region, verifiers)),
+        ("value", Items::One(Item::Value(value))) => Ok(value_found(ctx, value, verifiers)),
+        ("type", Items::One(Item::Type(ty))) => Ok(type_found(ctx, ty, verifiers)),
+        ("verify_type", Items::One(Item::Type(ty))) => Ok(type_found_by_call(ctx, ty, verifiers)),
+        _ => Err(TextError::Malformed),
+    }
 }

@@ -14,23 +14,56 @@ use ir_base_dialects::interfaces::{IsTerminatorInterface, PureOpInterface};
 use ir_view_parts::{
     Context, Op, OpObj, Operation, OperationKind, OperationPtr, op_impls, op_impls_static,
 };
-use testkit_lab::{Constant, Lab, Line, Return, TextError, asked, one, tell_condition, two};
+use testkit_lab::{
+    Constant, Item, Items, Lab, Line, Reply, Return, TextError, asked, items_of, tell_condition,
+};
 use toy_dialect::Toy;
 
 /// Answers a word.
 pub(crate) fn answer(lab: &mut Lab, call: &str, rest: &str) -> Result<(), TextError> {
     match call {
-        "read" => read(lab, rest),
-        "constant" => pair::<Constant>(lab, rest),
-        "return" => pair::<Return>(lab, rest),
-        "kinds" => kinds(lab),
-        "compare" => compare(lab, rest),
-        "loc" => loc(lab, rest),
-        "get_opid" => get_opid(lab, rest),
-        "constant_id" => id_by::<Constant>(lab, rest),
-        "return_id" => id_by::<Return>(lab, rest),
-        "static_id" => static_id(lab),
-        _ => Err(TextError::Malformed),
+        "kinds" => {
+            tell_kinds(&mut lab.text);
+            Ok(())
+        }
+        "static_id" => {
+            let id = Constant::get_opid_static(lab.alloc());
+            tell(&mut lab.text, id);
+            Ok(())
+        }
+        _ => answer_of(lab, call, rest),
+    }
+}
+
+// The words whose fields are operations.
+fn answer_of(lab: &mut Lab, call: &str, rest: &str) -> Result<(), TextError> {
+    let items = items_of(lab, rest)?;
+    let ctx = asked(lab.mode, &lab.session, &lab.context);
+    match items {
+        Items::One(Item::Op(op)) => ask(&mut lab.text, ctx, call, op),
+        Items::Two(Item::Op(op), Item::Op(other)) => ask_both(&mut lab.text, call, op, other),
+        _ => lab.text.fail(TextError::Malformed),
+    }
+    Ok(())
+}
+
+fn ask(text: &mut Reply, ctx: &Context<Toy>, call: &str, op: Ptr<Operation<Toy>>) {
+    match call {
+        "read" => read(text, ctx, op),
+        "constant" => tell_object(text, op, pair_of::<Constant>(op)),
+        "return" => tell_object(text, op, pair_of::<Return>(op)),
+        "loc" => loc(text, ctx, op),
+        "get_opid" => get_opid(text, ctx, op),
+        "constant_id" => tell(text, Constant::from_operation(op).get_opid(ctx.alloc())),
+        "return_id" => tell(text, Return::from_operation(op).get_opid(ctx.alloc())),
+        _ => text.fail(TextError::Malformed),
+    }
+}
+
+fn ask_both(text: &mut Reply, call: &str, op: Ptr<Operation<Toy>>, other: Ptr<Operation<Toy>>) {
+    match call {
+        "compare" => compare(text, op, other),
+        _ => text.fail(TextError::Malformed),
     }
 }
 
@@ -42,21 +75,32 @@ fn wraps<T: Op<Toy> + Drop>(given: Option<T>, op: Ptr<Operation<Toy>>) -> Maybe<
     }
 }
 
-fn read(lab: &mut Lab, rest: &str) -> Result<(), TextError> {
-    let op = lab.op(one(rest)?)?;
-    let ctx = asked(lab.mode, &lab.session, &lab.context);
-    if !op.is_live(ctx) {
-        return tell_condition(&mut lab.text);
+fn read(text: &mut Reply, ctx: &Context<Toy>, op: Ptr<Operation<Toy>>) {
+    if op.is_live(ctx) {
+        tell_pair(text, op, op.get_op_dyn(ctx));
+        tell_under::<Constant>(text, ctx, " constant ", op);
+        tell_under::<Return>(text, ctx, " return ", op);
+    } else {
+        tell_condition(text);
     }
-    let pair = op.get_op_dyn(ctx);
-    let kind = pair.kind();
-    let itself = pair.get_operation() == op;
-    let (is_constant, constant) = under::<Constant>(ctx, op);
-    let (is_return, last) = under::<Return>(ctx, op);
-    Ok(write!(
-        lab.text,
-        "kind {kind} itself {itself} constant {is_constant} {constant} return {is_return} {last}"
-    )?)
+}
+
+// Writes the kind that an operation has with it, and whether that gives the operation.
+fn tell_pair(text: &mut Reply, op: Ptr<Operation<Toy>>, pair: OpObj<Toy>) {
+    text.show("kind ", pair.kind());
+    text.show(" itself ", pair.get_operation() == op);
+}
+
+// Writes whether an operation is of the type's kind, and whether it gives itself under it.
+fn tell_under<T: Op<Toy> + Drop>(
+    text: &mut Reply,
+    ctx: &Context<Toy>,
+    name: &str,
+    op: Ptr<Operation<Toy>>,
+) {
+    let (is_kind, itself) = under::<T>(ctx, op);
+    text.show(name, is_kind);
+    text.show(" ", itself);
 }
 
 // Whether an operation is of the type's kind, and whether it gives itself under it.
@@ -72,75 +116,49 @@ fn pair_of<T: Op<Toy> + Drop>(op: Ptr<Operation<Toy>>) -> OpObj<Toy> {
     OpObj::new(T::from_operation(op))
 }
 
-fn pair<T: Op<Toy> + Drop>(lab: &mut Lab, rest: &str) -> Result<(), TextError> {
-    let op = lab.op(one(rest)?)?;
-    let pair = pair_of::<T>(op);
-    let kind = pair.kind();
-    let itself = pair.get_operation() == op;
-    let constant = wraps(pair.downcast::<Constant>(), op);
-    let last = wraps(pair.downcast::<Return>(), op);
-    let ends = op_impls::<IsTerminatorInterface, Toy>(pair);
-    let pure = op_impls::<PureOpInterface, Toy>(pair);
-    Ok(write!(
-        lab.text,
-        "kind {kind} itself {itself} constant {constant} return {last} ends {ends} pure {pure}"
-    )?)
+// Writes what an operation with a kind tells of itself.
+fn tell_object(text: &mut Reply, op: Ptr<Operation<Toy>>, pair: OpObj<Toy>) {
+    tell_pair(text, op, pair);
+    text.show(" constant ", wraps(pair.downcast::<Constant>(), op));
+    text.show(" return ", wraps(pair.downcast::<Return>(), op));
+    text.show(" ends ", op_impls::<IsTerminatorInterface, Toy>(pair));
+    text.show(" pure ", op_impls::<PureOpInterface, Toy>(pair));
 }
 
-// Whether the type's kind ends blocks, and whether it is pure.
-fn questions<T: Op<Toy>>() -> (bool, bool) {
-    let ends = op_impls_static::<T, IsTerminatorInterface, Toy>();
-    (ends, op_impls_static::<T, PureOpInterface, Toy>())
+// Writes whether the kinds of both types end blocks, and whether they are pure.
+fn tell_kinds(text: &mut Reply) {
+    tell_kind::<Constant>(text, "constant");
+    tell_kind::<Return>(text, " return");
 }
 
-fn kinds(lab: &mut Lab) -> Result<(), TextError> {
-    let (ends, pure) = questions::<Constant>();
-    let (return_ends, return_pure) = questions::<Return>();
-    Ok(write!(
-        lab.text,
-        "constant ends {ends} pure {pure} return ends {return_ends} pure {return_pure}"
-    )?)
+// Writes whether the type's kind ends blocks, and whether it is pure.
+fn tell_kind<T: Op<Toy>>(text: &mut Reply, name: &str) {
+    text.say(name);
+    text.show(" ends ", op_impls_static::<T, IsTerminatorInterface, Toy>());
+    text.show(" pure ", op_impls_static::<T, PureOpInterface, Toy>());
 }
 
-fn compare(lab: &mut Lab, rest: &str) -> Result<(), TextError> {
-    let (first, second) = two(rest)?;
-    let first = lab.op(first)?;
-    let second = lab.op(second)?;
+fn compare(text: &mut Reply, first: Ptr<Operation<Toy>>, second: Ptr<Operation<Toy>>) {
     let pair = pair_of::<Constant>(first);
     let same = pair_of::<Return>(first);
-    let equal = pair == same;
-    let hash = hash_of(&pair) == hash_of(&same);
-    let other = pair == pair_of::<Constant>(second);
-    Ok(write!(lab.text, "equal {equal} hash {hash} other {other}")?)
+    text.show("equal ", pair == same);
+    text.show(" hash ", hash_of(&pair) == hash_of(&same));
+    text.show(" other ", pair == pair_of::<Constant>(second));
 }
 
-fn loc(lab: &mut Lab, rest: &str) -> Result<(), TextError> {
-    let op = lab.op(one(rest)?)?;
+fn loc(text: &mut Reply, ctx: &Context<Toy>, op: Ptr<Operation<Toy>>) {
     let constant = Constant::wrap(&op);
-    let ctx = asked(lab.mode, &lab.session, &lab.context);
-    if !op.is_live(ctx) {
-        return tell_condition(&mut lab.text);
+    if op.is_live(ctx) {
+        text.show("", Line(*constant.loc(ctx)));
+    } else {
+        tell_condition(text);
     }
-    let line = Line(*constant.loc(ctx));
-    Ok(write!(lab.text, "{line}")?)
 }
 
-fn get_opid(lab: &mut Lab, rest: &str) -> Result<(), TextError> {
-    let op = lab.op(one(rest)?)?;
-    let ctx = asked(lab.mode, &lab.session, &lab.context);
-    if !op.is_live(ctx) {
-        return tell_condition(&mut lab.text);
+fn get_opid(text: &mut Reply, ctx: &Context<Toy>, op: Ptr<Operation<Toy>>) {
+    if op.is_live(ctx) {
+        tell(text, op.get_opid(ctx));
+    } else {
+        tell_condition(text);
     }
-    let id = op.get_opid(ctx);
-    tell(&mut lab.text, id)
-}
-
-fn id_by<T: Op<Toy> + Drop>(lab: &mut Lab, rest: &str) -> Result<(), TextError> {
-    let id = T::from_operation(lab.op(one(rest)?)?).get_opid(lab.alloc());
-    tell(&mut lab.text, id)
-}
-
-fn static_id(lab: &mut Lab) -> Result<(), TextError> {
-    let id = Constant::get_opid_static(lab.alloc());
-    tell(&mut lab.text, id)
 }
