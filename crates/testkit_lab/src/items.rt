@@ -62,6 +62,15 @@ pub fn type_of(item: Item) -> Result<TypeHandle, TextError> {
 
 // What a field names.
 fn item_of(lab: &Lab, field: &str) -> Result<Item, TextError> {
+    match field {
+        "-" => Ok(Item::Nothing),
+        "elsewhere" => Ok(Item::Elsewhere),
+        _ => entry_of(lab, field),
+    }
+}
+
+// The entry that a field names, or the number that it is.
+fn entry_of(lab: &Lab, field: &str) -> Result<Item, TextError> {
     match field.chars().next() {
         Some('o') => Ok(Item::Op(lab.op(field)?)),
         Some('b') => Ok(Item::Block(lab.block(field)?)),
@@ -71,8 +80,6 @@ fn item_of(lab: &Lab, field: &str) -> Result<Item, TextError> {
         Some('w') => Ok(Item::BlockUse(lab.block_use(field)?)),
         Some('t') => Ok(Item::Type(lab.ty(field)?)),
         Some('s') => Ok(Item::Saved(lab.saved(field)?)),
-        Some('-') => Ok(Item::Nothing),
-        Some('e') => Ok(Item::Elsewhere),
         _ => Ok(Item::Number(count(field)?)),
     }
 }
