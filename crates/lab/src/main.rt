@@ -1,7 +1,11 @@
 //! The program `lab`: it reads lines from standard input, and answers each over a session or a context of the dialect Toy. It looks at one argument: with `marks` it says `ready` before each call and `done` after it.
 //!
-//! It supports tests, and promises nothing but safety. Words, names and answers are those of `testkit_lab` and of the crates beside it, each named by what stands before the point in a word.
+//! It supports tests, and promises nothing but safety. Words, names and answers are those of `testkit_lab` and of the modules here, each named by what stands before the point in a word.
 #![tactic(auto)]
+
+mod checked;
+mod queries;
+mod types;
 
 use anyhow::Result;
 use std::env;
@@ -27,11 +31,11 @@ fn find_answer(lab: &mut Lab, line: &str) -> Result<(), TextError> {
     };
     match group {
         "edit" => testkit_lab::answer_edit(lab, word, rest),
-        "checked" => testkit_lab_checked::answer(lab, word, rest),
+        "checked" => checked::answer(lab, word, rest),
         "op" | "block" | "region" | "value" | "use" | "list" | "nest" => {
-            testkit_lab_queries::answer(lab, word, rest)
+            queries::answer(lab, word, rest)
         }
-        _ => testkit_lab_types::answer(lab, word, rest),
+        _ => types::answer(lab, word, rest),
     }
 }
 
