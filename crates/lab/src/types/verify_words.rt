@@ -1,6 +1,6 @@
 //! What verification finds, by each of its calls: `ok`, or the text of a fault.
 //!
-//! - `op o0`, `verify_operation o0`, `verify_op o0`, `block b0`, `region r0`, `value v0`, `type t0`, `verify_type t0`: as `testkit_small_dialect` has these calls.
+//! - `op o0`, `verify_operation o0`, `verify_op o0`, `block b0`, `region r0`, `value v0`, `type t0`, `verify_type t0`: as `testkit_lab` has these calls.
 //! - `verify_attr int:VALUE:PLACE|text:TEXT|outlined:TEXT`
 //!
 //! In the group `verify` the checks are those of Toy, as in `well`, where nothing may be wrong, so that nothing is asked for. In `asking` each check asks for memory.
@@ -8,10 +8,9 @@
 use crate::types::attr_calls::attribute_of;
 use ir_verify_checks::{Verifiers, VerifyErr, verify_attr};
 use ir_view_parts::Context;
-use testkit_lab::{Item, Items, Lab, Reply, TextError, items_of, one, tell_condition};
-use testkit_small_dialect::{
-    block_found, op_found, op_found_by_call, op_found_with_kind, region_found, type_found,
-    type_found_by_call, value_found,
+use testkit_lab::{
+    Item, Items, Lab, Reply, TextError, block_found, items_of, one, op_found, op_found_by_call,
+    op_found_with_kind, region_found, tell_condition, type_found, type_found_by_call, value_found,
 };
 use toy_dialect::{Toy, ToyAttr};
 
