@@ -7,7 +7,7 @@ use ir_checked_core::identifier;
 use std::mem::replace;
 use testkit_lab::{Items, Lab, Mode, Reply, TextError, items_of};
 
-/// Answers a line: a word of this crate, and its fields.
+/// Answers a line: a word of this module, and its fields.
 ///
 /// # Errors
 /// `Malformed` where a field names nothing. Else the end of the lab's text tells whether there is an answer.

@@ -7,7 +7,7 @@ use std::mem::replace;
 use testkit_lab::{Item, Items, Lab, Reply, TextError, items_of};
 use toy_dialect::Toy;
 
-/// Answers a line: a word of this crate, and its fields.
+/// Answers a line: a word of this module, and its fields.
 ///
 /// # Errors
 /// None: the end of the lab's text tells whether there is an answer.

@@ -8,7 +8,7 @@ use crate::types::{
 use testkit_lab::{Lab, Mode, TextError};
 use toy_checks::ToyVerifiers;
 
-/// Answers a line: a word of this crate, and its fields.
+/// Answers a line: a word of this module, and its fields.
 ///
 /// # Errors
 /// `Malformed` where it is none, or can't be done in a session, and `OutOfMemory`.
