@@ -17,4 +17,5 @@ mod told;
 mod walked;
 mod words;
 
+pub(crate) use told::tell_edit;
 pub(crate) use words::answer;

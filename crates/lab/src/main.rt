@@ -5,8 +5,10 @@
 
 mod checked;
 mod queries;
+mod rewriting;
 mod types;
 
+use crate::rewriting::Kept;
 use anyhow::Result;
 use std::env;
 use std::io::{self, BufRead, BufReader, Write};
@@ -16,18 +18,18 @@ use testkit_lab::{Lab, TextError, take_field};
 const MALFORMED: &str = "malformed";
 
 // Answers a line into the lab's text.
-fn answer(lab: &mut Lab, line: &str) -> Result<(), TextError> {
-    find_answer(lab, line)?;
+fn answer(lab: &mut Lab, kept: &mut Kept, line: &str) -> Result<(), TextError> {
+    find_answer(lab, kept, line)?;
     lab.text.end()
 }
 
 // The same, where the end of the text may tell that there is no answer.
-fn find_answer(lab: &mut Lab, line: &str) -> Result<(), TextError> {
+fn find_answer(lab: &mut Lab, kept: &mut Kept, line: &str) -> Result<(), TextError> {
     let Some((word, rest)) = take_field(line) else {
         return Err(TextError::Malformed);
     };
     let Some((group, _)) = word.split_once('.') else {
-        return testkit_lab::answer(lab, word, rest);
+        return answer_plain(lab, kept, word, rest);
     };
     match group {
         "edit" => testkit_lab::answer_edit(lab, word, rest),
@@ -35,17 +37,32 @@ fn find_answer(lab: &mut Lab, line: &str) -> Result<(), TextError> {
         "op" | "block" | "region" | "value" | "use" | "list" | "nest" => {
             queries::answer(lab, word, rest)
         }
+        "rewrite" | "rewriter" => rewriting::answer(lab, kept, word, rest),
         _ => types::answer(lab, word, rest),
     }
 }
 
+// Answers a line whose word is of no group. `begin` forgets the rewriter.
+fn answer_plain(lab: &mut Lab, kept: &mut Kept, word: &str, rest: &str) -> Result<(), TextError> {
+    if word == "begin" {
+        *kept = None;
+    }
+    testkit_lab::answer(lab, word, rest)
+}
+
 // Answers a line, and writes the answer, between marks where they are asked for.
-fn follow_line<W: Write>(out: &mut W, lab: &mut Lab, line: &str, marks: bool) -> Result<()> {
+fn follow_line<W: Write>(
+    out: &mut W,
+    lab: &mut Lab,
+    kept: &mut Kept,
+    line: &str,
+    marks: bool,
+) -> Result<()> {
     lab.text.clear();
     if marks {
         out.write_all(b"ready\n")?;
     }
-    let ended = answer(lab, line);
+    let ended = answer(lab, kept, line);
     if marks {
         out.write_all(b"done\n")?;
     }
@@ -71,10 +88,11 @@ fn main(rt: HostRuntime) -> Result<()> {
     let marks = env::args(&rt)?.nth(1).is_some();
     let mut out = rt.stdout();
     let mut lab = Lab::new(alloc)?;
+    let mut kept = None;
     for line in BufReader::new(alloc, rt.reader())?.lines(alloc) {
         let line = line?;
         if is_asked(&line) {
-            follow_line(&mut out, &mut lab, &line, marks)?;
+            follow_line(&mut out, &mut lab, &mut kept, &line, marks)?;
         }
     }
     Ok(())

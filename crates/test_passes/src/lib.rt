@@ -1,4 +1,4 @@
-//! Tests of what rewrites, and laws of sweeps, mergings and removals of unreached blocks.
+//! Tests of the driver that asks patterns, and laws of sweeps, mergings and removals of unreached blocks.
 #![tactic(auto)]
 
 #[cfg(test)]
@@ -7,5 +7,3 @@ mod driver_tests;
 mod law_tests;
 #[cfg(test)]
 mod nests;
-#[cfg(test)]
-mod rewrite_tests;

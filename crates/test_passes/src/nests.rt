@@ -43,13 +43,6 @@ pub fn nest(ctx: &mut Context<Toy>) -> Checked<(Op, Block)> {
     Ok((op, block))
 }
 
-/// An operation that was made and erased.
-pub fn dead_op(ctx: &mut Context<Toy>) -> Checked<Op> {
-    let op = new_op(ctx, 4, &[], 0)?;
-    operation::erase(op, ctx)?;
-    Ok(op)
-}
-
 /// Whether the block has these operations, in this order.
 pub fn has_ops(ctx: &Context<Toy>, block: Block, expected: &[Op]) -> Checked<bool> {
     let mut ops = Vec::new(ctx.alloc());
