@@ -3,32 +3,35 @@
 
 mod building;
 mod folding;
-mod printing;
 
 use building::{Context, Op};
 use ir_core::prelude::*;
 use ir_run::toy::ToyVerifiers;
+use ir_text::spelling::spell_to;
+use ir_text_describe::{Locations, describe};
 use ir_verify::verify::verify_operation;
+use std::io::Write;
+use toy_text::ToySpelling;
 
-fn show(ctx: &Context, op: Op, text: &mut String) -> anyhow::Result<()> {
+fn show<W: Write>(output: &mut W, ctx: &Context, op: Op) -> anyhow::Result<()> {
     if op.is_live(ctx) {
         verify_operation(op, ctx, &ToyVerifiers)?;
+        let text = describe(ctx.alloc(), ctx, op, &ToySpelling, Locations::Left)?;
+        spell_to(&text.text, &text.rows, output)?;
     }
-    printing::print(text, ctx, op)
+    Ok(())
 }
 
-fn run(ctx: &mut Context, text: &mut String) -> anyhow::Result<()> {
+fn run<W: Write>(output: &mut W, ctx: &mut Context) -> anyhow::Result<()> {
     let func = building::function(ctx)?;
-    show(ctx, func, text)?;
+    show(output, ctx, func)?;
     let (folded, swept) = folding::fold(ctx, func)?;
-    writeln!(text, "folded {folded}, swept {swept}")?;
-    show(ctx, func, text)
+    writeln!(output, "// folded {folded}, swept {swept}")?;
+    show(output, ctx, func)
 }
 
 fn main(rt: HostRuntime) -> anyhow::Result<()> {
-    let (mut text, mut ctx) = (String::new(rt.alloc()), Context::new(rt.alloc()));
-    let outcome = run(&mut ctx, &mut text);
-    ir_checked::context::end(ctx, outcome)?;
-    print!(rt; "{text}")?;
-    Ok(())
+    let mut ctx = Context::new(rt.alloc());
+    let outcome = run(&mut rt.stdout(), &mut ctx);
+    Ok(ir_checked::context::end(ctx, outcome)?)
 }
