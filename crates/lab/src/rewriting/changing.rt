@@ -48,24 +48,40 @@ pub(crate) fn change_ops(
     op: Ptr<Operation<Toy>>,
     mark: Ptr<Operation<Toy>>,
 ) {
-    match (word, kept) {
-        ("rewrite.may_move_beside", _) => {
+    match word {
+        "rewrite.may_move_beside" => {
             let may = operation::may_move_beside(&lab.context, op, mark);
             lab.text.show("", may);
         }
-        ("rewrite.move_before", _) => {
+        "rewrite.move_before" => {
             let answer = checked::move_before(op, &mut lab.context, mark);
             tell_edit(lab, answer);
         }
-        ("rewrite.move_after", _) => {
+        "rewrite.move_after" => {
             let answer = checked::move_after(op, &mut lab.context, mark);
             tell_edit(lab, answer);
         }
-        ("rewriter.move_before", Some(rewriter)) => {
+        _ => match kept {
+            Some(rewriter) => move_noted(lab, rewriter, word, op, mark),
+            None => lab.text.fail(TextError::Malformed),
+        },
+    }
+}
+
+// Those of them that the rewriter notes.
+fn move_noted(
+    lab: &mut Lab,
+    rewriter: &mut Rewriter<Toy>,
+    word: &str,
+    op: Ptr<Operation<Toy>>,
+    mark: Ptr<Operation<Toy>>,
+) {
+    match word {
+        "rewriter.move_before" => {
             let answer = rewriter.move_before(op, &mut lab.context, mark);
             tell_edit(lab, answer);
         }
-        ("rewriter.move_after", Some(rewriter)) => {
+        "rewriter.move_after" => {
             let answer = rewriter.move_after(op, &mut lab.context, mark);
             tell_edit(lab, answer);
         }

@@ -3,7 +3,7 @@
 use crate::checked::tell_edit;
 use crate::rewriting::words::Kept;
 use ir_base_dialects::Ptr;
-use ir_rewrite::{checked, operation};
+use ir_rewrite::{Rewriter, checked, operation};
 use ir_view_parts::{Operation, Value};
 use testkit_lab::{Lab, TextError, two};
 use toy_dialect::Toy;
@@ -45,19 +45,29 @@ fn replace_by(
     op: Ptr<Operation<Toy>>,
     values: &[Value<Toy>],
 ) {
-    match (word, kept) {
-        ("rewrite.may_replace_op", _) => {
+    match word {
+        "rewrite.may_replace_op" => {
             let may = operation::may_replace_op(&lab.context, op, values);
             lab.text.show("", may);
         }
-        ("rewrite.replace_op", _) => {
+        "rewrite.replace_op" => {
             let answer = checked::replace_op(op, &mut lab.context, values);
             tell_edit(lab, answer);
         }
-        ("rewriter.replace_op", Some(rewriter)) => {
-            let answer = rewriter.replace_op(op, &mut lab.context, values);
-            tell_edit(lab, answer);
-        }
-        _ => lab.text.fail(TextError::Malformed),
+        _ => match kept {
+            Some(rewriter) => replace_noted(lab, rewriter, op, values),
+            None => lab.text.fail(TextError::Malformed),
+        },
     }
+}
+
+// The one of them that the rewriter notes.
+fn replace_noted(
+    lab: &mut Lab,
+    rewriter: &mut Rewriter<Toy>,
+    op: Ptr<Operation<Toy>>,
+    values: &[Value<Toy>],
+) {
+    let answer = rewriter.replace_op(op, &mut lab.context, values);
+    tell_edit(lab, answer);
 }
