@@ -32,5 +32,5 @@ pub fn sweep<D: Dialects>(
     if !block.is_live(ctx) {
         return Err(fault!(DeadSweep, DeadBlock));
     }
-    Ok(ir_run_sweep::sweep(block, ctx))
+    Ok(ir_run_passes::sweep(block, ctx))
 }

@@ -16,3 +16,7 @@ pub mod Places
 pub mod Replacing
 pub mod Rising
 pub mod Unmet
+mod Partly
+mod Sequences
+mod Ranks
+mod BlockWalks

@@ -13,7 +13,7 @@ use Rattle.ir_model.specs.Subtree.{ListsSubtree}
 use Rattle.ir_model.specs.SweepLaws.{NoneIsClosed}
 use Rattle.ir_model.proofs.Nests.{In-append, In-left, In-right}
 use Rattle.ir_model_passes.specs.SweepInside.{NoneIsClosedInside}
-use Rattle.ir_run_sweep.specs.Going.{CanGo}
+use Rattle.ir_run_passes.specs.Going.{CanGo}
 use Rattle.ir_core_erasing.proofs.Steps.{Passing, passing-start, passing-step, passing-end, passing-smaller, remaining}
 use Rattle.ir_run_passes.specs.Walks.{ComesNext, CanBeSwept, NoneCanBeSwept}
 

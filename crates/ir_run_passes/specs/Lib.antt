@@ -4,3 +4,4 @@ pub mod KeptOps
 pub mod MergeSteps
 pub mod Ordering
 pub mod BlocksInside
+pub mod Going

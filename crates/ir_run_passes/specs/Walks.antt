@@ -6,7 +6,7 @@ use Rattle.ir_model.specs.Forest.{Dialect, Behaviour, Entity, a_block, Forest}
 use Rattle.ir_model.specs.Nesting.{In, ops_of}
 use Rattle.ir_model.specs.Parent.{first_of}
 use Rattle.ir_model.specs.SweepLaws.{NoneIsClosed}
-use Rattle.ir_run_sweep.specs.Going.{CanGo}
+use Rattle.ir_run_passes.specs.Going.{CanGo}
 
 -- the next is what stands right behind here in the list, if something does
 abbrev pub ComesNext : List (Entity context_ids) → Entity context_ids → Option (Entity context_ids) → Type 0

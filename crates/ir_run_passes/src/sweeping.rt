@@ -11,11 +11,11 @@ ghost use Rattle.ir_core_queries.specs.State.{bare, forest_of};
 ghost use Rattle.ir_core_queries.specs.Calls.{SameButForest};
 ghost use Rattle.ir_core_records.specs.DialectAnswers.{behaviour_of};
 
+use crate::dead::sweep;
 use crate::walking::{to_sweep, to_sweep_after};
 use ir_base_dialects::{Dialects, Ptr};
 use ir_core_queries::{Context, Operation};
 use ir_model_passes::{steps_sweep_inside, sweep_inside_is_one};
-use ir_run_sweep::sweep;
 
 /// How many operations are live.
 pub(crate) fn live_ops<D: Dialects>(ctx: &Context<D>) -> usize

@@ -17,14 +17,12 @@ ghost use Rattle.ir_core_queries.specs.State.{forest_of};
 ghost use Rattle.ir_core_records.specs.DialectAnswers.{behaviour_of};
 ghost use Rattle.ir_core_records.specs.Meaning.{entity_of};
 ghost use Rattle.ir_run_passes.specs.Walks.{CanBeSwept, ComesNext, NoneCanBeSwept};
-ghost use Rattle.ir_run_sweep.specs.Going.{CanGo};
+ghost use Rattle.ir_run_passes.specs.Going.{CanGo};
 
-use ir_base_dialects::interfaces::PURE_OPERATION;
+use crate::dead::can_go;
 use ir_base_dialects::{Dialects, Ptr};
 use ir_core_erasing::{deepest, next_inside, recall_subtrees_listed};
-use ir_core_queries::{
-    BasicBlock, BlockPlace, Context, Entity, Operation, OperationPtr, can_erase,
-};
+use ir_core_queries::{BasicBlock, BlockPlace, Context, Operation};
 use ir_core_records::EntityIndex;
 
 // What holds of the walk over all inside an operation: it comes to exactly what is inside, to each once.
@@ -56,18 +54,6 @@ fn walk_next<D: Dialects>(
     ctx.recall_well_formed();
     ctx.recall_holds_together();
     next_inside(ctx.records(), EntityIndex::Op(root.index), here)
-}
-
-// Whether a live operation can go: its kind is pure, and nothing outside it names what is defined inside.
-fn can_go<D: Dialects>(ctx: &Context<D>, op: Ptr<Operation<D>>) -> bool
-    requires { IsLive (forest_of ctx.now) (an_op op.index) }
-    ensures { IsTrue result ↔ CanGo (behaviour_of D.Dialects D.TypeKey.eq) (forest_of ctx.now) op.index }
-{
-    if D::op_impls(op.deref(ctx).kind(), PURE_OPERATION) {
-        can_erase(ctx, Entity::Op(op))
-    } else {
-        false
-    }
 }
 
 // Whether some operation of a live block can go.

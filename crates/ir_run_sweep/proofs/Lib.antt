@@ -1,5 +1,0 @@
-mod Partly
-mod Sequences
-mod Ranks
-mod Walks
-mod Purity
