@@ -7,13 +7,13 @@ use Rattle.ir_model.specs.Nesting.{IsLive, IsLiveNamed}
 use Rattle.ir_model.specs.ContextIds.{context_ids}
 use Rattle.ir_model.specs.Edits.{AddRegion, Condition, Each, NewOp, Tables as PlainTables, The}
 use Rattle.ir_core_records.specs.Meaning.{value_of}
-use Rattle.ir_run_tables.specs.State.{ContextState, forest_of, session_of}
+use Rattle.ir_core_queries.specs.State.{ContextState, forest_of, session_of}
 use Rattle.ir_base_arenas.specs.declared.ptr.Ptr.{Ptr}
 use Rattle.ir_core_records.specs.declared.handles.Value.{Value}
 use Rattle.ir_core_records.specs.declared.record.BasicBlock.{BasicBlock}
-use Rattle.ir_run_tables.specs.declared.session_tables.Tables.{Tables}
-use Rattle.ir_run_tables.specs.SessionTables.{entries_of}
-use Rattle.ir_run_tables.specs.SessionLists.{Each-same, each-map, the-map}
+use Rattle.ir_run_sessions.specs.declared.session_tables.Tables.{Tables}
+use Rattle.ir_run_sessions.specs.SessionTables.{entries_of}
+use Rattle.ir_run_sessions.specs.SessionLists.{Each-same, each-map, the-map}
 
 pub there : {A : Type 0} (m : Option A) → IsSome m ↔ The m (λ _. Unit {0})
 there None = (λ h. absurd cc, λ t. absurd (let e = t.found in cc))

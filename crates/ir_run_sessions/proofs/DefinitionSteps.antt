@@ -23,12 +23,12 @@ use Rattle.ir_model.proofs.IdCases.{id_same}
 use Rattle.ir_core_records.specs.Mapped.{slice_get-insert_at}
 use Rattle.ir_core_records.specs.Meaning.{closed}
 use Rattle.ir_core_chains.specs.ListReads.{slice_get-push_at}
-use Rattle.ir_run_tables.specs.Calls.{SameButForest, SkipsAtMost}
-use Rattle.ir_run_tables.specs.Definitions.{MakesValue, UnusedAt, definition_inserted, definition_pushed, definition_removed}
-use Rattle.ir_run_tables.specs.State.{ContextState, bare, forest_of, session_of, types_of}
-use Rattle.ir_run_tables.specs.Named.{NamesLive}
-use Rattle.ir_run_tables.specs.SessionLists.{the-map}
-use Rattle.ir_run_tables.specs.SessionTables.{answer_of, with_value}
+use Rattle.ir_core_queries.specs.Calls.{SameButForest, SkipsAtMost}
+use Rattle.ir_core_queries.specs.Definitions.{MakesValue, UnusedAt, definition_inserted, definition_pushed, definition_removed}
+use Rattle.ir_core_queries.specs.State.{ContextState, bare, forest_of, session_of, types_of}
+use Rattle.ir_run_sessions.specs.Named.{NamesLive}
+use Rattle.ir_run_sessions.specs.SessionLists.{the-map}
+use Rattle.ir_run_sessions.specs.SessionTables.{answer_of, with_value}
 use Rattle.ir_run_sessions.proofs.SessionSteps.{HasRoom, made_so, refusal_tells, refused, same-state, skips_none}
 use Rattle.ir_run_sessions.proofs.EntryKinds.{blocks, listed, not_one, one, ops, the_value, unlisted}
 use Rattle.ir_run_sessions.proofs.DoneSteps.{done, left}

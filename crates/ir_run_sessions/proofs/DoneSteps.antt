@@ -14,10 +14,10 @@ use Rattle.ir_model.specs.Sessions.{HasNumbers, LacksNumbers, Passed, Passes, Se
 use Rattle.ir_model.proofs.Decided.{at_most}
 use Rattle.ir_model.proofs.Supply.{above}
 use Rattle.ir_core_records.specs.Meaning.{closed}
-use Rattle.ir_run_tables.specs.Calls.{HandsOut, SameButForest, SkipsAtMost}
-use Rattle.ir_run_tables.specs.Places.{MakesUse}
-use Rattle.ir_run_tables.specs.State.{ContextState, bare, forest_of, session_of}
-use Rattle.ir_run_tables.specs.SessionTables.{done_of}
+use Rattle.ir_core_queries.specs.Calls.{HandsOut, SameButForest, SkipsAtMost}
+use Rattle.ir_core_queries.specs.Places.{MakesUse}
+use Rattle.ir_core_queries.specs.State.{ContextState, bare, forest_of, session_of}
+use Rattle.ir_run_sessions.specs.SessionTables.{done_of}
 use Rattle.ir_run_sessions.proofs.SessionSteps.{HasRoom, Tells, made_so, no_fresh, passes_none, refused, same-state, skips_none, tells_memory}
 
 -- where there is room for nothing and numbers aren't lacking, there are numbers

@@ -6,7 +6,7 @@ use Rattle.ir_model.specs.ContextIds.{context_ids}
 use Rattle.ir_model.specs.Forest.{Dialect, Forest, Value, a_block, a_region, a_value, an_op}
 use Rattle.ir_model.specs.Nesting.{IsLive, IsLiveNamed, list_of}
 use Rattle.ir_model.specs.Edits.{Tables, The}
-use Rattle.ir_run_tables.specs.Named.{Names}
+use Rattle.ir_run_sessions.specs.Named.{Names}
 
 -- what is there is some value
 pub the_value : {A : Type 0} (m : Option A) → IsSome m → (x : A) × (m ≡ Some x)

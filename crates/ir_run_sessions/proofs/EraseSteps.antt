@@ -10,9 +10,9 @@ use Rattle.ir_model.specs.Changes.{DropsUses, Removes}
 use Rattle.ir_model.specs.Edits.{Condition, DropBlockUses, DropOpUses, DropRegionUses, EraseBlock, EraseOp, EraseRegion, Tables, The, no_needs, over}
 use Rattle.ir_model.specs.Sessions.{Session, Step}
 use Rattle.ir_core_records.specs.Meaning.{closed}
-use Rattle.ir_run_tables.specs.Calls.{SameButForest}
-use Rattle.ir_run_tables.specs.State.{ContextState, bare, forest_of, session_of}
-use Rattle.ir_run_tables.specs.Named.{NamesLive}
+use Rattle.ir_core_queries.specs.Calls.{SameButForest}
+use Rattle.ir_core_queries.specs.State.{ContextState, bare, forest_of, session_of}
+use Rattle.ir_run_sessions.specs.Named.{NamesLive}
 use Rattle.ir_run_sessions.proofs.SessionSteps.{HasRoom}
 use Rattle.ir_run_sessions.proofs.EntryKinds.{blocks, listed, not_one, one, ops, regions, unlisted}
 use Rattle.ir_run_sessions.proofs.DoneSteps.{done, left}

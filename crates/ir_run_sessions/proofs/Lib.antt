@@ -9,3 +9,7 @@ pub mod UseSteps
 pub mod EraseSteps
 pub mod DefinitionSteps
 pub mod RedirectSteps
+pub mod Entering
+pub mod Placing
+pub mod Regions
+pub mod Unused

@@ -12,9 +12,9 @@ use Rattle.ir_model.specs.Changes.{append_blocks, append_ops, in_blocks, in_regi
 use Rattle.ir_model.specs.Edits.{AppendBlocks, AppendOps, BlockAfter, BlockBack, BlockBefore, BlockFront, Condition, MayGoBeside, MayGoInto, MayJoin, MoveRegion, OpAfter, OpBack, OpBefore, OpFront, Tables, UnlinkBlock, UnlinkOp, no_needs, over}
 use Rattle.ir_model.specs.Sessions.{Session, Step}
 use Rattle.ir_core_records.specs.Meaning.{closed}
-use Rattle.ir_run_tables.specs.Calls.{SameButForest}
-use Rattle.ir_run_tables.specs.State.{ContextState, bare, forest_of, session_of}
-use Rattle.ir_run_tables.specs.Named.{NamesLive}
+use Rattle.ir_core_queries.specs.Calls.{SameButForest}
+use Rattle.ir_core_queries.specs.State.{ContextState, bare, forest_of, session_of}
+use Rattle.ir_run_sessions.specs.Named.{NamesLive}
 use Rattle.ir_run_sessions.proofs.SessionSteps.{HasRoom, no_fresh, refused, tells_memory}
 use Rattle.ir_run_sessions.proofs.EntryKinds.{blocks, not_one, not_two, one, ops, regions, the_value, two}
 use Rattle.ir_run_sessions.proofs.DoneSteps.{done, handed, left}

@@ -16,10 +16,10 @@ use Rattle.ir_model.proofs.TwoRuns.{id_tells}
 use Rattle.ir_core_records.specs.Meaning.{block_index, block_record, closed, op_index, op_record}
 use Rattle.ir_core_records.specs.declared.record.BasicBlock.{BasicBlock}
 use Rattle.ir_core_records.specs.declared.record.Operation.{Operation}
-use Rattle.ir_run_tables.specs.Calls.{IsBlock, IsOperation, MakesBlock, MakesOperation, MakesRegion, SameButTypes, block_needs, op_needs, region_needs}
-use Rattle.ir_run_tables.specs.State.{ContextState, bare, forest_of, session_of, types_of}
-use Rattle.ir_run_tables.specs.SessionTables.{with_block, with_op, with_region, with_type_entered}
-use Rattle.ir_run_tables.specs.SessionLists.{below, length-these}
+use Rattle.ir_core_queries.specs.Calls.{IsBlock, IsOperation, MakesBlock, MakesOperation, MakesRegion, SameButTypes, block_needs, op_needs, region_needs}
+use Rattle.ir_core_queries.specs.State.{ContextState, bare, forest_of, session_of, types_of}
+use Rattle.ir_run_sessions.specs.SessionTables.{with_block, with_op, with_region, with_type_entered}
+use Rattle.ir_run_sessions.specs.SessionLists.{below, length-these}
 use Rattle.ir_run_sessions.proofs.SessionSteps.{HasRoom, made_so, no_fresh, passes_none, same-state}
 
 -- what is counted of a record that is found

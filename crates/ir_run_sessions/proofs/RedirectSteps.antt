@@ -11,10 +11,10 @@ use Rattle.ir_model.specs.Changes.{redirect, retarget}
 use Rattle.ir_model.specs.Edits.{Condition, ReplaceAllUses, RetargetAll, Tables, UsersLinked, no_needs}
 use Rattle.ir_model.specs.Sessions.{Session, Step}
 use Rattle.ir_core_records.specs.Meaning.{closed}
-use Rattle.ir_run_tables.specs.Calls.{SameButForest}
-use Rattle.ir_run_tables.specs.State.{ContextState, bare, forest_of, session_of}
-use Rattle.ir_run_tables.specs.Named.{NamesLive, NamesLiveValue}
-use Rattle.ir_run_tables.specs.SessionTables.{done_of}
+use Rattle.ir_core_queries.specs.Calls.{SameButForest}
+use Rattle.ir_core_queries.specs.State.{ContextState, bare, forest_of, session_of}
+use Rattle.ir_run_sessions.specs.Named.{NamesLive, NamesLiveValue}
+use Rattle.ir_run_sessions.specs.SessionTables.{done_of}
 use Rattle.ir_run_sessions.proofs.SessionSteps.{HasRoom}
 use Rattle.ir_run_sessions.proofs.EntryKinds.{blocks, not_two, two, values}
 use Rattle.ir_run_sessions.proofs.DoneSteps.{done_unless, left}

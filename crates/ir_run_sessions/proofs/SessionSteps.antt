@@ -11,10 +11,10 @@ use Rattle.ir_model.specs.Sessions.{Passed, Passes, Session, Skips, Step, counte
 use Rattle.ir_model.specs.Soundness.{AreGone, IsCounted, Sound}
 use Rattle.ir_model.proofs.Decided.{at_most}
 use Rattle.ir_model.proofs.Supply.{above}
-use Rattle.ir_run_tables.specs.State.{ContextState, bare, session_of}
-use Rattle.ir_run_tables.specs.Calls.{HandsOut, SkipsAtMost, block_needs, op_needs, region_needs}
+use Rattle.ir_core_queries.specs.State.{ContextState, bare, session_of}
+use Rattle.ir_core_queries.specs.Calls.{HandsOut, SkipsAtMost, block_needs, op_needs, region_needs}
 use Rattle.ir_core_records.specs.Meaning.{closed}
-use Rattle.ir_run_tables.specs.SessionTables.{answer_of}
+use Rattle.ir_run_sessions.specs.SessionTables.{answer_of}
 
 -- there is room for so much
 pub record HasRoom {W : Dialect} (s : Session W) (n : Counts) : Type 0 where

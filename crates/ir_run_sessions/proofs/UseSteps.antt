@@ -15,11 +15,11 @@ use Rattle.ir_model.specs.Edits.{Condition, InsertOperand, InsertSuccessor, Push
 use Rattle.ir_model.specs.Sessions.{LacksNumbers, Session, Step}
 use Rattle.ir_core_records.specs.declared.record.Operation.{Operation}
 use Rattle.ir_core_records.specs.Meaning.{closed, op_record}
-use Rattle.ir_run_tables.specs.Calls.{IsOperation, SameButForest}
-use Rattle.ir_run_tables.specs.Places.{MakesUse, operand_inserted, operand_pushed, operand_replaced, successor_inserted, successor_pushed, successor_replaced}
-use Rattle.ir_run_tables.specs.State.{ContextState, bare, forest_of, session_of}
-use Rattle.ir_run_tables.specs.Named.{NamesLive, NamesLiveValue}
-use Rattle.ir_run_tables.specs.SessionTables.{done_of}
+use Rattle.ir_core_queries.specs.Calls.{IsOperation, SameButForest}
+use Rattle.ir_core_queries.specs.Places.{MakesUse, operand_inserted, operand_pushed, operand_replaced, successor_inserted, successor_pushed, successor_replaced}
+use Rattle.ir_core_queries.specs.State.{ContextState, bare, forest_of, session_of}
+use Rattle.ir_run_sessions.specs.Named.{NamesLive, NamesLiveValue}
+use Rattle.ir_run_sessions.specs.SessionTables.{done_of}
 use Rattle.ir_run_sessions.proofs.SessionSteps.{HasRoom}
 use Rattle.ir_run_sessions.proofs.EntryKinds.{One, blocks, listed, not_one, not_two, one, ops, two, unlisted, values}
 use Rattle.ir_run_sessions.proofs.DoneSteps.{done, left, use_made}

@@ -1,8 +1,10 @@
+pub mod SessionTables
+pub mod Named
+pub mod SessionLists
+pub mod DefinitionEntries
 pub mod SessionEdits
 pub mod NewOps
 pub mod SessionState
 pub mod Headline
-pub use Rattle.ir_run_tables.specs.State
-pub use Rattle.ir_run_tables.specs.Calls
-pub use Rattle.ir_run_tables.specs.SessionTables
-pub use Rattle.ir_run_tables.specs.SessionLists
+pub use Rattle.ir_core_queries.specs.State
+pub use Rattle.ir_core_queries.specs.Calls

@@ -3,7 +3,7 @@ use Rattle.ir_model.specs.ContextIds.{context_ids}
 use Rattle.ir_model.specs.Edits.{Tables}
 use Rattle.ir_model.specs.Sessions.{Session as PlainSession}
 use Rattle.ir_core_records.specs.Meaning.{closed}
-use Rattle.ir_run_tables.specs.State.{ContextState, session_of}
+use Rattle.ir_core_queries.specs.State.{ContextState, session_of}
 
 -- the context, and the tables in the order in which their entries were made
 pub record SessionState (D A K B S X L : Type 0) : Type 0 where

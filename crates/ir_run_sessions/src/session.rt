@@ -13,8 +13,8 @@ ghost use Rattle.ir_model.specs.Soundness.{Sound};
 ghost use Rattle.ir_model.specs.Uses.{AreUses};
 ghost use Rattle.ir_core_records.specs.declared.record.ValueIndex.{ValueIndex as PlainIndex};
 ghost use Rattle.ir_core_records.specs.Meaning.{value_of};
-ghost use Rattle.ir_run_tables.specs.Calls.{LiveWasMade, TypesAreExact, nothing_beside};
-ghost use Rattle.ir_run_tables.specs.State.{bare, block_uses_of, uses_of};
+ghost use Rattle.ir_core_queries.specs.Calls.{LiveWasMade, TypesAreExact, nothing_beside};
+ghost use Rattle.ir_core_queries.specs.State.{bare, block_uses_of, uses_of};
 ghost use Rattle.ir_run_sessions.specs.SessionEdits.{edit_of};
 ghost use Rattle.ir_run_sessions.specs.Headline.{GoneAtCuts, KeepsKeys};
 ghost use Rattle.ir_run_sessions.specs.SessionState.{plain};
@@ -23,7 +23,8 @@ ghost use Rattle.ir_core_records.specs.DialectAnswers.{behaviour_of};
 use crate::stepping::step;
 use ir_base_dialects::{Answer, CoreError, Dialects, Limits, Ptr, TypeHandle};
 use ir_run_edits::Edit;
-use ir_run_tables::{BasicBlock, Context, Operation, Region, Tables, Value};
+use crate::session_tables::Tables;
+use ir_core_queries::{BasicBlock, Context, Operation, Region, Value};
 use std::alloc::Global;
 use std::marker::Model;
 
@@ -37,7 +38,7 @@ pub struct Session<D: Dialects> {
 impl<D: Dialects> Model for Session<D> {
     ghost use Rattle.ir_model.specs.Soundness.{Sound};
     ghost use Rattle.ir_run_sessions.specs.SessionState.{plain, SessionState};
-    ghost use Rattle.ir_run_tables.specs.SessionTables.{entries_of};
+    ghost use Rattle.ir_run_sessions.specs.SessionTables.{entries_of};
 
     ghost Value = { SessionState D D.Attr D.TypeKey D.TypeBody D.Saved D.Aux D.Loc };
 

@@ -2,7 +2,7 @@
 
 ghost use Rattle.ir_model.specs.Sessions.{Step};
 ghost use Rattle.ir_model.specs.Soundness.{Sound};
-ghost use Rattle.ir_run_tables.specs.SessionTables.{session_in};
+ghost use Rattle.ir_run_sessions.specs.SessionTables.{session_in};
 ghost use Rattle.ir_run_sessions.specs.SessionEdits.{edit_of};
 ghost use Rattle.ir_core_records.specs.DialectAnswers.{behaviour_of};
 
@@ -10,7 +10,8 @@ use crate::steps::{self, OpParts};
 use crate::{definition_steps, erase_steps, list_steps, redirect_steps, use_steps};
 use ir_base_dialects::{Answer, Dialects};
 use ir_run_edits::Edit;
-use ir_run_tables::{Context, Tables};
+use crate::session_tables::Tables;
+use ir_core_queries::Context;
 
 /// Carries the edit out, and answers how.
 pub(crate) fn step<D: Dialects>(

@@ -8,17 +8,16 @@ ghost use Rattle.ir_model.specs.Forest.{an_op};
 ghost use Rattle.ir_model.specs.Nesting.{IsLive};
 ghost use Rattle.ir_model.specs.Sessions.{HasNumbers, HasSlots, LacksNumbers, Step};
 ghost use Rattle.ir_model.specs.Soundness.{Sound};
-ghost use Rattle.ir_run_tables.specs.Calls.{HasAll, counts_of, LacksOnlySlots};
-ghost use Rattle.ir_run_tables.specs.State.{bare, forest_of};
-ghost use Rattle.ir_run_tables.specs.SessionTables.{HasPlace, answer_of, done_of, entries_of, session_in};
+ghost use Rattle.ir_core_queries.specs.Calls.{HasAll, counts_of, LacksOnlySlots};
+ghost use Rattle.ir_core_queries.specs.State.{bare, forest_of};
+ghost use Rattle.ir_run_sessions.specs.SessionTables.{HasPlace, answer_of, done_of, entries_of, session_in};
 ghost use Rattle.ir_core_records.specs.DialectAnswers.{behaviour_of};
 ghost use Rattle.ir_run_sessions.specs.NewOps.{edit_of_parts};
 
 use ir_base_dialects::{Answer, CoreError, Dialects, Identifier, Ptr, Refused, TypeHandle};
-use ir_run_tables::{
-    AddRegion, BasicBlock, BlockPtr, Context, Needs, NewBlock, NewOperation, Operation,
-    OperationPtr, Tables, Value, all_below, all_live, live_entry, picked,
-};
+use crate::lookups::{all_below, all_live, live_entry, picked};
+use crate::session_tables::Tables;
+use ir_core_queries::{AddRegion, BasicBlock, BlockPtr, Context, Needs, NewBlock, NewOperation, Operation, OperationPtr, Value};
 use std::alloc::{AllocError, Global};
 
 /// What an operation is made of, by numbers in the tables.

@@ -4,15 +4,15 @@
 
 ghost use Rattle.ir_model.specs.Edits.{InsertOperand as PlainInsertOperand, InsertSuccessor as PlainInsertSuccessor, PushOperand as PlainPushOperand, PushSuccessor as PlainPushSuccessor, RemoveOperand as PlainRemoveOperand, RemoveSuccessor as PlainRemoveSuccessor, ReplaceOperand as PlainReplaceOperand, ReplaceSuccessor as PlainReplaceSuccessor};
 ghost use Rattle.ir_model.specs.Sessions.{Step};
-ghost use Rattle.ir_run_tables.specs.SessionTables.{session_in};
+ghost use Rattle.ir_run_sessions.specs.SessionTables.{session_in};
 ghost use Rattle.ir_core_records.specs.DialectAnswers.{behaviour_of};
 
 use crate::steps::{done, recall_needs_nothing};
 use ir_base_dialects::{Answer, Dialects, Ptr, Refused};
-use ir_run_tables::{
-    BasicBlock, Context, OperandEdits, Operation, OperationPtr, SuccessorEdits, Tables, find,
-    find_both, find_op_and_value,
-};
+use crate::entities::find;
+use crate::session_tables::Tables;
+use crate::use_conditions::{find_both, find_op_and_value};
+use ir_core_queries::{BasicBlock, Context, OperandEdits, Operation, OperationPtr, SuccessorEdits};
 
 /// Gives the operation another operand, the last, which names the value.
 pub fn push_operand<D: Dialects>(

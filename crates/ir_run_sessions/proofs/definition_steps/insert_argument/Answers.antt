@@ -1,9 +1,9 @@
 use Rattle.std.proofs.Common.{arith}
 use Rattle.ir_model.specs.Nesting.{ops_of}
 use Rattle.ir_core_records.specs.Meaning.{block_record}
-use Rattle.ir_run_tables.specs.State.{forest_of}
-use Rattle.ir_run_tables.specs.DefinitionEntries.{argument_count}
-use Rattle.ir_run_tables.specs.SessionTables.{entries_of}
+use Rattle.ir_core_queries.specs.State.{forest_of}
+use Rattle.ir_run_sessions.specs.DefinitionEntries.{argument_count}
+use Rattle.ir_run_sessions.specs.SessionTables.{entries_of}
 use Rattle.ir_run_sessions.proofs.DefinitionSteps.{stored}
 use Rattle.ir_run_sessions.proofs.definition_steps.insert_argument.Goals as goal
 

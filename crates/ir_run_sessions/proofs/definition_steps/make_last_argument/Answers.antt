@@ -3,9 +3,9 @@ use Rattle.std.proofs.lemmas.Result.{err_from_is_err_and}
 use Rattle.ir_model.specs.Edits.{PushArgument}
 use Rattle.ir_model.specs.Forest.{a_block, of_block}
 use Rattle.ir_model.specs.Ids.{Counts}
-use Rattle.ir_run_tables.specs.Definitions.{definition_pushed}
-use Rattle.ir_run_tables.specs.State.{forest_of}
-use Rattle.ir_run_tables.specs.SessionTables.{entries_of}
+use Rattle.ir_core_queries.specs.Definitions.{definition_pushed}
+use Rattle.ir_core_queries.specs.State.{forest_of}
+use Rattle.ir_run_sessions.specs.SessionTables.{entries_of}
 use Rattle.ir_run_sessions.proofs.DefinitionSteps.{may_push_argument, no_room, not_made, place_within, pushed_there, value_made}
 use Rattle.ir_run_sessions.proofs.SessionSteps.{room_found}
 use Rattle.ir_run_sessions.proofs.definition_steps.make_last_argument.Goals as goal

@@ -1,6 +1,6 @@
 use Rattle.std.proofs.Common.{refl}
 use Rattle.ir_model.specs.Edits.{PushArgument}
-use Rattle.ir_run_tables.specs.SessionTables.{entries_of}
+use Rattle.ir_run_sessions.specs.SessionTables.{entries_of}
 use Rattle.ir_run_sessions.proofs.DoneSteps.{refused_so}
 use Rattle.ir_run_sessions.proofs.DefinitionSteps.{not_push_argument, stored}
 use Rattle.ir_run_sessions.proofs.definition_steps.push_argument.Goals as goal

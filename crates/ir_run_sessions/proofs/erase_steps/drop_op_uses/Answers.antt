@@ -1,5 +1,5 @@
 use Rattle.ir_model.specs.Edits.{DropOpUses}
-use Rattle.ir_run_tables.specs.SessionTables.{entries_of}
+use Rattle.ir_run_sessions.specs.SessionTables.{entries_of}
 use Rattle.ir_run_sessions.proofs.DoneSteps.{refused_so}
 use Rattle.ir_run_sessions.proofs.EraseSteps.{drop_op_uses_done, not_drop_op_uses}
 use Rattle.ir_run_sessions.proofs.erase_steps.drop_op_uses.Goals as goal

@@ -1,6 +1,6 @@
 use Rattle.std.proofs.Common.{refl}
 use Rattle.ir_model.specs.Edits.{EraseBlock}
-use Rattle.ir_run_tables.specs.SessionTables.{entries_of}
+use Rattle.ir_run_sessions.specs.SessionTables.{entries_of}
 use Rattle.ir_run_sessions.proofs.DoneSteps.{refused_so}
 use Rattle.ir_run_sessions.proofs.EraseSteps.{erase_block_done, not_erase_block}
 use Rattle.ir_run_sessions.proofs.erase_steps.erase_block.Goals as goal

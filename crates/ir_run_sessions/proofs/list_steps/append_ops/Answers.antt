@@ -1,6 +1,6 @@
 use Rattle.std.proofs.Common.{refl}
 use Rattle.ir_model.specs.Edits.{AppendOps}
-use Rattle.ir_run_tables.specs.SessionTables.{entries_of}
+use Rattle.ir_run_sessions.specs.SessionTables.{entries_of}
 use Rattle.ir_run_sessions.proofs.DoneSteps.{refused_so}
 use Rattle.ir_run_sessions.proofs.ListSteps.{append_ops_done, not_append_ops}
 use Rattle.ir_run_sessions.proofs.list_steps.append_ops.Goals as goal

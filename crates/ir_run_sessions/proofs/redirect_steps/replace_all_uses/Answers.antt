@@ -1,7 +1,7 @@
 use Rattle.std.proofs.Common.{refl}
 use Rattle.ir_model.specs.Edits.{ReplaceAllUses}
 use Rattle.ir_core_records.specs.Meaning.{value_of}
-use Rattle.ir_run_tables.specs.SessionTables.{entries_of}
+use Rattle.ir_run_sessions.specs.SessionTables.{entries_of}
 use Rattle.ir_run_sessions.proofs.DoneSteps.{refused_so}
 use Rattle.ir_run_sessions.proofs.RedirectSteps.{not_replace_all, replace_all_made}
 use Rattle.ir_run_sessions.proofs.redirect_steps.replace_all_uses.Goals as goal

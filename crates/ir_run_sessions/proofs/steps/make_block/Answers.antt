@@ -6,12 +6,12 @@ use Rattle.ir_model.specs.declared.error.CoreError.TheVariants.{OutOfMemory}
 use Rattle.ir_model.specs.Edits.{NewBlock, these}
 use Rattle.ir_model.specs.Nesting.{ops_of}
 use Rattle.ir_core_records.specs.Meaning.{block_record}
-use Rattle.ir_run_tables.specs.Calls.{block_needs}
-use Rattle.ir_run_tables.specs.State.{bare, forest_of, types_of}
-use Rattle.ir_run_tables.specs.SessionTables.{entries_of, with_block}
+use Rattle.ir_core_queries.specs.Calls.{block_needs}
+use Rattle.ir_core_queries.specs.State.{bare, forest_of, types_of}
+use Rattle.ir_run_sessions.specs.SessionTables.{entries_of, with_block}
 use Rattle.ir_run_sessions.proofs.Conditions.{types_still}
 use Rattle.ir_run_sessions.proofs.NewEntities.{block_made, count_is}
-use Rattle.ir_run_tables.specs.SessionLists.{lent-below, picked-count, picked-known, picked-mean}
+use Rattle.ir_run_sessions.specs.SessionLists.{lent-below, picked-count, picked-known, picked-mean}
 use Rattle.ir_run_sessions.proofs.SessionSteps.{block_asked, refusal_tells, refused, room_found, skips_none, tells_memory}
 use Rattle.ir_run_sessions.proofs.steps.make_block.Goals as goal
 

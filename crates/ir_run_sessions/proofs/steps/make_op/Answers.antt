@@ -7,12 +7,12 @@ use Rattle.ir_model.specs.Forest.{a_block, a_value}
 use Rattle.ir_model.specs.Nesting.{IsLive, IsLiveNamed}
 use Rattle.ir_model.specs.Edits.{NewOp, these}
 use Rattle.ir_core_records.specs.Meaning.{op_record, value_of}
-use Rattle.ir_run_tables.specs.Calls.{op_needs}
-use Rattle.ir_run_tables.specs.State.{bare, forest_of, types_of}
-use Rattle.ir_run_tables.specs.SessionTables.{entries_of, with_op}
+use Rattle.ir_core_queries.specs.Calls.{op_needs}
+use Rattle.ir_core_queries.specs.State.{bare, forest_of, types_of}
+use Rattle.ir_run_sessions.specs.SessionTables.{entries_of, with_op}
 use Rattle.ir_run_sessions.proofs.Conditions.{op_still}
 use Rattle.ir_run_sessions.proofs.NewEntities.{count_is, op_asks, op_made}
-use Rattle.ir_run_tables.specs.SessionLists.{below, picked-count, picked-known, picked-live, picked-mean}
+use Rattle.ir_run_sessions.specs.SessionLists.{below, picked-count, picked-known, picked-live, picked-mean}
 use Rattle.ir_run_sessions.proofs.SessionSteps.{op_asked, refusal_tells, refused, room_found, skips_none, tells_memory}
 use Rattle.ir_run_sessions.proofs.steps.make_op.Goals as goal
 

@@ -4,9 +4,9 @@ use Rattle.std.proofs.lemmas.List.{length-map}
 use Rattle.std.proofs.lemmas.Result.{err_from_is_err_and}
 use Rattle.ir_model.specs.Edits.{AddRegion}
 use Rattle.ir_model.specs.Ids.{Counts}
-use Rattle.ir_run_tables.specs.Calls.{region_needs}
-use Rattle.ir_run_tables.specs.State.{bare, forest_of}
-use Rattle.ir_run_tables.specs.SessionTables.{entries_of, with_region}
+use Rattle.ir_core_queries.specs.Calls.{region_needs}
+use Rattle.ir_core_queries.specs.State.{bare, forest_of}
+use Rattle.ir_run_sessions.specs.SessionTables.{entries_of, with_region}
 use Rattle.ir_run_sessions.proofs.Conditions.{there}
 use Rattle.ir_run_sessions.proofs.NewEntities.{region_made}
 use Rattle.ir_run_sessions.proofs.SessionSteps.{HasRoom, refusal_tells, refused, region_asked, room_found, skips_none}

@@ -3,10 +3,10 @@ use Rattle.std.specs.Prelude.{slice_get}
 use Rattle.ir_model.specs.Forest.{a_value}
 use Rattle.ir_model.specs.Nesting.{IsLiveNamed}
 use Rattle.ir_model.specs.Edits.{Each, The}
-use Rattle.ir_run_tables.specs.State.{forest_of}
-use Rattle.ir_run_tables.specs.SessionTables.{entries_of}
+use Rattle.ir_core_queries.specs.State.{forest_of}
+use Rattle.ir_run_sessions.specs.SessionTables.{entries_of}
 use Rattle.ir_run_sessions.proofs.Conditions.{blocks_tested, types_tested, values_tested}
-use Rattle.ir_run_tables.specs.SessionLists.{clash}
+use Rattle.ir_run_sessions.specs.SessionLists.{clash}
 use Rattle.ir_run_sessions.proofs.steps.may_be_made.Goals as goal
 use Rattle.ir_run_sessions.proofs.steps.may_be_made.Goals.{then-all_below, else-all_below}
 

@@ -3,8 +3,8 @@ use Rattle.std.proofs.lemmas.List.{length-map}
 use Rattle.std.proofs.lemmas.Result.{err_from_is_err_and}
 use Rattle.ir_model.specs.declared.error.CoreError.TheVariants.{OutOfMemory}
 use Rattle.ir_model.specs.Edits.{NewType, no_needs}
-use Rattle.ir_run_tables.specs.State.{bare}
-use Rattle.ir_run_tables.specs.SessionTables.{entries_of, with_type_entered}
+use Rattle.ir_core_queries.specs.State.{bare}
+use Rattle.ir_run_sessions.specs.SessionTables.{entries_of, with_type_entered}
 use Rattle.ir_run_sessions.proofs.NewEntities.{type_made}
 use Rattle.ir_run_sessions.proofs.SessionSteps.{refused, skips_none, tells_memory}
 use Rattle.ir_run_sessions.proofs.steps.store_type.Goals as goal

@@ -1,8 +1,8 @@
 use Rattle.std.proofs.Common.{◌≤◌, length, arith}
 use Rattle.ir_model.specs.Nesting.{operands_of}
 use Rattle.ir_core_records.specs.Meaning.{value_of}
-use Rattle.ir_run_tables.specs.State.{forest_of}
-use Rattle.ir_run_tables.specs.SessionTables.{entries_of}
+use Rattle.ir_core_queries.specs.State.{forest_of}
+use Rattle.ir_run_sessions.specs.SessionTables.{entries_of}
 use Rattle.ir_run_sessions.proofs.UseSteps.{insert_operand_made, operand_count}
 use Rattle.ir_run_sessions.proofs.use_steps.insert_operand.Goals as goal
 

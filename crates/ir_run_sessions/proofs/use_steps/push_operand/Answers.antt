@@ -1,7 +1,7 @@
 use Rattle.std.proofs.Common.{refl}
 use Rattle.ir_model.specs.Edits.{PushOperand}
 use Rattle.ir_core_records.specs.Meaning.{value_of}
-use Rattle.ir_run_tables.specs.SessionTables.{entries_of}
+use Rattle.ir_run_sessions.specs.SessionTables.{entries_of}
 use Rattle.ir_run_sessions.proofs.DoneSteps.{refused_so}
 use Rattle.ir_run_sessions.proofs.UseSteps.{not_push_operand, push_operand_made}
 use Rattle.ir_run_sessions.proofs.use_steps.push_operand.Goals as goal

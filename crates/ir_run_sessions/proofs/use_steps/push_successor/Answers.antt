@@ -1,6 +1,6 @@
 use Rattle.std.proofs.Common.{refl}
 use Rattle.ir_model.specs.Edits.{PushSuccessor}
-use Rattle.ir_run_tables.specs.SessionTables.{entries_of}
+use Rattle.ir_run_sessions.specs.SessionTables.{entries_of}
 use Rattle.ir_run_sessions.proofs.DoneSteps.{refused_so}
 use Rattle.ir_run_sessions.proofs.UseSteps.{not_push_successor, push_successor_made}
 use Rattle.ir_run_sessions.proofs.use_steps.push_successor.Goals as goal

@@ -1,7 +1,7 @@
 use Rattle.std.proofs.Common.{◌<◌, length, arith}
 use Rattle.ir_model.specs.Nesting.{successors_of}
-use Rattle.ir_run_tables.specs.State.{forest_of}
-use Rattle.ir_run_tables.specs.SessionTables.{entries_of}
+use Rattle.ir_core_queries.specs.State.{forest_of}
+use Rattle.ir_run_sessions.specs.SessionTables.{entries_of}
 use Rattle.ir_run_sessions.proofs.UseSteps.{remove_successor_done, successor_count}
 use Rattle.ir_run_sessions.proofs.use_steps.remove_successor.Goals as goal
 

@@ -4,7 +4,7 @@ use Rattle.ir_model.specs.Soundness.{Sound}
 use Rattle.ir_model.proofs.RefusedForGood.{gone_for_good}
 use Rattle.ir_run_sessions.specs.SessionEdits.{edit_of}
 use Rattle.ir_run_sessions.specs.SessionState.{SessionState, plain}
-use Rattle.ir_run_tables.specs.SessionLists.{map-push}
+use Rattle.ir_run_sessions.specs.SessionLists.{map-push}
 use Rattle.ir_run_sessions.proofs.SessionRuns.{run-more, run_keys}
 use Rattle.ir_run_sessions.proofs.session.Session.carry_out.Goals as goal
 

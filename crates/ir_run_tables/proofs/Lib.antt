@@ -1,4 +1,0 @@
-pub mod Entering
-pub mod Placing
-pub mod Regions
-pub mod Unused
