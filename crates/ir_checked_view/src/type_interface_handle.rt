@@ -6,14 +6,14 @@ ghost use Rattle.ir_checked_core.specs.Answers.{Answers, own_value, unless};
 ghost use Rattle.ir_core_context.specs.State.{types_of};
 ghost use Rattle.ir_core_records.specs.DialectAnswers.{kinds_of};
 ghost use Rattle.ir_model.specs.Kinds.{Implements, LacksInterface};
-ghost use Rattle.ir_view_types.specs.Handles.{interface_place};
+ghost use Rattle.ir_view.specs.Handles.{interface_place};
 
 pub use crate::verifying::verify_type_interface_handle as verify;
 use ir_base_dialects::interfaces::TypeInterfaceMarker;
 use ir_base_dialects::{Dialects, TypeHandle};
 use ir_checked_core::{Call, CheckedErr, Condition, fault};
 use ir_core_queries::{Context, TypeQueries};
-use ir_view_types::{TypeInterfaceHandle, TypeInterfaceHandleErr};
+use ir_view::types::{TypeInterfaceHandle, TypeInterfaceHandleErr};
 
 /// The handle of a known type, as one with the interface, or why it has none.
 ///

@@ -7,7 +7,7 @@ ghost use Rattle.ir_core_context.specs.State.{types_of};
 use ir_base_dialects::{Dialects, TypeHandle};
 use ir_checked_core::{Call, CheckedErr, Condition, fault};
 use ir_core_queries::{Context, TypeQueries};
-use ir_view_types::Typed;
+use ir_view::types::Typed;
 
 /// The known type itself.
 ///

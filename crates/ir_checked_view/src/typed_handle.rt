@@ -5,13 +5,13 @@ ghost use Rattle.ir_checked_core.specs.Answers.{Answers, own_value, unless};
 ghost use Rattle.ir_core_context.specs.State.{types_of};
 ghost use Rattle.ir_core_records.specs.DialectAnswers.{kinds_of};
 ghost use Rattle.ir_model.specs.Kinds.{HasKind, IsOtherKind};
-ghost use Rattle.ir_view_types.specs.Handles.{typed_place};
+ghost use Rattle.ir_view.specs.Handles.{typed_place};
 
 pub use crate::verifying::verify_typed_handle as verify;
 use ir_base_dialects::{Dialects, TypeHandle};
 use ir_checked_core::{Call, CheckedErr, Condition, fault};
 use ir_core_queries::{Context, TypeQueries};
-use ir_view_types::{IrType, TypedHandle, TypedHandleErr};
+use ir_view::types::{IrType, TypedHandle, TypedHandleErr};
 
 /// The handle of a known type, as that of a `T`, or why it is none.
 ///

@@ -11,7 +11,7 @@ ghost use Rattle.ir_model.specs.Forest.{a_block, a_region, a_value, an_op};
 ghost use Rattle.ir_model.specs.Kinds.{HasKind, Implements};
 ghost use Rattle.ir_model.specs.Nesting.{IsLive, IsLiveNamed};
 ghost use Rattle.ir_verify_checks.specs.Verified.{AllIsWellIn, MayAnswerIn};
-ghost use Rattle.ir_view_types.specs.Handles.{interface_place, typed_place};
+ghost use Rattle.ir_view.specs.Handles.{interface_place, typed_place};
 
 use ir_base_dialects::interfaces::TypeInterfaceMarker;
 use ir_base_dialects::{Dialects, Ptr, TypeHandle};
@@ -21,7 +21,7 @@ use ir_core_queries::{
     ValueQueries,
 };
 use ir_verify_checks::{Verifiers, Verify, VerifyErr};
-use ir_view_types::{IrType, TypeInterfaceHandle, TypedHandle};
+use ir_view::types::{IrType, TypeInterfaceHandle, TypedHandle};
 
 /// Verifies a live operation and all that is inside it.
 ///

@@ -10,13 +10,13 @@ ghost use Rattle.ir_model.specs.ContextIds.{context_ids};
 ghost use Rattle.ir_model.specs.Forest.{Entity as PlainEntity, a_block, a_region, an_op};
 ghost use Rattle.ir_model.specs.Nesting.{IsLive, blocks_of, ops_of};
 ghost use Rattle.ir_model.specs.Subtree.{ListsSubtree};
-ghost use Rattle.ir_view_walks.specs.Operations.{op_of};
-ghost use Rattle.ir_view_walks.specs.Orders.{IsPostOrder, IsPreorder};
+ghost use Rattle.ir_view.specs.Operations.{op_of};
+ghost use Rattle.ir_view.specs.Orders.{IsPostOrder, IsPreorder};
 
 use ir_base_dialects::{Dialects, Ptr};
 use ir_checked_core::{Call, CheckedErr, Condition, Unmet, fault};
 use ir_core_queries::{BasicBlock, BlockPtr, Context, Entity, Operation, Region, RegionPtr};
-use ir_view_walks::{EntitiesInside, OpsInside, is_live};
+use ir_view::walk::{EntitiesInside, OpsInside, is_live};
 
 /// All that stands inside a live entity, the entity among them, in post-order: what stands in an entity comes before it.
 ///
@@ -37,7 +37,7 @@ pub fn inside<D: Dialects>(
             condition: Condition::dead(entity),
         }));
     }
-    Ok(ir_view_walks::inside(ctx, entity))
+    Ok(ir_view::walk::inside(ctx, entity))
 }
 
 /// All that stands inside a live entity, the entity among them, in preorder: an entity comes before what stands in it.
@@ -59,7 +59,7 @@ pub fn inside_preorder<D: Dialects>(
             condition: Condition::dead(entity),
         }));
     }
-    Ok(ir_view_walks::inside_preorder(ctx, entity))
+    Ok(ir_view::walk::inside_preorder(ctx, entity))
 }
 
 /// The operations inside a live entity in post-order: each after those inside it.
@@ -80,7 +80,7 @@ pub fn ops_inside<D: Dialects>(
             condition: Condition::dead(entity),
         }));
     }
-    Ok(ir_view_walks::ops_inside(ctx, entity))
+    Ok(ir_view::walk::ops_inside(ctx, entity))
 }
 
 /// The operations inside a live entity in preorder: each before those inside it.
@@ -101,7 +101,7 @@ pub fn ops_inside_preorder<D: Dialects>(
             condition: Condition::dead(entity),
         }));
     }
-    Ok(ir_view_walks::ops_inside_preorder(ctx, entity))
+    Ok(ir_view::walk::ops_inside_preorder(ctx, entity))
 }
 
 /// The operations of a live block, in order.
@@ -120,7 +120,7 @@ pub fn ops_of<D: Dialects>(
     if !block.is_live(ctx) {
         return Err(fault!(WalkOpsOf, DeadBlock));
     }
-    match ir_view_walks::ops_of(ctx, block) {
+    match ir_view::walk::ops_of(ctx, block) {
         Ok(answer) => Ok(answer),
         Err(error) => Err(CheckedErr::Core(error)),
     }
@@ -142,7 +142,7 @@ pub fn blocks_of<D: Dialects>(
     if !region.is_live(ctx) {
         return Err(fault!(WalkBlocksOf, DeadRegion));
     }
-    match ir_view_walks::blocks_of(ctx, region) {
+    match ir_view::walk::blocks_of(ctx, region) {
         Ok(answer) => Ok(answer),
         Err(error) => Err(CheckedErr::Core(error)),
     }
@@ -168,7 +168,7 @@ pub fn all_inside<D: Dialects>(
             condition: Condition::dead(entity),
         }));
     }
-    match ir_view_walks::all_inside(ctx, entity) {
+    match ir_view::walk::all_inside(ctx, entity) {
         Ok(answer) => Ok(answer),
         Err(error) => Err(CheckedErr::Core(error)),
     }

@@ -13,7 +13,7 @@ use crate::reading::{Block, Op};
 use generic_dialect::{Generic, GenericLoc, kind_name};
 use ir_base_dialects::Ptr;
 use ir_core_queries::{BlockPtr, Context, Operation, OperationPtr, Region};
-use ir_view_walks::{blocks_of, ops_of};
+use ir_view::walk::{blocks_of, ops_of};
 
 // Whether operations of a kind are modules.
 fn is_module(kind: u32) -> bool

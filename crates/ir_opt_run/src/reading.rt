@@ -18,7 +18,7 @@ use ir_base_dialects::Ptr;
 use ir_core_queries::{BasicBlock, Context, Entity, Operation, OperationPtr, can_erase};
 use ir_text_names::Wrong;
 use ir_text_reader::Row;
-use ir_view_walks::all_inside;
+use ir_view::walk::all_inside;
 use std::alloc::{AllocError, Global};
 
 /// An operation of the dialect.

@@ -10,7 +10,7 @@ ghost use Rattle.ir_core_queries.specs.Entities.{meant};
 use crate::rewriter::Change;
 use ir_base_dialects::{CoreError, Dialects, Ptr};
 use ir_core_queries::{Context, Entity, Operation};
-use ir_view_walks::inside;
+use ir_view::walk::inside;
 
 // Puts the operation that an entity is at the end of the list, if it is one.
 fn push_op<D: Dialects>(

@@ -15,7 +15,7 @@ use crate::sweeping::live_ops;
 use ir_base_dialects::{CoreError, Dialects, Ptr};
 use ir_core_queries::{BasicBlock, Context, Entity, Operation};
 use ir_model_passes::merges_are_counted;
-use ir_view_walks::inside_preorder;
+use ir_view::walk::inside_preorder;
 
 // The blocks inside a live operation, each before those inside it, and before those that come after it.
 fn blocks_inside<D: Dialects>(

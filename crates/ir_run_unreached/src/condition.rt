@@ -22,7 +22,7 @@ use ir_core_queries::{
     kept_uses,
 };
 use ir_core_records::{KeptUse, uses};
-use ir_view_walks::inside;
+use ir_view::walk::inside;
 
 // Marks an entity that is a block.
 fn mark_block<D: Dialects>(

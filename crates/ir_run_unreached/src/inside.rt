@@ -18,7 +18,7 @@ use crate::condition::can_remove_unreached;
 use crate::removing::{recall_nested, remove_unreached};
 use ir_base_dialects::{CoreError, Dialects, Ptr};
 use ir_core_queries::{Context, Entity, Operation, Region, RegionPtr};
-use ir_view_walks::inside_preorder;
+use ir_view::walk::inside_preorder;
 
 // Puts an entity that is a region at the end of the list.
 fn push_region<D: Dialects>(

@@ -4,7 +4,7 @@ ghost use Rattle.std.specs.Prelude.{◌≡◌, slice_get};
 ghost use Rattle.ir_model.specs.Edits.{The};
 ghost use Rattle.ir_model.specs.Faults.{the_type, the_typed};
 ghost use Rattle.ir_model.specs.Kinds.{HasKind, Implements};
-ghost use Rattle.ir_view_types.specs.Handles.{interface_place, typed_place};
+ghost use Rattle.ir_view.specs.Handles.{interface_place, typed_place};
 ghost use Rattle.ir_view_parts.specs.State.{types_of};
 ghost use Rattle.ir_core_records.specs.DialectAnswers.{kinds_of};
 
@@ -15,7 +15,7 @@ use crate::verify::Verify;
 use ir_base_dialects::Dialects;
 use ir_base_dialects::interfaces::TypeInterfaceMarker;
 use ir_view_parts::{Context, TypeQueries};
-use ir_view_types::{IrType, TypeInterfaceHandle, TypedHandle};
+use ir_view::types::{IrType, TypeInterfaceHandle, TypedHandle};
 
 impl<D: Dialects, T: IrType<D>> Verify<D> for TypedHandle<T, D> {
     ghost IsThere = { λ s t. HasKind (kinds_of D.Dialects D.Saved.eq) (types_of s) (typed_place t) T.KIND };

@@ -13,7 +13,7 @@ use ir_verify_checks::{VerifierErr, VerifyErr, verify_operation, verify_type};
 use ir_view_parts::{
     Context, Op, Operation, OperationKind, OperationPtr, Value, ValueQueries, op_impls_static,
 };
-use ir_view_types::{IrType, TypeInterfaceHandle, TypedHandle};
+use ir_view::types::{IrType, TypeInterfaceHandle, TypedHandle};
 use std::alloc::Global;
 use std::fmt::Debug;
 use std::process::Abort;

@@ -10,7 +10,7 @@ use ir_view_parts::{
     BasicBlock, BlockPtr, Context, Operation, OperationKind, OperationPtr, Region, RegionPtr,
     TypeQueries, Value, ValueQueries,
 };
-use ir_view_types::{IrType, TypeInterfaceHandle, TypedHandle};
+use ir_view::types::{IrType, TypeInterfaceHandle, TypedHandle};
 use std::alloc::Global;
 
 /// What is found at the operation, by its handle.

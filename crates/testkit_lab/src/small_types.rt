@@ -5,7 +5,7 @@ ghost use Rattle.std.specs.Prelude.{None, Some, refl};
 use crate::small_dialect::{Small, SmallType};
 use ir_base_dialects::TypeHandle;
 use ir_base_dialects::interfaces::TypeInterfaceMarker;
-use ir_view_types::{IrType, TypeImplsInterface};
+use ir_view::types::{IrType, TypeImplsInterface};
 
 /// The number of the dialect's interface of sized types.
 pub(crate) const SIZED: u32 = 16;

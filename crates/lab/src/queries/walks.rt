@@ -3,7 +3,7 @@
 use ir_base_dialects::Ptr;
 use ir_checked_core::CheckedErr;
 use ir_view_parts::{BasicBlock, BlockPtr, Entity, Region, RegionPtr};
-use ir_view_walks::{
+use ir_view::walk::{
     all_inside, blocks_of, inside, inside_preorder, is_live, ops_inside, ops_inside_preorder,
     ops_of,
 };

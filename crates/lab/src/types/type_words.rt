@@ -11,7 +11,7 @@ use ir_base_dialects::{CoreError, Dialects, Ptr, TypeHandle};
 use ir_view_parts::{
     Context, Operation, OperationPtr, TypeQueries, Use, UseQueries, Value, ValueQueries,
 };
-use ir_view_types::{TypeSig, Typed};
+use ir_view::types::{TypeSig, Typed};
 use std::alloc::Global;
 use std::hash::{DefaultHasher, Hash, Hasher};
 use testkit_lab::{

@@ -2,7 +2,7 @@ use Rattle.std.proofs.Common.{◌≡◌, ◌∙◌, ap, refl, subst, sym}
 use Rattle.ir_model.specs.Faults.{the_type}
 use Rattle.ir_model.specs.VerifyAnswers.{AllIsWell, MayAnswer}
 use Rattle.ir_view_parts.specs.State.{forest_of, types_of}
-use Rattle.ir_view_types.specs.Handles.{interface_place}
+use Rattle.ir_view.specs.Handles.{interface_place}
 use Rattle.ir_verify_checks.specs.Shown.{checks_in}
 use Rattle.ir_verify_checks.specs.Told.{told}
 use Rattle.ir_verify_checks.proofs.Handles.{if-err, on-ok, one-key}

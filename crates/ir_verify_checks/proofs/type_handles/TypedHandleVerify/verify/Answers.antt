@@ -3,7 +3,7 @@ use Rattle.std.proofs.lemmas.Option.{slice_get_within}
 use Rattle.ir_model.specs.Faults.{the_typed}
 use Rattle.ir_model.specs.VerifyAnswers.{AllIsWell, MayAnswer}
 use Rattle.ir_view_parts.specs.State.{forest_of, types_of}
-use Rattle.ir_view_types.specs.Handles.{typed_place}
+use Rattle.ir_view.specs.Handles.{typed_place}
 use Rattle.ir_verify_checks.specs.Shown.{checks_in}
 use Rattle.ir_verify_checks.specs.Told.{told}
 use Rattle.ir_verify_checks.proofs.Handles.{if-err, on-ok, one-key}

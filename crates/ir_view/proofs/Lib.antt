@@ -1,0 +1,11 @@
+pub mod KeyKinds
+pub mod Splits
+pub mod Pieces
+pub mod Steps
+pub mod Levels
+pub mod Forests
+pub mod Lefts
+pub mod Listings
+pub mod Regions
+pub mod Gathered
+pub mod OpsAmong

@@ -1,7 +1,0 @@
-use Rattle.ir_model.specs.Nesting.{IsLive}
-use Rattle.ir_core_context.specs.State.{forest_of}
-use Rattle.ir_view_walks.proofs.OpsAmong.{ops-all}
-use Rattle.ir_view_walks.proofs.operations.ops_inside_preorder.Goals as goal
-
-pub returns-clause-live : goal.returns-clause-live
-returns-clause-live g c = ops-all (IsLive (forest_of c.args.ctx.now)) c.inside_preorder.result c.inside_preorder.ensures.live

@@ -1,4 +1,0 @@
-pub mod Orders
-pub mod Operations
-pub mod Left
-pub mod Listings
