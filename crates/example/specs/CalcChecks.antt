@@ -3,8 +3,8 @@ use Rattle.std.specs.Prelude.{◌≡◌, ◌≢◌, ℕ, length}
 use Rattle.ir_base.specs.Model.declared.ids.ArenaIndex.{ArenaIndex}
 use Rattle.ir_base.specs.Model.Edits.{The}
 use Rattle.ir_core.specs.Records.Meaning.{closed}
-use Rattle.ir_verify.specs.Checks.Own.{Own, silent}
-use Rattle.ir_verify.specs.Checks.Shown.{Shown}
+use Rattle.ir_verify.specs.Own.{Own, silent}
+use Rattle.ir_verify.specs.Shown.{Shown}
 use Rattle.example.specs.declared.calc.CalcType.{CalcType}
 use Rattle.example.specs.declared.calc.CalcType.TheVariants.{Number}
 

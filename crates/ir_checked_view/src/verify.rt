@@ -6,13 +6,13 @@ ghost use Rattle.ir_core_context.specs.State.{forest_of};
 ghost use Rattle.ir_model.specs.Faults.{the_entity};
 ghost use Rattle.ir_model.specs.Forest.{an_op};
 ghost use Rattle.ir_model.specs.Nesting.{IsLive};
-ghost use Rattle.ir_verify_checks.specs.Verified.{AllIsWellIn, MayAnswerIn};
+ghost use Rattle.ir_verify.specs.Verified.{AllIsWellIn, MayAnswerIn};
 ghost use Rattle.ir_view_parts.specs.Wrapped.{operation_in};
 
 use ir_base_dialects::{Dialects, Ptr};
 use ir_checked_core::{Call, CheckedErr, Condition, fault};
 use ir_core_queries::{Context, Operation, OperationPtr};
-use ir_verify_checks::{Verifiers, VerifyErr};
+use ir_verify::verify::{Verifiers, VerifyErr};
 use ir_view_parts::OpObj;
 
 // Whether the operation of a wrapper is live.
@@ -38,7 +38,7 @@ pub fn verify_operation<D: Dialects, V: Verifiers<D>>(
     if !op.is_live(ctx) {
         return Err(fault!(VerifyOperation, DeadOperation));
     }
-    Ok(ir_verify_checks::verify_operation(op, ctx, verifiers))
+    Ok(ir_verify::verify::verify_operation(op, ctx, verifiers))
 }
 
 /// Verifies the live operation of a wrapper and all that is inside it, whatever kind the wrapper says.
@@ -57,5 +57,5 @@ pub fn verify_op<D: Dialects, V: Verifiers<D>>(
     if !is_live(ctx, op) {
         return Err(fault!(VerifyOp, DeadOperation));
     }
-    Ok(ir_verify_checks::verify_op(op, ctx, verifiers))
+    Ok(ir_verify::verify::verify_op(op, ctx, verifiers))
 }

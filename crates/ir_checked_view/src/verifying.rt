@@ -10,7 +10,7 @@ ghost use Rattle.ir_model.specs.Faults.{Root, the_entity, the_type, the_typed, t
 ghost use Rattle.ir_model.specs.Forest.{a_block, a_region, a_value, an_op};
 ghost use Rattle.ir_model.specs.Kinds.{HasKind, Implements};
 ghost use Rattle.ir_model.specs.Nesting.{IsLive, IsLiveNamed};
-ghost use Rattle.ir_verify_checks.specs.Verified.{AllIsWellIn, MayAnswerIn};
+ghost use Rattle.ir_verify.specs.Verified.{AllIsWellIn, MayAnswerIn};
 ghost use Rattle.ir_view.specs.Handles.{interface_place, typed_place};
 
 use ir_base_dialects::interfaces::TypeInterfaceMarker;
@@ -20,7 +20,7 @@ use ir_core_queries::{
     BasicBlock, BlockPtr, Context, Operation, OperationPtr, Region, RegionPtr, TypeQueries, Value,
     ValueQueries,
 };
-use ir_verify_checks::{Verifiers, Verify, VerifyErr};
+use ir_verify::verify::{Verifiers, Verify, VerifyErr};
 use ir_view::types::{IrType, TypeInterfaceHandle, TypedHandle};
 
 /// Verifies a live operation and all that is inside it.

@@ -1,8 +1,8 @@
 -- What the checks of the dialect Generic find: nothing.
 use Rattle.ir_model.specs.Verifiers.{Verifiers}
 use Rattle.ir_core_records.specs.Meaning.{closed}
-use Rattle.ir_verify_checks.specs.Own.{Own, own_alone, silent}
-use Rattle.ir_verify_checks.specs.Shown.{Shown}
+use Rattle.ir_verify.specs.Own.{Own, own_alone, silent}
+use Rattle.ir_verify.specs.Shown.{Shown}
 
 module _ {A K B S X L : Type 0} where
   -- no check finds anything

@@ -8,7 +8,7 @@ use ir_base_dialects::interfaces::TERMINATOR;
 use ir_base_dialects::{Dialects, Identifier};
 use ir_checked_core::basic_block;
 use ir_core_queries::{BlockPlace, BlockPtr, Context, OperationPlace, OperationPtr};
-use ir_verify_checks::{BasicBlockVerifyErr, VerifierErr, VerifyErr, verify_operation};
+use ir_verify::verify::{BasicBlockVerifyErr, VerifierErr, VerifyErr, verify_operation};
 
 // The place of an operation of the text; none where it isn't one of the text.
 fn place_of(module: &Module, op: Op) -> Option<u32> {

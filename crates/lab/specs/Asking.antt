@@ -2,7 +2,7 @@
 use Rattle.std.specs.Prelude.{ℕ, [], ◌∷◌}
 use Rattle.ir_model.specs.Verifiers.{Answers, Verifiers}
 use Rattle.ir_core_records.specs.Meaning.{closed}
-use Rattle.ir_verify_checks.specs.Shown.{Shown}
+use Rattle.ir_verify.specs.Shown.{Shown}
 
 -- a check that finds nothing, and may run out of memory
 abbrev pub asks : {X S : Type 0} → Answers X S

@@ -9,7 +9,7 @@ use ir_base_dialects::interfaces::PureOpInterface;
 use ir_base_dialects::{Dialects, Identifier, Ptr};
 use ir_checked_core::{context, operation};
 use ir_core_queries::{Named, TypeQueries};
-use ir_verify_checks::{VerifierErr, VerifyErr, verify_operation, verify_type};
+use ir_verify::verify::{VerifierErr, VerifyErr, verify_operation, verify_type};
 use ir_view_parts::{
     Context, Op, Operation, OperationKind, OperationPtr, Value, ValueQueries, op_impls_static,
 };

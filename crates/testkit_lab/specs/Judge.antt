@@ -3,7 +3,7 @@ use Rattle.std.specs.Prelude.{◌≡◌, ◌≢◌, ◌==◌, if◌then◌else�
 use Rattle.ir_model.specs.declared.ids.ArenaIndex.{ArenaIndex}
 use Rattle.ir_model.specs.Verifiers.{Answers, Verifiers}
 use Rattle.ir_core_records.specs.Meaning.{closed}
-use Rattle.ir_verify_checks.specs.Shown.{Shown}
+use Rattle.ir_verify.specs.Shown.{Shown}
 use Rattle.testkit_lab.specs.declared.small_dialect.SmallAttr.{SmallAttr}
 use Rattle.testkit_lab.specs.declared.small_dialect.SmallAttr.TheVariants.{Marked, Plain}
 use Rattle.testkit_lab.specs.declared.small_dialect.SmallType.{SmallType}

@@ -2,11 +2,13 @@
 
 ghost use Rattle.std.specs.Prelude.{◌≡◌, IfErr, OnOk};
 ghost use Rattle.ir_view_parts.specs.Wrapped.{operation_in};
-ghost use Rattle.ir_verify_checks.specs.Told.{MayFail, MayPass};
+ghost use Rattle.ir_verify.specs.Told.{MayFail, MayPass};
 ghost use Rattle.testkit_lab.specs.Judge.{itself, judging, number_in, number_of};
 
 use crate::small_dialect::{Small, SmallAttr, SmallType};
-use ir_verify_checks::{CheckErr, Context, OpObj, Verifiers};
+use ir_core_queries::Context;
+use ir_verify::verify::{CheckErr, Verifiers};
+use ir_view_parts::OpObj;
 
 /// Answers one code where its check is run, or, at one check, that memory ran out. No check has the code 0.
 #[derive(Clone, Copy, Debug, Drop)]

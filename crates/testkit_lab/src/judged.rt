@@ -7,7 +7,8 @@ use crate::small_finding::{
     type_found, type_found_by_call, typed_found, value_found,
 };
 use crate::small_types::{ListedType, SizedInterface};
-use ir_verify_checks::{Context, Verifiers, VerifyErr};
+use ir_core_queries::Context;
+use ir_verify::verify::{Verifiers, VerifyErr};
 
 /// What is verified of the forest that `make_marked` makes.
 #[derive(Clone, Copy, Debug, Drop, PartialEq, Eq)]

@@ -6,8 +6,8 @@ use Rattle.ir_model.specs.Verifiers.{Verifiers}
 use Rattle.ir_core_records.specs.Meaning.{closed}
 use Rattle.toy_dialect.specs.declared.toy.ToyType.{ToyType}
 use Rattle.toy_dialect.specs.declared.toy.ToyType.TheVariants.{Int, Named}
-use Rattle.ir_verify_checks.specs.Own.{Own, own_alone, silent}
-use Rattle.ir_verify_checks.specs.Shown.{Shown}
+use Rattle.ir_verify.specs.Own.{Own, own_alone, silent}
+use Rattle.ir_verify.specs.Shown.{Shown}
 
 -- integers have a width, or code 1 stands
 abbrev pub TypeCode : ToyType → ℕ → Type 0

@@ -3,8 +3,6 @@
 
 mod toy_verifiers;
 
-pub use ir_verify_checks::{
-    BasicBlockVerifyErr, DefUseVerifyErr, VerifierErr, VerifyErr, verify_operation,
-};
+pub use ir_verify::verify::{BasicBlockVerifyErr, DefUseVerifyErr, VerifierErr, VerifyErr, verify_operation};
 pub use toy_dialect::{Toy, ToyAttr, ToyInt, ToyOutlined, ToyText, ToyType};
 pub use toy_verifiers::{EMPTY_INTEGER, OPERAND_COUNT, ToyVerifiers};

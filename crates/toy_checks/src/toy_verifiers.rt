@@ -2,7 +2,9 @@
 
 ghost use Rattle.toy_checks.specs.ToyVerifiers.{toy_checks};
 
-use ir_verify_checks::{CheckErr, Context, OpObj, OperationPtr, OwnChecks};
+use ir_core_queries::{Context, OperationPtr};
+use ir_verify::verify::{CheckErr, OwnChecks};
+use ir_view_parts::OpObj;
 use toy_dialect::{Toy, ToyAttr, ToyType};
 
 /// The code of an integer type whose width is 0.

@@ -3,7 +3,7 @@ ghost use Rattle.std.specs.Iterator.{IsFinite};
 
 use ir_base_dialects::{Identifier, OpId, Ptr, TypeHandle};
 use ir_checked_core::CheckedErr;
-use ir_verify_checks::VerifyErr;
+use ir_verify::verify::VerifyErr;
 use ir_view_parts::{BasicBlock, Entity, OpObj, Operation, Region, Use, Value};
 use std::mem::replace;
 use testkit_lab::{Lab, Named, Placed, Reply, tell_refused};

@@ -4,7 +4,9 @@ ghost use Rattle.std.specs.Prelude.{◌≡◌, IfErr};
 ghost use Rattle.lab.specs.Asking.{asking};
 
 use ir_base_dialects::Dialects;
-use ir_verify_checks::{CheckErr, Context, OpObj, Verifiers};
+use ir_core_queries::Context;
+use ir_verify::verify::{CheckErr, Verifiers};
+use ir_view_parts::OpObj;
 use std::alloc::Global;
 use testkit_lab::Small;
 use toy_dialect::Toy;

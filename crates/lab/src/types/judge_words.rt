@@ -11,7 +11,7 @@ use crate::types::telling::{tell, tell_refusal};
 use crate::types::verify_words::tell_found;
 use ir_base_dialects::attribute::Attribute;
 use ir_base_dialects::{CoreError, Ptr, TypeHandle};
-use ir_verify_checks::{VerifierErr, Verifiers, VerifyErr, verify_attr};
+use ir_verify::verify::{VerifierErr, Verifiers, VerifyErr, verify_attr};
 use ir_view_parts::{Context, Op, Operation, OperationKind, OperationPtr};
 use testkit_lab::{
     InnerOp, Item, Items, Judge, JudgedRoot, Lab, LabErr, MarkedAttr, MarkedForest, PlainAttr,

@@ -6,7 +6,7 @@
 //! In the group `verify` the checks are those of Toy, as in `well`, where nothing may be wrong, so that nothing is asked for. In `asking` each check asks for memory.
 
 use crate::types::attr_calls::attribute_of;
-use ir_verify_checks::{Verifiers, VerifyErr, verify_attr};
+use ir_verify::verify::{Verifiers, VerifyErr, verify_attr};
 use ir_view_parts::Context;
 use testkit_lab::{
     Item, Items, Lab, Reply, TextError, block_found, items_of, one, op_found, op_found_by_call,

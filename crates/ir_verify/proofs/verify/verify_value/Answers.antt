@@ -1,0 +1,20 @@
+use Rattle.std.proofs.Common.{◌≡◌, ◌∙◌, ap, length, subst, sym}
+use Rattle.ir_model.specs.Faults.{the_entity, the_attribute, the_type, the_value}
+use Rattle.ir_model.specs.Forest.{an_op, a_block, a_region}
+use Rattle.ir_model.specs.VerifyAnswers.{AllIsWell, MayAnswer}
+use Rattle.ir_core_records.specs.Meaning.{value_of}
+use Rattle.ir_view_parts.specs.State.{forest_of, types_of}
+use Rattle.ir_verify.specs.Shown.{checks_in}
+use Rattle.ir_verify.specs.Told.{told}
+use Rattle.ir_verify.proofs.Handles.{value-finds}
+use Rattle.ir_verify.proofs.Roots.{all-told, all-well}
+use Rattle.ir_verify.proofs.verify.verify_value.Goals as goal
+use Rattle.ir_core_records.specs.DialectAnswers.{behaviour_of, kinds_of}
+
+pub returns : goal.returns
+returns g c =
+    let B = behaviour_of g.D.Dialects g.D.TypeKey.PartialEq.eq in
+    let K = kinds_of g.D.Dialects g.D.Saved.PartialEq.eq in
+    let s = c.args.ctx.now in
+    let ks = checks_in K (g.V.Verifiers.handed_in c.args.verifiers.now) s in
+    value-finds B (forest_of s) (types_of s) ks (length (types_of s)) c.recall_well_formed.ensures (value_of c.args.value.index) c.get_type.result.place c.get_type.ensures.found c.deref.result.now c.deref.ensures c.check_type.result c.check_type.ensures

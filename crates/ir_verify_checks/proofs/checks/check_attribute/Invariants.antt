@@ -1,7 +1,0 @@
-use Rattle.ir_verify_checks.specs.Shown.{shown}
-use Rattle.ir_verify_checks.specs.Told.{MayPass}
-use Rattle.ir_verify_checks.proofs.Loops.{Before}
-use Rattle.ir_verify_checks.proofs.checks.check_attribute.Given as goal
-
-abbrev pub invariant-loop-number : goal.invariant-loop-number
-invariant-loop-number g l = Before (λ n. MayPass ((g.V.Verifiers.handed_in l.verifiers).attr_interface n) l.attr (shown l.ctx)) l.number-items l.number-index
