@@ -6,7 +6,7 @@ use crate::telling::{tell_done, tell_name, tell_number};
 use crate::{redirecting, setting};
 use ir_base_dialects::Ptr;
 use ir_checked_core::{basic_block, operation};
-use ir_checked_view::dead::sweep;
+use ir_checked::dead::sweep;
 use ir_view_parts::{BasicBlock, Operation};
 use testkit_edit_texts::TextError;
 use toy_dialect::Toy;

@@ -10,7 +10,7 @@ use ir_checked_core::{
     CheckedErr, context, entity as entities, operand_use, region as regions, successor_use, types,
     uniqued, uniqued_any, value as values,
 };
-use ir_checked_view::{
+use ir_checked::{
     passes, region as region_views, types as type_views, value as value_views, walk,
 };
 use ir_view_parts::{BasicBlock, Context, Entity, Region, Use, Value};

@@ -5,7 +5,7 @@ use crate::checked::told::{tell, tell_error};
 use crate::checked::walked;
 use ir_base_dialects::Ptr;
 use ir_checked_core::basic_block;
-use ir_checked_view::{basic_block as views, walk};
+use ir_checked::{basic_block as views, walk};
 use ir_view_parts::{BasicBlock, Entity};
 use testkit_lab::{Lab, Reply, TextError};
 use toy_checks::ToyVerifiers;

@@ -6,7 +6,7 @@ use crate::checked::told::tell_edit;
 use crate::checked::words::read;
 use ir_base_dialects::{Identifier, Ptr, TypeHandle};
 use ir_checked_core::{operation, region as regions, types, value as values};
-use ir_checked_view::passes;
+use ir_checked::passes;
 use ir_view_parts::{Context, Operation, Region, Use, Value};
 use testkit_lab::{Item, Items, Lab, TextError, type_of};
 use toy_dialect::Toy;

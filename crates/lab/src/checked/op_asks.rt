@@ -5,7 +5,7 @@ use crate::checked::told::{Told, tell, tell_error};
 use crate::checked::walked;
 use ir_base_dialects::Ptr;
 use ir_checked_core::operation;
-use ir_checked_view::{op as wrapped, operation as views, passes, verify as verification};
+use ir_checked::{op as wrapped, operation as views, passes, verify as verification};
 use ir_view_parts::{Entity, Op, OpObj, Operation};
 use testkit_lab::{Constant, Lab, Line, Reply, TextError};
 use toy_checks::ToyVerifiers;

@@ -3,7 +3,7 @@
 use crate::checked::asks::ask_type;
 use crate::checked::told::{tell, tell_error};
 use ir_base_dialects::TypeHandle;
-use ir_checked_view::{type_interface_handle, typed_handle};
+use ir_checked::{type_interface_handle, typed_handle};
 use ir_view::types::{TypeInterfaceHandle, TypedHandle};
 use testkit_lab::{Judge, Lab, Reply, SizedInterface, SizedType, Small, TextError};
 

@@ -2,3 +2,4 @@
 
 pub use crate::typed::get_type;
 pub use crate::verifying::verify_type as verify;
+pub use ir_checked_core::types::{body, deref, set_body};

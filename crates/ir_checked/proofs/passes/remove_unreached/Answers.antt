@@ -1,5 +1,5 @@
 use Rattle.std.proofs.Common.{inr}
-use Rattle.ir_checked_view.proofs.passes.remove_unreached.Goals as goal
+use Rattle.ir_checked.proofs.passes.remove_unreached.Goals as goal
 
 pub remove_unreached-requires-clause-names : goal.remove_unreached-requires-clause-names
 remove_unreached-requires-clause-names g c = c.in-Ok.ensures.exact.0 c.if-not-can.false

@@ -1,6 +1,6 @@
 use Rattle.std.proofs.Common.{inr}
 use Rattle.ir_run_unreached.specs.Inside.{none_inside}
-use Rattle.ir_checked_view.proofs.passes.remove_unreached_inside.Goals as goal
+use Rattle.ir_checked.proofs.passes.remove_unreached_inside.Goals as goal
 
 pub remove_unreached_inside-requires-clause-names : goal.remove_unreached_inside-requires-clause-names
 remove_unreached_inside-requires-clause-names g c = c.in-Ok.ensures.exact.0 c.if-not-can.false
