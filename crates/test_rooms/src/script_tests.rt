@@ -5,7 +5,8 @@ use std::io;
 use std::io::{ErrorKind, Read, Write};
 use std::process::Abort;
 use std::test::Fail;
-use toy_script::{Limits, run_script, run_script_with_limits};
+use ir_base_dialects::Limits;
+use ir_run::ircore::{run_script, run_script_with_limits};
 
 // How a reader or a writer fails: where its bytes or its room are used up, and where it is flushed.
 #[derive(Clone, Copy, Drop)]

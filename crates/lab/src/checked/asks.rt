@@ -16,7 +16,7 @@ use ir_checked::{
 use ir_view_parts::{BasicBlock, Context, Entity, Region, Use, Value};
 use std::fmt::Display;
 use testkit_lab::{Item, Items, Lab, Line, Reply, Saved, TextError};
-use toy_checks::ToyVerifiers;
+use ir_run::toy::ToyVerifiers;
 use toy_dialect::{Toy, ToyType};
 
 /// Writes the answer behind the text.

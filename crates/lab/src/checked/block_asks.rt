@@ -8,7 +8,7 @@ use ir_checked_core::basic_block;
 use ir_checked::{basic_block as views, walk};
 use ir_view_parts::{BasicBlock, Entity};
 use testkit_lab::{Lab, Reply, TextError};
-use toy_checks::ToyVerifiers;
+use ir_run::toy::ToyVerifiers;
 use toy_dialect::Toy;
 
 /// Those that are given a block alone.

@@ -8,7 +8,7 @@ use ir_checked_core::operation;
 use ir_checked::{op as wrapped, operation as views, passes, verify as verification};
 use ir_view_parts::{Entity, Op, OpObj, Operation};
 use testkit_lab::{Constant, Lab, Line, Reply, TextError};
-use toy_checks::ToyVerifiers;
+use ir_run::toy::ToyVerifiers;
 use toy_dialect::Toy;
 
 /// Those that are given an operation alone.

@@ -6,7 +6,7 @@ use crate::types::{
     type_words, verify_words, wrap_words,
 };
 use testkit_lab::{Lab, Mode, TextError};
-use toy_checks::ToyVerifiers;
+use ir_run::toy::ToyVerifiers;
 
 /// Answers a line: a word of this module, and its fields.
 ///

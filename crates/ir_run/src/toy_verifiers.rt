@@ -1,6 +1,6 @@
 //! The own checks of the dialect Toy: an integer type has a width, and an addition has two operands.
 
-ghost use Rattle.toy_checks.specs.ToyVerifiers.{toy_checks};
+ghost use Rattle.ir_run.specs.ToyVerifiers.{toy_checks};
 
 use ir_core_queries::{Context, OperationPtr};
 use ir_verify::verify::{CheckErr, OwnChecks};

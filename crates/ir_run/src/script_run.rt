@@ -12,7 +12,7 @@ use ir_base_dialects::Limits;
 use ir_run_sessions::Session;
 use std::alloc::Global;
 use std::io::{Read, Write};
-use toy_checks::Toy;
+use toy_dialect::Toy;
 use toy_script_text::{
     Part, ScriptError, finish, parse_script, read_script, write_answers, write_text,
 };

@@ -1,12 +1,11 @@
 //! The answer to a line that verifies an operation.
 
+use crate::toy_verifiers::ToyVerifiers;
 use ir_base_dialects::Refused;
 use ir_run_sessions::{OperationPtr, Session};
+use ir_verify::verify::{BasicBlockVerifyErr, DefUseVerifyErr, VerifierErr, VerifyErr, verify_operation};
 use std::alloc::AllocError;
-use toy_checks::{
-    BasicBlockVerifyErr, DefUseVerifyErr, Toy, ToyVerifiers, VerifierErr, VerifyErr,
-    verify_operation,
-};
+use toy_dialect::Toy;
 use toy_script_text::refusal_line;
 
 /// Verifies the operation with this number by Toy's checks, and writes what is found as a line. Where no live operation has the number, that is refused.

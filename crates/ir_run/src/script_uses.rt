@@ -8,7 +8,7 @@ use ir_run_sessions::{
 };
 use std::alloc::{AllocError, Global};
 use std::collections::HashMap;
-use toy_checks::Toy;
+use toy_dialect::Toy;
 
 // A place that names a value or a block: the number of what it names, the number of the operation, and its index there.
 type Naming = (usize, usize, usize);
