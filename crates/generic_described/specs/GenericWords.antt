@@ -16,7 +16,7 @@ use Rattle.generic_dialect.specs.declared.kinds.Kind.TheVariants.{Listed, Open}
 use Rattle.generic_dialect.specs.Keys.{the_key}
 use Rattle.generic_dialect.specs.Kinds.{kind_of, listed_kind, listed_name}
 use Rattle.generic_text.specs.GenericTexts.{known, place_of, properties_of, text_at, type_text}
-use Rattle.ir_text_dialect.specs.declared.spelling.Located.TheVariants as located
+use Rattle.ir_text_describe.specs.declared.spelling.Located.TheVariants as located
 use Rattle.ir_text_names.specs.declared.resolving.Names.{Names}
 use Rattle.ir_text_tree.specs.declared.row.Row.{Row}
 use Rattle.ir_text_described.specs.Trees.{NamedTree}

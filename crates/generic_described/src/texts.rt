@@ -18,7 +18,7 @@ use generic_dialect::{
 use generic_text::place_of;
 use ir_base_dialects::{Ptr, TypeHandle};
 use ir_core_queries::{BasicBlock, BlockPtr, Operation, OperationPtr, TypeQueries};
-use ir_text_dialect::Located;
+use ir_text_describe::Located;
 
 // A saved text; nothing where there is none.
 fn saved<'a>(check: &Check<'a>, id: TextId) -> &'a [u8]

@@ -1,9 +1,9 @@
 -- How the dialect Generic is spelled, by what is saved.
 use Rattle.std.specs.Prelude.{ℕ, List, [], ◌∷◌, Option, Some, None, slice_get}
-use Rattle.ir_text_dialect.specs.declared.spelling.AttributeForm.TheVariants as forms
-use Rattle.ir_text_dialect.specs.declared.spelling.Located.{Located}
-use Rattle.ir_text_dialect.specs.declared.spelling.Located.TheVariants as located
-use Rattle.ir_text_dialect.specs.Spellings.{AttributeText}
+use Rattle.ir_text_describe.specs.declared.spelling.AttributeForm.TheVariants as forms
+use Rattle.ir_text_describe.specs.declared.spelling.Located.{Located}
+use Rattle.ir_text_describe.specs.declared.spelling.Located.TheVariants as located
+use Rattle.ir_text_describe.specs.Spellings.{AttributeText}
 use Rattle.generic_dialect.specs.declared.generic.GenericAttr.{GenericAttr}
 use Rattle.generic_dialect.specs.declared.generic.GenericAttr.TheVariants as attr
 use Rattle.generic_dialect.specs.declared.generic.GenericLoc.{GenericLoc}

@@ -14,7 +14,7 @@ use generic_dialect::{
 use ir_base_dialects::attribute::AttributeDict;
 use ir_base_dialects::{CoreError, Identifier, TypeHandle};
 use ir_core_queries::{Context, TypeQueries};
-use ir_text_dialect::{AttributeForm, Located, Spelling};
+use ir_text_describe::{AttributeForm, Located, Spelling};
 use std::alloc::Global;
 
 // Writes a saved text; nothing where there is none.

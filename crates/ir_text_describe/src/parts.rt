@@ -5,11 +5,11 @@ ghost use Rattle.ir_model.specs.Forest.{a_block, an_op};
 ghost use Rattle.ir_model.specs.Nesting.{IsLive};
 ghost use Rattle.ir_core_queries.specs.State.{forest_of, types_of};
 
+use crate::spelling::{AttributeForm, Located, Spelling};
 use ir_base_dialects::{CoreError, Dialects, Ptr, TypeHandle};
 use ir_core_queries::{
     BasicBlock, BlockPlace, BlockPtr, BlockUses, Context, Operation, OperationPtr, ValueQueries,
 };
-use ir_text_dialect::{AttributeForm, Located, Spelling};
 use ir_text_pieces::{DescribeErr, Part, Span, TreeWriter, TypePiece};
 use ir_view_parts::{BlockParts, OperationParts};
 

@@ -8,13 +8,13 @@ ghost use Rattle.ir_core_queries.specs.State.{forest_of};
 
 use crate::naming::{name_region, name_results};
 use crate::parts::{Source, put_block_head, put_head, put_tail};
+use crate::spelling::Spelling;
 use ir_base_dialects::{Dialects, Ptr};
 use ir_core_nesting::are_one;
 use ir_core_queries::{
     BlockPlace, Context, Entity, Operation, OperationPlace, OperationPtr, Region, RegionPlace,
     RegionPtr,
 };
-use ir_text_dialect::Spelling;
 use ir_text_pieces::{DescribeErr, Description, TreeWriter};
 use std::alloc::Global;
 

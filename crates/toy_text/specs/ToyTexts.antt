@@ -1,8 +1,8 @@
 -- The texts of Toy's types, attributes and locations.
 use Rattle.std.specs.Prelude.{ℕ, ◌++◌, List, [], Option, Some, None, codes, decimal, string_bytes}
 use Rattle.std.specs.Fmt.{signed_decimal}
-use Rattle.ir_text_dialect.specs.declared.spelling.Located.{Located}
-use Rattle.ir_text_dialect.specs.declared.spelling.Located.TheVariants as located
+use Rattle.ir_text_describe.specs.declared.spelling.Located.{Located}
+use Rattle.ir_text_describe.specs.declared.spelling.Located.TheVariants as located
 use Rattle.ir_text_pieces.specs.Quotes.{quoted}
 use Rattle.toy_dialect.specs.declared.toy.ToyAttr.{ToyAttr}
 use Rattle.toy_dialect.specs.declared.toy.ToyAttr.TheVariants as attr

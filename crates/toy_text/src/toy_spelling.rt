@@ -2,7 +2,7 @@
 ghost use Rattle.std.specs.Prelude.{◌≡◌, ◌++◌, None, OnOk, codes, slice_get};
 ghost use Rattle.std.specs.Option.{option_map};
 ghost use Rattle.ir_core_queries.specs.State.{types_of};
-ghost use Rattle.ir_text_dialect.specs.declared.spelling.AttributeForm.TheVariants.{Valued};
+ghost use Rattle.ir_text_describe.specs.declared.spelling.AttributeForm.TheVariants.{Valued};
 ghost use Rattle.ir_text_pieces.specs.Quotes.{quoted};
 ghost use Rattle.toy_dialect.specs.Toy.{op_name};
 ghost use Rattle.toy_text.specs.ToyTexts.{attribute_text, key_text, location_text, type_text, typed_text};
@@ -10,7 +10,7 @@ ghost use Rattle.toy_text.specs.ToyTexts.{attribute_text, key_text, location_tex
 use ir_base_dialects::attribute::AttributeDict;
 use ir_base_dialects::{CoreError, Dialects, Identifier, TypeHandle};
 use ir_core_queries::{Context, TypeQueries};
-use ir_text_dialect::{AttributeForm, Located, Spelling};
+use ir_text_describe::{AttributeForm, Located, Spelling};
 use ir_text_pieces::write_quoted;
 use itoa::Buffer;
 use std::convert::AsStr;

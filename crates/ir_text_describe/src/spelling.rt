@@ -32,8 +32,8 @@ pub enum Located {
 pub trait Spelling<D: Dialects> {
     ghost use Rattle.std.specs.Prelude.{ℕ, List, Option};
     ghost use Rattle.ir_core_queries.specs.State.{ContextState};
-    ghost use Rattle.ir_text_dialect.specs.Spellings.{AttributeText};
-    ghost use Rattle.ir_text_dialect.specs.declared.spelling.Located.{Located as PlainLocated};
+    ghost use Rattle.ir_text_describe.specs.Spellings.{AttributeText};
+    ghost use Rattle.ir_text_describe.specs.declared.spelling.Located.{Located as PlainLocated};
 
     // The name of operations of a kind.
     ghost operation_name: { Self → ContextState D D.Attr D.TypeKey D.TypeBody D.Saved D.Aux D.Loc → ℕ → List ℕ };
