@@ -1,1 +1,4 @@
 pub mod GenericTexts
+pub mod GenericWords
+pub mod Tables
+pub mod Checks

@@ -11,7 +11,7 @@ use Rattle.generic_dialect.specs.declared.kinds.Kind.TheVariants.{Listed, Open}
 use Rattle.generic_dialect.specs.Implemented.{kind_implements, listed_implements, row_implements}
 use Rattle.generic_dialect.specs.Kinds.{kind_of, listed_kind, listed_name}
 use Rattle.generic_text.specs.GenericTexts.{text_at}
-use Rattle.generic_described.specs.GenericWords.{told_name}
+use Rattle.generic_text.specs.GenericWords.{told_name}
 use Rattle.ir_opt_run.specs.GenericBehaviour.{AreGenericWords, generic}
 use Rattle.ir_opt_run.specs.PureNames.{IsListedPure, IsRow, ListedAreRows, PureAreListed}
 

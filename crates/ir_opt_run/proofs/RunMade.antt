@@ -13,7 +13,7 @@ use Rattle.generic_dialect.specs.declared.generic.GenericSaved.{GenericSaved}
 use Rattle.generic_dialect.specs.declared.generic.GenericType.{GenericType}
 use Rattle.generic_dialect.specs.declared.generic.KeptAttr.{KeptAttr}
 use Rattle.ir_text_described.specs.Words.{Words}
-use Rattle.generic_described.specs.GenericWords.{generic_words, words_of}
+use Rattle.generic_text.specs.GenericWords.{generic_words, words_of}
 use Rattle.ir_model_passes.specs.Meaning.{SameAttributes}
 use Rattle.ir_opt_run.specs.declared.options.Pass.{Pass}
 use Rattle.ir_opt_run.specs.GenericBehaviour.{AreGenericWords, TextsApart, generic_behaviour}

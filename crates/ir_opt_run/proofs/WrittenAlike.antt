@@ -19,7 +19,7 @@ use Rattle.generic_dialect.specs.contracts.generic.GenericTypePartialEq.TheImpl.
 use Rattle.generic_dialect.specs.contracts.generic.GenericSavedPartialEq.TheImpl.{eq-value as saved-value}
 use Rattle.generic_dialect.specs.Keys.{the_key}
 use Rattle.generic_text.specs.GenericTexts.{bytes_of, properties_of, text_at, type_text}
-use Rattle.generic_described.specs.GenericWords.{entry_of, value_of}
+use Rattle.generic_text.specs.GenericWords.{entry_of, value_of}
 use Rattle.ir_text_described.specs.Words.{Words}
 use Rattle.ir_opt_run.specs.GenericBehaviour.{AreGenericWords, TextsApart, generic, generic_behaviour}
 use Rattle.ir_opt_run.specs.WrittenAlike.{WrittenAlikeIsOne}

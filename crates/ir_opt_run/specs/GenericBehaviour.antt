@@ -11,7 +11,7 @@ use Rattle.generic_dialect.specs.declared.generic.GenericLoc.{GenericLoc}
 use Rattle.generic_dialect.specs.declared.generic.GenericSaved.{GenericSaved}
 use Rattle.generic_dialect.specs.declared.generic.GenericType.{GenericType}
 use Rattle.generic_dialect.specs.declared.generic.KeptAttr.{KeptAttr}
-use Rattle.generic_described.specs.GenericWords.{words_of}
+use Rattle.generic_text.specs.GenericWords.{words_of}
 use Rattle.ir_text_described.specs.Words.{Words}
 use Rattle.generic_dialect.specs.contracts.generic.GenericDialects.TheImpl.{ghosts}
 use Rattle.generic_dialect.specs.contracts.generic.GenericSavedPartialEq.TheImpl.{eq-value as saved-value}

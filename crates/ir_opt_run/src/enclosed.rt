@@ -1,6 +1,6 @@
 //! What stands in the module that is around all of a text.
 ghost use Rattle.std.specs.Prelude.{◌≡◌, ◌∷◌, [], IfOk, IsTrue, None, Some, codes, map};
-ghost use Rattle.generic_described.specs.GenericWords.{generic_words};
+ghost use Rattle.generic_text.specs.GenericWords.{generic_words};
 ghost use Rattle.generic_dialect.specs.Kinds.{kind_of, listed_name};
 ghost use Rattle.ir_model.specs.Forest.{a_block, a_region, an_op, of_block};
 ghost use Rattle.ir_model.specs.Nesting.{IsLive, blocks_of, definitions_of, ops_of};

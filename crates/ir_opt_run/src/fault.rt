@@ -1,7 +1,6 @@
 //! Why a text isn't printed again.
 
-use generic_building::BuildError;
-use generic_described::DescribedErr;
+use generic_text::{BuildError, DescribedErr};
 use ir_base_dialects::CoreError;
 use ir_text_describe::DescribeErr;
 use std::alloc::{AllocError, AllocFailed};

@@ -1,6 +1,6 @@
 //! A module printed as a text. The text is read again and compared with the module, so that its clause doesn't rest on how a module is described.
 ghost use Rattle.std.specs.Prelude.{◌∷◌, [], IfOk, OnOk};
-ghost use Rattle.generic_described.specs.GenericWords.{generic_words};
+ghost use Rattle.generic_text.specs.GenericWords.{generic_words};
 ghost use Rattle.ir_model.specs.Forest.{an_op};
 ghost use Rattle.ir_model.specs.Nesting.{IsLive};
 ghost use Rattle.ir_core_queries.specs.State.{forest_of};

@@ -1,6 +1,6 @@
 //! A text read into a context, with the places of its operations.
 ghost use Rattle.std.specs.Prelude.{IfOk, IsTrue, List, OnErr, OnOk, true};
-ghost use Rattle.generic_described.specs.GenericWords.{block_named, generic_words, value_named};
+ghost use Rattle.generic_text.specs.GenericWords.{block_named, generic_words, value_named};
 ghost use Rattle.ir_model.specs.declared.ids.ArenaIndex.{ArenaIndex};
 ghost use Rattle.ir_model.specs.Forest.{an_op};
 ghost use Rattle.ir_model.specs.Nesting.{IsClosed, IsLive};
@@ -12,7 +12,7 @@ use crate::enclosed::listed;
 use crate::fault::Fault;
 use crate::saying::check_said;
 use crate::trees::{NamedTree, read_tree};
-use generic_building::{BuildError, Built, build, enclose};
+use generic_text::{BuildError, Built, build, enclose};
 use generic_dialect::Generic;
 use ir_base_dialects::Ptr;
 use ir_core_queries::{BasicBlock, Context, Entity, Operation, OperationPtr, can_erase};

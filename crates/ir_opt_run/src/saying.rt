@@ -1,13 +1,13 @@
 //! Whether a text says what stands in a context.
 ghost use Rattle.std.specs.Prelude.{OnOk, map};
-ghost use Rattle.generic_described.specs.GenericWords.{block_named, generic_words, value_named};
+ghost use Rattle.generic_text.specs.GenericWords.{block_named, generic_words, value_named};
 ghost use Rattle.ir_core_queries.specs.State.{forest_of};
 ghost use Rattle.ir_opt_run.specs.Modules.{IsReadAs, Says};
 
 use crate::fault::Fault;
 use crate::reading::Op;
 use crate::trees::NamedTree;
-use generic_described::check_described;
+use generic_text::check_described;
 use generic_dialect::Generic;
 use ir_core_queries::Context;
 

@@ -1,6 +1,6 @@
 //! A text read as a tree, with what its names mean.
 ghost use Rattle.std.specs.Prelude.{IfOk};
-ghost use Rattle.generic_described.specs.GenericWords.{block_named, value_named};
+ghost use Rattle.generic_text.specs.GenericWords.{block_named, value_named};
 ghost use Rattle.ir_opt_run.specs.Modules.{IsReadAs};
 
 use crate::fault::Fault;

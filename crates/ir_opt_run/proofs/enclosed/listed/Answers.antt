@@ -1,5 +1,5 @@
 use Rattle.std.proofs.Common.{rules, ◌≡◌, map}
-use Rattle.generic_described.specs.GenericWords.{generic_words}
+use Rattle.generic_text.specs.GenericWords.{generic_words}
 use Rattle.ir_core_queries.specs.State.{forest_of}
 use Rattle.ir_core_records.specs.Meaning.{op_record}
 use Rattle.ir_opt_run.specs.Modules.{IsBareModule}

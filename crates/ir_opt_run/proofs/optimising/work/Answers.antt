@@ -1,6 +1,6 @@
 use Rattle.std.proofs.Common.{length}
 use Rattle.ir_core_queries.specs.State.{forest_of, types_of}
-use Rattle.generic_described.specs.GenericWords.{generic_words}
+use Rattle.generic_text.specs.GenericWords.{generic_words}
 use Rattle.ir_opt_run.specs.GenericBehaviour.{AreGenericWords, generic_behaviour, generic_same}
 use Rattle.ir_opt_run.proofs.RunMade.{run_made, words_are_generic, words_stay}
 use Rattle.ir_opt_run.proofs.optimising.work.Goals as goal

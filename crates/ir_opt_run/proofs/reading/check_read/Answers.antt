@@ -1,5 +1,5 @@
 use Rattle.std.proofs.Common.{◌≡◌, ◌∷◌, [], List, OnOk, true, Result, Ok, Err}
-use Rattle.generic_described.specs.GenericWords.{generic_words}
+use Rattle.generic_text.specs.GenericWords.{generic_words}
 use Rattle.ir_core_queries.specs.State.{forest_of}
 use Rattle.ir_opt_run.specs.Modules.{alone}
 use Rattle.ir_opt_run.proofs.Said.{on_ok}

@@ -1,9 +1,0 @@
-use Rattle.generic_described.specs.Tables.{meanings_of}
-use Rattle.generic_described.proofs.Lists.{on_ok}
-use Rattle.generic_described.proofs.Steps.{described_by}
-use Rattle.generic_described.proofs.described.check_described.Goals as goal
-
-pub returns : goal.returns
-returns c = record {
-  described = on_ok c.compare.result (λ written. record { meanings = meanings_of c.in_ok-table.table; written = described_by _ c.args.operations.now (λ p. p.index) written }) c.compare.ensures;
-}

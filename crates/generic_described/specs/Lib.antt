@@ -1,3 +1,0 @@
-pub mod GenericWords
-pub mod Tables
-pub mod Checks

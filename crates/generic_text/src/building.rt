@@ -1,0 +1,143 @@
+//! From the rows of a text to operations in a context.
+
+ghost use Rattle.std.specs.Prelude.{OnErr};
+ghost use Rattle.ir_core_context.specs.Calls.{NoEntity};
+ghost use Rattle.ir_core_context.specs.State.{forest_of};
+
+use crate::blocks::make_block;
+use crate::build_error::BuildError;
+use crate::made::{Block, Made, Op, Room};
+use crate::meanings::Meanings;
+use crate::operations::{connect, make_op};
+use crate::regions::fill_regions;
+use crate::taking_back::take_back;
+use generic_dialect::Generic;
+use ir_core_queries::Context;
+use ir_text_outline::{Names, OpRows, Outline, Row, Source, narrow, outline_of};
+
+/// What was built of a text.
+#[derive(Drop)]
+pub struct Built {
+    /// The operations outside all regions, in the order of the text.
+    pub tops: Vec<Op>,
+    /// All operations, each behind all inside it, with the rows of their names.
+    pub ops: Vec<(Op, u32)>,
+    /// All blocks, in the order of the text.
+    pub blocks: Vec<Block>,
+}
+
+// Makes all blocks, in no region yet.
+fn make_blocks<'a>(
+    ctx: &mut Context<Generic>,
+    source: Source<'a>,
+    meanings: &mut Meanings<'a>,
+    made: &mut Made,
+    room: &mut Room,
+    outline: &Outline,
+) -> Result<(), BuildError> {
+    for rows in outline.blocks.iter() {
+        make_block(ctx, source, meanings, made, room, rows.row as usize)?;
+    }
+    Ok(())
+}
+
+// Makes an operation, with its blocks.
+fn make_whole_op<'a>(
+    ctx: &mut Context<Generic>,
+    source: Source<'a>,
+    meanings: &mut Meanings<'a>,
+    made: &mut Made,
+    room: &mut Room,
+    outline: &Outline,
+    rows: OpRows,
+    place: usize,
+) -> Result<(), BuildError> {
+    let op = make_op(ctx, source, meanings, made, room, rows)?;
+    if room.is_late {
+        made.late.push((op, narrow(place)))?;
+    }
+    fill_regions(ctx, outline, made, op, rows)
+}
+
+// Makes all operations, each behind all inside it.
+fn make_ops<'a>(
+    ctx: &mut Context<Generic>,
+    source: Source<'a>,
+    meanings: &mut Meanings<'a>,
+    made: &mut Made,
+    room: &mut Room,
+    outline: &Outline,
+) -> Result<(), BuildError> {
+    for (place, rows) in outline.ops.iter().enumerate() {
+        make_whole_op(ctx, source, meanings, made, room, outline, *rows, place)?;
+    }
+    Ok(())
+}
+
+// Gives operands to the operations that name what is defined behind them.
+fn connect_all(
+    ctx: &mut Context<Generic>,
+    source: Source,
+    made: &Made,
+    outline: &Outline,
+) -> Result<(), BuildError> {
+    for (op, place) in made.late.iter() {
+        connect(ctx, source, made, outline, *op, *place)?;
+    }
+    Ok(())
+}
+
+// Makes all.
+fn make_all(ctx: &mut Context<Generic>, source: Source, made: &mut Made) -> Result<(), BuildError> {
+    let alloc = ctx.alloc();
+    let outline = outline_of(alloc, source.rows)?;
+    let mut meanings = Meanings::new(alloc);
+    let mut room = Room::new(alloc);
+    make_blocks(ctx, source, &mut meanings, made, &mut room, &outline)?;
+    make_ops(ctx, source, &mut meanings, made, &mut room, &outline)?;
+    connect_all(ctx, source, made, &outline)
+}
+
+// Makes all, or takes it out again.
+fn make_or_take_back(
+    ctx: &mut Context<Generic>,
+    source: Source,
+    made: &mut Made,
+) -> Result<(), BuildError>
+    ensures err { NoEntity (forest_of ctx.old) → OnErr result (NoEntity (forest_of ctx.new)) }
+{
+    let was_empty = ctx.is_ir_empty();
+    match make_all(ctx, source, made) {
+        Ok(()) => Ok(()),
+        Err(error) => {
+            if was_empty {
+                ctx.clear();
+            } else {
+                take_back(ctx, made);
+            }
+            Err(error)
+        }
+    }
+}
+
+/// Builds what the rows of a text say, which `parse` read, with the names that `resolve` found.
+///
+/// # Errors
+/// `Core` for memory, numbers and slots, `TooManyTexts`, and `NoTree` where the rows are those of no tree or the names are others'. Then what was made is taken out again; only saved texts and types are left.
+pub fn build(
+    ctx: &mut Context<Generic>,
+    text: &[u8],
+    rows: &[Row],
+    names: &Names,
+) -> Result<Built, BuildError>
+    ensures err { NoEntity (forest_of ctx.old) → OnErr result (NoEntity (forest_of ctx.new)) }
+{
+    let source = Source { text, rows, names };
+    let mut made = Made::new(ctx.alloc(), rows.len())?;
+    make_or_take_back(ctx, source, &mut made)?;
+    Ok(Built {
+        tops: made.tops,
+        ops: made.ops,
+        blocks: made.blocks,
+    })
+}

@@ -1,0 +1,324 @@
+//! Operations, made of their rows, in their blocks.
+
+use crate::build_error::BuildError;
+use crate::made::{Made, Op, Room};
+use crate::meanings::Meanings;
+use generic_dialect::{Generic, GenericAttr, GenericLoc, TextId, properties_key};
+use ir_base_dialects::Identifier;
+use ir_checked_core::operation;
+use ir_core_queries::Context;
+use ir_text_outline::{OpRows, Outline, Part, Source};
+
+// The operand in this row, if what it names is made.
+fn read_operand(source: Source, made: &Made, room: &mut Room, at: usize) -> Result<(), BuildError> {
+    let Some(row) = source.definition(at) else {
+        return Err(BuildError::NoTree);
+    };
+    match made.value(row, source.index(at)) {
+        Some(value) => room.operands.push(value)?,
+        None => room.is_late = true,
+    }
+    Ok(())
+}
+
+// The successor in this row.
+fn read_successor(
+    source: Source,
+    made: &Made,
+    room: &mut Room,
+    at: usize,
+) -> Result<(), BuildError> {
+    let Some(row) = source.block(at) else {
+        return Err(BuildError::NoTree);
+    };
+    match made.block(row) {
+        Some(block) => {
+            room.successors.push(block)?;
+            Ok(())
+        }
+        None => Err(BuildError::NoTree),
+    }
+}
+
+// The type of a result.
+fn read_result_type<'a>(
+    ctx: &mut Context<Generic>,
+    source: Source<'a>,
+    meanings: &mut Meanings<'a>,
+    room: &mut Room,
+    at: usize,
+) -> Result<(), BuildError> {
+    let ty = meanings.type_of(ctx, source.piece(at))?;
+    room.types.push(ty)?;
+    Ok(())
+}
+
+// The key of an attribute, which is unit unless a value follows.
+fn read_key(room: &mut Room, at: usize) -> Result<(), BuildError> {
+    room.attributes.push((at, GenericAttr::Unit))?;
+    Ok(())
+}
+
+// Sets what a saved text is: the value of the last attribute, properties or a location.
+fn put_text(room: &mut Room, part: Part, id: TextId) {
+    match part {
+        Part::Value => {
+            if let Some(last) = room.attributes.last_mut() {
+                last.1 = GenericAttr::Text(id);
+            }
+        }
+        Part::Properties => room.properties = Some(id),
+        _ => room.location = Some(id),
+    }
+}
+
+// A text that is saved.
+fn read_text<'a>(
+    ctx: &mut Context<Generic>,
+    source: Source<'a>,
+    meanings: &mut Meanings<'a>,
+    room: &mut Room,
+    at: usize,
+) -> Result<(), BuildError> {
+    let id = meanings.saved(ctx, source.piece(at))?;
+    put_text(room, source.part(at), id);
+    Ok(())
+}
+
+// Reads a row of an operation.
+fn read_part<'a>(
+    ctx: &mut Context<Generic>,
+    source: Source<'a>,
+    meanings: &mut Meanings<'a>,
+    made: &Made,
+    room: &mut Room,
+    at: usize,
+) -> Result<(), BuildError> {
+    match source.part(at) {
+        Part::Operand => read_operand(source, made, room, at),
+        Part::Successor => read_successor(source, made, room, at),
+        Part::ResultType | Part::OnlyResultType => {
+            read_result_type(ctx, source, meanings, room, at)
+        }
+        Part::Key => read_key(room, at),
+        Part::Value | Part::Properties | Part::Location => {
+            read_text(ctx, source, meanings, room, at)
+        }
+        _ => Ok(()),
+    }
+}
+
+// Reads the rows of an operation.
+fn read_op<'a>(
+    ctx: &mut Context<Generic>,
+    source: Source<'a>,
+    meanings: &mut Meanings<'a>,
+    made: &Made,
+    room: &mut Room,
+    rows: OpRows,
+) -> Result<(), BuildError> {
+    room.clear();
+    for at in rows.name as usize..rows.head_end as usize {
+        read_part(ctx, source, meanings, made, room, at)?;
+    }
+    for at in rows.tail as usize..rows.end as usize {
+        read_part(ctx, source, meanings, made, room, at)?;
+    }
+    if room.is_late {
+        room.operands.clear();
+    }
+    Ok(())
+}
+
+// Gives the results of an operation their names.
+fn define_results(
+    ctx: &Context<Generic>,
+    source: Source,
+    made: &mut Made,
+    op: Op,
+    rows: OpRows,
+    count: usize,
+) -> Result<(), BuildError> {
+    let mut ahead: usize = 0;
+    for at in rows.first as usize..rows.name as usize {
+        if source.part(at) == Part::Result {
+            made.begin_values(at, ahead);
+            ahead = ahead.saturating_add(source.width(at));
+        }
+    }
+    for index in 0..count {
+        let value = operation::get_result(op, ctx, index)?;
+        made.add_value(value)?;
+    }
+    Ok(())
+}
+
+// Sets an attribute of an operation.
+fn set_attribute(
+    ctx: &mut Context<Generic>,
+    op: Op,
+    key: Identifier,
+    attribute: GenericAttr,
+) -> Result<(), BuildError> {
+    let written = operation::deref_mut(ctx, op)?;
+    written.attributes.set::<GenericAttr>(key, attribute)?;
+    Ok(())
+}
+
+// Whether an operation has an attribute under that key.
+fn has_attribute(ctx: &Context<Generic>, op: Op, key: &Identifier) -> bool {
+    match operation::deref(op, ctx) {
+        Ok(record) => record.attributes().get::<GenericAttr>(key).is_some(),
+        Err(_) => false,
+    }
+}
+
+// Sets the attributes of an operation.
+fn set_attributes<'a>(
+    ctx: &mut Context<Generic>,
+    source: Source<'a>,
+    meanings: &mut Meanings<'a>,
+    room: &Room,
+    op: Op,
+) -> Result<(), BuildError> {
+    for (at, attribute) in room.attributes.iter() {
+        let key = meanings.key_of(ctx.alloc(), source.unquoted(*at))?;
+        if has_attribute(ctx, op, &key) {
+            return Err(BuildError::KeyTwice { row: *at });
+        }
+        set_attribute(ctx, op, key, *attribute)?;
+    }
+    Ok(())
+}
+
+// Sets the properties of an operation.
+fn set_properties(ctx: &mut Context<Generic>, room: &Room, op: Op) -> Result<(), BuildError> {
+    match room.properties {
+        None => Ok(()),
+        Some(id) => set_attribute(ctx, op, properties_key(), GenericAttr::Text(id)),
+    }
+}
+
+// Sets the location of an operation.
+fn set_location(ctx: &mut Context<Generic>, room: &Room, op: Op) -> Result<(), BuildError> {
+    match room.location {
+        None => Ok(()),
+        Some(id) => {
+            let written = operation::deref_mut(ctx, op)?;
+            written.loc = GenericLoc::Text(id);
+            Ok(())
+        }
+    }
+}
+
+// Puts an operation behind the others of its block, or of those outside all regions.
+fn place(
+    ctx: &mut Context<Generic>,
+    made: &mut Made,
+    op: Op,
+    block: Option<u32>,
+) -> Result<(), BuildError> {
+    match block {
+        None => {
+            made.tops.push(op)?;
+            Ok(())
+        }
+        Some(number) => match made.blocks.get(number as usize) {
+            None => Err(BuildError::NoTree),
+            Some(block) => Ok(operation::insert_at_back(op, *block, ctx)?),
+        },
+    }
+}
+
+// Makes an operation of what was read.
+fn make(
+    ctx: &mut Context<Generic>,
+    made: &mut Made,
+    room: &Room,
+    kind: u32,
+    rows: OpRows,
+) -> Result<Op, BuildError> {
+    made.ops.reserve(1)?;
+    let op = operation::new(
+        ctx,
+        kind,
+        room.types.as_slice(),
+        room.operands.as_slice(),
+        room.successors.as_slice(),
+        rows.regions as usize,
+    )?;
+    made.ops.push((op, rows.name))?;
+    Ok(op)
+}
+
+// Sets what an operation has beside operands, results, successors and regions.
+fn decorate<'a>(
+    ctx: &mut Context<Generic>,
+    source: Source<'a>,
+    meanings: &mut Meanings<'a>,
+    room: &Room,
+    op: Op,
+) -> Result<(), BuildError> {
+    set_attributes(ctx, source, meanings, room, op)?;
+    set_properties(ctx, room, op)?;
+    set_location(ctx, room, op)
+}
+
+/// Makes an operation, behind the others of its block. Its regions are empty yet.
+pub(crate) fn make_op<'a>(
+    ctx: &mut Context<Generic>,
+    source: Source<'a>,
+    meanings: &mut Meanings<'a>,
+    made: &mut Made,
+    room: &mut Room,
+    rows: OpRows,
+) -> Result<Op, BuildError> {
+    read_op(ctx, source, meanings, made, room, rows)?;
+    let name = source.unquoted(rows.name as usize);
+    let kind = meanings.kind_of(ctx, name, rows.ends_block)?;
+    let op = make(ctx, made, room, kind, rows)?;
+    place(ctx, made, op, rows.block)?;
+    define_results(ctx, source, made, op, rows, room.types.len())?;
+    decorate(ctx, source, meanings, room, op)?;
+    Ok(op)
+}
+
+/// Gives an operation its operands, all of which are defined by now.
+pub(crate) fn connect(
+    ctx: &mut Context<Generic>,
+    source: Source,
+    made: &Made,
+    outline: &Outline,
+    op: Op,
+    place: u32,
+) -> Result<(), BuildError> {
+    let Some(rows) = outline.ops.get(place as usize) else {
+        return Err(BuildError::NoTree);
+    };
+    for at in rows.name as usize..rows.head_end as usize {
+        if source.part(at) == Part::Operand {
+            push_operand(ctx, source, made, op, at)?;
+        }
+    }
+    Ok(())
+}
+
+// Gives an operation the operand in this row.
+fn push_operand(
+    ctx: &mut Context<Generic>,
+    source: Source,
+    made: &Made,
+    op: Op,
+    at: usize,
+) -> Result<(), BuildError> {
+    let Some(row) = source.definition(at) else {
+        return Err(BuildError::NoTree);
+    };
+    match made.value(row, source.index(at)) {
+        None => Err(BuildError::NoTree),
+        Some(value) => {
+            let _ = operation::push_operand(op, ctx, value)?;
+            Ok(())
+        }
+    }
+}
