@@ -8,8 +8,8 @@ ghost use Rattle.ir_text_described.specs.Written.{IsOperandType, IsResultType, I
 ghost use Rattle.generic_text.specs.Checks.{setting_of};
 
 use crate::check::Check;
-use crate::entries::read_entries;
 use crate::described_error::DescribedErr;
+use crate::entries::read_entries;
 use crate::rows::{behind, expect_if, expect_part, expect_text, part_at};
 use crate::texts::{location_of, type_text};
 use generic_dialect::Generic;

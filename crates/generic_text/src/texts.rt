@@ -11,11 +11,11 @@ ghost use Rattle.generic_text.specs.GenericWords.{told_open_name, unlisted, valu
 ghost use Rattle.ir_text_described.specs.Written.{argument_location_of, location_of, name_of, properties_of};
 
 use crate::check::Check;
+use crate::generic_spelling::place_of;
 use generic_dialect::{
     Generic, GenericAttr, GenericLoc, GenericType, Kind, TextId, kind_name, properties_key,
     table_kind,
 };
-use crate::generic_spelling::place_of;
 use ir_base_dialects::{Ptr, TypeHandle};
 use ir_core_queries::{BasicBlock, BlockPtr, Operation, OperationPtr, TypeQueries};
 use ir_text_describe::Located;

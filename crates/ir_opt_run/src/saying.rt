@@ -7,8 +7,8 @@ ghost use Rattle.ir_opt_run.specs.Modules.{IsReadAs, Says};
 use crate::fault::Fault;
 use crate::reading::Op;
 use crate::trees::NamedTree;
-use generic_text::check_described;
 use generic_dialect::Generic;
+use generic_text::check_described;
 use ir_core_queries::Context;
 
 /// Sees to it that the tree of a text describes these operations, in their order, with all that is inside them.

@@ -3,7 +3,9 @@
 use crate::toy_verifiers::ToyVerifiers;
 use ir_base_dialects::Refused;
 use ir_run_sessions::{OperationPtr, Session};
-use ir_verify::verify::{BasicBlockVerifyErr, DefUseVerifyErr, VerifierErr, VerifyErr, verify_operation};
+use ir_verify::verify::{
+    BasicBlockVerifyErr, DefUseVerifyErr, VerifierErr, VerifyErr, verify_operation,
+};
 use std::alloc::AllocError;
 use toy_dialect::Toy;
 use toy_script_text::refusal_line;

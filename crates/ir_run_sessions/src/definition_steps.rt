@@ -13,11 +13,13 @@ ghost use Rattle.ir_core_queries.specs.State.{forest_of, types_of};
 ghost use Rattle.ir_run_sessions.specs.SessionTables.{answer_of, entries_of, with_value, session_in, ForOpAndType, ForBlockAndType};
 ghost use Rattle.ir_core_records.specs.DialectAnswers.{behaviour_of};
 
-use crate::steps::{answer, make_room, recall_needs_nothing};
-use ir_base_dialects::{Answer, CoreError, Dialects, Ptr, Refused, TypeHandle};
 use crate::definition_conditions::{find_unused_argument, find_unused_result, find_with_type};
 use crate::session_tables::Tables;
-use ir_core_queries::{ArgumentEdits, BasicBlock, BlockPtr, Context, Needs, Operation, OperationPtr, ResultEdits};
+use crate::steps::{answer, make_room, recall_needs_nothing};
+use ir_base_dialects::{Answer, CoreError, Dialects, Ptr, Refused, TypeHandle};
+use ir_core_queries::{
+    ArgumentEdits, BasicBlock, BlockPtr, Context, Needs, Operation, OperationPtr, ResultEdits,
+};
 
 /// Gives the operation another result, the last, of the type, and enters it.
 pub fn push_result<D: Dialects>(

@@ -7,11 +7,11 @@ ghost use Rattle.ir_model.specs.Sessions.{Step};
 ghost use Rattle.ir_run_sessions.specs.SessionTables.{session_in};
 ghost use Rattle.ir_core_records.specs.DialectAnswers.{behaviour_of};
 
-use crate::steps::recall_needs_nothing;
-use ir_base_dialects::{Answer, Dialects, Ptr, Refused};
 use crate::entities::find;
 use crate::erase_conditions::{find_closed, find_closed_region};
 use crate::session_tables::Tables;
+use crate::steps::recall_needs_nothing;
+use ir_base_dialects::{Answer, Dialects, Ptr, Refused};
 use ir_core_queries::{BasicBlock, Context, DropUses, Erase, EraseRegion, Operation, Region};
 
 /// Takes the operands and successors of all operations inside the operation out, also its own.

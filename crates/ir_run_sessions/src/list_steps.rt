@@ -7,11 +7,14 @@ ghost use Rattle.ir_model.specs.Sessions.{Step};
 ghost use Rattle.ir_run_sessions.specs.SessionTables.{session_in};
 ghost use Rattle.ir_core_records.specs.DialectAnswers.{behaviour_of};
 
-use crate::steps::recall_needs_nothing;
-use ir_base_dialects::{Answer, Dialects, Ptr, Refused};
 use crate::list_conditions::{find_beside, find_into, find_joined, find_linked, find_outside};
 use crate::session_tables::Tables;
-use ir_core_queries::{BasicBlock, BlockContainer, BlockList, Context, Operation, OperationContainer, OperationList, Region, RegionMoves};
+use crate::steps::recall_needs_nothing;
+use ir_base_dialects::{Answer, Dialects, Ptr, Refused};
+use ir_core_queries::{
+    BasicBlock, BlockContainer, BlockList, Context, Operation, OperationContainer, OperationList,
+    Region, RegionMoves,
+};
 
 /// Puts the operation at the front of the block.
 pub fn op_front<D: Dialects>(

@@ -101,7 +101,11 @@ fn is_live_at<D: Dialects, E: Entry<D>>(ctx: &Context<D>, table: &[E], number: u
 }
 
 /// Whether each of these entries is there, and live.
-pub(crate) fn all_live<D: Dialects, E: Entry<D>>(ctx: &Context<D>, table: &[E], numbers: &[usize]) -> bool
+pub(crate) fn all_live<D: Dialects, E: Entry<D>>(
+    ctx: &Context<D>,
+    table: &[E],
+    numbers: &[usize],
+) -> bool
     ensures { IsTrue result ↔ Each (λ n. The (slice_get table.now n) (λ entry. E.IsLiveIn (forest_of ctx.now) entry)) numbers.now }
 {
     numbers.iter().all(|number| is_live_at(ctx, table, *number))

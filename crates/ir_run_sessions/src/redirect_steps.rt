@@ -7,10 +7,10 @@ ghost use Rattle.ir_model.specs.Sessions.{Step};
 ghost use Rattle.ir_run_sessions.specs.SessionTables.{session_in};
 ghost use Rattle.ir_core_records.specs.DialectAnswers.{behaviour_of};
 
-use crate::steps::{done, recall_needs_nothing};
-use ir_base_dialects::{Answer, Dialects, Refused};
 use crate::session_tables::Tables;
+use crate::steps::{done, recall_needs_nothing};
 use crate::use_conditions::{find_retargeted, find_values};
+use ir_base_dialects::{Answer, Dialects, Refused};
 use ir_core_queries::{Context, Retarget, ValueEdits};
 
 /// Lets each operand that names the first value name the second.

@@ -20,11 +20,11 @@ ghost use Rattle.ir_run_sessions.specs.Headline.{GoneAtCuts, KeepsKeys};
 ghost use Rattle.ir_run_sessions.specs.SessionState.{plain};
 ghost use Rattle.ir_core_records.specs.DialectAnswers.{behaviour_of};
 
+use crate::session_tables::Tables;
 use crate::stepping::step;
 use ir_base_dialects::{Answer, CoreError, Dialects, Limits, Ptr, TypeHandle};
-use ir_run_edits::Edit;
-use crate::session_tables::Tables;
 use ir_core_queries::{BasicBlock, Context, Operation, Region, Value};
+use ir_run_edits::Edit;
 use std::alloc::Global;
 use std::marker::Model;
 

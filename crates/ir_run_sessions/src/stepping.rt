@@ -6,12 +6,12 @@ ghost use Rattle.ir_run_sessions.specs.SessionTables.{session_in};
 ghost use Rattle.ir_run_sessions.specs.SessionEdits.{edit_of};
 ghost use Rattle.ir_core_records.specs.DialectAnswers.{behaviour_of};
 
+use crate::session_tables::Tables;
 use crate::steps::{self, OpParts};
 use crate::{definition_steps, erase_steps, list_steps, redirect_steps, use_steps};
 use ir_base_dialects::{Answer, Dialects};
-use ir_run_edits::Edit;
-use crate::session_tables::Tables;
 use ir_core_queries::Context;
+use ir_run_edits::Edit;
 
 /// Carries the edit out, and answers how.
 pub(crate) fn step<D: Dialects>(

@@ -14,10 +14,13 @@ ghost use Rattle.ir_run_sessions.specs.SessionTables.{HasPlace, answer_of, done_
 ghost use Rattle.ir_core_records.specs.DialectAnswers.{behaviour_of};
 ghost use Rattle.ir_run_sessions.specs.NewOps.{edit_of_parts};
 
-use ir_base_dialects::{Answer, CoreError, Dialects, Identifier, Ptr, Refused, TypeHandle};
 use crate::lookups::{all_below, all_live, live_entry, picked};
 use crate::session_tables::Tables;
-use ir_core_queries::{AddRegion, BasicBlock, BlockPtr, Context, Needs, NewBlock, NewOperation, Operation, OperationPtr, Value};
+use ir_base_dialects::{Answer, CoreError, Dialects, Identifier, Ptr, Refused, TypeHandle};
+use ir_core_queries::{
+    AddRegion, BasicBlock, BlockPtr, Context, Needs, NewBlock, NewOperation, Operation,
+    OperationPtr, Value,
+};
 use std::alloc::{AllocError, Global};
 
 /// What an operation is made of, by numbers in the tables.

@@ -14,8 +14,8 @@ use crate::verifiers::Verifiers;
 use crate::verify::Verify;
 use ir_base_dialects::Dialects;
 use ir_base_dialects::interfaces::TypeInterfaceMarker;
-use ir_view_parts::{Context, TypeQueries};
 use ir_view::types::{IrType, TypeInterfaceHandle, TypedHandle};
+use ir_view_parts::{Context, TypeQueries};
 
 impl<D: Dialects, T: IrType<D>> Verify<D> for TypedHandle<T, D> {
     ghost IsThere = { λ s t. HasKind (kinds_of D.Dialects D.Saved.eq) (types_of s) (typed_place t) T.KIND };

@@ -11,16 +11,15 @@ ghost use Rattle.ir_view_parts.specs.Wrapped.{operation_in};
 ghost use Rattle.ir_verify.specs.Verified.{AllIsWellIn, FindsIn, MayAnswerIn};
 
 use crate::checks::{check_attribute, check_type};
+pub use crate::error::{BasicBlockVerifyErr, CheckErr, DefUseVerifyErr, VerifierErr, VerifyErr};
 use crate::inside::verify_inside;
+pub use crate::own_checks::OwnChecks;
+pub use crate::verifiers::Verifiers;
 use ir_base_dialects::{Dialects, Ptr, TypeHandle};
 use ir_core_records::EntityIndex;
 use ir_view_parts::{
     BasicBlock, Context, OpObj, Operation, Region, TypeQueries, Value, ValueQueries,
 };
-
-pub use crate::error::{BasicBlockVerifyErr, CheckErr, DefUseVerifyErr, VerifierErr, VerifyErr};
-pub use crate::own_checks::OwnChecks;
-pub use crate::verifiers::Verifiers;
 
 /// Verifies a live operation and all that is inside it. It stands for pliron's `verify_operation`.
 ///

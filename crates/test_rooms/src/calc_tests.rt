@@ -10,10 +10,10 @@ use ir_base_dialects::{Dialects, Identifier, Ptr};
 use ir_checked_core::{context, operation};
 use ir_core_queries::{Named, TypeQueries};
 use ir_verify::verify::{VerifierErr, VerifyErr, verify_operation, verify_type};
+use ir_view::types::{IrType, TypeInterfaceHandle, TypedHandle};
 use ir_view_parts::{
     Context, Op, Operation, OperationKind, OperationPtr, Value, ValueQueries, op_impls_static,
 };
-use ir_view::types::{IrType, TypeInterfaceHandle, TypedHandle};
 use std::alloc::Global;
 use std::fmt::Debug;
 use std::process::Abort;

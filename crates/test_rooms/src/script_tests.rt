@@ -1,12 +1,12 @@
 //! What rows of scripts can't say, since the program has default limits: how a script ends, and what is said of that, where any reader or writer fails in any way; and a script under small limits.
 
+use ir_base_dialects::Limits;
+use ir_run::ircore::{run_script, run_script_with_limits};
 use std::alloc::Global;
 use std::io;
 use std::io::{ErrorKind, Read, Write};
 use std::process::Abort;
 use std::test::Fail;
-use ir_base_dialects::Limits;
-use ir_run::ircore::{run_script, run_script_with_limits};
 
 // How a reader or a writer fails: where its bytes or its room are used up, and where it is flushed.
 #[derive(Clone, Copy, Drop)]

@@ -3,12 +3,14 @@
 use ir_base_dialects::interfaces::TypeInterfaceMarker;
 use ir_base_dialects::{Dialects, Ptr, TypeHandle};
 use ir_checked_core::context;
-use ir_verify::verify::{Verifiers, Verify, VerifyErr, verify_attr, verify_op, verify_operation, verify_type};
+use ir_verify::verify::{
+    Verifiers, Verify, VerifyErr, verify_attr, verify_op, verify_operation, verify_type,
+};
+use ir_view::types::{IrType, TypeInterfaceHandle, TypedHandle};
 use ir_view_parts::{
     BasicBlock, BlockPtr, Context, Operation, OperationKind, OperationPtr, Region, RegionPtr,
     TypeQueries, Value, ValueQueries,
 };
-use ir_view::types::{IrType, TypeInterfaceHandle, TypedHandle};
 use std::alloc::Global;
 
 /// What is found at the operation, by its handle.

@@ -3,8 +3,8 @@
 use crate::marked::MarkedForest;
 use crate::small_dialect::Small;
 use crate::small_types::{ListedType, SizedType};
-use ir_view_parts::Context;
 use ir_view::types::TypedHandle;
+use ir_view_parts::Context;
 use std::alloc::{AllocError, Global};
 
 /// A context over the small dialect, and what a lab keeps beside it.

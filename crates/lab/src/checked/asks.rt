@@ -6,17 +6,15 @@ use crate::checked::small_types::{ask_kept, ask_place};
 use crate::checked::told::{Told, tell, tell_error};
 use crate::checked::walked;
 use ir_base_dialects::{Limits, Ptr, TypeHandle};
+use ir_checked::{passes, region as region_views, types as type_views, value as value_views, walk};
 use ir_checked_core::{
     CheckedErr, context, entity as entities, operand_use, region as regions, successor_use, types,
     uniqued, uniqued_any, value as values,
 };
-use ir_checked::{
-    passes, region as region_views, types as type_views, value as value_views, walk,
-};
+use ir_run::toy::ToyVerifiers;
 use ir_view_parts::{BasicBlock, Context, Entity, Region, Use, Value};
 use std::fmt::Display;
 use testkit_lab::{Item, Items, Lab, Line, Reply, Saved, TextError};
-use ir_run::toy::ToyVerifiers;
 use toy_dialect::{Toy, ToyType};
 
 /// Writes the answer behind the text.

@@ -4,11 +4,11 @@ use crate::checked::asks::ask_entity;
 use crate::checked::told::{tell, tell_error};
 use crate::checked::walked;
 use ir_base_dialects::Ptr;
-use ir_checked_core::basic_block;
 use ir_checked::{basic_block as views, walk};
+use ir_checked_core::basic_block;
+use ir_run::toy::ToyVerifiers;
 use ir_view_parts::{BasicBlock, Entity};
 use testkit_lab::{Lab, Reply, TextError};
-use ir_run::toy::ToyVerifiers;
 use toy_dialect::Toy;
 
 /// Those that are given a block alone.

@@ -3,8 +3,8 @@
 use crate::checked::told::{tell_edit, tell_error};
 use crate::checked::words::read;
 use ir_base_dialects::{Ptr, TypeHandle};
-use ir_checked_core::basic_block;
 use ir_checked::{dead, passes};
+use ir_checked_core::basic_block;
 use ir_view_parts::{BasicBlock, Context, Region};
 use testkit_lab::{Item, Items, Lab, TextError, type_of};
 use toy_dialect::Toy;

@@ -4,11 +4,11 @@ use crate::checked::asks::ask_entity;
 use crate::checked::told::{Told, tell, tell_error};
 use crate::checked::walked;
 use ir_base_dialects::Ptr;
-use ir_checked_core::operation;
 use ir_checked::{op as wrapped, operation as views, passes, verify as verification};
+use ir_checked_core::operation;
+use ir_run::toy::ToyVerifiers;
 use ir_view_parts::{Entity, Op, OpObj, Operation};
 use testkit_lab::{Constant, Lab, Line, Reply, TextError};
-use ir_run::toy::ToyVerifiers;
 use toy_dialect::Toy;
 
 /// Those that are given an operation alone.

@@ -3,8 +3,8 @@
 use crate::checked::told::{tell_edit, tell_error};
 use crate::checked::words::read;
 use ir_base_dialects::{Ptr, TypeHandle};
-use ir_checked_core::operation;
 use ir_checked::passes;
+use ir_checked_core::operation;
 use ir_view_parts::{BasicBlock, Operation, Value};
 use std::alloc::Global;
 use testkit_lab::{Item, Items, Lab, TextError, type_of};

@@ -2,8 +2,8 @@
 
 use crate::checked::told::{tell_error, tell_walk};
 use ir_base_dialects::Ptr;
-use ir_checked_core::{basic_block, operation, region as regions};
 use ir_checked::{operation as views, walk};
+use ir_checked_core::{basic_block, operation, region as regions};
 use ir_view_parts::{BasicBlock, Entity, Operation, Region};
 use testkit_lab::{Lab, Reply};
 use toy_dialect::Toy;

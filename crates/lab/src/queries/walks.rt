@@ -2,11 +2,11 @@
 
 use ir_base_dialects::Ptr;
 use ir_checked_core::CheckedErr;
-use ir_view_parts::{BasicBlock, BlockPtr, Entity, Region, RegionPtr};
 use ir_view::walk::{
     all_inside, blocks_of, inside, inside_preorder, is_live, ops_inside, ops_inside_preorder,
     ops_of,
 };
+use ir_view_parts::{BasicBlock, BlockPtr, Entity, Region, RegionPtr};
 use testkit_lab::{Lab, Name, Named, Reply, TextError, tell_condition, tell_refused};
 use toy_dialect::Toy;
 

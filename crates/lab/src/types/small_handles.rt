@@ -11,8 +11,8 @@ use crate::types::telling::tell_refusal;
 use crate::types::type_words::hash_of;
 use ir_base_dialects::interfaces::TypeInterfaceMarker;
 use ir_base_dialects::{CoreError, TypeHandle};
-use ir_view_parts::{Context, TypeQueries};
 use ir_view::types::{IrType, TypeImplsInterface, TypeInterfaceHandle, TypedHandle};
+use ir_view_parts::{Context, TypeQueries};
 use std::fmt::Debug;
 use std::hash::Hash;
 use testkit_lab::{

@@ -13,8 +13,8 @@ use crate::types::small_handles as handles;
 use crate::types::telling::{tell, tell_refusal};
 use crate::types::type_words::place_of;
 use ir_base_dialects::{CoreError, TypeHandle};
-use ir_view_parts::{Context, TypeQueries};
 use ir_view::types::{IrType, type_impls, type_impls_static};
+use ir_view_parts::{Context, TypeQueries};
 use std::alloc::Global;
 use testkit_lab::{
     CompoundInterface, Lab, ListedType, PairType, Reply, SizedInterface, SizedType, Small,

@@ -8,10 +8,10 @@
 
 use crate::types::telling::{Maybe, tell, tell_refusal};
 use ir_base_dialects::{CoreError, Dialects, Ptr, TypeHandle};
+use ir_view::types::{TypeSig, Typed};
 use ir_view_parts::{
     Context, Operation, OperationPtr, TypeQueries, Use, UseQueries, Value, ValueQueries,
 };
-use ir_view::types::{TypeSig, Typed};
 use std::alloc::Global;
 use std::hash::{DefaultHasher, Hash, Hasher};
 use testkit_lab::{

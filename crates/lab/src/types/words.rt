@@ -5,8 +5,8 @@ use crate::types::{
     attr_words, aux_words, deep_words, judge_words, name_words, saved_words, small_words,
     type_words, verify_words, wrap_words,
 };
-use testkit_lab::{Lab, Mode, TextError};
 use ir_run::toy::ToyVerifiers;
+use testkit_lab::{Lab, Mode, TextError};
 
 /// Answers a line: a word of this module, and its fields.
 ///
