@@ -5,7 +5,7 @@ ghost use Rattle.ir_opt_run.specs.GenericVerifiers.{nothing};
 use generic_dialect::{Generic, GenericType, KeptAttr};
 use ir_core_queries::Context;
 use ir_verify::verify::{CheckErr, OwnChecks};
-use ir_view_parts::OpObj;
+use ir_view::op::OpObj;
 
 /// The checks of the dialect Generic. None finds anything, none is listed for any kind, and none takes memory.
 #[derive(Clone, Copy, Debug, Default, Drop, PartialEq, Eq)]
