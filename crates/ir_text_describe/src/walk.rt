@@ -1,4 +1,4 @@
-//! The walk over all inside an operation, which puts each part where it begins and where it ends. It goes by links and climbs back, and keeps for each open region its index alone.
+//! The walk over all inside an operation, which puts each part where it begins and where it ends. It goes by links and climbs back, and keeps for each open region its index alone. Where something was refused it stops.
 
 ghost use Rattle.std.specs.Prelude.{◌≡◌, ◌↔◌, IfOk, IfSome, IsTrue};
 ghost use Rattle.ir_model.specs.Forest.{a_region, an_op};
@@ -6,16 +6,18 @@ ghost use Rattle.ir_model.specs.Nesting.{IsLive};
 ghost use Rattle.ir_core_queries.specs.Entities.{meant};
 ghost use Rattle.ir_core_queries.specs.State.{forest_of};
 
+use crate::draft::Draft;
 use crate::naming::{name_region, name_results};
-use crate::parts::{Source, put_block_head, put_head, put_tail};
+use crate::parts::{put_block_head, put_head, put_tail};
 use crate::spelling::Spelling;
+use crate::writing::Source;
 use ir_base_dialects::{Dialects, Ptr};
 use ir_core_nesting::are_one;
 use ir_core_queries::{
     BlockPlace, Context, Entity, Operation, OperationPlace, OperationPtr, Region, RegionPlace,
     RegionPtr,
 };
-use ir_text_pieces::{DescribeErr, Description, TreeWriter};
+use ir_text_pieces::{DescribeErr, Description};
 use std::alloc::Global;
 
 /// Whether locations are put.
@@ -30,7 +32,7 @@ pub enum Locations {
 // What is put, and the index of each open region in its operation.
 #[derive(Drop)]
 struct Walk {
-    to: TreeWriter,
+    draft: Draft,
     open: Vec<usize>,
 }
 
@@ -60,16 +62,18 @@ fn region_at<D: Dialects>(
     walk: &mut Walk,
     op: Ptr<Operation<D>>,
     index: usize,
-) -> Result<Option<Entity<D>>, DescribeErr>
+) -> Option<Entity<D>>
     requires { IsLive (forest_of ctx.now) (an_op op.index) }
-    ensures { IfOk result (λ region. IfSome region (λ e. IsLive (forest_of ctx.now) (meant e))) }
+    ensures { IfSome result (λ e. IsLive (forest_of ctx.now) (meant e)) }
 {
     let record = op.deref(ctx);
     if index >= record.num_regions() {
-        return Ok(None);
+        return None;
     }
-    walk.open.push(index)?;
-    Ok(Some(Entity::Region(record.get_region(index))))
+    if walk.open.push(index).is_err() {
+        walk.draft.keep(Err(DescribeErr::OutOfMemory));
+    }
+    Some(Entity::Region(record.get_region(index)))
 }
 
 // The first of what stands in a live entity, if something does.
@@ -77,37 +81,27 @@ fn first_inside<D: Dialects>(
     ctx: &Context<D>,
     walk: &mut Walk,
     entity: Entity<D>,
-) -> Result<Option<Entity<D>>, DescribeErr>
+) -> Option<Entity<D>>
     requires { IsLive (forest_of ctx.now) (meant entity) }
-    ensures { IfOk result (λ first. IfSome first (λ e. IsLive (forest_of ctx.now) (meant e))) }
+    ensures { IfSome result (λ e. IsLive (forest_of ctx.now) (meant e)) }
 {
     match entity {
         Entity::Op(op) => region_at(ctx, walk, op, 0),
-        Entity::Block(block) => match block.get_head(ctx) {
-            Some(op) => Ok(Some(Entity::Op(op))),
-            None => Ok(None),
-        },
-        Entity::Region(region) => match region.get_head(ctx) {
-            Some(block) => Ok(Some(Entity::Block(block))),
-            None => Ok(None),
-        },
+        Entity::Block(block) => Some(Entity::Op(block.get_head(ctx)?)),
+        Entity::Region(region) => Some(Entity::Block(region.get_head(ctx)?)),
     }
 }
 
 // Puts what stands where a live entity begins.
-fn enter<D: Dialects, S: Spelling<D>>(
-    from: &Source<'_, D, S>,
-    to: &mut TreeWriter,
-    entity: Entity<D>,
-) -> Result<(), DescribeErr>
+fn enter<D: Dialects, S: Spelling<D>>(from: &Source<'_, D, S>, draft: &mut Draft, entity: Entity<D>)
     requires { IsLive (forest_of from.now.ctx.now) (meant entity) }
 {
     match entity {
-        Entity::Op(op) => put_head(from, to, op),
-        Entity::Block(block) => put_block_head(from, to, block),
+        Entity::Op(op) => put_head(from, draft, op),
+        Entity::Block(block) => put_block_head(from, draft, block),
         Entity::Region(region) => {
-            to.open_region()?;
-            name_region(from.ctx, to, region)
+            draft.open_region();
+            name_region(from.ctx, draft, region);
         }
     }
 }
@@ -117,22 +111,18 @@ fn leave_region<D: Dialects>(
     ctx: &Context<D>,
     walk: &mut Walk,
     region: Ptr<Region>,
-) -> Result<Option<Entity<D>>, DescribeErr>
+) -> Option<Entity<D>>
     requires { IsLive (forest_of ctx.now) (a_region region.index) }
-    ensures { IfOk result (λ next. IfSome next (λ e. IsLive (forest_of ctx.now) (meant e))) }
+    ensures { IfSome result (λ e. IsLive (forest_of ctx.now) (meant e)) }
 {
-    walk.to.close_region()?;
-    match walk.open.pop() {
-        Some(index) => {
-            region_at(
-                ctx,
-                walk,
-                region.get_parent_op(ctx),
-                index.saturating_add(1),
-            )
-        }
-        None => Ok(None),
-    }
+    walk.draft.close_region();
+    let index = walk.open.pop()?;
+    region_at(
+        ctx,
+        walk,
+        region.get_parent_op(ctx),
+        index.saturating_add(1),
+    )
 }
 
 // Puts what stands where a live entity ends, and answers what comes after it in its list, if something does.
@@ -140,22 +130,16 @@ fn leave<D: Dialects, S: Spelling<D>>(
     from: &Source<'_, D, S>,
     walk: &mut Walk,
     entity: Entity<D>,
-) -> Result<Option<Entity<D>>, DescribeErr>
+) -> Option<Entity<D>>
     requires { IsLive (forest_of from.now.ctx.now) (meant entity) }
-    ensures { IfOk result (λ next. IfSome next (λ e. IsLive (forest_of from.now.ctx.now) (meant e))) }
+    ensures { IfSome result (λ e. IsLive (forest_of from.now.ctx.now) (meant e)) }
 {
     match entity {
         Entity::Op(op) => {
-            put_tail(from, &mut walk.to, op)?;
-            match op.get_next(from.ctx) {
-                Some(next) => Ok(Some(Entity::Op(next))),
-                None => Ok(None),
-            }
+            put_tail(from, &mut walk.draft, op);
+            Some(Entity::Op(op.get_next(from.ctx)?))
         }
-        Entity::Block(block) => match block.get_next(from.ctx) {
-            Some(next) => Ok(Some(Entity::Block(next))),
-            None => Ok(None),
-        },
+        Entity::Block(block) => Some(Entity::Block(block.get_next(from.ctx)?)),
         Entity::Region(region) => leave_region(from.ctx, walk, region),
     }
 }
@@ -166,25 +150,23 @@ fn go_on<D: Dialects, S: Spelling<D>>(
     walk: &mut Walk,
     root: Entity<D>,
     here: Entity<D>,
-) -> Result<Option<Entity<D>>, DescribeErr>
+) -> Option<Entity<D>>
     requires { IsLive (forest_of from.now.ctx.now) (meant here) }
-    ensures { IfOk result (λ next. IfSome next (λ e. IsLive (forest_of from.now.ctx.now) (meant e))) }
+    ensures { IfSome result (λ e. IsLive (forest_of from.now.ctx.now) (meant e)) }
 {
     let mut current = here;
     for _ in 0..u64::MAX {
-        let next = leave(from, walk, current)?;
-        if is_same(current, root) {
-            return Ok(None);
+        let next = leave(from, walk, current);
+        if is_same(current, root) || walk.draft.is_refused() {
+            return None;
         }
-        if let Some(next) = next {
-            return Ok(Some(next));
+        if next.is_some() {
+            return next;
         }
-        match owner(from.ctx, current) {
-            Some(owner) => current = owner,
-            None => return Ok(None),
-        }
+        current = owner(from.ctx, current)?;
     }
-    Err(DescribeErr::TooLong)
+    walk.draft.keep(Err(DescribeErr::TooLong));
+    None
 }
 
 // What comes after a live entity in the walk: the first inside it, or what comes after it or after what it stands in.
@@ -193,33 +175,32 @@ fn next_of<D: Dialects, S: Spelling<D>>(
     walk: &mut Walk,
     root: Entity<D>,
     here: Entity<D>,
-) -> Result<Option<Entity<D>>, DescribeErr>
+) -> Option<Entity<D>>
     requires { IsLive (forest_of from.now.ctx.now) (meant here) }
-    ensures { IfOk result (λ next. IfSome next (λ e. IsLive (forest_of from.now.ctx.now) (meant e))) }
+    ensures { IfSome result (λ e. IsLive (forest_of from.now.ctx.now) (meant e)) }
 {
-    match first_inside(from.ctx, walk, here)? {
-        Some(first) => Ok(Some(first)),
+    match first_inside(from.ctx, walk, here) {
+        Some(first) => Some(first),
         None => go_on(from, walk, root, here),
     }
 }
 
-// Puts all that is inside a live entity, the entity among them.
-fn put_all<D: Dialects, S: Spelling<D>>(
-    from: &Source<'_, D, S>,
-    walk: &mut Walk,
-    root: Entity<D>,
-) -> Result<(), DescribeErr>
+// Puts all that is inside a live entity, the entity among them, up to where something is refused.
+fn put_all<D: Dialects, S: Spelling<D>>(from: &Source<'_, D, S>, walk: &mut Walk, root: Entity<D>)
     requires { IsLive (forest_of from.now.ctx.now) (meant root) }
 {
     let mut here = root;
     for _ in 0..u64::MAX {
-        enter(from, &mut walk.to, here)?;
-        match next_of(from, walk, root, here)? {
+        enter(from, &mut walk.draft, here);
+        if walk.draft.is_refused() {
+            return;
+        }
+        match next_of(from, walk, root, here) {
             Some(next) => here = next,
-            None => return Ok(()),
+            None => return,
         }
     }
-    Err(DescribeErr::TooLong)
+    walk.draft.keep(Err(DescribeErr::TooLong));
 }
 
 /// The live operation with all that is inside it, as a flat tree.
@@ -241,10 +222,10 @@ pub fn describe<D: Dialects, S: Spelling<D>>(
         located: locations == Locations::Put,
     };
     let mut walk = Walk {
-        to: TreeWriter::new(alloc)?,
+        draft: Draft::new(alloc)?,
         open: Vec::new(alloc),
     };
-    name_results(&mut walk.to, op.deref(ctx))?;
-    put_all(&from, &mut walk, Entity::Op(op))?;
-    Ok(walk.to.description)
+    name_results(&mut walk.draft, op.deref(ctx));
+    put_all(&from, &mut walk, Entity::Op(op));
+    walk.draft.end()
 }
