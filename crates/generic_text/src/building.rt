@@ -87,10 +87,22 @@ fn connect_all(
     Ok(())
 }
 
+// Makes place for all that is made, so that nothing of it moves.
+fn make_place(
+    ctx: &mut Context<Generic>,
+    made: &mut Made,
+    outline: &Outline,
+) -> Result<(), BuildError> {
+    ctx.reserve(outline.ops.len())?;
+    made.reserve(outline.ops.len(), outline.blocks.len())?;
+    Ok(())
+}
+
 // Makes all.
 fn make_all(ctx: &mut Context<Generic>, source: Source, made: &mut Made) -> Result<(), BuildError> {
     let alloc = ctx.alloc();
     let outline = outline_of(alloc, source.rows)?;
+    make_place(ctx, made, &outline)?;
     let mut meanings = Meanings::new(alloc);
     let mut room = Room::new(alloc);
     make_blocks(ctx, source, &mut meanings, made, &mut room, &outline)?;

@@ -47,6 +47,12 @@ impl Made {
         })
     }
 
+    /// Makes place for so many operations and blocks.
+    pub(crate) fn reserve(&mut self, ops: usize, blocks: usize) -> Result<(), AllocError> {
+        self.ops.reserve(ops)?;
+        self.blocks.reserve(blocks)
+    }
+
     // The row has that number.
     fn put_number(&mut self, row: usize, number: usize) {
         if let Some(place) = self.numbers.get_mut(row) {
@@ -125,6 +131,11 @@ impl Room {
             locations: Vec::new(alloc),
             is_late: false,
         }
+    }
+
+    /// Whether there are neither attributes nor properties nor a location.
+    pub(crate) fn is_bare(&self) -> bool {
+        self.attributes.is_empty() && self.properties.is_none() && self.location.is_none()
     }
 
     /// Nothing again.

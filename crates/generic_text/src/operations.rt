@@ -5,9 +5,11 @@ use crate::made::{Made, Op, Room};
 use crate::meanings::Meanings;
 use generic_dialect::{Generic, GenericAttr, GenericLoc, TextId, properties_key};
 use ir_base_dialects::Identifier;
+use ir_base_dialects::attribute::AttributeDict;
 use ir_checked_core::operation;
 use ir_core_queries::Context;
 use ir_text_outline::{OpRows, Outline, Part, Source};
+use std::alloc::Global;
 
 // The operand in this row, if what it names is made.
 fn read_operand(source: Source, made: &Made, room: &mut Room, at: usize) -> Result<(), BuildError> {
@@ -153,61 +155,48 @@ fn define_results(
     Ok(())
 }
 
-// Sets an attribute of an operation.
-fn set_attribute(
-    ctx: &mut Context<Generic>,
-    op: Op,
+// Puts an attribute into a dictionary, which has none under its key yet.
+fn put_attribute(
+    attributes: &mut AttributeDict<Generic>,
     key: Identifier,
     attribute: GenericAttr,
+    row: usize,
 ) -> Result<(), BuildError> {
-    let written = operation::deref_mut(ctx, op)?;
-    written.attributes.set::<GenericAttr>(key, attribute)?;
+    let before = attributes.len();
+    attributes.set::<GenericAttr>(key, attribute)?;
+    if attributes.len() == before {
+        return Err(BuildError::KeyTwice { row });
+    }
     Ok(())
 }
 
-// Whether an operation has an attribute under that key.
-fn has_attribute(ctx: &Context<Generic>, op: Op, key: &Identifier) -> bool {
-    match operation::deref(op, ctx) {
-        Ok(record) => record.attributes().get::<GenericAttr>(key).is_some(),
-        Err(_) => false,
-    }
-}
-
-// Sets the attributes of an operation.
-fn set_attributes<'a>(
-    ctx: &mut Context<Generic>,
+// Puts the attributes of an operation into its dictionary.
+fn put_attributes<'a>(
+    attributes: &mut AttributeDict<Generic>,
+    alloc: Global,
     source: Source<'a>,
     meanings: &mut Meanings<'a>,
     room: &Room,
-    op: Op,
 ) -> Result<(), BuildError> {
     for (at, attribute) in room.attributes.iter() {
-        let key = meanings.key_of(ctx.alloc(), source.unquoted(*at))?;
-        if has_attribute(ctx, op, &key) {
-            return Err(BuildError::KeyTwice { row: *at });
-        }
-        set_attribute(ctx, op, key, *attribute)?;
+        let key = meanings.key_of(alloc, source.unquoted(*at))?;
+        put_attribute(attributes, key, *attribute, *at)?;
     }
     Ok(())
 }
 
-// Sets the properties of an operation.
-fn set_properties(ctx: &mut Context<Generic>, room: &Room, op: Op) -> Result<(), BuildError> {
-    match room.properties {
-        None => Ok(()),
-        Some(id) => set_attribute(ctx, op, properties_key(), GenericAttr::Text(id)),
+// Puts the properties of an operation into its dictionary, if it has any.
+fn put_properties(attributes: &mut AttributeDict<Generic>, room: &Room) -> Result<(), BuildError> {
+    if let Some(id) = room.properties {
+        attributes.set::<GenericAttr>(properties_key(), GenericAttr::Text(id))?;
     }
+    Ok(())
 }
 
-// Sets the location of an operation.
-fn set_location(ctx: &mut Context<Generic>, room: &Room, op: Op) -> Result<(), BuildError> {
-    match room.location {
-        None => Ok(()),
-        Some(id) => {
-            let written = operation::deref_mut(ctx, op)?;
-            written.loc = GenericLoc::Text(id);
-            Ok(())
-        }
+// Sets the location of an operation, if it has one.
+fn set_location(loc: &mut GenericLoc, room: &Room) {
+    if let Some(id) = room.location {
+        *loc = GenericLoc::Text(id);
     }
 }
 
@@ -259,9 +248,15 @@ fn decorate<'a>(
     room: &Room,
     op: Op,
 ) -> Result<(), BuildError> {
-    set_attributes(ctx, source, meanings, room, op)?;
-    set_properties(ctx, room, op)?;
-    set_location(ctx, room, op)
+    if room.is_bare() {
+        return Ok(());
+    }
+    let alloc = ctx.alloc();
+    let written = operation::deref_mut(ctx, op)?;
+    put_attributes(&mut written.attributes, alloc, source, meanings, room)?;
+    put_properties(&mut written.attributes, room)?;
+    set_location(&mut written.loc, room);
+    Ok(())
 }
 
 /// Makes an operation, behind the others of its block. Its regions are empty yet.
