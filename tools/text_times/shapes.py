@@ -64,6 +64,11 @@ def brackets(write, count):
     write('"a"() {x = ' + '[' * count + ']' * count + '} : () -> ()\n')
 
 
+def sums(write, count):
+    """an affine map of so many sums"""
+    write('"a"() {x = affine_map<(d0) -> (d0' + ' + d0' * count + ')>} : () -> ()\n')
+
+
 # What is printed of the deep ones grows with the square of the depth, by the blanks in front of each line.
 DEEP = [nest, outer]
-SHAPES = [*DEEP, operands, results, names, forward, blocks, arguments, regions, attributes, lines, brackets]
+SHAPES = [*DEEP, operands, results, names, forward, blocks, arguments, regions, attributes, lines, brackets, sums]

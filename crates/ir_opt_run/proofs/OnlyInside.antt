@@ -1,11 +1,11 @@
--- Where no more is live than what stands inside an entity, nothing else is.
+-- Where no more is live than what stands inside an entity, nothing else is, and nothing outside names what is inside.
 use Rattle.std.proofs.Common.{◌≡◌, ◌⊎◌, ◌+◌, ◌≤◌, true, All, List, [], ◌∷◌, ◌++◌, length, map, Option, Some, None, IsSome, refl, subst, sym, inl, inr, arith}
 use Rattle.std.specs.Option.{option_map}
 use Rattle.std.proofs.lemmas.List.{length-append, length-map}
 use Rattle.std.proofs.lemmas.List.Elements.{All-head, All-tail}
 use Rattle.ir_model.specs.ContextIds.{context_ids}
-use Rattle.ir_model.specs.Forest.{Dialect, Entity, Forest, an_op, a_block, a_region, same_entity}
-use Rattle.ir_model.specs.Nesting.{In, IsLive}
+use Rattle.ir_model.specs.Forest.{Dialect, Entity, Forest, Named, OpRecord, Operand, Successor, a_value, an_op, a_block, a_region, same_entity, the_block}
+use Rattle.ir_model.specs.Nesting.{In, Inside, IsClosed, IsLive, list_of, names_of}
 use Rattle.ir_model.specs.Subtree.{ListsSubtree}
 use Rattle.ir_model.proofs.KeepsErase.{same_self, same_tells}
 use Rattle.ir_model.proofs.KeepsNew.{any_in}
@@ -77,3 +77,17 @@ module _ {D A K B S X L : Type 0} (t : Records D A K B S X L) where
   pub only-inside : (e : Entity context_ids) (inside : List (Entity context_ids)) → ListsSubtree (forest_in t) e inside → ((x : Entity context_ids) → In x inside → IsLive (forest_in t) x)
       → arena_len t.ops + (arena_len t.blocks + arena_len t.regions) ≤ length inside → HasOnly (forest_in t) e
   only-inside e inside is live few = has_only (forest_in t) e inside (ops ++ (blocks ++ regions)) is live all_listed (omega (arith, all_count, few))
+
+module _ {W : Dialect} (f : Forest context_ids W) where
+  -- what a record names, if there is one
+  abbrev names_by : Option (OpRecord context_ids W) → List (Named context_ids)
+  names_by m = map (λ (x : Operand context_ids). a_value x.value) (list_of (λ (r : OpRecord context_ids W). r.operands) m) ++ map (λ (x : Successor context_ids). the_block x.block) (list_of (λ (r : OpRecord context_ids W). r.successors) m)
+
+  -- what names something has a record
+  recorded : (d : Named context_ids) (m : Option (OpRecord context_ids W)) → In d (names_by m) → IsSome m
+  recorded d None h = elim h [ ]
+  recorded d (Some r) h = refl
+
+  -- where all that is live stands inside an entity, this is closed
+  pub only-closes : (e : Entity context_ids) → HasOnly f e → IsClosed f e
+  only-closes e only o d named there = only (an_op o) (recorded d (f.ops o) named)

@@ -102,10 +102,11 @@ fn is_alone(root: Op, tops: &[Op]) -> bool {
     }
 }
 
-// Sees to it that all that is live in the context stands inside an operation.
+// Sees to it that all that is live in the context stands inside an operation. Then nothing outside names what is inside.
 fn check_only(ctx: &Context<Generic>, root: Op) -> Result<(), Fault>
     requires { IsLive (forest_of ctx.now) (an_op root.index) }
-    ensures { OnOk result (HasOnly (forest_of ctx.now) (an_op root.index)) }
+    ensures only { OnOk result (HasOnly (forest_of ctx.now) (an_op root.index)) }
+    ensures closed { OnOk result (IsClosed (forest_of ctx.now) (an_op root.index)) }
 {
     let count = all_inside(ctx, Entity::Op(root))?.len();
     let records = ctx.records();
@@ -116,6 +117,22 @@ fn check_only(ctx: &Context<Generic>, root: Op) -> Result<(), Fault>
         return Ok(());
     }
     Err(Fault::Different)
+}
+
+// Sees to it that nothing outside an operation names what is inside it; in a context that was empty before, that nothing is outside.
+fn check_closed(ctx: &Context<Generic>, root: Op, was_empty: bool) -> Result<(), Fault>
+    requires { IsLive (forest_of ctx.now) (an_op root.index) }
+    ensures closed { OnOk result (IsClosed (forest_of ctx.now) (an_op root.index)) }
+    ensures only { IsTrue was_empty → OnOk result (HasOnly (forest_of ctx.now) (an_op root.index)) }
+{
+    if was_empty {
+        return check_only(ctx, root);
+    }
+    if can_erase(ctx, Entity::Op(root)) {
+        Ok(())
+    } else {
+        Err(Fault::Different)
+    }
 }
 
 // Reads a text into a context. What was built is compared with the text, and where the context was empty, also with all that is there.
@@ -132,9 +149,7 @@ fn read_into(ctx: &mut Context<Generic>, text: &[u8], was_empty: bool) -> Result
     if !root.is_live(ctx) {
         return Err(Fault::Different);
     }
-    if !can_erase(ctx, Entity::Op(root)) {
-        return Err(Fault::Different);
-    }
+    check_closed(ctx, root, was_empty)?;
     check_read(
         ctx,
         root,
@@ -142,9 +157,6 @@ fn read_into(ctx: &mut Context<Generic>, text: &[u8], was_empty: bool) -> Result
         text,
         &tree,
     )?;
-    if was_empty {
-        check_only(ctx, root)?;
-    }
     let places = places(alloc, tree.rows.as_slice(), built.ops.as_slice())?;
     Ok(Module {
         root,
