@@ -165,7 +165,7 @@ def swept(session):
     """The lines that sweep each block, and all that is shown after each."""
     asked = []
     for block in session.table('b'):
-        asked.append(Asked(f'edit.sweep {block}', session.sweep(block) if session.is_named(block) else CONDITION))
+        asked.append(Asked(f'checked.dead::sweep {block}', session.sweep(block) if session.is_named(block) else "dead::sweep: the block isn't live"))
         asked.append(shown(session))
     return asked
 

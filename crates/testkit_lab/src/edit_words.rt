@@ -5,7 +5,6 @@ use crate::lab::{Lab, Mode};
 use crate::telling::{tell_done, tell_name, tell_number};
 use crate::{redirecting, setting};
 use ir_base_dialects::Ptr;
-use ir_checked::dead::sweep;
 use ir_checked_core::{basic_block, operation};
 use ir_view_parts::{BasicBlock, Operation};
 use testkit_edit_texts::TextError;
@@ -66,16 +65,12 @@ fn edit_op(lab: &mut Lab, word: &str, op: Ptr<Operation<Toy>>) {
     }
 }
 
-// `pop_argument`: its last argument goes. `sweep`: its dead operations go. It answers how many these were.
+// `pop_argument`: its last argument goes.
 fn edit_block(lab: &mut Lab, word: &str, block: Ptr<BasicBlock<Toy>>) {
     match word {
         "edit.pop_argument" => {
             let answer = basic_block::pop_argument(block, &mut lab.context);
             tell_done(&mut lab.text, answer);
-        }
-        "edit.sweep" => {
-            let answer = sweep(block, &mut lab.context);
-            tell_number(&mut lab.text, answer);
         }
         "edit.take_label" => setting::label_block(lab, block, None),
         "edit.lent_block" => setting::lent_block(lab, block),
