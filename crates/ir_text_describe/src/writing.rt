@@ -1,6 +1,6 @@
 //! Single parts of an operation and of a block's head, written and put: those that a dialect spells.
 
-ghost use Rattle.std.specs.Prelude.{◌<◌, length};
+ghost use Rattle.std.specs.Prelude.{◌<◌, ◌≤◌, length};
 ghost use Rattle.ir_core_queries.specs.State.{types_of};
 
 use crate::spelling::{AttributeForm, Located, Spelling};
@@ -90,18 +90,12 @@ pub(crate) fn write_only_result_type<D: Dialects, S: Spelling<D>>(
     to.put_only_result_type(piece)
 }
 
-// Puts what was written from there on as a part, if that is one.
-fn put_from(
-    to: &mut TreeWriter,
-    start: usize,
-    part: Part,
-    is_one: Result<bool, CoreError>,
-) -> Result<(), DescribeErr> {
-    if is_one.map_err(wanting)? {
-        let piece = to.description.piece_from(start)?;
-        to.description.put(part, piece)?;
-    }
-    Ok(())
+// Puts what was written from there on as this part.
+fn put_from(to: &mut TreeWriter, start: usize, part: Part) -> Result<(), DescribeErr>
+    requires { start ≤ length to.old.description.text.items }
+{
+    let piece = to.description.piece_from(start)?;
+    to.description.put(part, piece)
 }
 
 /// Puts the properties of an operation, if it has any.
@@ -113,8 +107,13 @@ pub(crate) fn write_properties<D: Dialects, S: Spelling<D>>(
     let start = to.description.text.len();
     let has_any = from
         .spelling
-        .write_properties(from.ctx, op.attributes(), &mut to.description.text);
-    put_from(to, start, Part::Properties, has_any)
+        .write_properties(from.ctx, op.attributes(), &mut to.description.text)
+        .map_err(wanting)?;
+    if has_any {
+        put_from(to, start, Part::Properties)
+    } else {
+        Ok(())
+    }
 }
 
 /// Puts a location, if it is known.
@@ -128,8 +127,13 @@ pub(crate) fn write_location<D: Dialects, S: Spelling<D>>(
     let start = to.description.text.len();
     let is_known = from
         .spelling
-        .write_location(from.ctx, loc, of, &mut to.description.text);
-    put_from(to, start, part, is_known)
+        .write_location(from.ctx, loc, of, &mut to.description.text)
+        .map_err(wanting)?;
+    if is_known {
+        put_from(to, start, part)
+    } else {
+        Ok(())
+    }
 }
 
 // Puts an attribute of this form, whose value was written from there on.
@@ -138,7 +142,9 @@ fn put_attribute_from(
     start: usize,
     key: &[u8],
     form: AttributeForm,
-) -> Result<(), DescribeErr> {
+) -> Result<(), DescribeErr>
+    requires { start ≤ length to.old.description.text.items }
+{
     let value = to.description.piece_from(start)?;
     match form {
         AttributeForm::Property => Ok(()),
