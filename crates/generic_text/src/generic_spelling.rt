@@ -12,13 +12,13 @@ use generic_dialect::{
     properties_key,
 };
 use ir_base_dialects::attribute::AttributeDict;
-use ir_base_dialects::{CoreError, Identifier, TypeHandle};
+use ir_base_dialects::{Identifier, TypeHandle};
 use ir_core_queries::{Context, TypeQueries};
 use ir_text_describe::{AttributeForm, Located, Spelling};
-use std::alloc::Global;
+use std::alloc::{AllocError, Global};
 
 // Writes a saved text; nothing where there is none.
-fn write_text(ctx: &Context<Generic>, id: TextId, out: &mut Vec<u8>) -> Result<(), CoreError>
+fn write_text(ctx: &Context<Generic>, id: TextId, out: &mut Vec<u8>) -> Result<(), AllocError>
     ensures { OnOk result (out.new.items ≡ out.old.items ++ text_at (bare ctx.now).beside.saved id.0) }
 {
     match ctx.saved_at(id.index()) {
@@ -31,7 +31,7 @@ fn write_text(ctx: &Context<Generic>, id: TextId, out: &mut Vec<u8>) -> Result<(
 }
 
 // Writes the name of an operation that isn't in the table; nothing of one that is.
-fn write_open(ctx: &Context<Generic>, kind: Kind, out: &mut Vec<u8>) -> Result<(), CoreError>
+fn write_open(ctx: &Context<Generic>, kind: Kind, out: &mut Vec<u8>) -> Result<(), AllocError>
     ensures { OnOk result (out.new.items ≡ out.old.items ++ open_name (bare ctx.now).beside.saved kind) }
 {
     match kind {
@@ -45,7 +45,7 @@ fn write_value(
     ctx: &Context<Generic>,
     attr: GenericAttr,
     out: &mut Vec<u8>,
-) -> Result<AttributeForm, CoreError>
+) -> Result<AttributeForm, AllocError>
     ensures form { (key : List ℕ) → IfOk result (λ form. form ≡ (attribute_of (bare ctx.now).beside.saved (Some key) attr).form) }
     ensures value { (key : List ℕ) → OnOk result (out.new.items ≡ out.old.items ++ (attribute_of (bare ctx.now).beside.saved (Some key) attr).value) }
 {
@@ -63,7 +63,7 @@ fn write_known(
     ctx: &Context<Generic>,
     id: Option<TextId>,
     out: &mut Vec<u8>,
-) -> Result<bool, CoreError>
+) -> Result<bool, AllocError>
     ensures some { IfOk result (λ some. some ≡ is_some (known (bare ctx.now).beside.saved id)) }
     ensures text { OnOk result (out.new.items ≡ out.old.items ++ unwrap_or (known (bare ctx.now).beside.saved id) []) }
 {
@@ -123,7 +123,7 @@ impl Spelling<Generic> for GenericSpelling {
         ctx: &Context<Generic>,
         kind: u32,
         out: &mut Vec<u8>,
-    ) -> Result<(), CoreError> {
+    ) -> Result<(), AllocError> {
         match kind_name(kind) {
             Some(name) => {
                 out.extend_from_slice(name)?;
@@ -138,7 +138,7 @@ impl Spelling<Generic> for GenericSpelling {
         ctx: &Context<Generic>,
         ty: TypeHandle,
         out: &mut Vec<u8>,
-    ) -> Result<(), CoreError> {
+    ) -> Result<(), AllocError> {
         let GenericType(id) = ty.deref(ctx);
         write_text(ctx, *id, out)
     }
@@ -150,13 +150,14 @@ impl Spelling<Generic> for GenericSpelling {
         attr: &KeptAttr,
         key_out: &mut Vec<u8>,
         value_out: &mut Vec<u8>,
-    ) -> Result<AttributeForm, CoreError> {
-        match key_bytes(ctx.alloc(), key)? {
-            None => Ok(AttributeForm::Property),
-            Some(bytes) => {
+    ) -> Result<AttributeForm, AllocError> {
+        match key_bytes(ctx.alloc(), key) {
+            Ok(None) => Ok(AttributeForm::Property),
+            Ok(Some(bytes)) => {
                 key_out.extend_from_slice(bytes.as_slice())?;
                 write_value(ctx, attr.0, value_out)
             }
+            Err(_) => Err(AllocError),
         }
     }
 
@@ -165,7 +166,7 @@ impl Spelling<Generic> for GenericSpelling {
         ctx: &Context<Generic>,
         attributes: &AttributeDict<Generic>,
         out: &mut Vec<u8>,
-    ) -> Result<bool, CoreError> {
+    ) -> Result<bool, AllocError> {
         match attributes.get::<GenericAttr>(&properties_key()) {
             None => Ok(false),
             Some(GenericAttr::Unit) => Ok(false),
@@ -179,7 +180,7 @@ impl Spelling<Generic> for GenericSpelling {
         loc: &GenericLoc,
         of: Located,
         out: &mut Vec<u8>,
-    ) -> Result<bool, CoreError> {
+    ) -> Result<bool, AllocError> {
         write_known(ctx, place_of(loc, of), out)
     }
 }

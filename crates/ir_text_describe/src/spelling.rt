@@ -3,8 +3,9 @@ ghost use Rattle.std.specs.Prelude.{◌≡◌, ◌<◌, ◌++◌, [], length, is
 ghost use Rattle.ir_core_queries.specs.State.{types_of};
 
 use ir_base_dialects::attribute::AttributeDict;
-use ir_base_dialects::{CoreError, Dialects, Identifier, TypeHandle};
+use ir_base_dialects::{Dialects, Identifier, TypeHandle};
 use ir_core_queries::Context;
+use std::alloc::AllocError;
 
 /// As what an attribute is written.
 #[derive(Clone, Copy, Debug, Drop, PartialEq, Eq)]
@@ -28,7 +29,7 @@ pub enum Located {
 
 /// How the parts of a dialect are spelled in MLIR's generic textual form. A crate of its own implements it on a type of its own, as `ToySpelling`, since the trait names contexts, and dialects stand below these.
 ///
-/// Each call writes behind what is there, and answers `OutOfMemory` where a growth was refused. What it writes is the same each time until the context changes.
+/// Each call writes behind what is there, and answers `AllocError` where a growth was refused. What it writes is the same each time until the context changes.
 pub trait Spelling<D: Dialects> {
     ghost use Rattle.std.specs.Prelude.{ℕ, List, Option};
     ghost use Rattle.ir_core_queries.specs.State.{ContextState};
@@ -56,7 +57,7 @@ pub trait Spelling<D: Dialects> {
         ctx: &Context<D>,
         kind: u32,
         out: &mut Vec<u8>,
-    ) -> Result<(), CoreError>
+    ) -> Result<(), AllocError>
         ensures { OnOk result (out.new.items ≡ out.old.items ++ operation_name self.now ctx.now kind) };
 
     /// Writes a known type.
@@ -65,7 +66,7 @@ pub trait Spelling<D: Dialects> {
         ctx: &Context<D>,
         ty: TypeHandle,
         out: &mut Vec<u8>,
-    ) -> Result<(), CoreError>
+    ) -> Result<(), AllocError>
         requires { ty.place < length (types_of ctx.now) }
         ensures { OnOk result (out.new.items ≡ out.old.items ++ type_text self.now ctx.now ty.place) };
 
@@ -77,7 +78,7 @@ pub trait Spelling<D: Dialects> {
         attr: &D::Attr,
         key_out: &mut Vec<u8>,
         value_out: &mut Vec<u8>,
-    ) -> Result<AttributeForm, CoreError>
+    ) -> Result<AttributeForm, AllocError>
         ensures form { IfOk result (λ form. form ≡ (attribute_text self.now ctx.now key.now attr.now).form) }
         ensures key { OnOk result (key_out.new.items ≡ key_out.old.items ++ (attribute_text self.now ctx.now key.now attr.now).key) }
         ensures value { OnOk result (value_out.new.items ≡ value_out.old.items ++ (attribute_text self.now ctx.now key.now attr.now).value) };
@@ -88,7 +89,7 @@ pub trait Spelling<D: Dialects> {
         ctx: &Context<D>,
         attributes: &AttributeDict<D>,
         out: &mut Vec<u8>,
-    ) -> Result<bool, CoreError>
+    ) -> Result<bool, AllocError>
         ensures some { IfOk result (λ some. some ≡ is_some (properties_text self.now ctx.now attributes.now)) }
         ensures text { OnOk result (out.new.items ≡ out.old.items ++ unwrap_or (properties_text self.now ctx.now attributes.now) []) };
 
@@ -99,7 +100,7 @@ pub trait Spelling<D: Dialects> {
         loc: &D::Loc,
         of: Located,
         out: &mut Vec<u8>,
-    ) -> Result<bool, CoreError>
+    ) -> Result<bool, AllocError>
         ensures some { IfOk result (λ some. some ≡ is_some (location_text self.now ctx.now loc.now of)) }
         ensures text { OnOk result (out.new.items ≡ out.old.items ++ unwrap_or (location_text self.now ctx.now loc.now of) []) };
 }

@@ -4,7 +4,7 @@ ghost use Rattle.std.specs.Prelude.{◌<◌, ◌≤◌, length};
 ghost use Rattle.ir_core_queries.specs.State.{types_of};
 
 use crate::spelling::{AttributeForm, Located, Spelling};
-use ir_base_dialects::{CoreError, Dialects, Identifier, TypeHandle};
+use ir_base_dialects::{Dialects, Identifier, TypeHandle};
 use ir_core_queries::{Context, Operation};
 use ir_text_pieces::{DescribeErr, Part, Span, TreeWriter, TypePiece};
 
@@ -14,11 +14,6 @@ pub(crate) struct Source<'a, D: Dialects, S: Spelling<D>> {
     pub ctx: &'a Context<D>,
     pub spelling: &'a S,
     pub located: bool,
-}
-
-// A call of the dialect asks for nothing but memory.
-fn wanting(_error: CoreError) -> DescribeErr {
-    DescribeErr::OutOfMemory
 }
 
 // The piece that the name of operations of a kind is.
@@ -32,8 +27,7 @@ fn name_piece<D: Dialects, S: Spelling<D>>(
     }
     let mut name = Vec::new(from.ctx.alloc());
     from.spelling
-        .write_operation_name(from.ctx, kind, &mut name)
-        .map_err(wanting)?;
+        .write_operation_name(from.ctx, kind, &mut name)?;
     to.write_operation_name(kind, name.as_slice())
 }
 
@@ -49,9 +43,7 @@ fn type_piece<D: Dialects, S: Spelling<D>>(
         return Ok(piece);
     }
     let mut text = Vec::new(from.ctx.alloc());
-    from.spelling
-        .write_type(from.ctx, ty, &mut text)
-        .map_err(wanting)?;
+    from.spelling.write_type(from.ctx, ty, &mut text)?;
     to.write_type(ty.index(), text.as_slice())
 }
 
@@ -107,8 +99,7 @@ pub(crate) fn write_properties<D: Dialects, S: Spelling<D>>(
     let start = to.description.text.len();
     let has_any = from
         .spelling
-        .write_properties(from.ctx, op.attributes(), &mut to.description.text)
-        .map_err(wanting)?;
+        .write_properties(from.ctx, op.attributes(), &mut to.description.text)?;
     if has_any {
         put_from(to, start, Part::Properties)
     } else {
@@ -127,8 +118,7 @@ pub(crate) fn write_location<D: Dialects, S: Spelling<D>>(
     let start = to.description.text.len();
     let is_known = from
         .spelling
-        .write_location(from.ctx, loc, of, &mut to.description.text)
-        .map_err(wanting)?;
+        .write_location(from.ctx, loc, of, &mut to.description.text)?;
     if is_known {
         put_from(to, start, part)
     } else {
@@ -168,7 +158,6 @@ pub(crate) fn write_attribute<D: Dialects, S: Spelling<D>>(
     let start = to.description.text.len();
     let form = from
         .spelling
-        .write_attribute(from.ctx, name, attr, key, &mut to.description.text)
-        .map_err(wanting)?;
+        .write_attribute(from.ctx, name, attr, key, &mut to.description.text)?;
     put_attribute_from(to, start, key.as_slice(), form)
 }

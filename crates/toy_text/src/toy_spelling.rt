@@ -8,16 +8,17 @@ ghost use Rattle.toy_dialect.specs.Toy.{op_name};
 ghost use Rattle.toy_text.specs.ToyTexts.{attribute_text, key_text, location_text, type_text, typed_text};
 
 use ir_base_dialects::attribute::AttributeDict;
-use ir_base_dialects::{CoreError, Dialects, Identifier, TypeHandle};
+use ir_base_dialects::{Dialects, Identifier, TypeHandle};
 use ir_core_queries::{Context, TypeQueries};
 use ir_text_describe::{AttributeForm, Located, Spelling};
 use ir_text_pieces::write_quoted;
 use itoa::Buffer;
+use std::alloc::AllocError;
 use std::convert::AsStr;
 use toy_dialect::{Toy, ToyAttr, ToyLoc, ToyType};
 
 // Writes a type.
-fn write_key(key: &ToyType, out: &mut Vec<u8>) -> Result<(), CoreError>
+fn write_key(key: &ToyType, out: &mut Vec<u8>) -> Result<(), AllocError>
     ensures { OnOk result (out.new.items ≡ out.old.items ++ key_text key.now) }
 {
     match key {
@@ -34,7 +35,7 @@ fn write_key(key: &ToyType, out: &mut Vec<u8>) -> Result<(), CoreError>
 }
 
 // Writes a colon and a type, where it is known.
-fn write_typed(ctx: &Context<Toy>, ty: TypeHandle, out: &mut Vec<u8>) -> Result<(), CoreError>
+fn write_typed(ctx: &Context<Toy>, ty: TypeHandle, out: &mut Vec<u8>) -> Result<(), AllocError>
     ensures { OnOk result (out.new.items ≡ out.old.items ++ typed_text (option_map (λ t. t.key) (slice_get (types_of ctx.now) ty.place))) }
 {
     if ty.is_known(ctx) {
@@ -45,7 +46,7 @@ fn write_typed(ctx: &Context<Toy>, ty: TypeHandle, out: &mut Vec<u8>) -> Result<
 }
 
 // Writes a text that is to be outlined.
-fn write_outlined(text: &[u8], out: &mut Vec<u8>) -> Result<(), CoreError>
+fn write_outlined(text: &[u8], out: &mut Vec<u8>) -> Result<(), AllocError>
     ensures { OnOk result (out.new.items ≡ out.old.items ++ (codes "#toy.outlined<" ++ (quoted text.now ++ codes ">"))) }
 {
     out.extend_from_slice(b"#toy.outlined<")?;
@@ -55,7 +56,7 @@ fn write_outlined(text: &[u8], out: &mut Vec<u8>) -> Result<(), CoreError>
 }
 
 // Writes the value of an attribute.
-fn write_value(ctx: &Context<Toy>, attr: &ToyAttr, out: &mut Vec<u8>) -> Result<(), CoreError>
+fn write_value(ctx: &Context<Toy>, attr: &ToyAttr, out: &mut Vec<u8>) -> Result<(), AllocError>
     ensures { OnOk result (out.new.items ≡ out.old.items ++ attribute_text (λ place. option_map (λ t. t.key) (slice_get (types_of ctx.now) place)) attr.now) }
 {
     match attr {
@@ -89,8 +90,10 @@ impl Spelling<Toy> for ToySpelling {
         ctx: &Context<Toy>,
         kind: u32,
         out: &mut Vec<u8>,
-    ) -> Result<(), CoreError> {
-        let id = Toy::op_id(ctx.alloc(), kind)?;
+    ) -> Result<(), AllocError> {
+        let Ok(id) = Toy::op_id(ctx.alloc(), kind) else {
+            return Err(AllocError);
+        };
         out.extend_from_slice(id.dialect.as_str().as_bytes())?;
         out.extend_from_slice(b".")?;
         out.extend_from_slice(id.name.as_str().as_bytes())?;
@@ -102,7 +105,7 @@ impl Spelling<Toy> for ToySpelling {
         ctx: &Context<Toy>,
         ty: TypeHandle,
         out: &mut Vec<u8>,
-    ) -> Result<(), CoreError> {
+    ) -> Result<(), AllocError> {
         write_key(ty.deref(ctx), out)
     }
 
@@ -113,7 +116,7 @@ impl Spelling<Toy> for ToySpelling {
         attr: &ToyAttr,
         key_out: &mut Vec<u8>,
         value_out: &mut Vec<u8>,
-    ) -> Result<AttributeForm, CoreError> {
+    ) -> Result<AttributeForm, AllocError> {
         key_out.extend_from_slice(key.as_str().as_bytes())?;
         write_value(ctx, attr, value_out)?;
         Ok(AttributeForm::Valued)
@@ -124,7 +127,7 @@ impl Spelling<Toy> for ToySpelling {
         _ctx: &Context<Toy>,
         _attributes: &AttributeDict<Toy>,
         _out: &mut Vec<u8>,
-    ) -> Result<bool, CoreError> {
+    ) -> Result<bool, AllocError> {
         Ok(false)
     }
 
@@ -134,7 +137,7 @@ impl Spelling<Toy> for ToySpelling {
         loc: &ToyLoc,
         of: Located,
         out: &mut Vec<u8>,
-    ) -> Result<bool, CoreError> {
+    ) -> Result<bool, AllocError> {
         match loc {
             ToyLoc::Unknown => Ok(false),
             ToyLoc::Line(line) => match of {
