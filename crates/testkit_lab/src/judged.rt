@@ -3,10 +3,9 @@
 use crate::marked::{MarkedForest, MarkedTypes, argument_of, result_of};
 use crate::small_dialect::Small;
 use crate::small_finding::{
-    block_found, interface_found, op_found, op_found_by_call, op_found_with_kind, region_found,
-    type_found, type_found_by_call, typed_found, value_found,
+    block_found, listed_found, op_found, op_found_by_call, op_found_with_kind, region_found,
+    sized_found, type_found, type_found_by_call, value_found,
 };
-use crate::small_types::{ListedType, SizedInterface};
 use ir_core_queries::Context;
 use ir_verify::verify::{Verifiers, VerifyErr};
 
@@ -96,12 +95,8 @@ fn judged_type<V: Verifiers<Small>>(
         JudgedRoot::Bare => type_found(ctx, types.bare, verifiers),
         JudgedRoot::ListedByCall => type_found_by_call(ctx, types.listed, verifiers),
         JudgedRoot::SizedByCall => type_found_by_call(ctx, types.sized, verifiers),
-        JudgedRoot::ListedTyped => {
-            typed_found::<Small, ListedType, V>(ctx, types.listed, verifiers)
-        }
-        JudgedRoot::SizedInterface => {
-            interface_found::<Small, SizedInterface, V>(ctx, types.sized, verifiers)
-        }
+        JudgedRoot::ListedTyped => listed_found(ctx, types.listed, verifiers),
+        JudgedRoot::SizedInterface => sized_found(ctx, types.sized, verifiers),
         _ => None,
     }
 }

@@ -62,8 +62,8 @@ pub use small_attributes::{MarkedAttr, PlainAttr};
 pub use small_dialect::{Small, SmallAttr, SmallType};
 pub use small_error::LabErr;
 pub use small_finding::{
-    block_found, found_of_attribute, interface_found, op_found, op_found_by_call,
-    op_found_with_kind, region_found, type_found, type_found_by_call, typed_found, value_found,
+    block_found, found_of_attribute, listed_found, op_found, op_found_by_call, op_found_with_kind,
+    region_found, sized_found, type_found, type_found_by_call, value_found,
 };
 pub use small_lab::SmallLab;
 pub use small_op::InnerOp;

@@ -1,12 +1,13 @@
 //! What verification finds, by each of its calls. Each function here tests that its root is there, and then verifies it.
 
-use ir_base_dialects::interfaces::TypeInterfaceMarker;
+use crate::small_dialect::Small;
+use crate::small_types::{ListedType, SizedInterface};
 use ir_base_dialects::{Dialects, Ptr, TypeHandle};
 use ir_checked_core::context;
 use ir_verify::verify::{
     Verifiers, Verify, VerifyErr, verify_attr, verify_op, verify_operation, verify_type,
 };
-use ir_view::types::{IrType, TypeInterfaceHandle, TypedHandle};
+use ir_view::types::{TypeInterfaceHandle, TypedHandle};
 use ir_view_parts::{
     BasicBlock, BlockPtr, Context, Operation, OperationKind, OperationPtr, Region, RegionPtr,
     TypeQueries, Value, ValueQueries,
@@ -109,40 +110,40 @@ pub fn type_found_by_call<D: Dialects, V: Verifiers<D>>(
     Some(verify_type(ty.deref(ctx), ctx, verifiers))
 }
 
-/// What is found at the type, by a handle that says that it is a `T`.
-pub fn typed_found<D: Dialects, T: IrType<D>, V: Verifiers<D>>(
-    ctx: &Context<D>,
+/// What is found at the type, by a handle that says that it is a listed type.
+pub fn listed_found<V: Verifiers<Small>>(
+    ctx: &Context<Small>,
     ty: TypeHandle,
     verifiers: &V,
 ) -> Option<Result<(), VerifyErr>> {
     if !ty.is_known(ctx) {
         return None;
     }
-    let Ok(typed) = TypedHandle::<T, D>::from_handle(ty, ctx) else {
+    let Ok(listed) = TypedHandle::<ListedType, Small>::from_handle(ty, ctx) else {
         return None;
     };
-    if !typed.is_known(ctx) {
+    if !listed.is_known(ctx) {
         return None;
     }
-    Some(typed.verify(ctx, verifiers))
+    Some(listed.verify(ctx, verifiers))
 }
 
-/// What is found at the type, by a handle that says that its kind implements the interface.
-pub fn interface_found<D: Dialects, I: TypeInterfaceMarker, V: Verifiers<D>>(
-    ctx: &Context<D>,
+/// What is found at the type, by a handle that says that its kind implements the dialect's own interface of sized types.
+pub fn sized_found<V: Verifiers<Small>>(
+    ctx: &Context<Small>,
     ty: TypeHandle,
     verifiers: &V,
 ) -> Option<Result<(), VerifyErr>> {
     if !ty.is_known(ctx) {
         return None;
     }
-    let Ok(handle) = TypeInterfaceHandle::<I, D>::from_handle(ty, ctx) else {
+    let Ok(sized) = TypeInterfaceHandle::<SizedInterface, Small>::from_handle(ty, ctx) else {
         return None;
     };
-    if !handle.is_known(ctx) {
+    if !sized.is_known(ctx) {
         return None;
     }
-    Some(handle.verify(ctx, verifiers))
+    Some(sized.verify(ctx, verifiers))
 }
 
 /// What is found at the attribute, by `verify_attr` in a new context.
