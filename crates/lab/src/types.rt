@@ -19,6 +19,7 @@ mod attr_words;
 mod aux_words;
 mod deep_words;
 mod judge_words;
+mod judged;
 mod known_names;
 mod name_words;
 mod saved_words;

@@ -25,7 +25,6 @@ mod fields;
 mod finding;
 mod items;
 mod judge;
-mod judged;
 mod lab;
 mod marked;
 mod naming;
@@ -39,7 +38,6 @@ mod settled_edits;
 mod small_attributes;
 mod small_dialect;
 mod small_error;
-mod small_finding;
 mod small_lab;
 mod small_op;
 mod small_types;
@@ -53,7 +51,6 @@ pub use edit_words::answer_edit;
 pub use fields::{count, one, three, two};
 pub use items::{Item, Items, items_of, type_of};
 pub use judge::Judge;
-pub use judged::{JudgedRoot, judged_found};
 pub use lab::{Lab, Mode, asked};
 pub use marked::{MarkedForest, MarkedTypes, argument_of, make_marked, result_of};
 pub use naming::{Line, Name, Named, Placed, name_of};
@@ -61,10 +58,6 @@ pub use reply::Reply;
 pub use small_attributes::{MarkedAttr, PlainAttr};
 pub use small_dialect::{Small, SmallAttr, SmallType};
 pub use small_error::LabErr;
-pub use small_finding::{
-    block_found, found_of_attribute, listed_found, op_found, op_found_by_call, op_found_with_kind,
-    region_found, sized_found, type_found, type_found_by_call, value_found,
-};
 pub use small_lab::SmallLab;
 pub use small_op::InnerOp;
 pub use small_types::{CompoundInterface, ListedType, PairType, SizedInterface, SizedType};

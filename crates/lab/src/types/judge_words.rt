@@ -7,16 +7,17 @@
 //! - `get_opid`, `op_id`, `op_static_id`, `attr_id`, `attr_static_id`: ids, of the operation in the block and of a marked attribute.
 
 use crate::types::asking::Asking;
+use crate::types::judged::{JudgedRoot, judged_found};
 use crate::types::telling::{tell, tell_refusal};
 use crate::types::verify_words::tell_found;
 use ir_base_dialects::attribute::Attribute;
 use ir_base_dialects::{CoreError, Ptr, TypeHandle};
+use ir_checked::types;
 use ir_verify::verify::{VerifierErr, Verifiers, VerifyErr, verify_attr};
 use ir_view_parts::{Context, Op, Operation, OperationKind, OperationPtr};
 use testkit_lab::{
-    InnerOp, Item, Items, Judge, JudgedRoot, Lab, LabErr, MarkedAttr, MarkedForest, PlainAttr,
-    Reply, Small, SmallAttr, TextError, items_of, judged_found, make_marked, one, tell_condition,
-    type_found,
+    InnerOp, Item, Items, Judge, Lab, LabErr, MarkedAttr, MarkedForest, PlainAttr, Reply, Small,
+    SmallAttr, TextError, items_of, make_marked, one, tell_condition,
 };
 
 // No check has this code or a greater one.
@@ -238,7 +239,7 @@ fn tell_text(text: &mut Reply, found: Option<Result<(), VerifyErr>>) {
 
 fn judge_type(lab: &mut Lab, rest: &str) -> Result<(), TextError> {
     let (ty, judge) = type_and_judge(lab, rest)?;
-    let found = type_found(&lab.small.context, ty, &judge);
+    let found = types::verify(ty, &lab.small.context, &judge).ok();
     tell_text(&mut lab.text, found);
     Ok(())
 }

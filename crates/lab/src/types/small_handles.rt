@@ -11,6 +11,7 @@ use crate::types::telling::tell_refusal;
 use crate::types::type_words::hash_of;
 use ir_base_dialects::interfaces::TypeInterfaceMarker;
 use ir_base_dialects::{CoreError, TypeHandle};
+use ir_checked::typed_handle;
 use ir_view::types::{IrType, TypeImplsInterface, TypeInterfaceHandle, TypedHandle};
 use ir_view_parts::{Context, TypeQueries};
 use std::fmt::Debug;
@@ -111,15 +112,12 @@ pub(crate) fn show_faults(text: &mut Reply, ctx: &Context<Small>, ty: TypeHandle
     }
 }
 
-// The handle of a type that is known and a `T`.
-fn typed_at<T: IrType<Small>>(
+/// The handle of a type that is known and a `T`.
+pub(crate) fn typed_at<T: IrType<Small>>(
     ctx: &Context<Small>,
     ty: TypeHandle,
 ) -> Option<TypedHandle<T, Small>> {
-    if !ty.is_known(ctx) {
-        return None;
-    }
-    TypedHandle::from_handle(ty, ctx).ok()
+    typed_handle::from_handle(ty, ctx).ok()?.ok()
 }
 
 // A kind and the type at a place.

@@ -1,17 +1,16 @@
 //! What verification finds, by each of its calls: `ok`, or the text of a fault.
 //!
-//! - `op o0`, `verify_operation o0`, `verify_op o0`, `block b0`, `region r0`, `value v0`, `type t0`, `verify_type t0`: as `testkit_lab` has these calls.
+//! - `op o0`, `verify_operation o0`, `verify_op o0`, `block b0`, `region r0`, `value v0`, `type t0`, `verify_type t0`: where it is there, by the calls of `ir_checked` and by `verify_type`.
 //! - `verify_attr int:VALUE:PLACE|text:TEXT|outlined:TEXT`
 //!
 //! In the group `verify` the checks are those of Toy, as in `well`, where nothing may be wrong, so that nothing is asked for. In `asking` each check asks for memory.
 
 use crate::types::attr_calls::attribute_of;
-use ir_verify::verify::{Verifiers, VerifyErr, verify_attr};
-use ir_view_parts::Context;
-use testkit_lab::{
-    Item, Items, Lab, Reply, TextError, block_found, items_of, one, op_found, op_found_by_call,
-    op_found_with_kind, region_found, tell_condition, type_found, type_found_by_call, value_found,
-};
+use ir_base_dialects::{Dialects, Ptr, TypeHandle};
+use ir_checked::{basic_block, operation, region, types, value, verify};
+use ir_verify::verify::{Verifiers, VerifyErr, verify_attr, verify_type};
+use ir_view_parts::{Context, Operation};
+use testkit_lab::{Item, Items, Lab, Reply, TextError, items_of, one, tell_condition};
 use toy_dialect::{Toy, ToyAttr};
 
 // What is found, or none where the root isn't there.
@@ -63,6 +62,26 @@ fn attribute(lab: &Lab, rest: &str) -> Result<ToyAttr, TextError> {
     attribute_of(lab.alloc(), one(rest)?)
 }
 
+/// What is found at the operation with its kind, by `verify_op`; none where it isn't live.
+pub(crate) fn op_with_kind_found<D: Dialects, V: Verifiers<D>>(
+    ctx: &Context<D>,
+    op: Ptr<Operation<D>>,
+    verifiers: &V,
+) -> Option<Result<(), VerifyErr>> {
+    let op = operation::get_op_dyn(op, ctx).ok()?;
+    verify::verify_op(op, ctx, verifiers).ok()
+}
+
+/// What is found at the type, by `verify_type`; none where it isn't known.
+pub(crate) fn type_by_call_found<D: Dialects, V: Verifiers<D>>(
+    ctx: &Context<D>,
+    ty: TypeHandle,
+    verifiers: &V,
+) -> Option<Result<(), VerifyErr>> {
+    let ty = types::deref(ty, ctx).ok()?;
+    Some(verify_type(ty, ctx, verifiers))
+}
+
 // What a call finds at what has a name.
 fn found_at<V: Verifiers<Toy>>(
     ctx: &Context<Toy>,
@@ -71,14 +90,20 @@ fn found_at<V: Verifiers<Toy>>(
     verifiers: &V,
 ) -> Result<Found, TextError> {
     match (call, items) {
-        ("op", Items::One(Item::Op(op))) => Ok(op_found(ctx, op, verifiers)),
-        ("verify_operation", Items::One(Item::Op(op))) => Ok(op_found_by_call(ctx, op, verifiers)),
-        ("verify_op", Items::One(Item::Op(op))) => Ok(op_found_with_kind(ctx, op, verifiers)),
-        ("block", Items::One(Item::Block(block))) => Ok(block_found(ctx, block, verifiers)),
-        ("region", Items::One(Item::Region(region))) => Ok(region_found(ctx, region, verifiers)),
-        ("value", Items::One(Item::Value(value))) => Ok(value_found(ctx, value, verifiers)),
-        ("type", Items::One(Item::Type(ty))) => Ok(type_found(ctx, ty, verifiers)),
-        ("verify_type", Items::One(Item::Type(ty))) => Ok(type_found_by_call(ctx, ty, verifiers)),
+        ("op", Items::One(Item::Op(op))) => Ok(operation::verify(op, ctx, verifiers).ok()),
+        ("verify_operation", Items::One(Item::Op(op))) => {
+            Ok(verify::verify_operation(op, ctx, verifiers).ok())
+        }
+        ("verify_op", Items::One(Item::Op(op))) => Ok(op_with_kind_found(ctx, op, verifiers)),
+        ("block", Items::One(Item::Block(block))) => {
+            Ok(basic_block::verify(block, ctx, verifiers).ok())
+        }
+        ("region", Items::One(Item::Region(region))) => {
+            Ok(region::verify(region, ctx, verifiers).ok())
+        }
+        ("value", Items::One(Item::Value(value))) => Ok(value::verify(value, ctx, verifiers).ok()),
+        ("type", Items::One(Item::Type(ty))) => Ok(types::verify(ty, ctx, verifiers).ok()),
+        ("verify_type", Items::One(Item::Type(ty))) => Ok(type_by_call_found(ctx, ty, verifiers)),
         _ => Err(TextError::Malformed),
     }
 }
