@@ -1,9 +1,8 @@
 -- Numbers that can be held.
-use Rattle.std.proofs.Common.{◌≡◌, ℕ, Bool, true, false, cond, Option, Some, None, ap, sym, ⊎_elim, lt-ltb, le-ltb, ◌∙◌, ◌<◌, ◌≤◌, ◌^◌}
+use Rattle.std.proofs.Common.{◌≡◌, ℕ, Bool, cond, Option, Some, None, ap, sym, ⊎_elim, lt-ltb, le-ltb, ◌∙◌, ◌<◌, ◌≤◌}
 use Rattle.std.proofs.lemmas.Bool.{cases_lt}
-use Rattle.ir_text_names.specs.declared.numbers.Amount.{Amount}
 use Rattle.ir_text_names.specs.declared.numbers.Amount.TheVariants as amounts
-use Rattle.ir_text_names.specs.Numbers.{amount_of, held}
+use Rattle.ir_text_names.specs.Numbers.{held}
 
 small_same : (a b : ℕ) → amounts.Small a ≡ amounts.Small b → a ≡ b
 small_same a b e = cc

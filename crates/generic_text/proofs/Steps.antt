@@ -1,5 +1,5 @@
 -- One step more of what is read, and what is read at last.
-use Rattle.std.proofs.Common.{◌≡◌, ℕ, ◌+◌, List, [], ◌∷◌, ◌++◌, length, map, Option, Some, refl, sym, subst, ap, ◌∙◌}
+use Rattle.std.proofs.Common.{◌≡◌, ℕ, ◌+◌, List, [], ◌∷◌, ◌++◌, map, Some, refl, sym, subst, ap, ◌∙◌}
 use Rattle.ir_model.specs.declared.ids.ArenaIndex.{ArenaIndex}
 use Rattle.ir_model.specs.Forest.{Dialect, of_op}
 use Rattle.ir_model.specs.Nesting.{regions_of, ops_of, blocks_of}
@@ -8,7 +8,7 @@ use Rattle.ir_text_described.specs.declared.item.Item.{Item}
 use Rattle.ir_text_described.specs.declared.item.Item.TheVariants as items
 use Rattle.ir_text_described.specs.Trees.{part_at, width_at, behind_result}
 use Rattle.generic_text.proofs.Lists.{mapped}
-use Rattle.ir_text_described.specs.Written.{Setting, AreResults, more_results, IsHead, IsTail, IsLabel, IsPlain, AreWritten, operation, tail, region, plain, close, block}
+use Rattle.ir_text_described.specs.Written.{Setting, AreResults, more_results, IsHead, IsLabel, IsPlain, AreWritten, operation, region, plain, close, block}
 
 -- two constructors differ
 close≢block : (b : ArenaIndex) → items.Close ≡ items.Block b → ⊥

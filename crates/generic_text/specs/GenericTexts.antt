@@ -1,5 +1,5 @@
 -- How the dialect Generic is spelled, by what is saved.
-use Rattle.std.specs.Prelude.{ℕ, List, [], ◌∷◌, Option, Some, None, slice_get}
+use Rattle.std.specs.Prelude.{ℕ, List, [], Option, Some, None, slice_get}
 use Rattle.ir_text_describe.specs.declared.spelling.AttributeForm.TheVariants as forms
 use Rattle.ir_text_describe.specs.declared.spelling.Located.{Located}
 use Rattle.ir_text_describe.specs.declared.spelling.Located.TheVariants as located

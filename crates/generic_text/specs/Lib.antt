@@ -1,4 +1,6 @@
+pub mod Enclosing
 pub mod GenericTexts
 pub mod GenericWords
+pub mod Left
 pub mod Tables
 pub mod Checks

@@ -1,5 +1,10 @@
 //! Blocks, made in no region yet, with their arguments.
 
+ghost use Rattle.std.specs.Prelude.{◌≡◌, OnOk};
+ghost use Rattle.ir_model.specs.Forest.{a_block};
+ghost use Rattle.ir_core_queries.specs.State.{forest_of};
+ghost use Rattle.generic_text.specs.Left.{GenericForest, GoesOn, IsNew, LeavesAll};
+
 use crate::build_error::BuildError;
 use crate::made::{Block, Made, Room};
 use crate::meanings::Meanings;
@@ -42,7 +47,9 @@ fn read_argument<'a>(
     meanings: &mut Meanings<'a>,
     room: &mut Room,
     at: usize,
-) -> Result<(), BuildError> {
+) -> Result<(), BuildError>
+    ensures { forest_of ctx.new ≡ forest_of ctx.old }
+{
     let text = source.piece(at);
     match source.part(at) {
         Part::ArgumentType => {
@@ -74,11 +81,9 @@ fn location_of(alloc: Global, room: &Room) -> Result<GenericLoc, AllocError> {
 }
 
 // Writes the location of a block.
-fn locate(
-    ctx: &mut Context<Generic>,
-    block: Block,
-    location: GenericLoc,
-) -> Result<(), BuildError> {
+fn locate(ctx: &mut Context<Generic>, block: Block, location: GenericLoc) -> Result<(), BuildError>
+    ensures { OnOk result ((first : GenericForest) → LeavesAll first (forest_of ctx.old) → IsNew first (a_block block.index) → LeavesAll first (forest_of ctx.new)) }
+{
     let written = basic_block::deref_mut(ctx, block)?;
     written.loc = location;
     Ok(())
@@ -92,7 +97,10 @@ fn define_arguments(
     block: Block,
     row: usize,
     end: usize,
-) -> Result<(), BuildError> {
+) -> Result<(), BuildError>
+    ensures blocks { made.new.blocks ≡ made.old.blocks }
+    ensures late { made.new.late ≡ made.old.late }
+{
     let mut index: usize = 0;
     for at in row.saturating_add(1)..end {
         if source.part(at) == Part::Argument {
@@ -113,7 +121,9 @@ pub(crate) fn make_block<'a>(
     made: &mut Made,
     room: &mut Room,
     row: usize,
-) -> Result<(), BuildError> {
+) -> Result<(), BuildError>
+    ensures { OnOk result (GoesOn (forest_of ctx.old) made.old (forest_of ctx.new) made.new) }
+{
     room.clear();
     let end = arguments_end(source, row);
     for at in row.saturating_add(1)..end {
@@ -121,6 +131,7 @@ pub(crate) fn make_block<'a>(
     }
     let location = location_of(ctx.alloc(), room)?;
     made.blocks.reserve(1)?;
+    ctx.recall_live_was_made();
     let block = basic_block::new(ctx, None, room.types.as_slice())?;
     made.add_block(row, block)?;
     locate(ctx, block, location)?;

@@ -1,5 +1,6 @@
 //! Why nothing is built.
 
+use crate::described_error::DescribedErr;
 use ir_base_dialects::CoreError;
 use ir_checked_core::CheckedErr;
 use std::alloc::{AllocError, AllocFailed};
@@ -20,7 +21,7 @@ pub enum BuildError {
         /// The row of the key.
         row: usize,
     },
-    /// The rows are those of no tree, or the names aren't what `resolve` answers of them.
+    /// The rows are those of no tree, or the names aren't what `resolve` answers of them: they don't describe what was built.
     #[error("no tree")]
     NoTree,
 }
@@ -36,6 +37,15 @@ impl From<CheckedErr> for BuildError {
         match error {
             CheckedErr::Core(error) => BuildError::Core(error),
             CheckedErr::Unmet(_) => BuildError::NoTree,
+        }
+    }
+}
+
+impl From<DescribedErr> for BuildError {
+    fn from(error: DescribedErr) -> BuildError {
+        match error {
+            DescribedErr::OutOfMemory => BuildError::Core(CoreError::OutOfMemory),
+            DescribedErr::Differs { .. } => BuildError::NoTree,
         }
     }
 }

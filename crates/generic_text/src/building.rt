@@ -1,11 +1,15 @@
-//! From the rows of a text to operations in a context.
+//! From the rows of a text to operations in a context. What was built is compared with the rows before it is answered.
 
-ghost use Rattle.std.specs.Prelude.{OnErr};
+ghost use Rattle.std.specs.Prelude.{◌≡◌, [], IfOk, OnErr, OnOk, map, true};
 ghost use Rattle.ir_core_context.specs.Calls.{NoEntity};
-ghost use Rattle.ir_core_context.specs.State.{forest_of};
+ghost use Rattle.ir_core_queries.specs.State.{forest_of};
+ghost use Rattle.ir_text_described.specs.Described.{IsDescribedBy};
+ghost use Rattle.generic_text.specs.GenericWords.{generic_words, named_tree};
+ghost use Rattle.generic_text.specs.Left.{GoesOn, LeavesAll};
 
 use crate::blocks::make_block;
 use crate::build_error::BuildError;
+use crate::described::check_described;
 use crate::made::{Block, Made, Op, Room};
 use crate::meanings::Meanings;
 use crate::operations::{connect, make_op};
@@ -34,7 +38,9 @@ fn make_blocks<'a>(
     made: &mut Made,
     room: &mut Room,
     outline: &Outline,
-) -> Result<(), BuildError> {
+) -> Result<(), BuildError>
+    ensures { OnOk result (GoesOn (forest_of ctx.old) made.old (forest_of ctx.new) made.new) }
+{
     for rows in outline.blocks.iter() {
         make_block(ctx, source, meanings, made, room, rows.row as usize)?;
     }
@@ -51,7 +57,9 @@ fn make_whole_op<'a>(
     outline: &Outline,
     rows: OpRows,
     place: usize,
-) -> Result<(), BuildError> {
+) -> Result<(), BuildError>
+    ensures { OnOk result (GoesOn (forest_of ctx.old) made.old (forest_of ctx.new) made.new) }
+{
     let op = make_op(ctx, source, meanings, made, room, rows)?;
     if room.is_late {
         made.late.push((op, narrow(place)))?;
@@ -67,7 +75,9 @@ fn make_ops<'a>(
     made: &mut Made,
     room: &mut Room,
     outline: &Outline,
-) -> Result<(), BuildError> {
+) -> Result<(), BuildError>
+    ensures { OnOk result (GoesOn (forest_of ctx.old) made.old (forest_of ctx.new) made.new) }
+{
     for (place, rows) in outline.ops.iter().enumerate() {
         make_whole_op(ctx, source, meanings, made, room, outline, *rows, place)?;
     }
@@ -80,7 +90,9 @@ fn connect_all(
     source: Source,
     made: &Made,
     outline: &Outline,
-) -> Result<(), BuildError> {
+) -> Result<(), BuildError>
+    ensures { OnOk result (GoesOn (forest_of ctx.old) made.now (forest_of ctx.new) made.now) }
+{
     for (op, place) in made.late.iter() {
         connect(ctx, source, made, outline, *op, *place)?;
     }
@@ -92,14 +104,18 @@ fn make_place(
     ctx: &mut Context<Generic>,
     made: &mut Made,
     outline: &Outline,
-) -> Result<(), BuildError> {
+) -> Result<(), BuildError>
+    ensures { OnOk result (GoesOn (forest_of ctx.old) made.old (forest_of ctx.new) made.new) }
+{
     ctx.reserve(outline.ops.len())?;
     made.reserve(outline.ops.len(), outline.blocks.len())?;
     Ok(())
 }
 
 // Makes all.
-fn make_all(ctx: &mut Context<Generic>, source: Source, made: &mut Made) -> Result<(), BuildError> {
+fn make_all(ctx: &mut Context<Generic>, source: Source, made: &mut Made) -> Result<(), BuildError>
+    ensures { OnOk result (GoesOn (forest_of ctx.old) made.old (forest_of ctx.new) made.new) }
+{
     let alloc = ctx.alloc();
     let outline = outline_of(alloc, source.rows)?;
     make_place(ctx, made, &outline)?;
@@ -110,16 +126,39 @@ fn make_all(ctx: &mut Context<Generic>, source: Source, made: &mut Made) -> Resu
     connect_all(ctx, source, made, &outline)
 }
 
+// Makes all, and sees to it that the rows describe it.
+fn make_described(
+    ctx: &mut Context<Generic>,
+    source: Source,
+    made: &mut Made,
+) -> Result<(), BuildError>
+    requires blocks { made.old.blocks.items ≡ [] }
+    requires late { made.old.late.items ≡ [] }
+    ensures described { OnOk result (IsDescribedBy (forest_of ctx.new) (generic_words ctx.new) true (named_tree source.entry.text.now source.entry.rows.now source.entry.names.now) (map (λ p. p.index) made.new.tops.items)) }
+    ensures left { OnOk result (LeavesAll (forest_of ctx.old) (forest_of ctx.new)) }
+{
+    ctx.recall_well_formed();
+    make_all(ctx, source, made)?;
+    made.forget_rows(ctx.alloc());
+    let tops = made.tops.as_slice();
+    check_described(ctx, tops, source.text, source.rows, source.names, true)?;
+    Ok(())
+}
+
 // Makes all, or takes it out again.
 fn make_or_take_back(
     ctx: &mut Context<Generic>,
     source: Source,
     made: &mut Made,
 ) -> Result<(), BuildError>
+    requires blocks { made.old.blocks.items ≡ [] }
+    requires late { made.old.late.items ≡ [] }
+    ensures described { OnOk result (IsDescribedBy (forest_of ctx.new) (generic_words ctx.new) true (named_tree source.entry.text.now source.entry.rows.now source.entry.names.now) (map (λ p. p.index) made.new.tops.items)) }
+    ensures left { OnOk result (LeavesAll (forest_of ctx.old) (forest_of ctx.new)) }
     ensures err { NoEntity (forest_of ctx.old) → OnErr result (NoEntity (forest_of ctx.new)) }
 {
     let was_empty = ctx.is_ir_empty();
-    match make_all(ctx, source, made) {
+    match make_described(ctx, source, made) {
         Ok(()) => Ok(()),
         Err(error) => {
             if was_empty {
@@ -132,16 +171,21 @@ fn make_or_take_back(
     }
 }
 
-/// Builds what the rows of a text say, which `parse` read, with the names that `resolve` found.
+/// Builds what the rows of a text say, which `parse` read, with the names that `resolve` found. It compares what it built with the rows, so that its clause doesn't rest on how things are built.
 ///
 /// # Errors
-/// `Core` for memory, numbers and slots, `TooManyTexts`, and `NoTree` where the rows are those of no tree or the names are others'. Then what was made is taken out again; only saved texts and types are left.
+/// `Core` for memory, numbers and slots, `TooManyTexts`, `KeyTwice`, and `NoTree` where the rows are those of no tree or the names are others'. Then what was made is taken out again; only saved texts and types are left.
 pub fn build(
     ctx: &mut Context<Generic>,
     text: &[u8],
     rows: &[Row],
     names: &Names,
 ) -> Result<Built, BuildError>
+    // The rows, which have the locations, describe the operations outside all regions, in their order and with all that is inside them.
+    ensures described { IfOk result (λ b. IsDescribedBy (forest_of ctx.new) (generic_words ctx.new) true (named_tree text.now rows.now names.now) (map (λ p. p.index) b.tops.items)) }
+    // All operations, blocks and regions that were there are as they were.
+    ensures left { OnOk result (LeavesAll (forest_of ctx.old) (forest_of ctx.new)) }
+    // In a context without operations, blocks and regions there are none after an error.
     ensures err { NoEntity (forest_of ctx.old) → OnErr result (NoEntity (forest_of ctx.new)) }
 {
     let source = Source { text, rows, names };

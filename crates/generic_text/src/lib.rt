@@ -33,5 +33,5 @@ pub use build_error::BuildError;
 pub use building::{Built, build};
 pub use described::check_described;
 pub use described_error::DescribedErr;
-pub use enclosing::enclose;
+pub use enclosing::{enclose, only_module};
 pub use generic_spelling::{GenericSpelling, place_of};

@@ -1,5 +1,8 @@
 //! What is made so far, and what an operation is made of.
 
+ghost use Rattle.std.specs.Prelude.{◌≡◌, ◌++◌, ◌∷◌, [], IfOk, IfSome, OnOk, slice_get};
+ghost use Rattle.std.specs.List.{All};
+
 use generic_dialect::{Generic, GenericAttr, TextId};
 use ir_base_dialects::{Ptr, TypeHandle};
 use ir_core_queries::{BasicBlock, Operation, Value};
@@ -34,7 +37,10 @@ pub(crate) struct Made {
 
 impl Made {
     /// Nothing is made yet, of a tree of so many rows.
-    pub(crate) fn new(alloc: Global, rows: usize) -> Result<Made, AllocError> {
+    pub(crate) fn new(alloc: Global, rows: usize) -> Result<Made, AllocError>
+        ensures blocks { IfOk result (λ m. m.blocks.items ≡ []) }
+        ensures late { IfOk result (λ m. m.late.items ≡ []) }
+    {
         let mut numbers = Vec::new(alloc);
         numbers.resize(rows, NOT_YET)?;
         Ok(Made {
@@ -48,13 +54,28 @@ impl Made {
     }
 
     /// Makes place for so many operations and blocks.
-    pub(crate) fn reserve(&mut self, ops: usize, blocks: usize) -> Result<(), AllocError> {
+    pub(crate) fn reserve(&mut self, ops: usize, blocks: usize) -> Result<(), AllocError>
+        ensures blocks { self.new.blocks.items ≡ self.old.blocks.items }
+        ensures late { self.new.late.items ≡ self.old.late.items }
+    {
         self.ops.reserve(ops)?;
         self.blocks.reserve(blocks)
     }
 
+    /// Lets go of what rows define, and of what names what is defined later.
+    pub(crate) fn forget_rows(&mut self, alloc: Global)
+        ensures { self.new.tops ≡ self.old.tops }
+    {
+        self.values = Vec::new(alloc);
+        self.numbers = Vec::new(alloc);
+        self.late = Vec::new(alloc);
+    }
+
     // The row has that number.
-    fn put_number(&mut self, row: usize, number: usize) {
+    fn put_number(&mut self, row: usize, number: usize)
+        ensures blocks { self.new.blocks ≡ self.old.blocks }
+        ensures late { self.new.late ≡ self.old.late }
+    {
         if let Some(place) = self.numbers.get_mut(row) {
             *place = narrow(number);
         }
@@ -69,7 +90,10 @@ impl Made {
     }
 
     /// The block of a label, or of the region that begins with that row.
-    pub(crate) fn add_block(&mut self, row: usize, block: Block) -> Result<(), AllocError> {
+    pub(crate) fn add_block(&mut self, row: usize, block: Block) -> Result<(), AllocError>
+        ensures blocks { OnOk result (self.new.blocks.items ≡ self.old.blocks.items ++ block ∷ []) }
+        ensures late { self.new.late ≡ self.old.late }
+    {
         let number = self.blocks.len();
         self.put_number(row, number);
         self.blocks.push(block)?;
@@ -83,13 +107,19 @@ impl Made {
     }
 
     /// The values that are put next stand under the name in that row.
-    pub(crate) fn begin_values(&mut self, row: usize, ahead: usize) {
+    pub(crate) fn begin_values(&mut self, row: usize, ahead: usize)
+        ensures blocks { self.new.blocks ≡ self.old.blocks }
+        ensures late { self.new.late ≡ self.old.late }
+    {
         let number = self.values.len().saturating_add(ahead);
         self.put_number(row, number);
     }
 
     /// A value is made.
-    pub(crate) fn add_value(&mut self, value: Value<Generic>) -> Result<(), AllocError> {
+    pub(crate) fn add_value(&mut self, value: Value<Generic>) -> Result<(), AllocError>
+        ensures blocks { self.new.blocks ≡ self.old.blocks }
+        ensures late { self.new.late ≡ self.old.late }
+    {
         self.values.push(value)?;
         Ok(())
     }

@@ -1,5 +1,8 @@
 //! What texts mean in a context: types, names of operations, keys, and texts that are saved. Each is asked of the context once for each distinct text.
 
+ghost use Rattle.std.specs.Prelude.{◌≡◌};
+ghost use Rattle.ir_core_queries.specs.State.{forest_of};
+
 use crate::build_error::BuildError;
 use generic_dialect::{
     Generic, GenericSaved, GenericType, Kind, TextId, key_identifier, table_kind,
@@ -35,7 +38,9 @@ impl<'a> Meanings<'a> {
         &mut self,
         ctx: &mut Context<Generic>,
         text: &'a [u8],
-    ) -> Result<TextId, BuildError> {
+    ) -> Result<TextId, BuildError>
+        ensures { forest_of ctx.new ≡ forest_of ctx.old }
+    {
         match self.saved.get(&text) {
             Some(id) => Ok(*id),
             None => self.save(ctx, text),
@@ -43,7 +48,9 @@ impl<'a> Meanings<'a> {
     }
 
     // Saves a text.
-    fn save(&mut self, ctx: &mut Context<Generic>, text: &'a [u8]) -> Result<TextId, BuildError> {
+    fn save(&mut self, ctx: &mut Context<Generic>, text: &'a [u8]) -> Result<TextId, BuildError>
+        ensures { forest_of ctx.new ≡ forest_of ctx.old }
+    {
         let id = save_text(ctx, text)?;
         self.saved.insert(text, id)?;
         Ok(id)
@@ -54,7 +61,9 @@ impl<'a> Meanings<'a> {
         &mut self,
         ctx: &mut Context<Generic>,
         text: &'a [u8],
-    ) -> Result<TypeHandle, BuildError> {
+    ) -> Result<TypeHandle, BuildError>
+        ensures { forest_of ctx.new ≡ forest_of ctx.old }
+    {
         match self.types.get(&text) {
             Some(ty) => Ok(*ty),
             None => self.make_type(ctx, text),
@@ -66,7 +75,9 @@ impl<'a> Meanings<'a> {
         &mut self,
         ctx: &mut Context<Generic>,
         text: &'a [u8],
-    ) -> Result<TypeHandle, BuildError> {
+    ) -> Result<TypeHandle, BuildError>
+        ensures { forest_of ctx.new ≡ forest_of ctx.old }
+    {
         let id = self.saved(ctx, text)?;
         let ty = ctx.instantiate_key(GenericType(id))?;
         self.types.insert(text, ty)?;
@@ -79,7 +90,9 @@ impl<'a> Meanings<'a> {
         ctx: &mut Context<Generic>,
         name: &'a [u8],
         ends_block: bool,
-    ) -> Result<u32, BuildError> {
+    ) -> Result<u32, BuildError>
+        ensures { forest_of ctx.new ≡ forest_of ctx.old }
+    {
         let kind = match self.kinds.get(&name) {
             Some(kind) => Ok(*kind),
             None => self.find_kind(ctx, name),
@@ -91,11 +104,9 @@ impl<'a> Meanings<'a> {
     }
 
     // Finds the kind of operations of that name.
-    fn find_kind(
-        &mut self,
-        ctx: &mut Context<Generic>,
-        name: &'a [u8],
-    ) -> Result<Kind, BuildError> {
+    fn find_kind(&mut self, ctx: &mut Context<Generic>, name: &'a [u8]) -> Result<Kind, BuildError>
+        ensures { forest_of ctx.new ≡ forest_of ctx.old }
+    {
         let kind = if has_escapes(name) {
             quoted_kind(ctx, name)
         } else {
@@ -106,11 +117,9 @@ impl<'a> Meanings<'a> {
     }
 
     // The kind of operations of a name that is written without escapes.
-    fn plain_kind(
-        &mut self,
-        ctx: &mut Context<Generic>,
-        name: &'a [u8],
-    ) -> Result<Kind, BuildError> {
+    fn plain_kind(&mut self, ctx: &mut Context<Generic>, name: &'a [u8]) -> Result<Kind, BuildError>
+        ensures { forest_of ctx.new ≡ forest_of ctx.old }
+    {
         match table_kind(name) {
             Some(kind) => Ok(Kind::of(kind)),
             None => Ok(open_kind(self.saved(ctx, name)?)),
@@ -138,7 +147,9 @@ impl<'a> Meanings<'a> {
 }
 
 // The place of a text among the saved ones of the context, where it is saved if it isn't yet.
-fn save_text(ctx: &mut Context<Generic>, text: &[u8]) -> Result<TextId, BuildError> {
+fn save_text(ctx: &mut Context<Generic>, text: &[u8]) -> Result<TextId, BuildError>
+    ensures { forest_of ctx.new ≡ forest_of ctx.old }
+{
     let copy = Vec::from_slice(ctx.alloc(), text)?;
     let place = ctx.save_value(GenericSaved(copy))?;
     match TextId::at(place) {
@@ -153,7 +164,9 @@ fn open_kind(name: TextId) -> Kind {
 }
 
 // The kind of operations of the name that a text between quotes stands for.
-fn quoted_kind(ctx: &mut Context<Generic>, text: &[u8]) -> Result<Kind, BuildError> {
+fn quoted_kind(ctx: &mut Context<Generic>, text: &[u8]) -> Result<Kind, BuildError>
+    ensures { forest_of ctx.new ≡ forest_of ctx.old }
+{
     let name = unescaped(ctx.alloc(), text)?;
     match table_kind(name.as_slice()) {
         Some(kind) => Ok(Kind::of(kind)),

@@ -1,5 +1,10 @@
 //! Operations, made of their rows, in their blocks.
 
+ghost use Rattle.std.specs.Prelude.{◌≡◌, IfOk, OnOk};
+ghost use Rattle.ir_model.specs.Forest.{an_op};
+ghost use Rattle.ir_core_queries.specs.State.{forest_of};
+ghost use Rattle.generic_text.specs.Left.{BuildsOn, GenericForest, GoesOn, GoesOnAt, IsNew, LeavesAll};
+
 use crate::build_error::BuildError;
 use crate::made::{Made, Op, Room};
 use crate::meanings::Meanings;
@@ -49,7 +54,9 @@ fn read_result_type<'a>(
     meanings: &mut Meanings<'a>,
     room: &mut Room,
     at: usize,
-) -> Result<(), BuildError> {
+) -> Result<(), BuildError>
+    ensures { forest_of ctx.new ≡ forest_of ctx.old }
+{
     let ty = meanings.type_of(ctx, source.piece(at))?;
     room.types.push(ty)?;
     Ok(())
@@ -81,7 +88,9 @@ fn read_text<'a>(
     meanings: &mut Meanings<'a>,
     room: &mut Room,
     at: usize,
-) -> Result<(), BuildError> {
+) -> Result<(), BuildError>
+    ensures { forest_of ctx.new ≡ forest_of ctx.old }
+{
     let id = meanings.saved(ctx, source.piece(at))?;
     put_text(room, source.part(at), id);
     Ok(())
@@ -95,7 +104,9 @@ fn read_part<'a>(
     made: &Made,
     room: &mut Room,
     at: usize,
-) -> Result<(), BuildError> {
+) -> Result<(), BuildError>
+    ensures { forest_of ctx.new ≡ forest_of ctx.old }
+{
     match source.part(at) {
         Part::Operand => read_operand(source, made, room, at),
         Part::Successor => read_successor(source, made, room, at),
@@ -118,7 +129,9 @@ fn read_op<'a>(
     made: &Made,
     room: &mut Room,
     rows: OpRows,
-) -> Result<(), BuildError> {
+) -> Result<(), BuildError>
+    ensures { forest_of ctx.new ≡ forest_of ctx.old }
+{
     room.clear();
     for at in rows.name as usize..rows.head_end as usize {
         read_part(ctx, source, meanings, made, room, at)?;
@@ -140,7 +153,10 @@ fn define_results(
     op: Op,
     rows: OpRows,
     count: usize,
-) -> Result<(), BuildError> {
+) -> Result<(), BuildError>
+    ensures blocks { made.new.blocks ≡ made.old.blocks }
+    ensures late { made.new.late ≡ made.old.late }
+{
     let mut ahead: usize = 0;
     for at in rows.first as usize..rows.name as usize {
         if source.part(at) == Part::Result {
@@ -206,7 +222,9 @@ fn place(
     made: &mut Made,
     op: Op,
     block: Option<u32>,
-) -> Result<(), BuildError> {
+) -> Result<(), BuildError>
+    ensures { OnOk result (GoesOn (forest_of ctx.old) made.old (forest_of ctx.new) made.new) }
+{
     match block {
         None => {
             made.tops.push(op)?;
@@ -226,8 +244,14 @@ fn make(
     room: &Room,
     kind: u32,
     rows: OpRows,
-) -> Result<Op, BuildError> {
+) -> Result<Op, BuildError>
+    ensures left { OnOk result ((first : GenericForest) → LeavesAll first (forest_of ctx.old) → LeavesAll first (forest_of ctx.new)) }
+    ensures new { IfOk result (λ op. IsNew (forest_of ctx.old) (an_op op.index)) }
+    ensures blocks { made.new.blocks.items ≡ made.old.blocks.items }
+    ensures late { made.new.late.items ≡ made.old.late.items }
+{
     made.ops.reserve(1)?;
+    ctx.recall_live_was_made();
     let op = operation::new(
         ctx,
         kind,
@@ -247,7 +271,9 @@ fn decorate<'a>(
     meanings: &mut Meanings<'a>,
     room: &Room,
     op: Op,
-) -> Result<(), BuildError> {
+) -> Result<(), BuildError>
+    ensures { OnOk result ((first : GenericForest) → LeavesAll first (forest_of ctx.old) → IsNew first (an_op op.index) → LeavesAll first (forest_of ctx.new)) }
+{
     if room.is_bare() {
         return Ok(());
     }
@@ -267,7 +293,10 @@ pub(crate) fn make_op<'a>(
     made: &mut Made,
     room: &mut Room,
     rows: OpRows,
-) -> Result<Op, BuildError> {
+) -> Result<Op, BuildError>
+    ensures goes_on { OnOk result (GoesOn (forest_of ctx.old) made.old (forest_of ctx.new) made.new) }
+    ensures new { IfOk result (λ op. IsNew (forest_of ctx.old) (an_op op.index)) }
+{
     read_op(ctx, source, meanings, made, room, rows)?;
     let name = source.unquoted(rows.name as usize);
     let kind = meanings.kind_of(ctx, name, rows.ends_block)?;
@@ -286,7 +315,9 @@ pub(crate) fn connect(
     outline: &Outline,
     op: Op,
     place: u32,
-) -> Result<(), BuildError> {
+) -> Result<(), BuildError>
+    ensures { OnOk result (GoesOnAt (an_op op.index) (forest_of ctx.old) made.now (forest_of ctx.new) made.now) }
+{
     let Some(rows) = outline.ops.get(place as usize) else {
         return Err(BuildError::NoTree);
     };
@@ -305,7 +336,9 @@ fn push_operand(
     made: &Made,
     op: Op,
     at: usize,
-) -> Result<(), BuildError> {
+) -> Result<(), BuildError>
+    ensures { OnOk result (GoesOnAt (an_op op.index) (forest_of ctx.old) made.now (forest_of ctx.new) made.now) }
+{
     let Some(row) = source.definition(at) else {
         return Err(BuildError::NoTree);
     };

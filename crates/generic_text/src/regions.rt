@@ -1,5 +1,10 @@
 //! Blocks put into the regions of the operations that they belong to.
 
+ghost use Rattle.std.specs.Prelude.{OnOk};
+ghost use Rattle.ir_model.specs.Forest.{a_region, an_op};
+ghost use Rattle.ir_core_queries.specs.State.{forest_of};
+ghost use Rattle.generic_text.specs.Left.{GoesOnAt};
+
 use crate::build_error::BuildError;
 use crate::made::{Made, Op};
 use generic_dialect::Generic;
@@ -15,7 +20,9 @@ fn put_block(
     made: &Made,
     region: Ptr<Region>,
     place: u32,
-) -> Result<Option<u32>, BuildError> {
+) -> Result<Option<u32>, BuildError>
+    ensures { OnOk result (GoesOnAt (a_region region.index) (forest_of ctx.old) made.now (forest_of ctx.new) made.now) }
+{
     let Some(block) = made.blocks.get(place as usize) else {
         return Err(BuildError::NoTree);
     };
@@ -33,7 +40,9 @@ fn put_blocks(
     made: &Made,
     region: Ptr<Region>,
     last: Option<u32>,
-) -> Result<(), BuildError> {
+) -> Result<(), BuildError>
+    ensures { OnOk result (GoesOnAt (a_region region.index) (forest_of ctx.old) made.now (forest_of ctx.new) made.now) }
+{
     let mut next = last;
     for _ in 0..outline.blocks.len() {
         match next {
@@ -52,7 +61,9 @@ fn fill_region(
     op: Op,
     index: usize,
     place: Option<u32>,
-) -> Result<Option<u32>, BuildError> {
+) -> Result<Option<u32>, BuildError>
+    ensures { OnOk result (GoesOnAt (an_op op.index) (forest_of ctx.old) made.now (forest_of ctx.new) made.now) }
+{
     let Some(place) = place else {
         return Err(BuildError::NoTree);
     };
@@ -60,6 +71,7 @@ fn fill_region(
         return Err(BuildError::NoTree);
     };
     let region = operation::get_region(op, ctx, index)?;
+    ctx.recall_well_formed();
     put_blocks(ctx, outline, made, region, rows.last_block)?;
     Ok(rows.before)
 }
@@ -71,7 +83,9 @@ pub(crate) fn fill_regions(
     made: &Made,
     op: Op,
     rows: OpRows,
-) -> Result<(), BuildError> {
+) -> Result<(), BuildError>
+    ensures { OnOk result (GoesOnAt (an_op op.index) (forest_of ctx.old) made.now (forest_of ctx.new) made.now) }
+{
     let mut place = rows.last_region;
     for index in (0..rows.regions as usize).rev() {
         place = fill_region(ctx, outline, made, op, index, place)?;

@@ -17,7 +17,8 @@ use Rattle.generic_text.specs.GenericWords.{generic_words, words_of}
 use Rattle.ir_model_passes.specs.Meaning.{SameAttributes}
 use Rattle.ir_opt_run.specs.declared.options.Pass.{Pass}
 use Rattle.ir_opt_run.specs.GenericBehaviour.{AreGenericWords, TextsApart, generic_behaviour}
-use Rattle.ir_opt_run.specs.Modules.{Encloses, Says}
+use Rattle.generic_text.specs.Enclosing.{Encloses}
+use Rattle.ir_opt_run.specs.Modules.{Says}
 use Rattle.ir_opt_run.specs.Passes.{PassesLead}
 use Rattle.ir_opt_run.specs.Runs.{Optimises}
 

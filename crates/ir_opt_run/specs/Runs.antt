@@ -11,7 +11,8 @@ use Rattle.ir_text_run.specs.Parts.{IsOnePart, IsDivided}
 use Rattle.ir_text_spelling.specs.Writings.{AppendsFront}
 use Rattle.ir_opt_run.specs.declared.options.Pass.{Pass}
 use Rattle.ir_opt_run.specs.Passes.{PassesLead}
-use Rattle.ir_opt_run.specs.Modules.{Says, Encloses}
+use Rattle.generic_text.specs.Enclosing.{Encloses}
+use Rattle.ir_opt_run.specs.Modules.{Says}
 
 -- In words of the dialect, the same for both, the text says what operations of a forest are, which stand alone or in a module, and nothing outside names what is defined inside; the passes lead from that forest to another; and the output says what the operation around all is there.
 pub record Optimises {W : Dialect} (B : Behaviour W) (same : SameAttributes W) (AreWords : Words W → Type 0) (passes : List Pass) (located : Bool) (text out : List ℕ) : Type 0 where

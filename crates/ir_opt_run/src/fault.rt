@@ -103,6 +103,7 @@ impl From<BuildError> for Fault {
     fn from(error: BuildError) -> Fault {
         match error {
             BuildError::Core(CoreError::OutOfMemory) => Fault::OutOfMemory,
+            BuildError::NoTree => Fault::Different,
             _ => Fault::Building(error),
         }
     }

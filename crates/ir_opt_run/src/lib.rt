@@ -1,7 +1,6 @@
 //! A text in MLIR's generic form read into a context, worked on by passes, and printed again: the work of the program `ir_opt`, over any reader and writers.
 #![tactic(auto)]
 
-mod enclosed;
 mod fault;
 mod generic_verifiers;
 mod optimising;

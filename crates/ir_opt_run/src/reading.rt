@@ -1,19 +1,21 @@
 //! A text read into a context, with the places of its operations.
-ghost use Rattle.std.specs.Prelude.{IfOk, IsTrue, List, OnErr, OnOk, true};
-ghost use Rattle.generic_text.specs.GenericWords.{block_named, generic_words, value_named};
+ghost use Rattle.std.specs.Prelude.{IfOk, IsTrue, List, OnErr, OnOk, map, true};
+ghost use Rattle.generic_text.specs.Enclosing.{Encloses};
+ghost use Rattle.generic_text.specs.GenericWords.{block_named, generic_words, named_tree, value_named};
+ghost use Rattle.generic_text.specs.Left.{LeavesAll};
 ghost use Rattle.ir_model.specs.declared.ids.ArenaIndex.{ArenaIndex};
 ghost use Rattle.ir_model.specs.Forest.{an_op};
 ghost use Rattle.ir_model.specs.Nesting.{IsClosed, IsLive};
 ghost use Rattle.ir_core_context.specs.Calls.{NoEntity};
 ghost use Rattle.ir_core_queries.specs.State.{forest_of};
-ghost use Rattle.ir_opt_run.specs.Modules.{Encloses, HasOnly, IsReadAs, Says};
+ghost use Rattle.ir_text_described.specs.Described.{IsDescribedBy};
+ghost use Rattle.ir_opt_run.specs.Modules.{HasOnly, IsReadAs, Says};
 
-use crate::enclosed::listed;
 use crate::fault::Fault;
 use crate::saying::check_said;
 use crate::trees::{NamedTree, read_tree};
 use generic_dialect::Generic;
-use generic_text::{BuildError, Built, build, enclose};
+use generic_text::{BuildError, Built, build, enclose, only_module};
 use ir_base_dialects::Ptr;
 use ir_core_queries::{BasicBlock, Context, Entity, Operation, OperationPtr, can_erase};
 use ir_text_names::Wrong;
@@ -55,25 +57,6 @@ fn places(alloc: Global, rows: &[Row], ops: &[(Op, u32)]) -> Result<Vec<(Op, u32
     Ok(places)
 }
 
-// Sees to it that the tree of the text describes what stands in this module, or the module itself where that is all that the text has.
-fn check_read(
-    ctx: &Context<Generic>,
-    root: Op,
-    is_alone: bool,
-    text: &[u8],
-    tree: &NamedTree,
-) -> Result<(), Fault>
-    requires live { IsLive (forest_of ctx.now) (an_op root.index) }
-    requires read { IsReadAs text.now tree.now.rows.items (block_named tree.now.names) (value_named tree.now.names) }
-    ensures said { OnOk result ((operations : List ArenaIndex) × Says (forest_of ctx.now) (generic_words ctx.now) true text.now operations × Encloses (forest_of ctx.now) (generic_words ctx.now) root.index operations) }
-{
-    if is_alone {
-        return check_said(ctx, &[root], text, tree, true);
-    }
-    let operations = listed(ctx, root)?;
-    check_said(ctx, operations.as_slice(), text, tree, true)
-}
-
 // Why nothing was built, by its place in the text.
 fn build_fault(rows: &[Row], error: BuildError) -> Fault {
     match error {
@@ -86,7 +69,10 @@ fn build_fault(rows: &[Row], error: BuildError) -> Fault {
 }
 
 // Builds a tree.
-fn build_tree(ctx: &mut Context<Generic>, text: &[u8], tree: &NamedTree) -> Result<Built, Fault> {
+fn build_tree(ctx: &mut Context<Generic>, text: &[u8], tree: &NamedTree) -> Result<Built, Fault>
+    ensures described { IfOk result (λ b. IsDescribedBy (forest_of ctx.new) (generic_words ctx.new) true (named_tree text.now tree.now.rows.items tree.now.names) (map (λ p. p.index) b.tops.items)) }
+    ensures left { OnOk result (LeavesAll (forest_of ctx.old) (forest_of ctx.new)) }
+{
     let rows = tree.rows.as_slice();
     match build(ctx, text, rows, &tree.names) {
         Ok(built) => Ok(built),
@@ -94,12 +80,26 @@ fn build_tree(ctx: &mut Context<Generic>, text: &[u8], tree: &NamedTree) -> Resu
     }
 }
 
-// Whether an operation is all that these are.
-fn is_alone(root: Op, tops: &[Op]) -> bool {
-    match tops {
-        [only] => *only == root,
-        _ => false,
+// The operation around all that was built: the only one outside all regions, if it is a module, or else a module that is made around these. What stands in this is compared with the text once more.
+fn root_of(
+    ctx: &mut Context<Generic>,
+    text: &[u8],
+    tree: &NamedTree,
+    tops: &[Op],
+) -> Result<Op, Fault>
+    requires read { IsReadAs text.now tree.now.rows.items (block_named tree.now.names) (value_named tree.now.names) }
+    requires described { IsDescribedBy (forest_of ctx.old) (generic_words ctx.old) true (named_tree text.now tree.now.rows.items tree.now.names) (map (λ p. p.index) tops.now) }
+    ensures live { IfOk result (λ root. IsLive (forest_of ctx.new) (an_op root.index)) }
+    ensures said { IfOk result (λ root. Says (forest_of ctx.new) (generic_words ctx.new) true text.now (map (λ p. p.index) tops.now)) }
+    ensures encloses { IfOk result (λ root. Encloses (forest_of ctx.new) (generic_words ctx.new) root.index (map (λ p. p.index) tops.now)) }
+    ensures left { OnOk result (LeavesAll (forest_of ctx.old) (forest_of ctx.new)) }
+{
+    if let Some(root) = only_module(ctx, tops) {
+        return Ok(root);
     }
+    let root = enclose(ctx, tops)?;
+    check_said(ctx, tops, text, tree, true)?;
+    Ok(root)
 }
 
 // Sees to it that all that is live in the context stands inside an operation. Then nothing outside names what is inside.
@@ -141,22 +141,13 @@ fn read_into(ctx: &mut Context<Generic>, text: &[u8], was_empty: bool) -> Result
     ensures closed { IfOk result (λ m. IsClosed (forest_of ctx.new) (an_op m.root.index)) }
     ensures said { IfOk result (λ m. (operations : List ArenaIndex) × Says (forest_of ctx.new) (generic_words ctx.new) true text.now operations × Encloses (forest_of ctx.new) (generic_words ctx.new) m.root.index operations) }
     ensures only { IsTrue was_empty → IfOk result (λ m. HasOnly (forest_of ctx.new) (an_op m.root.index)) }
+    ensures left { OnOk result (LeavesAll (forest_of ctx.old) (forest_of ctx.new)) }
 {
     let alloc = ctx.alloc();
     let tree = read_tree(alloc, text)?;
     let built = build_tree(ctx, text, &tree)?;
-    let root = enclose(ctx, built.tops.as_slice())?;
-    if !root.is_live(ctx) {
-        return Err(Fault::Different);
-    }
+    let root = root_of(ctx, text, &tree, built.tops.as_slice())?;
     check_closed(ctx, root, was_empty)?;
-    check_read(
-        ctx,
-        root,
-        is_alone(root, built.tops.as_slice()),
-        text,
-        &tree,
-    )?;
     let places = places(alloc, tree.rows.as_slice(), built.ops.as_slice())?;
     Ok(Module {
         root,
@@ -174,6 +165,8 @@ pub fn read_module(ctx: &mut Context<Generic>, text: &[u8]) -> Result<Module, Fa
     ensures closed { IfOk result (λ m. IsClosed (forest_of ctx.new) (an_op m.root.index)) }
     ensures said { IfOk result (λ m. (operations : List ArenaIndex) × Says (forest_of ctx.new) (generic_words ctx.new) true text.now operations × Encloses (forest_of ctx.new) (generic_words ctx.new) m.root.index operations) }
     ensures only { NoEntity (forest_of ctx.old) → IfOk result (λ m. HasOnly (forest_of ctx.new) (an_op m.root.index)) }
+    // All operations, blocks and regions that were there are as they were.
+    ensures left { OnOk result (LeavesAll (forest_of ctx.old) (forest_of ctx.new)) }
     ensures err { NoEntity (forest_of ctx.old) → OnErr result (NoEntity (forest_of ctx.new)) }
 {
     let was_empty = ctx.is_ir_empty();

@@ -1,4 +1,4 @@
-use Rattle.std.proofs.Common.{◌≡◌, ◌∙◌, ℕ, List, ap, sym, subst}
+use Rattle.std.proofs.Common.{◌≡◌, ◌∙◌, ℕ, ap, sym, subst}
 use Rattle.ir_core_queries.specs.State.{forest_of}
 use Rattle.ir_model.specs.Nesting.{list_of}
 use Rattle.ir_text_described.specs.Written.{IsEntry, Leads, none, more, attributes_of}

@@ -5,7 +5,7 @@ use Rattle.ir_model.specs.Forest.{of_block}
 use Rattle.ir_model.specs.Nesting.{definition_types_of, definitions_of, list_of}
 use Rattle.ir_text_described.specs.Written.{IsArgument, Leads, none, more}
 use Rattle.generic_text.specs.Checks.{setting_of}
-use Rattle.generic_text.proofs.Lists.{Gone, gone-none, gone-next, gone-more, gone-all}
+use Rattle.generic_text.proofs.Lists.{Gone, gone-none, gone-next, gone-more}
 use Rattle.generic_text.proofs.labels.read_arguments.Goals as goal
 
 pub loop-ty-init : goal.loop-ty-init

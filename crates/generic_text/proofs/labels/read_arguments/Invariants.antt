@@ -1,4 +1,3 @@
-use Rattle.std.proofs.Common.{ℕ}
 use Rattle.ir_core_queries.specs.State.{forest_of}
 use Rattle.ir_model.specs.Forest.{of_block}
 use Rattle.ir_model.specs.Nesting.{definition_types_of}

@@ -1,4 +1,4 @@
-use Rattle.std.proofs.Common.{◌≡◌, ◌++◌, map, reverse, take}
+use Rattle.std.proofs.Common.{◌≡◌, ◌++◌, map, reverse}
 use Rattle.ir_core_queries.specs.State.{forest_of}
 use Rattle.ir_text_described.specs.declared.item.Item.TheVariants as items
 use Rattle.std.specs.Iterator.Adapters.{rev_source}

@@ -1,4 +1,4 @@
-use Rattle.std.proofs.Common.{◌∷◌, ◌∙◌, ap, reverse, subst, sym}
+use Rattle.std.proofs.Common.{◌∷◌, reverse, subst}
 use Rattle.ir_text_described.specs.declared.item.Item.TheVariants as items
 use Rattle.ir_text_described.specs.Written.{AreWritten}
 use Rattle.generic_text.specs.Checks.{setting_of}

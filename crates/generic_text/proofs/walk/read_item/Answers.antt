@@ -1,10 +1,7 @@
 use Rattle.std.proofs.Common.{◌∷◌, reverse, subst, sym}
-use Rattle.ir_core_queries.specs.State.{forest_of}
-use Rattle.ir_model.specs.Nesting.{blocks_of, ops_of, regions_of}
-use Rattle.ir_text_described.specs.declared.item.Item.TheVariants as items
 use Rattle.ir_text_described.specs.Written.{AreWritten, tail}
 use Rattle.generic_text.specs.Checks.{setting_of}
-use Rattle.generic_text.proofs.Lists.{pushed_first, popped_first, if_ok}
+use Rattle.generic_text.proofs.Lists.{if_ok}
 use Rattle.generic_text.proofs.Steps.{read_close}
 use Rattle.generic_text.proofs.walk.read_item.Goals as goal
 

@@ -1,4 +1,4 @@
-use Rattle.std.proofs.Common.{◌≡◌, ◌∷◌, ◌++◌, ◌∙◌, ap, map, reverse, subst, sym}
+use Rattle.std.proofs.Common.{◌∷◌, ◌++◌, ◌∙◌, ap, map, reverse, subst}
 use Rattle.ir_core_queries.specs.State.{forest_of}
 use Rattle.ir_model.specs.Nesting.{blocks_of}
 use Rattle.ir_text_described.specs.declared.item.Item.TheVariants as items
