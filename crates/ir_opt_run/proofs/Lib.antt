@@ -1,7 +1,6 @@
 mod PassesRight
 mod Said
 mod RunMade
-mod Enclosing
 mod PassSteps
 mod PartsMade
 mod PureNames

@@ -5,7 +5,7 @@ use Rattle.std.proofs.lemmas.List.{length-append, length-map}
 use Rattle.std.proofs.lemmas.List.Elements.{All-head, All-tail}
 use Rattle.ir_model.specs.ContextIds.{context_ids}
 use Rattle.ir_model.specs.Forest.{Dialect, Entity, Forest, Named, OpRecord, Operand, Successor, a_value, an_op, a_block, a_region, same_entity, the_block}
-use Rattle.ir_model.specs.Nesting.{In, Inside, IsClosed, IsLive, list_of, names_of}
+use Rattle.ir_model.specs.Nesting.{In, IsClosed, IsLive, list_of}
 use Rattle.ir_model.specs.Subtree.{ListsSubtree}
 use Rattle.ir_model.proofs.KeepsErase.{same_self, same_tells}
 use Rattle.ir_model.proofs.KeepsNew.{any_in}

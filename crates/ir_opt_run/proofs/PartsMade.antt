@@ -1,5 +1,5 @@
 -- What is made of the parts of a text, one behind the other.
-use Rattle.std.proofs.Common.{◌≡◌, ℕ, ◌++◌, Bool, true, List, Option, Some, None, IfSome, MatchOption, append_assoc, codes, sym, subst, ap, ◌∙◌}
+use Rattle.std.proofs.Common.{◌≡◌, ℕ, ◌++◌, Bool, true, List, Option, Some, None, IfSome, MatchOption, append_assoc, codes, sym, subst, ◌∙◌}
 use Rattle.ir_model.specs.Forest.{Dialect, Behaviour}
 use Rattle.ir_text_run.specs.Parts.{IsOnePart, IsDivided}
 use Rattle.ir_model_passes.specs.Meaning.{SameAttributes}

@@ -1,11 +1,11 @@
 -- Passes one after the other, right or keeping values.
-use Rattle.std.proofs.Common.{◌≡◌, ℕ, List, [], ◌∷◌, Some, None, IsSome, Option, refl, sym, subst, ◌∙◌}
+use Rattle.std.proofs.Common.{◌≡◌, ℕ, [], ◌∷◌, Some, None, IsSome, Option, refl, sym, subst, ◌∙◌}
 use Rattle.std.proofs.lemmas.Bool.{false≢true}
 use Rattle.ir_model.specs.declared.ids.ArenaIndex.{ArenaIndex}
 use Rattle.ir_model.specs.ContextIds.{context_ids}
 use Rattle.ir_model.specs.Forest.{Dialect, Behaviour, Forest, OpRecord, an_op}
 use Rattle.ir_model.specs.Nesting.{IsLive, WellFormed}
-use Rattle.ir_model_passes.specs.Meaning.{Interpretation, KeepsValues, OnlyPureGo, Respects, SameAttributes}
+use Rattle.ir_model_passes.specs.Meaning.{Interpretation, OnlyPureGo, Respects, SameAttributes}
 use Rattle.ir_model_passes.specs.RightPasses.{IsRight}
 use Rattle.ir_model_passes.specs.PassLaws.{MergeInsideIsRight, NothingIsRight, RightPassesFollow, SweepInsideIsRight}
 use Rattle.ir_run_unreached.specs.Inside.{InsideRemovalTells}

@@ -12,7 +12,7 @@ use Rattle.generic_dialect.specs.Implemented.{kind_implements, listed_implements
 use Rattle.generic_dialect.specs.Kinds.{kind_of, listed_kind, listed_name}
 use Rattle.generic_text.specs.GenericTexts.{text_at}
 use Rattle.generic_text.specs.GenericWords.{told_name}
-use Rattle.ir_opt_run.specs.GenericBehaviour.{AreGenericWords, generic}
+use Rattle.ir_opt_run.specs.GenericBehaviour.{generic}
 use Rattle.ir_opt_run.specs.PureNames.{IsListedPure, IsRow, ListedAreRows, PureAreListed}
 
 pure_row : (saved : List GenericSaved) (row : ℕ) (found : Option Operation) → slice_get operations row ≡ found → row_implements found 6 ≡ true

@@ -1,5 +1,5 @@
 -- Trees read of texts, and what they describe.
-use Rattle.std.proofs.Common.{◌≡◌, ◌<◌, ℕ, Bool, List, length, Option, OnOk, Result, Ok, Err, refl, subst}
+use Rattle.std.proofs.Common.{◌≡◌, ◌<◌, ℕ, Bool, List, length, Option, OnOk, Result, Ok, Err, subst}
 use Rattle.ir_model.specs.declared.ids.ArenaIndex.{ArenaIndex}
 use Rattle.ir_model.specs.ContextIds.{context_ids}
 use Rattle.ir_model.specs.Forest.{Dialect, Forest}
@@ -9,9 +9,8 @@ use Rattle.ir_text_names.specs.Blocks.{IsBlockNamed}
 use Rattle.ir_text_names.specs.Values.{IsValueNamed}
 use Rattle.ir_text_names.specs.Firsts.{HasNone}
 use Rattle.ir_text_names.specs.Resolved.{IsWrong}
-use Rattle.ir_text_run.specs.Respellings.{IsTreeOf, IsRight}
+use Rattle.ir_text_run.specs.Respellings.{IsTreeOf}
 use Rattle.ir_text_described.specs.Words.{Words}
-use Rattle.ir_text_described.specs.Trees.{NamedTree}
 use Rattle.ir_text_described.specs.Described.{IsDescribedBy}
 use Rattle.ir_opt_run.specs.Modules.{IsReadAs, Says}
 

@@ -1,13 +1,11 @@
 -- In words of the dialect what is written alike is one.
 use Rattle.std.proofs.Common.{◌≡◌, ◌≢◌, ◌∙◌, refl, sym, ap, subst, ℕ, true, false, List, [], Option, Some, None, inl, inr}
 use Rattle.std.specs.Prelude.{slice_get}
-use Rattle.std.specs.Option.{option_map, option_and_then}
+use Rattle.std.specs.Option.{option_map}
 use Rattle.std.proofs.lemmas.Bool.{false≢true, cases_order, eq-eqb}
 use Rattle.std.proofs.lemmas.Bool.Decides.{Decides-eqb}
 use Rattle.std.proofs.lemmas.Slice.Eq.{slice_eq-Decides}
 use Rattle.ir_model.specs.Edits.{StoredType}
-use Rattle.ir_model.specs.Forest.{Text}
-use Rattle.ir_model.specs.Stores.{attribute_at}
 use Rattle.ir_core_queries.specs.Calls.{TypesAreExact}
 use Rattle.generic_dialect.specs.declared.generic.GenericAttr.{GenericAttr}
 use Rattle.generic_dialect.specs.declared.generic.GenericAttr.TheVariants as attr
@@ -21,7 +19,7 @@ use Rattle.generic_dialect.specs.Keys.{the_key}
 use Rattle.generic_text.specs.GenericTexts.{bytes_of, properties_of, text_at, type_text}
 use Rattle.generic_text.specs.GenericWords.{entry_of, value_of}
 use Rattle.ir_text_described.specs.Words.{Words}
-use Rattle.ir_opt_run.specs.GenericBehaviour.{AreGenericWords, TextsApart, generic, generic_behaviour}
+use Rattle.ir_opt_run.specs.GenericBehaviour.{TextsApart, generic, generic_behaviour}
 use Rattle.ir_opt_run.specs.WrittenAlike.{WrittenAlikeIsOne}
 
 -- ## Texts

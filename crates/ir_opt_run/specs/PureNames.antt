@@ -1,5 +1,5 @@
 -- What is pure by the dialect is pure by the table, under the name that is written.
-use Rattle.std.specs.Prelude.{◌≡◌, ◌≢◌, ℕ, List, [], Option, Some, IsTrue, is_some, true, slice_get}
+use Rattle.std.specs.Prelude.{◌≡◌, ◌≢◌, ℕ, List, [], Some, IsTrue, is_some, true, slice_get}
 use Rattle.ir_model.specs.BlockGraph.{pure_interface}
 use Rattle.ir_text_described.specs.Words.{Words}
 use Rattle.generic_table.specs.Cut.{Operation}

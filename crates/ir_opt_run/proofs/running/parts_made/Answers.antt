@@ -1,4 +1,4 @@
-use Rattle.std.proofs.Common.{rules, ◌≡◌, ◌++◌, ◌∙◌, ℕ, List, IfSome, MatchOption, Option, Some, None, true, false, codes, ap, sym, subst}
+use Rattle.std.proofs.Common.{rules, ◌≡◌, ◌++◌, ◌∙◌, ℕ, List, Some, None, codes, ap, sym, subst}
 use Rattle.std.proofs.lemmas.Bool.{false≢true}
 use Rattle.ir_text_run.specs.Parts.{IsOnePart, IsDivided}
 use Rattle.ir_opt_run.specs.Runs.{OptimisesParts}
