@@ -224,19 +224,27 @@ fn blocks_in(alloc: Global, item: Item) -> Result<Vec<Ptr<BasicBlock<Toy>>>, Tex
     Ok(blocks)
 }
 
+// The result's type, the operand and the successor that three items are, each of them if it is one.
+fn lists_in(
+    alloc: Global,
+    ty: Item,
+    value: Item,
+    block: Item,
+) -> Result<(Vec<TypeHandle>, Vec<Value<Toy>>, Vec<Ptr<BasicBlock<Toy>>>), TextError> {
+    let types = types_in(alloc, ty)?;
+    let operands = values_in(alloc, value)?;
+    let successors = blocks_in(alloc, block)?;
+    Ok((types, operands, successors))
+}
+
 /// `TYPE VALUE BLOCK`, each of which may be `-`: an operation of kind 4 with one such result, operand and successor.
 pub(crate) fn new_op(lab: &mut Lab, call: &str, ty: Item, value: Item, block: Item) {
-    let alloc = lab.alloc();
-    match (
-        call,
-        types_in(alloc, ty),
-        values_in(alloc, value),
-        blocks_in(alloc, block),
-    ) {
-        ("operation::new", Ok(types), Ok(operands), Ok(successors)) => {
+    match (call, lists_in(lab.alloc(), ty, value, block)) {
+        ("operation::new", Ok((types, operands, successors))) => {
             let answer = operation::new(&mut lab.context, 4, &types, &operands, &successors, 0);
             tell_edit(lab, answer);
         }
+        (_, Err(error)) => lab.text.fail(error),
         _ => lab.text.fail(TextError::Malformed),
     }
 }
