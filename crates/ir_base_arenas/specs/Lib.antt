@@ -4,7 +4,6 @@ pub mod ArenaLends
 pub mod Lists
 pub mod Walks
 pub mod SeqLends
-pub mod ShortSeqLends
 pub mod Link
 pub mod CellsLends
 pub mod PlainItems

@@ -2,7 +2,7 @@
 //!
 //! A slot keeps the version that it handed out last. A slot whose record was removed is handed out again under the version two above, the slot freed last first, unless that is past the last version: then the slot stays empty for good. Free slots are chained through themselves, so that a removal takes no memory, and an insertion takes memory only where no free slot is left.
 
-ghost use Rattle.std.specs.Prelude.{◌≡◌, ◌⊎◌, ◌+◌, ◌<◌, ◌≤◌, ◌==◌, ◌↔◌, length, IsTrue, IfOk, IfErr, IfNone, OnErr, OnSome, OnOk, Some, None, Err, option_copied, nat_le};
+ghost use Rattle.std.specs.Prelude.{◌≡◌, ◌⊎◌, ◌+◌, ◌<◌, ◌≤◌, ◌==◌, ◌↔◌, length, IsTrue, IfOk, IfErr, IfNone, OnErr, OnSome, OnOk, Some, None, Err, option_copied, nat_le, vec_capacity, vec_len};
 ghost use Rattle.std.specs.Option.{option_copied_mut};
 ghost use Rattle.std.specs.Borrow.{sem};
 ghost use Rattle.ir_model.specs.declared.ids.ArenaIndex.{ArenaIndex as Index};
@@ -46,6 +46,25 @@ impl<T> Slot<T> {
             return Some(&self.item);
         }
         None
+    }
+}
+
+// From so many slots on an arena grows by a fourth.
+const MANY: usize = 1 << 16;
+
+// Makes place for one more slot, if there is none: for as many as there are, or for a fourth of them where they are many. The system moves large blocks without copying them.
+#[inline(always)]
+fn reserve<T>(slots: &mut Vec<Slot<T>>) -> Result<(), AllocError>
+    ensures items { slots.new.items ≡ slots.old.items }
+    ensures ok { OnOk result (vec_len slots.new < vec_capacity slots.new) }
+{
+    let count = slots.len();
+    if count < slots.capacity() {
+        Ok(())
+    } else if count < MANY {
+        slots.reserve(1)
+    } else {
+        slots.reserve_exact(count / 4)
     }
 }
 
@@ -232,7 +251,7 @@ impl<T> Arena<T> {
         if at == self.limit as usize {
             return Err(CoreError::SlotsSpent);
         }
-        if self.slots.reserve(1).is_err() {
+        if reserve(&mut self.slots).is_err() {
             return Err(CoreError::OutOfMemory);
         }
         let ptr = Ptr::from_index(ArenaIndex {

@@ -12,7 +12,6 @@ mod plain_seq;
 mod ptr;
 mod room;
 mod seq;
-mod short_seq;
 mod take_out;
 mod tally;
 
@@ -24,5 +23,4 @@ pub use plain_seq::{Plain, PlainSeq};
 pub use ptr::Ptr;
 pub use room::Room;
 pub use seq::Seq;
-pub use short_seq::ShortSeq;
 pub use take_out::TakeOut;

@@ -1,4 +1,4 @@
-//! The short lists of plain data: up to `N` items lie in the list itself, and more than that in an allocation. Contracts see the list of the items alone, as with a `ShortSeq`.
+//! The short lists of plain data: up to `N` items lie in the list itself, and more than that in an allocation. Contracts see the list of the items alone, as with a `Seq`.
 //!
 //! An item that goes is left where it lies, since there is nothing to let go, and each call asks once where the items lie.
 

@@ -16,7 +16,7 @@ mod verifier_lists;
 
 pub use dialects::{Dialects, unknown_loc};
 pub use ir_base_arenas::{
-    Arena, Iter, Plain, PlainSeq, Ptr, Room, Seq, ShortSeq, TakeOut, linked_list, list_laws,
+    Arena, Iter, Plain, PlainSeq, Ptr, Room, Seq, TakeOut, linked_list, list_laws,
 };
 pub use ir_base_identifiers::{
     AttrId, AttrName, DialectName, Id, IdentErr, Identifier, Legaliser, MalformedIdentifierErr,

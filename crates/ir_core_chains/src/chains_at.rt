@@ -13,12 +13,12 @@ ghost use Rattle.ir_core_chains.specs.Chain.{Rewrites};
 
 use crate::named::Named;
 use ir_base_dialects::{ArenaIndex, Dialects};
-use ir_core_records::{Records, UseIndex};
+use ir_core_records::{Records, UseIndex, UseRank};
 use std::alloc::AllocError;
 
 // Takes a use out that no place stands for. The last use moves into its place.
 #[inline(always)]
-fn release<D: Dialects, N: Named<D>>(records: &mut Records<D>, named: N, index: usize)
+fn release<D: Dialects, N: Named<D>>(records: &mut Records<D>, named: N, index: UseRank)
     requires linked { LinkedBesides named index (N.places_at records.old) (N.uses_at records.old) }
     requires named { N.IsNamed records.old named }
     requires within { index < length (N.uses_at records.old named) }

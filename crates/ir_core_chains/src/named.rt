@@ -15,8 +15,8 @@ ghost use Rattle.ir_core_records.specs.Table.{IsOp};
 use crate::use_lists::{push_use, take_use};
 use ir_base_dialects::{ArenaIndex, Dialects, Ptr};
 use ir_core_records::{
-    BasicBlock, BlockIndex, Definer, KeptUse, Records, UseIndex, UsePlace, Value, ValueIndex,
-    find_place_near,
+    BasicBlock, BlockIndex, Definer, KeptOperand, KeptUse, Records, UseIndex, UsePlace, UseRank,
+    Value, ValueIndex, find_operand_near, find_successor_near,
 };
 use std::alloc::AllocError;
 use std::mem::replace;
@@ -104,7 +104,7 @@ pub trait Named<D: Dialects>: Copy + Drop {
         user: ArenaIndex,
         number: u64,
         names: Self,
-        place: usize,
+        place: UseRank,
     ) -> Result<(), AllocError>
         requires live { IsLiveIn records.old.ops user }
         ensures { records.new ≡ (if is_ok result then with_places records.old user (places_at records.old user ++ record { number = number; names = names; place = place } ∷ []) else records.old) };
@@ -116,7 +116,7 @@ pub trait Named<D: Dialects>: Copy + Drop {
         index: usize,
         number: u64,
         names: Self,
-        place: usize,
+        place: UseRank,
     ) -> Result<(), AllocError>
         requires live { IsLiveIn records.old.ops user }
         requires within { index ≤ length (places_at records.old user) }
@@ -129,7 +129,7 @@ pub trait Named<D: Dialects>: Copy + Drop {
         index: usize,
         number: u64,
         names: Self,
-        place: usize,
+        place: UseRank,
     ) -> UsePlace<Self>
         requires live { IsLiveIn records.old.ops user }
         requires within { index < length (places_at records.old user) }
@@ -144,7 +144,7 @@ pub trait Named<D: Dialects>: Copy + Drop {
         ensures records { records.new ≡ with_places records.old user (remove (places_at records.old user) index) };
 
     // Gives the place of a use, which was near an index once, the index where that use stands now.
-    fn set_place(records: &mut Records<D>, moved: UseIndex, near: usize, index: usize)
+    fn set_place(records: &mut Records<D>, moved: UseIndex, near: usize, index: UseRank)
         requires live { IsLiveIn records.old.ops moved.user }
         requires distinct { HaveDistinctUses (places_at records.old moved.user) }
         requires has { IsPlaced (places_at records.old) moved }
@@ -156,13 +156,13 @@ pub trait Named<D: Dialects>: Copy + Drop {
         named: Self,
         new: UseIndex,
         near: usize,
-    ) -> Result<usize, AllocError>
+    ) -> Result<UseRank, AllocError>
         requires { IsNamed records.old named }
         ensures records { records.new ≡ (if is_ok result then with_uses records.old named (uses_at records.old named ++ new ∷ []) else records.old) }
         ensures place { IfOk result (λ place. place ≡ length (uses_at records.old named)) };
 
     // Takes the use at an index out. The last one moves there, and is given back.
-    fn take_use(records: &mut Records<D>, named: Self, index: usize) -> Option<KeptUse>
+    fn take_use(records: &mut Records<D>, named: Self, index: UseRank) -> Option<KeptUse>
         requires named { IsNamed records.old named }
         requires within { index < length (uses_at records.old named) }
         ensures records { (past : PlainUse) → records.new ≡ with_uses records.old named (swap_remove (uses_at records.old named) index past) }
@@ -193,7 +193,12 @@ impl<D: Dialects> Named<D> for ValueIndex {
     }
 
     fn place_at(records: &Records<D>, user: ArenaIndex, index: usize) -> UsePlace<ValueIndex> {
-        *records.ops.at(Ptr::from_index(user)).operands.at(index)
+        records
+            .ops
+            .at(Ptr::from_index(user))
+            .operands
+            .at(index)
+            .get()
     }
 
     #[inline(always)]
@@ -215,14 +220,14 @@ impl<D: Dialects> Named<D> for ValueIndex {
         user: ArenaIndex,
         number: u64,
         names: ValueIndex,
-        place: usize,
+        place: UseRank,
     ) -> Result<(), AllocError> {
         let operation = records.ops.at_mut(Ptr::from_index(user));
-        operation.operands.push(UsePlace {
+        operation.operands.push(KeptOperand::new(UsePlace {
             number,
             names,
             place,
-        })
+        }))
     }
 
     fn insert_place(
@@ -231,16 +236,16 @@ impl<D: Dialects> Named<D> for ValueIndex {
         index: usize,
         number: u64,
         names: ValueIndex,
-        place: usize,
+        place: UseRank,
     ) -> Result<(), AllocError> {
         let operation = records.ops.at_mut(Ptr::from_index(user));
         operation.operands.insert(
             index,
-            UsePlace {
+            KeptOperand::new(UsePlace {
                 number,
                 names,
                 place,
-            },
+            }),
         )
     }
 
@@ -251,15 +256,15 @@ impl<D: Dialects> Named<D> for ValueIndex {
         index: usize,
         number: u64,
         names: ValueIndex,
-        place: usize,
+        place: UseRank,
     ) -> UsePlace<ValueIndex> {
         let operation = records.ops.at_mut(Ptr::from_index(user));
-        let new = UsePlace {
+        let new = KeptOperand::new(UsePlace {
             number,
             names,
             place,
-        };
-        replace(operation.operands.at_mut(index), new)
+        });
+        replace(operation.operands.at_mut(index), new).get()
     }
 
     #[inline(always)]
@@ -273,13 +278,14 @@ impl<D: Dialects> Named<D> for ValueIndex {
             .at_mut(Ptr::from_index(user))
             .operands
             .remove(index)
+            .get()
     }
 
     #[inline(always)]
-    fn set_place(records: &mut Records<D>, moved: UseIndex, near: usize, index: usize) {
+    fn set_place(records: &mut Records<D>, moved: UseIndex, near: usize, index: UseRank) {
         let operands = &mut records.ops.at_mut(Ptr::from_index(moved.user)).operands;
-        match find_place_near(operands.as_slice(), moved.number, near) {
-            Some(found) => operands.at_mut(found).place = index,
+        match find_operand_near(operands.as_slice(), moved.number, near) {
+            Some(found) => operands.at_mut(found).set_rank(index),
             None => unreachable!(),
         }
     }
@@ -290,7 +296,7 @@ impl<D: Dialects> Named<D> for ValueIndex {
         named: ValueIndex,
         new: UseIndex,
         near: usize,
-    ) -> Result<usize, AllocError> {
+    ) -> Result<UseRank, AllocError> {
         match named.definer {
             Definer::Op(op) => {
                 let operation = records.ops.at_mut(Ptr::from_index(op));
@@ -304,7 +310,7 @@ impl<D: Dialects> Named<D> for ValueIndex {
     }
 
     #[inline(always)]
-    fn take_use(records: &mut Records<D>, named: ValueIndex, index: usize) -> Option<KeptUse> {
+    fn take_use(records: &mut Records<D>, named: ValueIndex, index: UseRank) -> Option<KeptUse> {
         match named.definer {
             Definer::Op(op) => {
                 let operation = records.ops.at_mut(Ptr::from_index(op));
@@ -362,7 +368,7 @@ impl<D: Dialects> Named<D> for BlockIndex {
         user: ArenaIndex,
         number: u64,
         names: BlockIndex,
-        place: usize,
+        place: UseRank,
     ) -> Result<(), AllocError> {
         let operation = records.ops.at_mut(Ptr::from_index(user));
         operation.successors.push(UsePlace {
@@ -378,7 +384,7 @@ impl<D: Dialects> Named<D> for BlockIndex {
         index: usize,
         number: u64,
         names: BlockIndex,
-        place: usize,
+        place: UseRank,
     ) -> Result<(), AllocError> {
         let operation = records.ops.at_mut(Ptr::from_index(user));
         operation.successors.insert(
@@ -397,7 +403,7 @@ impl<D: Dialects> Named<D> for BlockIndex {
         index: usize,
         number: u64,
         names: BlockIndex,
-        place: usize,
+        place: UseRank,
     ) -> UsePlace<BlockIndex> {
         let operation = records.ops.at_mut(Ptr::from_index(user));
         let new = UsePlace {
@@ -422,9 +428,9 @@ impl<D: Dialects> Named<D> for BlockIndex {
     }
 
     #[inline(always)]
-    fn set_place(records: &mut Records<D>, moved: UseIndex, near: usize, index: usize) {
+    fn set_place(records: &mut Records<D>, moved: UseIndex, near: usize, index: UseRank) {
         let successors = &mut records.ops.at_mut(Ptr::from_index(moved.user)).successors;
-        match find_place_near(successors.as_slice(), moved.number, near) {
+        match find_successor_near(successors.as_slice(), moved.number, near) {
             Some(found) => successors.at_mut(found).place = index,
             None => unreachable!(),
         }
@@ -436,7 +442,7 @@ impl<D: Dialects> Named<D> for BlockIndex {
         named: BlockIndex,
         new: UseIndex,
         near: usize,
-    ) -> Result<usize, AllocError> {
+    ) -> Result<UseRank, AllocError> {
         push_use(
             &mut records.blocks.at_mut(Ptr::from_index(named.index)).uses,
             new,
@@ -445,7 +451,7 @@ impl<D: Dialects> Named<D> for BlockIndex {
     }
 
     #[inline(always)]
-    fn take_use(records: &mut Records<D>, named: BlockIndex, index: usize) -> Option<KeptUse> {
+    fn take_use(records: &mut Records<D>, named: BlockIndex, index: UseRank) -> Option<KeptUse> {
         take_use(
             &mut records.blocks.at_mut(Ptr::from_index(named.index)).uses,
             index,

@@ -19,7 +19,7 @@ use ir_base_dialects::{CoreError, Dialects, Ptr, TypeHandle};
 use ir_core_context::{Context, DanglingPtrDerefError};
 use ir_core_records::{
     BasicBlock, Definer, Definitions, KeptUse, Records, Use, UseIndex, Value, ValueIndex,
-    definition, find_place, uses,
+    definition, find_operand, find_successor, uses,
 };
 use std::alloc::Global;
 
@@ -216,7 +216,7 @@ impl<D: Dialects> UseQueries<D> for Use<Value<D>> {
     fn try_find_index(self, ctx: &Context<D>) -> Result<usize, IndexErr> {
         ctx.recall_holds_together();
         match ctx.records().ops.get(Ptr::from_index(self.index.user)) {
-            Some(op) => match find_place(op.operands.as_slice(), self.index.number) {
+            Some(op) => match find_operand(op.operands.as_slice(), self.index.number) {
                 Some(index) => Ok(index),
                 None => Err(IndexErr::UseError(UseError::OperandNotInUserOp)),
             },
@@ -235,7 +235,7 @@ impl<D: Dialects> UseQueries<D> for Use<Value<D>> {
         ctx.recall_well_formed();
         let index = self.find_index(ctx);
         let user = ctx.records().ops.at(Ptr::from_index(self.index.user));
-        Value::from_index(user.operands.at(index).names)
+        Value::from_index(user.operands.at(index).names())
     }
 
     fn get_type(self, ctx: &Context<D>) -> TypeHandle {
@@ -278,7 +278,7 @@ impl<D: Dialects> BlockUseQueries<D> for Use<Ptr<BasicBlock<D>>> {
     fn try_find_index(self, ctx: &Context<D>) -> Result<usize, IndexErr> {
         ctx.recall_holds_together();
         match ctx.records().ops.get(Ptr::from_index(self.index.user)) {
-            Some(op) => match find_place(op.successors.as_slice(), self.index.number) {
+            Some(op) => match find_successor(op.successors.as_slice(), self.index.number) {
                 Some(index) => Ok(index),
                 None => Err(IndexErr::UseError(UseError::SuccessorNotInUserOp)),
             },

@@ -1,1 +1,2 @@
 pub mod DefinitionLists
+mod HeldLists

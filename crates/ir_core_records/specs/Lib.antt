@@ -15,6 +15,9 @@ pub mod Distinct
 pub mod Found
 pub mod Meant
 pub mod KeptUses
+pub mod KeptOperands
+pub mod HeldItems
+pub mod HeldLends
 pub mod Edited
 pub mod KeptTrees
 pub mod Mapped

@@ -7,15 +7,16 @@ ghost use Rattle.ir_core_records.specs.DefinitionEdits.{unused_definition, rewri
 ghost use Rattle.ir_core_records.specs.Lends.{lends_definition_uses};
 
 use crate::numbered::find_numbered;
+use crate::one_or_more::OneOrMore;
 use crate::record::{Definition, Uses};
-use ir_base_dialects::{Identifier, PlainSeq, ShortSeq, TypeHandle};
+use ir_base_dialects::{Identifier, PlainSeq, TypeHandle};
 use std::alloc::{AllocError, Global};
 use std::marker::Model;
 
 /// Definitions in order, no two with one number. One of them takes no allocation.
 #[derive(Drop)]
 pub struct Definitions {
-    items: ShortSeq<Definition, 1>,
+    items: OneOrMore<Definition>,
 }
 
 impl Model for Definitions {
@@ -49,21 +50,20 @@ fn new_definitions(
     alloc: Global,
     first: u64,
     types: &[TypeHandle],
-) -> Result<ShortSeq<Definition, 1>, AllocError>
+) -> Result<OneOrMore<Definition>, AllocError>
     requires { first + length types.now < 2 ^ 64 }
     ensures { IfOk result (λ definitions. definitions ≡ definitions_from first types.now) }
 {
     if let [ty] = types {
-        return Ok(ShortSeq::full(alloc, [new_definition(alloc, first, *ty)]));
+        return Ok(OneOrMore::one(alloc, new_definition(alloc, first, *ty)));
     }
-    let mut definitions = ShortSeq::new(alloc);
-    definitions.reserve(types.len())?;
+    let mut definitions = Vec::with_capacity(alloc, types.len())?;
     let mut number = first;
     for ty in types {
         definitions.push(new_definition(alloc, number, *ty))?;
         number += 1;
     }
-    Ok(definitions)
+    Ok(OneOrMore::of(alloc, definitions))
 }
 
 // Gives a definition this name, or none.
@@ -79,7 +79,7 @@ impl Definitions {
         ensures { result ≡ [] }
     {
         Definitions {
-            items: ShortSeq::new(alloc),
+            items: OneOrMore::new(alloc),
         }
     }
 

@@ -7,21 +7,29 @@ mod basic_block;
 mod block_list;
 mod definitions;
 mod handles;
+mod kept_operand;
 mod kept_use;
 mod numbered;
+mod one_or_more;
 mod op_list;
 mod operation;
 mod reads;
 mod record;
 mod records;
 mod take_out;
+mod use_rank;
 
 pub use definitions::Definitions;
 pub use handles::{DefiningEntity, Use, Value};
+pub use kept_operand::KeptOperand;
 pub use kept_use::KeptUse;
-pub use reads::{block_uses, definition, find_place, find_place_near, uses};
+pub use reads::{
+    block_uses, definition, find_operand, find_operand_near, find_successor, find_successor_near,
+    uses,
+};
 pub use record::{
     BasicBlock, BasicBlockMut, BlockIndex, Definer, Definition, EntityIndex, Operands, Operation,
     OperationMut, OpsInBlock, Region, Successors, UseIndex, UsePlace, Uses, ValueIndex,
 };
 pub use records::Records;
+pub use use_rank::UseRank;

@@ -5,7 +5,8 @@
 ghost use Rattle.std.specs.Prelude.{◌≡◌, ◌↔◌, ℕ, ◌==◌, IsTrue, Some, map, position};
 ghost use Rattle.ir_model.specs.Ids.{Distinct};
 
-use crate::record::{Definition, UsePlace};
+use crate::kept_operand::KeptOperand;
+use crate::record::{BlockIndex, Definition, UsePlace};
 
 // An item with a number.
 pub(crate) trait Numbered {
@@ -23,7 +24,16 @@ impl Numbered for Definition {
     }
 }
 
-impl<N> Numbered for UsePlace<N> {
+impl Numbered for KeptOperand {
+    ghost number_of = { λ a. a.number };
+
+    #[inline(always)]
+    fn number(&self) -> u64 {
+        self.number()
+    }
+}
+
+impl Numbered for UsePlace<BlockIndex> {
     ghost number_of = { λ a. a.number };
 
     fn number(&self) -> u64 {

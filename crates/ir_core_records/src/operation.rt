@@ -64,7 +64,7 @@ impl<D: Dialects> Operation<D> {
         requires { index < length (op_record self.now).operands }
         ensures { option_map (λ a. a.value) (slice_get (op_record self.now).operands index) ≡ Some (value_of result.index) }
     {
-        Value::from_index(self.operands.at(index).names)
+        Value::from_index(self.operands.at(index).names())
     }
 
     /// The operand at an index below their number, as a use.
@@ -75,7 +75,7 @@ impl<D: Dialects> Operation<D> {
     {
         Use::from_index(UseIndex {
             user: self.index,
-            number: self.operands.at(index).number,
+            number: self.operands.at(index).number(),
         })
     }
 

@@ -4,6 +4,7 @@ ghost use Rattle.std.specs.Prelude.{◌≡◌, ◌==◌, position};
 ghost use Rattle.ir_core_records.specs.Lists.{HaveDistinctUses, IsDefinition};
 ghost use Rattle.ir_core_records.specs.Table.{block_uses_at, definitions_at, uses_at, IsLiveBlock, IsValue};
 
+use crate::kept_operand::KeptOperand;
 use crate::numbered::{find_near, find_numbered};
 use crate::record::{BlockIndex, Definer, Definition, UsePlace, Uses, ValueIndex};
 use crate::records::Records;
@@ -46,19 +47,40 @@ pub fn uses<D: Dialects>(records: &Records<D>, value: ValueIndex) -> &Uses
     &definition(records, value).uses
 }
 
-/// The index of the operand or successor with this number.
-pub fn find_place<N>(places: &[UsePlace<N>], number: u64) -> Option<usize>
-    requires { HaveDistinctUses places.now }
-    ensures { result ≡ position (λ a. a.number == number) places.now }
+/// The index of the operand with this number.
+pub fn find_operand(operands: &[KeptOperand], number: u64) -> Option<usize>
+    requires { HaveDistinctUses operands.now }
+    ensures { result ≡ position (λ a. a.number == number) operands.now }
 {
-    find_numbered(places, number)
+    find_numbered(operands, number)
 }
 
-/// The index of the operand or successor with this number. It is first sought where it was near once, and the answer doesn't depend on that.
+/// The index of the operand with this number. It is first sought where it was near once, and the answer doesn't depend on that.
 #[inline(always)]
-pub fn find_place_near<N>(places: &[UsePlace<N>], number: u64, near: usize) -> Option<usize>
-    requires { HaveDistinctUses places.now }
-    ensures { result ≡ position (λ a. a.number == number) places.now }
+pub fn find_operand_near(operands: &[KeptOperand], number: u64, near: usize) -> Option<usize>
+    requires { HaveDistinctUses operands.now }
+    ensures { result ≡ position (λ a. a.number == number) operands.now }
 {
-    find_near(places, number, near)
+    find_near(operands, number, near)
+}
+
+/// The index of the successor with this number.
+pub fn find_successor(successors: &[UsePlace<BlockIndex>], number: u64) -> Option<usize>
+    requires { HaveDistinctUses successors.now }
+    ensures { result ≡ position (λ a. a.number == number) successors.now }
+{
+    find_numbered(successors, number)
+}
+
+/// The index of the successor with this number. It is first sought where it was near once, and the answer doesn't depend on that.
+#[inline(always)]
+pub fn find_successor_near(
+    successors: &[UsePlace<BlockIndex>],
+    number: u64,
+    near: usize,
+) -> Option<usize>
+    requires { HaveDistinctUses successors.now }
+    ensures { result ≡ position (λ a. a.number == number) successors.now }
+{
+    find_near(successors, number, near)
 }

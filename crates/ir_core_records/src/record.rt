@@ -3,12 +3,12 @@
 //! Each definition keeps the list of its uses, and each place that names one the place of its use in that list. Lists of common sizes lie in the record itself.
 
 use crate::definitions::Definitions;
+use crate::kept_operand::KeptOperand;
 use crate::kept_use::KeptUse;
+use crate::use_rank::UseRank;
 use ir_base_arenas::Link;
 use ir_base_dialects::attribute::AttributeDict;
-use ir_base_dialects::{ArenaIndex, Dialects, Identifier, Plain, PlainSeq, Seq};
-use std::alloc::Global;
-use std::default::MadeWith;
+use ir_base_dialects::{ArenaIndex, Dialects, Identifier, PlainSeq, Seq};
 
 /// An operation, a block or a region, as an index.
 #[derive(Clone, Copy, Debug, Drop, PartialEq, Eq, Hash)]
@@ -66,11 +66,11 @@ pub struct UsePlace<N> {
     /// What it names.
     pub names: N,
     /// Where its use stands among the uses of what it names.
-    pub place: usize,
+    pub place: UseRank,
 }
 
 /// The operands of an operation, in order. Two of them take no allocation.
-pub type Operands = PlainSeq<UsePlace<ValueIndex>, 2>;
+pub type Operands = PlainSeq<KeptOperand, 2>;
 
 /// The successors of an operation, in order. Most operations have none, so they lie outside the record.
 pub type Successors = Seq<UsePlace<BlockIndex>>;
@@ -186,53 +186,11 @@ fn no_index() -> ArenaIndex {
     }
 }
 
-impl Default for BlockIndex {
-    fn default() -> BlockIndex {
-        BlockIndex { index: no_index() }
-    }
-}
-
-impl Default for ValueIndex {
-    fn default() -> ValueIndex {
-        ValueIndex {
-            definer: Definer::Op(no_index()),
-            number: 0,
-        }
-    }
-}
-
 impl Default for UseIndex {
     fn default() -> UseIndex {
         UseIndex {
             user: no_index(),
             number: 0,
-        }
-    }
-}
-
-impl<N: Default> Default for UsePlace<N> {
-    fn default() -> UsePlace<N> {
-        UsePlace {
-            number: 0,
-            names: N::default(),
-            place: 0,
-        }
-    }
-}
-
-impl<N: Copy> Plain for UsePlace<N> {
-    fn copied(&self) -> UsePlace<N> {
-        *self
-    }
-}
-
-impl MadeWith<Global> for Definition {
-    fn made_with(alloc: Global) -> Definition {
-        Definition {
-            number: 0,
-            ty: 0,
-            name: None,
-            uses: PlainSeq::new(alloc),
         }
     }
 }

@@ -2,20 +2,22 @@
 //!
 //! Memory for uses that move together is there before the first place is renamed: then nothing can fail any more.
 
-ghost use Rattle.std.specs.Prelude.{◌≡◌, ◌↔◌, ◌+◌, ◌==◌, ◌++◌, Bool, true, [], length, map, if◌then◌else◌, IsOk, OnOk, OnErr, IfOk};
+ghost use Rattle.std.specs.Prelude.{◌≡◌, ◌↔◌, ◌+◌, ◌<◌, ◌^◌, ◌==◌, ◌++◌, Bool, true, [], length, map, if◌then◌else◌, IsOk, OnOk, OnErr, IfOk};
+ghost use Rattle.ir_base_arenas.specs.Arena.{IsLiveIn};
 ghost use Rattle.ir_model.specs.declared.ids.ArenaIndex.{ArenaIndex};
 ghost use Rattle.ir_core_records.specs.declared.record.UsePlace.{UsePlace as PlainPlace};
 ghost use Rattle.ir_core_records.specs.Chains.{names_in};
 ghost use Rattle.ir_core_records.specs.Links.{LinkedBut, NoHole, IsPlaced};
+ghost use Rattle.ir_core_records.specs.Lists.{HaveDistinctUses};
 ghost use Rattle.ir_core_records.specs.Meaning.{use_of};
 ghost use Rattle.ir_core_chains.specs.Chain.{Rewrites};
 ghost use Rattle.ir_core_replacing.specs.Chosen.{is_chosen, same_use};
-ghost use Rattle.ir_core_replacing.specs.Renamed.{named_by, renamed, IsPlaceOf};
+ghost use Rattle.ir_core_replacing.specs.Renamed.{named_by, put_name, renamed, IsPlaceOf};
 
 use crate::renames::Renames;
 use crate::use_lists::{append_chosen, keep_others};
 use ir_base_dialects::Dialects;
-use ir_core_records::{KeptUse, Records, UseIndex, Uses};
+use ir_core_records::{KeptUse, Records, UseIndex, UseRank, Uses};
 use std::alloc::{AllocError, Global};
 
 // Lets one use name another definition: it goes to the end of the uses there, and of those that it leaves the last one moves into its place.
@@ -44,6 +46,23 @@ pub(crate) fn redirect_use<D: Dialects, N: Renames<D>>(
     };
     N::rename_place(records, moved.used(), moved.near(), old.names, old.place);
     Ok(())
+}
+
+// Lets the place of a use, which was near an index once, name another definition, among whose uses the use stands at `place`.
+fn rename_place<D: Dialects, N: Renames<D>>(
+    records: &mut Records<D>,
+    used: UseIndex,
+    near: usize,
+    names: N,
+    place: usize,
+)
+    requires live { IsLiveIn records.old.ops used.user }
+    requires distinct { HaveDistinctUses (N.places_at records.old used.user) }
+    requires has { IsPlaced (N.places_at records.old) used }
+    requires bound { place < 2 ^ 63 }
+    ensures { records.new ≡ N.with_places records.old used.user (put_name (N.places_at records.old used.user) used.number names place) }
+{
+    N::rename_place(records, used, near, names, UseRank::new(place));
 }
 
 // Takes the uses of two definitions out: those of the first, and those of the second.
@@ -91,14 +110,18 @@ fn make_ready<D: Dialects, N: Renames<D>>(
     requires named { N.IsNamed records.old to }
     requires start { start ≡ length (N.uses_at records.old to) }
     ensures end { IfOk result (λ end. end ≡ start + length moved.now) }
+    ensures bound { IfOk result (λ end. end < 2 ^ 63) }
     ensures ready { OnOk result (records.new ≡ (if start == 0 then records.old else N.with_uses records.old to (N.uses_at records.old to ++ moved.now))) }
     ensures err { OnErr result (records.new ≡ records.old) }
 {
-    if start == 0 {
-        return Ok(moved.len());
+    let end = start.saturating_add(moved.len());
+    if !UseRank::is_valid(end) {
+        return Err(AllocError);
     }
-    N::append_uses(records, to, moved)?;
-    Ok(N::use_count(records, to))
+    if start > 0 {
+        N::append_uses(records, to, moved)?;
+    }
+    Ok(end)
 }
 
 // Lets all uses of one definition name another, behind those of the other.
@@ -128,7 +151,7 @@ pub(crate) fn redirect_all<D: Dialects, N: Renames<D>>(
     };
     for index in start..end {
         let used = moved.at(index - start);
-        N::rename_place(records, used.used(), used.near(), to, index);
+        rename_place::<D, N>(records, used.used(), used.near(), to, index);
     }
     if start > 0 {
         return Ok(());
@@ -164,16 +187,14 @@ pub(crate) fn redirect_some<D: Dialects, N: Renames<D>>(
         keep_both::<D, N>(records, from, left, to, uses);
         return Err(AllocError);
     }
-    // Its contract tells that so many uses can be counted.
-    let _end = uses.len();
     let mut moved = 0;
     for (index, answer) in answers.iter().enumerate() {
         let used = left.at(index);
         if *answer {
-            N::rename_place(records, used.used(), used.near(), to, start + moved);
+            rename_place::<D, N>(records, used.used(), used.near(), to, start + moved);
             moved += 1;
         } else {
-            N::rename_place(records, used.used(), used.near(), from, index - moved);
+            rename_place::<D, N>(records, used.used(), used.near(), from, index - moved);
         }
     }
     keep_others(&mut left, answers);

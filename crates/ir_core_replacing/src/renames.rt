@@ -9,8 +9,8 @@ ghost use Rattle.ir_core_replacing.specs.Renamed.{put_name, IsPlaceOf};
 use ir_base_dialects::{ArenaIndex, Dialects, Ptr};
 use ir_core_chains::Named;
 use ir_core_records::{
-    BlockIndex, Definer, KeptUse, Records, UseIndex, UsePlace, Uses, ValueIndex, find_place,
-    find_place_near,
+    BlockIndex, Definer, KeptOperand, KeptUse, Records, UseIndex, UsePlace, UseRank, Uses,
+    ValueIndex, find_operand, find_operand_near, find_successor, find_successor_near,
 };
 use std::alloc::AllocError;
 use std::mem;
@@ -34,7 +34,7 @@ pub(crate) trait Renames<D: Dialects>: Named<D> {
         used: UseIndex,
         near: usize,
         names: Self,
-        place: usize,
+        place: UseRank,
     )
         requires live { IsLiveIn records.old.ops used.user }
         requires distinct { HaveDistinctUses (Self.places_at records.old used.user) }
@@ -69,8 +69,8 @@ impl<D: Dialects> Renames<D> for ValueIndex {
 
     fn place_of(records: &Records<D>, used: UseIndex) -> (UsePlace<ValueIndex>, usize) {
         let operands = &records.ops.at(Ptr::from_index(used.user)).operands;
-        match find_place(operands.as_slice(), used.number) {
-            Some(found) => (*operands.at(found), found),
+        match find_operand(operands.as_slice(), used.number) {
+            Some(found) => (operands.at(found).get(), found),
             None => unreachable!(),
         }
     }
@@ -80,17 +80,17 @@ impl<D: Dialects> Renames<D> for ValueIndex {
         used: UseIndex,
         near: usize,
         names: ValueIndex,
-        place: usize,
+        place: UseRank,
     ) {
         let operands = &mut records.ops.at_mut(Ptr::from_index(used.user)).operands;
         let number = used.number;
-        match find_place_near(operands.as_slice(), number, near) {
+        match find_operand_near(operands.as_slice(), number, near) {
             Some(found) => {
-                *operands.at_mut(found) = UsePlace {
+                *operands.at_mut(found) = KeptOperand::new(UsePlace {
                     number,
                     names,
                     place,
-                };
+                });
             }
             None => unreachable!(),
         }
@@ -147,7 +147,7 @@ impl<D: Dialects> Renames<D> for BlockIndex {
 
     fn place_of(records: &Records<D>, used: UseIndex) -> (UsePlace<BlockIndex>, usize) {
         let successors = &records.ops.at(Ptr::from_index(used.user)).successors;
-        match find_place(successors.as_slice(), used.number) {
+        match find_successor(successors.as_slice(), used.number) {
             Some(found) => (*successors.at(found), found),
             None => unreachable!(),
         }
@@ -158,11 +158,11 @@ impl<D: Dialects> Renames<D> for BlockIndex {
         used: UseIndex,
         near: usize,
         names: BlockIndex,
-        place: usize,
+        place: UseRank,
     ) {
         let successors = &mut records.ops.at_mut(Ptr::from_index(used.user)).successors;
         let number = used.number;
-        match find_place_near(successors.as_slice(), number, near) {
+        match find_successor_near(successors.as_slice(), number, near) {
             Some(found) => {
                 *successors.at_mut(found) = UsePlace {
                     number,

@@ -1,11 +1,11 @@
 //! The uses of two definitions, while some go from one list to the other.
 
-ghost use Rattle.std.specs.Prelude.{◌≡◌, ◌+◌, ◌<◌, ◌≤◌, ◌++◌, ◌∷◌, [], length, set, slice_get, Some, is_ok, if◌then◌else◌};
+ghost use Rattle.std.specs.Prelude.{◌≡◌, ◌+◌, ◌<◌, ◌≤◌, ◌^◌, ◌++◌, ◌∷◌, [], length, set, slice_get, Some, is_ok, if◌then◌else◌, IsOk};
 ghost use Rattle.ir_core_records.specs.declared.record.UseIndex.{UseIndex as PlainUse};
 ghost use Rattle.ir_core_replacing.specs.Chosen.{chosen, left_out};
 
 use ir_base_dialects::Plain;
-use ir_core_records::{KeptUse, Uses};
+use ir_core_records::{KeptUse, UseRank, Uses};
 use std::alloc::AllocError;
 
 // Puts a use behind the others, if it is to be there.
@@ -19,14 +19,16 @@ fn push_if(uses: &mut Uses, used: &KeptUse, answer: bool) -> Result<(), AllocErr
     }
 }
 
-// Puts the uses whose answer is yes behind the others: all or none.
+// Puts the uses whose answer is yes behind the others: all or none. There is a place for each use then.
 pub(crate) fn append_chosen(
     uses: &mut Uses,
     from: &[KeptUse],
     answers: &[bool],
 ) -> Result<(), AllocError>
     requires { length answers.now ≡ length from.now }
-    ensures { uses.new ≡ (if is_ok result then uses.old ++ chosen from.now answers.now else uses.old) }
+    ensures uses { uses.new ≡ (if is_ok result then uses.old ++ chosen from.now answers.now else uses.old) }
+    ensures size { IsOk result → length uses.new < 2 ^ 63 }
+    ensures count { IsOk result → length answers.now < 2 ^ 63 }
 {
     let start = uses.len();
     for (index, used) in from.iter().enumerate() {
@@ -34,6 +36,10 @@ pub(crate) fn append_chosen(
             uses.truncate(start);
             return Err(AllocError);
         }
+    }
+    if !UseRank::is_valid(uses.len()) || !UseRank::is_valid(answers.len()) {
+        uses.truncate(start);
+        return Err(AllocError);
     }
     Ok(())
 }

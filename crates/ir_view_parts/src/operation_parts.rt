@@ -99,7 +99,7 @@ impl<'a, D: Dialects> HasParts<ValueIndex> for OperandsOf<'a, D> {
     ghost seen = { λ v. v.index };
 
     fn part(&self, index: usize) -> Value<D> {
-        Value::from_index(self.op.operands.at(index).names)
+        Value::from_index(self.op.operands.at(index).names())
     }
 }
 

@@ -7,7 +7,7 @@ ghost use Rattle.ir_model.specs.declared.ids.ArenaIndex.{ArenaIndex as Index};
 use crate::expecting::{expect_same, shows};
 use crate::storing::{in_slot, store};
 use ir_base_arenas::arena_laws::{other_ids_stay, passed_ids_stay};
-use ir_base_arenas::{Arena, ArenaIndex, CoreError, Ptr, Room, Seq, ShortSeq, TakeOut};
+use ir_base_arenas::{Arena, ArenaIndex, CoreError, Ptr, Room, Seq, TakeOut};
 use std::alloc::{AllocError, Global};
 use std::hash::{BuildHasher, BuildHasherDefault, FoldHasher};
 use std::process::Abort;
@@ -341,6 +341,21 @@ fn freed_slots_need_no_memory(rt: HostRuntime) {
     expect_same(&rt, room_and_len(&roots), (0, 1000));
 }
 
+// An arena with more slots than it doubles to keeps its records while it grows.
+#[test]
+fn a_large_arena_grows(rt: HostRuntime) {
+    let mut roots = Arena::new(rt.alloc(), 90_000, 9);
+    for slot in 1..=90_000u32 {
+        expect_places(&rt, &mut roots, &[(slot, 1)]);
+    }
+    let ends = (roots.is_live(in_slot(1)), roots.is_live(in_slot(90_000)));
+    expect_same(
+        &rt,
+        (ends, room_and_len(&roots)),
+        ((true, true), (0, 90_000)),
+    );
+}
+
 // Stores a root that names nothing, and says how often it was made.
 fn make_counted(roots: &mut Arena<Root>) -> (u32, Result<Ptr<Root>, CoreError>) {
     let mut made = 0u32;
@@ -569,11 +584,4 @@ fn a_record_that_went_holds_nothing(rt: HostRuntime) {
     expect_same(&rt, drop_one(&mut holders, second, &shared), 1);
     hold(&rt, rt.alloc(), &mut holders, &shared);
     expect_same(&rt, Rc::strong_count(&shared), 2);
-}
-
-// A full list lies in the record, and has the items that it was made of.
-#[test]
-fn a_full_list_has_its_items(rt: HostRuntime) {
-    let list = ShortSeq::full(rt.alloc(), [7u64, 8]);
-    assert!(rt; list.as_slice() == [7, 8].as_slice());
 }

@@ -1,6 +1,6 @@
 //! Lists as the records keep them, edited and read in the same way whether their items lie in the record or outside.
 
-use ir_base_arenas::{PlainSeq, Seq, ShortSeq};
+use ir_base_arenas::{PlainSeq, Seq};
 use std::alloc::AllocError;
 
 /// An edit of a list. One whose place is past the end does nothing.
@@ -95,74 +95,6 @@ impl Items for Seq<u64> {
             && self.is_empty() == items.is_empty()
             && self.as_slice() == items
             && reads_alike(self)
-    }
-}
-
-// Puts an item at a place, where the list is long enough.
-fn insert_short<const N: usize>(
-    list: &mut ShortSeq<u64, N>,
-    place: usize,
-    item: u64,
-) -> Result<(), AllocError> {
-    if place > list.len() {
-        return Ok(());
-    }
-    list.insert(place, item)
-}
-
-// Takes the item at a place out, where there is one; `moves_last` puts the last one there.
-fn take_short<const N: usize>(
-    list: &mut ShortSeq<u64, N>,
-    place: usize,
-    moves_last: bool,
-) -> Option<u64> {
-    if place >= list.len() {
-        None
-    } else if moves_last {
-        Some(list.swap_remove(place))
-    } else {
-        Some(list.remove(place))
-    }
-}
-
-// Writes the item at a place, where there is one.
-fn write_short<const N: usize>(list: &mut ShortSeq<u64, N>, place: usize, item: u64) {
-    if place < list.len() {
-        *list.at_mut(place) = item;
-    }
-}
-
-// Whether the two ways to read one item give the same at each place, and none behind the last.
-fn reads_alike_short<const N: usize>(list: &ShortSeq<u64, N>) -> bool {
-    for place in 0..list.len() {
-        if list.get(place) != Some(list.at(place)) {
-            return false;
-        }
-    }
-    list.get(list.len()).is_none()
-}
-
-impl<const N: usize> Items for ShortSeq<u64, N> {
-    fn edit(&mut self, edit: Edit<'_>) -> Result<Option<u64>, AllocError> {
-        match edit {
-            Edit::Reserve(additional) => grown(self.reserve(additional)),
-            Edit::Push(item) => grown(self.push(item)),
-            Edit::Insert(place, item) => grown(insert_short(self, place, item)),
-            Edit::Extend(items) => grown(self.extend(items)),
-            Edit::Write(place, item) => Ok(done(write_short(self, place, item))),
-            Edit::Remove(place) => Ok(take_short(self, place, false)),
-            Edit::SwapRemove(place) => Ok(take_short(self, place, true)),
-            Edit::Pop => Ok(self.pop()),
-            Edit::Truncate(len) => Ok(done(self.truncate(len))),
-            Edit::Clear => Ok(done(self.clear())),
-        }
-    }
-
-    fn has(&self, items: &[u64]) -> bool {
-        self.len() == items.len()
-            && self.is_empty() == items.is_empty()
-            && self.as_slice() == items
-            && reads_alike_short(self)
     }
 }
 

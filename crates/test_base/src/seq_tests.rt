@@ -2,7 +2,7 @@
 
 use crate::expecting::expect_same;
 use crate::items::{Edit, Items};
-use ir_base_arenas::{PlainSeq, Seq, ShortSeq};
+use ir_base_arenas::{PlainSeq, Seq};
 use std::alloc::Global;
 use std::process::Abort;
 use std::rc::Rc;
@@ -71,19 +71,16 @@ fn items_outside_the_record(rt: HostRuntime) {
 
 #[test]
 fn items_that_all_lie_outside(rt: HostRuntime) {
-    expect_each_edit(&rt, &mut ShortSeq::<u64, 0>::new(rt.alloc()));
     expect_each_edit(&rt, &mut PlainSeq::<u64, 0>::new(rt.alloc()));
 }
 
 #[test]
 fn items_that_move_outside(rt: HostRuntime) {
-    expect_each_edit(&rt, &mut ShortSeq::<u64, 2>::new(rt.alloc()));
     expect_each_edit(&rt, &mut PlainSeq::<u64, 2>::new(rt.alloc()));
 }
 
 #[test]
 fn items_that_all_lie_inside(rt: HostRuntime) {
-    expect_each_edit(&rt, &mut ShortSeq::<u64, 8>::new(rt.alloc()));
     expect_each_edit(&rt, &mut PlainSeq::<u64, 8>::new(rt.alloc()));
 }
 
@@ -121,7 +118,6 @@ fn expect_growth<L: Items>(rt: &impl Abort, list: &mut L, growth: Growth) {
 fn refused_growth_keeps_the_items(rt: HostRuntime) {
     for growth in [Growth::Push, Growth::Insert, Growth::Extend] {
         expect_growth(&rt, &mut Seq::new(rt.alloc()), growth);
-        expect_growth(&rt, &mut ShortSeq::<u64, 2>::new(rt.alloc()), growth);
         expect_growth(&rt, &mut PlainSeq::<u64, 2>::new(rt.alloc()), growth);
     }
 }
@@ -137,10 +133,6 @@ fn taken_items_leave_an_empty_list(rt: HostRuntime) {
     list.extend(&[1, 2, 3]).expect(&rt, "memory");
     let taken = list.take();
     takes_all(&rt, &list, &taken);
-    let mut short = ShortSeq::<u64, 2>::new(rt.alloc());
-    short.extend(&[1, 2, 3]).expect(&rt, "memory");
-    let taken = short.take();
-    takes_all(&rt, &short, &taken);
     let mut plain = PlainSeq::<u64, 2>::new(rt.alloc());
     plain.extend(&[1, 2, 3]).expect(&rt, "memory");
     let taken = plain.take();
@@ -151,13 +143,13 @@ fn taken_items_leave_an_empty_list(rt: HostRuntime) {
     takes_all(&rt, &inside, &taken);
 }
 
-/// Holders of one number, two of them in the record.
-type Holders = ShortSeq<Option<Rc<u8>>, 2>;
+/// Holders of one number.
+type Holders = Seq<Rc<u8>>;
 
 // Puts one more holder at the end, and answers how many there are.
 fn hold(rt: &impl Abort, list: &mut Holders, shared: &Rc<u8>) -> usize {
     let one = shared.clone().expect(rt, "memory");
-    list.push(Some(one)).expect(rt, "memory");
+    list.push(one).expect(rt, "memory");
     Rc::strong_count(shared)
 }
 

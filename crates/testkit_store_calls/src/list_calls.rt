@@ -3,7 +3,7 @@
 ghost use Rattle.std.specs.Prelude.{◌≡◌};
 
 use crate::store_call::StoreCall;
-use ir_base_dialects::{CoreError, Seq, ShortSeq};
+use ir_base_dialects::{CoreError, PlainSeq, Seq};
 use std::alloc::{AllocError, Global};
 
 /// A call that lets a list grow.
@@ -46,7 +46,7 @@ impl ListCall {
     }
 
     // Makes the call on a list in the record itself.
-    fn grow_short(self, list: &mut ShortSeq<u64, 2>) -> Result<(), AllocError> {
+    fn grow_short(self, list: &mut PlainSeq<u64, 2>) -> Result<(), AllocError> {
         match self {
             ListCall::Reserve => list.reserve(100),
             ListCall::Push => list.push(9),
@@ -88,7 +88,7 @@ impl StoreCall for ListCall {
     fn make(self, alloc: Global) -> Result<bool, CoreError> {
         let mut list = Seq::new(alloc);
         list.extend(&[1, 2])?;
-        let mut short = ShortSeq::new(alloc);
+        let mut short = PlainSeq::new(alloc);
         short.extend(&[1, 2])?;
         let (whole, other) = (self.grow(&mut list), self.grow_short(&mut short));
         Ok(self.fits(whole, list.as_slice()) && self.fits(other, short.as_slice()))

@@ -5,6 +5,7 @@ use Rattle.ir_base_arenas.specs.Arena.{Arena, fill}
 use Rattle.ir_core_records.specs.Growth.{Grows}
 use Rattle.ir_core_records.specs.Chains.{AreLinked, chains_of}
 use Rattle.ir_core_records.specs.Meaning.{forest_in, definition_of}
+use Rattle.ir_core_records.specs.Table.{KnowOwn}
 use Rattle.ir_core_records.specs.Tree.{tree_of, ops_in, blocks_in}
 use Rattle.ir_core_nesting.specs.Bare.{bare_block}
 use Rattle.ir_core_nesting.proofs.Growths.{Grows-one}
@@ -71,3 +72,6 @@ returns-in-Ok-clause-own g c =
 
 pub returns-in-Err-clause-linked : goal.returns-in-Err-clause-linked
 returns-in-Err-clause-linked g c = subst (λ (blocks : Arena _). AreLinked (chains_of c.args.records.now) → AreLinked (chains_of (record c.args.records.now { blocks = blocks }))) (sym c.in-Err.ensures.err) (λ h. h)
+
+pub returns-in-Err-clause-own : goal.returns-in-Err-clause-own
+returns-in-Err-clause-own g c own = subst (λ a. KnowOwn (record (c.args.records.now) { blocks = a })) (sym c.in-Err.ensures.err) own

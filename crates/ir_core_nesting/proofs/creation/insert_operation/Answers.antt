@@ -5,6 +5,7 @@ use Rattle.ir_base_arenas.specs.Arena.{Arena, fill}
 use Rattle.ir_core_records.specs.Growth.{Grows}
 use Rattle.ir_core_records.specs.Chains.{AreLinked, chains_of}
 use Rattle.ir_core_records.specs.Meaning.{forest_in, definition_of}
+use Rattle.ir_core_records.specs.Table.{KnowOwn}
 use Rattle.ir_core_records.specs.Tree.{tree_of, ops_in}
 use Rattle.ir_core_nesting.specs.Bare.{bare_op}
 use Rattle.ir_core_nesting.proofs.Growths.{Grows-one}
@@ -59,3 +60,6 @@ returns-in-Ok-clause-own g c =
 
 pub returns-in-Err-clause-linked : goal.returns-in-Err-clause-linked
 returns-in-Err-clause-linked g c = subst (λ (ops : Arena _). AreLinked (chains_of c.args.records.now) → AreLinked (chains_of (record c.args.records.now { ops = ops }))) (sym c.in-Err.ensures.err) (λ h. h)
+
+pub returns-in-Err-clause-own : goal.returns-in-Err-clause-own
+returns-in-Err-clause-own g c own = subst (λ a. KnowOwn (record (c.args.records.now) { ops = a })) (sym c.in-Err.ensures.err) own

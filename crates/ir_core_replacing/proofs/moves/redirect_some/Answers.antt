@@ -31,7 +31,7 @@ keep_both-requires-clause-to g c =
 pub returns-then-is_err-clause-err : goal.returns-then-is_err-clause-err
 returns-then-is_err-clause-err g c =
     let denied : is_ok c.append_chosen.result ≡ false = c.is_err.ensures.negation ∙ ap not c.if-is_err.true in
-    let kept = rw denied at c.append_chosen.ensures in
+    let kept = rw denied at c.append_chosen.ensures.uses in
     put_back g.met.N.Named.chain c.args.records.now c.take_both-left.new.records c.args.from c.args.to c.requires.linked c.requires.old c.requires.named (λ e. false≢true (sym c.if-is_same.false ∙ c.is_same.ensures.1 e)) c.take_both-left.ensures.records c.keep_both.new.records c.append_chosen.new.uses c.take_both-left.result.0 (kept ∙ c.take_both-left.ensures.to) c.take_both-left.ensures.from c.keep_both.ensures
 
 pub returns-then-is_err-clause-linked : goal.returns-then-is_err-clause-linked
@@ -51,15 +51,14 @@ loop-index-init g c = record {
 pub overflow_add-start : goal.overflow_add-start
 overflow_add-start g c =
     let done : is_ok c.append_chosen.result ≡ true = c.is_err.ensures.negation ∙ ap not c.if-is_err.false in
-    let whole = rw done at c.append_chosen.ensures in
+    let whole = rw done at c.append_chosen.ensures.uses in
     let grown = whole ∙ (λ q. c.take_both-left.ensures.to q ++ chosen ((c.as_slice.ensures ∙ c.take_both-left.ensures.from) q) c.args.answers.now) in
     let at_start = c.len-start.ensures ∙ ap length c.take_both-left.ensures.to in
     let at = ap (λ (ws : List UseIndex). slice_get ws c.loop-index.index) (sym c.take_both-left.ensures.from) ∙ c.at-used.ensures in
     let answer : slice_get c.args.answers.now c.loop-index.index ≡ Some true = slice_get-get_or c.args.answers.now c.loop-index.index false c.loop-index-test.true ∙ ap Some c.if-answer.true in
     let room = chosen-room (g.N.Named.uses_at c.args.records.now c.args.to) (g.N.Named.uses_at c.args.records.now c.args.from) c.args.answers.now c.append_chosen.new.uses c.len-start.result c.loop-index.moved c.loop-index.index c.at-used.result.now grown at_start c.loop-index.invariant.count at answer in
-    let size = c.len-end.ensures in
-    let bound = c.len-end.type_inv in
-    omega (arith, room, size, bound)
+    let bound = c.append_chosen.ensures.size done in
+    omega (arith, room, bound)
 
 pub rename_place-requires-clause-live : goal.rename_place-requires-clause-live
 rename_place-requires-clause-live g c =
@@ -71,6 +70,18 @@ rename_place-requires-clause-distinct g c =
     let at = ap (λ (ws : List UseIndex). slice_get ws c.loop-index.index) (sym c.take_both-left.ensures.from) ∙ c.at-used.ensures in
     rw c.used.ensures (next_numbers g.met.N.Named.chain c.args.records.now c.take_both-left.new.records c.loop-index.records c.args.from (go_chosen c.args.from c.args.to c.len-start.result c.args.answers.now) c.loop-index.index c.requires.linked c.loop-index.invariant.going c.at-used.result.now at)
 
+pub rename_place-requires-clause-bound : goal.rename_place-requires-clause-bound
+rename_place-requires-clause-bound g c =
+    let done : is_ok c.append_chosen.result ≡ true = c.is_err.ensures.negation ∙ ap not c.if-is_err.false in
+    let whole = rw done at c.append_chosen.ensures.uses in
+    let grown = whole ∙ (λ q. c.take_both-left.ensures.to q ++ chosen ((c.as_slice.ensures ∙ c.take_both-left.ensures.from) q) c.args.answers.now) in
+    let at_start = c.len-start.ensures ∙ ap length c.take_both-left.ensures.to in
+    let at = ap (λ (ws : List UseIndex). slice_get ws c.loop-index.index) (sym c.take_both-left.ensures.from) ∙ c.at-used.ensures in
+    let answer : slice_get c.args.answers.now c.loop-index.index ≡ Some true = slice_get-get_or c.args.answers.now c.loop-index.index false c.loop-index-test.true ∙ ap Some c.if-answer.true in
+    let room = chosen-room (g.N.Named.uses_at c.args.records.now c.args.to) (g.N.Named.uses_at c.args.records.now c.args.from) c.args.answers.now c.append_chosen.new.uses c.len-start.result c.loop-index.moved c.loop-index.index c.at-used.result.now grown at_start c.loop-index.invariant.count at answer in
+    let bound = c.append_chosen.ensures.size done in
+    omega (arith, room, bound)
+
 pub rename_place-requires-clause-has : goal.rename_place-requires-clause-has
 rename_place-requires-clause-has g c =
     let at = ap (λ (ws : List UseIndex). slice_get ws c.loop-index.index) (sym c.take_both-left.ensures.from) ∙ c.at-used.ensures in
@@ -79,15 +90,14 @@ rename_place-requires-clause-has g c =
 pub overflow_add-moved : goal.overflow_add-moved
 overflow_add-moved g c =
     let done : is_ok c.append_chosen.result ≡ true = c.is_err.ensures.negation ∙ ap not c.if-is_err.false in
-    let whole = rw done at c.append_chosen.ensures in
+    let whole = rw done at c.append_chosen.ensures.uses in
     let grown = whole ∙ (λ q. c.take_both-left.ensures.to q ++ chosen ((c.as_slice.ensures ∙ c.take_both-left.ensures.from) q) c.args.answers.now) in
     let at_start = c.len-start.ensures ∙ ap length c.take_both-left.ensures.to in
     let at = ap (λ (ws : List UseIndex). slice_get ws c.loop-index.index) (sym c.take_both-left.ensures.from) ∙ c.at-used.ensures in
     let answer : slice_get c.args.answers.now c.loop-index.index ≡ Some true = slice_get-get_or c.args.answers.now c.loop-index.index false c.loop-index-test.true ∙ ap Some c.if-answer.true in
     let room = chosen-room (g.N.Named.uses_at c.args.records.now c.args.to) (g.N.Named.uses_at c.args.records.now c.args.from) c.args.answers.now c.append_chosen.new.uses c.len-start.result c.loop-index.moved c.loop-index.index c.at-used.result.now grown at_start c.loop-index.invariant.count at answer in
-    let size = c.len-end.ensures in
-    let bound = c.len-end.type_inv in
-    omega (arith, room, size, bound)
+    let bound = c.append_chosen.ensures.size done in
+    omega (arith, room, bound)
 
 pub overflow_sub-index : goal.overflow_sub-index
 overflow_sub-index g c =
@@ -105,6 +115,13 @@ pub rename_place-requires-else-answer-clause-distinct : goal.rename_place-requir
 rename_place-requires-else-answer-clause-distinct g c =
     let at = ap (λ (ws : List UseIndex). slice_get ws c.loop-index.index) (sym c.take_both-left.ensures.from) ∙ c.at-used.ensures in
     rw c.used-else-answer.ensures (next_numbers g.met.N.Named.chain c.args.records.now c.take_both-left.new.records c.loop-index.records c.args.from (go_chosen c.args.from c.args.to c.len-start.result c.args.answers.now) c.loop-index.index c.requires.linked c.loop-index.invariant.going c.at-used.result.now at)
+
+pub rename_place-requires-else-answer-clause-bound : goal.rename_place-requires-else-answer-clause-bound
+rename_place-requires-else-answer-clause-bound g c =
+    let done : is_ok c.append_chosen.result ≡ true = c.is_err.ensures.negation ∙ ap not c.if-is_err.false in
+    let test = c.loop-index-test.true in
+    let bound = c.append_chosen.ensures.count done in
+    omega (arith, test, bound)
 
 pub rename_place-requires-else-answer-clause-has : goal.rename_place-requires-else-answer-clause-has
 rename_place-requires-else-answer-clause-has g c =
@@ -145,7 +162,7 @@ keep_both-requires-2-clause-to g c = rewrites-has g.met.N.Named.chain c.args.rec
 pub returns-clause-linked : goal.returns-clause-linked
 returns-clause-linked g c =
     let done : is_ok c.append_chosen.result ≡ true = c.is_err.ensures.negation ∙ ap not c.if-is_err.false in
-    let whole = rw done at c.append_chosen.ensures in
+    let whole = rw done at c.append_chosen.ensures.uses in
     let grown = whole ∙ (λ q. c.take_both-left.ensures.to q ++ chosen ((c.as_slice.ensures ∙ c.take_both-left.ensures.from) q) c.args.answers.now) in
     let at_start = c.len-start.ensures ∙ ap length c.take_both-left.ensures.to in
     let count = c.requires.count in
@@ -156,7 +173,7 @@ returns-clause-linked g c =
 pub returns-clause-names : goal.returns-clause-names
 returns-clause-names g c =
     let done : is_ok c.append_chosen.result ≡ true = c.is_err.ensures.negation ∙ ap not c.if-is_err.false in
-    let whole = rw done at c.append_chosen.ensures in
+    let whole = rw done at c.append_chosen.ensures.uses in
     let grown = whole ∙ (λ q. c.take_both-left.ensures.to q ++ chosen ((c.as_slice.ensures ∙ c.take_both-left.ensures.from) q) c.args.answers.now) in
     let at_start = c.len-start.ensures ∙ ap length c.take_both-left.ensures.to in
     let count = c.requires.count in

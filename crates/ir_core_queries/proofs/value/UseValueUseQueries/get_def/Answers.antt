@@ -9,7 +9,7 @@ use Rattle.ir_core_queries.proofs.value.UseValueUseQueries.get_def.Goals as goal
 pub returns-clause-found : goal.returns-clause-found
 returns-clause-found g c =
     let user = rw c.records.ensures at c.at-user.ensures in
-    rw c.from_index-2.ensures
+    rw (c.from_index-2.ensures ∙ c.names.ensures)
     (operand-names c.args.ctx.now.records c.args.self.index c.at-user.result.now (sym user ∙ ap (get c.args.ctx.now.records.ops) c.from_index.ensures) c.find_index-index.result c.at.result.now c.find_index-index.ensures c.at.ensures)
 
 pub returns-clause-live : goal.returns-clause-live

@@ -10,9 +10,9 @@ pub unreachable-requires : goal.unreachable-requires
 unreachable-requires g c =
     let r = c.requires.has in
     let at = ap (λ (xs : List (UsePlace BlockIndex)). slice_get xs r.0) (successors-read c.args.records.now c.args.used.user c.from_index.result.index c.at.result.now c.from_index.ensures c.at.ensures) ∙ r.2 in
-    has_place-found c.at.result.now.successors c.args.used.number r.0 r.1 at r.3 (sym (c.find_place.ensures ∙ ap (λ (xs : List (UsePlace BlockIndex)). position (λ a. a.number == c.args.used.number) xs) c.as_slice.ensures) ∙ c.in-None.is)
+    has_place-found c.at.result.now.successors c.args.used.number r.0 r.1 at r.3 (sym (c.find_successor.ensures ∙ ap (λ (xs : List (UsePlace BlockIndex)). position (λ a. a.number == c.args.used.number) xs) c.as_slice.ensures) ∙ c.in-None.is)
 
 pub returns : goal.returns
 returns g c =
     found_place c.at.result.now.successors _ (successors-read c.args.records.now c.args.used.user c.from_index.result.index c.at.result.now c.from_index.ensures c.at.ensures) c.args.used.number c.in-Some.found c.at-in-Some.result.now
-    (sym (c.find_place.ensures ∙ ap (λ (xs : List (UsePlace BlockIndex)). position (λ a. a.number == c.args.used.number) xs) c.as_slice.ensures) ∙ c.in-Some.is) c.at-in-Some.ensures
+    (sym (c.find_successor.ensures ∙ ap (λ (xs : List (UsePlace BlockIndex)). position (λ a. a.number == c.args.used.number) xs) c.as_slice.ensures) ∙ c.in-Some.is) c.at-in-Some.ensures

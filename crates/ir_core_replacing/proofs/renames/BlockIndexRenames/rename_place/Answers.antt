@@ -12,11 +12,11 @@ pub unreachable-requires : goal.unreachable-requires
 unreachable-requires g c =
     let r = c.requires.has in
     let at = ap (λ (xs : List (UsePlace BlockIndex)). slice_get xs r.0) (successors-read c.args.records.now c.args.used.user c.from_index.result.index c.at_mut.result.now c.from_index.ensures c.at_mut.ensures.value) ∙ r.2 in
-    has_place-found c.at_mut.result.now.successors c.args.used.number r.0 r.1 at r.3 (sym (c.find_place_near.ensures ∙ ap (λ (xs : List (UsePlace BlockIndex)). position (λ a. a.number == c.args.used.number) xs) c.as_slice.ensures) ∙ c.in-None.is)
+    has_place-found c.at_mut.result.now.successors c.args.used.number r.0 r.1 at r.3 (sym (c.find_successor_near.ensures ∙ ap (λ (xs : List (UsePlace BlockIndex)). position (λ a. a.number == c.args.used.number) xs) c.as_slice.ensures) ∙ c.in-None.is)
 
 pub returns : goal.returns
 returns g c =
     successors-written c.args.records.now c.args.used.user c.from_index.result.index c.at_mut.result.now c.from_index.ensures c.at_mut.ensures.value _
     ∙ ap (with_successors c.args.records.now c.args.used.user)
-    (put_name-at c.at_mut.result.now.successors c.args.used.number c.args.names c.args.place c.in-Some.found (sym (c.find_place_near.ensures ∙ ap (λ (xs : List (UsePlace BlockIndex)). position (λ a. a.number == c.args.used.number) xs) c.as_slice.ensures) ∙ c.in-Some.is)
+    (put_name-at c.at_mut.result.now.successors c.args.used.number c.args.names c.args.place c.in-Some.found (sym (c.find_successor_near.ensures ∙ ap (λ (xs : List (UsePlace BlockIndex)). position (λ a. a.number == c.args.used.number) xs) c.as_slice.ensures) ∙ c.in-Some.is)
     ∙ ap (λ (xs : List (UsePlace BlockIndex)). put_name xs c.args.used.number c.args.names c.args.place) (successors-read c.args.records.now c.args.used.user c.from_index.result.index c.at_mut.result.now c.from_index.ensures c.at_mut.ensures.value))
