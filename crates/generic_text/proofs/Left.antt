@@ -1,15 +1,17 @@
 -- What changes leave as it was: all that was there before something new was made, where they change what is new.
-use Rattle.std.proofs.Common.{◌≡◌, ◌∙◌, ℕ, inl, inr, Bool, true, false, is_some, Option, Some, None, IsSome, List, [], refl, sym, ap, subst}
+use Rattle.std.proofs.Common.{◌≡◌, ◌∙◌, ℕ, inl, inr, not, Bool, true, false, cond, is_some, Option, Some, None, IsSome, List, [], ◌∷◌, refl, sym, ap, subst}
 use Rattle.std.specs.List.{list_any}
+use Rattle.std.specs.Option.{option_map}
 use Rattle.ir_model.specs.declared.ids.ArenaIndex.{ArenaIndex}
 use Rattle.ir_model.specs.ContextIds.{context_ids, same_id}
-use Rattle.ir_model.specs.Forest.{BlockRecord, Definition, Dialect, Entity, Forest, OpRecord, Operand, Successor, Text, a_block, a_region, an_op, of_block, of_op}
-use Rattle.ir_model.specs.Nesting.{In, IsLive, Nested, list_of, regions_of}
-use Rattle.ir_model.specs.Calls.{set_attributes, set_label, set_loc}
-use Rattle.ir_model.specs.Changes.{new_block, new_op, on_block, on_op, on_region, rewrite}
-use Rattle.ir_model.proofs.TwoRuns.{id_tells}
+use Rattle.ir_model.specs.Forest.{BlockRecord, Definition, Dialect, Entity, Forest, OpRecord, Operand, Successor, Text, a_block, a_region, an_op, same_entity}
+use Rattle.ir_model.specs.Nesting.{In, Inside, IsLive, Nested, blocks_of, children, list_of, ops_of, regions_of}
+use Rattle.ir_model.specs.Changes.{DropsUses, Removes, but, new_block, new_op, on_block, on_op, on_ops, on_region, on_regions, rewrite}
+use Rattle.ir_model.proofs.KeepsErase.{same_tells}
 use Rattle.ir_model.proofs.KeepsNew.{any_in, put_at}
 use Rattle.ir_model.proofs.Nests.{In-map}
+use Rattle.ir_model.proofs.TwoRuns.{id_tells, lawful}
+use Rattle.ir_core_context.specs.Calls.{NoEntity}
 use Rattle.generic_text.specs.Left.{LeavesAll}
 
 -- what is rewritten under a key is as it was under any other
@@ -20,9 +22,33 @@ other_stays key x g m differ = by (same_id x key) refl
     by true e = absurd (differ ((id_tells x key).0 e))
     by false e = rw e
 
+-- a list without an entity is all of it but that entity
+but_none : {A : Type 0} (e : Entity context_ids) (c : A → Entity context_ids) (xs : List A) → ((x : A) → In x xs → c x ≡ e → ⊥) → but e c xs ≡ xs
+but_none e c [] none = refl
+but_none {A} e c (x ∷ xs) none = by (but_none e c xs (λ y at. none y (inr at))) (same_entity context_ids (c x) e) refl
+  where
+    by : but e c xs ≡ xs → (b : Bool) → same_entity context_ids (c x) e ≡ b → cond (not b) (x ∷ but e c xs) (but e c xs) ≡ x ∷ xs
+    by rest true is = absurd (none x (inl refl) (same_tells context_ids lawful (c x) e is))
+    by rest false is = ap (λ (ys : List A). x ∷ ys) rest
+
+-- and so with the list of a record
+record_stays : {R A : Type 0} (e : Entity context_ids) (c : A → Entity context_ids) (of : R → List A) (on : (List A → List A) → R → R) → ((xs : List A) (r : R) → of r ≡ xs → on (λ _. xs) r ≡ r) → ((h : List A → List A) (r : R) → on h r ≡ on (λ _. h (of r)) r)
+    → (m : Option R) → ((x : A) → In x (list_of of m) → c x ≡ e → ⊥) → option_map (on (but e c)) m ≡ m
+record_stays e c of on same by None none = refl
+record_stays {R} e c of on same by (Some r) none = ap Some (by (but e c) r ∙ same (but e c (of r)) r (sym (but_none e c (of r) none)))
+
+-- nothing is live where there is nothing
+none_live : {R : Type 0} (m : Option R) → m ≡ None → IsSome m → ⊥
+none_live None is live = cc
+none_live (Some r) is live = cc
+
 module _ {W : Dialect} where
   pub leaves-none : (f : Forest context_ids W) → LeavesAll f f
   leaves-none f = record { ops = λ o live. refl; blocks = λ b live. refl; regions = λ r live. refl }
+
+  -- where nothing was there
+  pub leaves-empty : (old g : Forest context_ids W) → NoEntity old → LeavesAll old g
+  leaves-empty old g none = record { ops = λ o live. absurd (none_live (old.ops o) (none.ops o) live); blocks = λ b live. absurd (none_live (old.blocks b) (none.blocks b) live); regions = λ r live. absurd (none_live (old.regions r) (none.regions r) live) }
 
   module _ (old f : Forest context_ids W) (left : LeavesAll old f) where
     -- what was there is there
@@ -101,6 +127,29 @@ module _ {W : Dialect} where
           | inr e ↦ e.1
         ]
 
+    -- where the uses of what is new are taken out
+    pub leaves-drops : (g : Forest context_ids W) (e : Entity context_ids) → ((x : Entity context_ids) → Inside f e x → IsLive old x → ⊥) → DropsUses f e g → LeavesAll old g
+    leaves-drops g e new drops = record {
+      ops = λ o live. drops.outside o (λ at. new (an_op o) at live) ∙ left.ops o live;
+      blocks = λ b live. ap (λ (m : ArenaIndex → Option (BlockRecord context_ids W)). m b) drops.blocks ∙ left.blocks b live;
+      regions = λ r live. ap (λ (m : ArenaIndex → Option (List ArenaIndex)). m r) drops.regions ∙ left.regions r live;
+    }
+
+    -- where what is new is taken out, with all inside it
+    pub leaves-removes : (g : Forest context_ids W) (e : Entity context_ids) → Nested old → (IsLive old e → ⊥) → ((x : Entity context_ids) → Inside f e x → IsLive old x → ⊥) → Removes f e g → LeavesAll old g
+    leaves-removes g e nested new inside removes = record {
+      ops = λ o live. removes.ops_outside o (λ at. inside (an_op o) at live) ∙ ap (option_map (on_regions (but e a_region))) (left.ops o live)
+          ∙ record_stays e a_region (λ (r : OpRecord context_ids W). r.regions) on_regions (λ xs r is. ap (λ (ys : List ArenaIndex). record r { regions = ys }) (sym is)) (λ h r. refl) (old.ops o) (λ x at is. other (a_region x) (an_op o) (In-map a_region x (regions_of old o) at) is);
+      blocks = λ b live. removes.blocks_outside b (λ at. inside (a_block b) at live) ∙ ap (option_map (on_ops (but e an_op))) (left.blocks b live)
+          ∙ record_stays e an_op (λ (r : BlockRecord context_ids W). r.ops) on_ops (λ xs r is. ap (λ (ys : List ArenaIndex). record r { ops = ys }) (sym is)) (λ h r. refl) (old.blocks b) (λ x at is. other (an_op x) (a_block b) (In-map an_op x (ops_of old b) at) is);
+      regions = λ r live. removes.regions_outside r (λ at. inside (a_region r) at live) ∙ ap (option_map (but e a_block)) (left.regions r live)
+          ∙ record_stays e a_block (λ (bs : List ArenaIndex). bs) (λ h bs. h bs) (λ xs r is. sym is) (λ h r. refl) (old.regions r) (λ x at is. other (a_block x) (a_region r) (In-map a_block x (blocks_of old r) at) is);
+    }
+      where
+        -- what stood in a list was there
+        other : (x y : Entity context_ids) → In x (children old y) → x ≡ e → ⊥
+        other x y at is = new (subst (λ (z : Entity context_ids). IsLive old z) is (nested.live x y at))
+
     -- the regions of a new operation are new
     pub region-is-new : (o r : ArenaIndex) → Nested old → Nested f → (IsLive old (an_op o) → ⊥) → In r (regions_of f o) → IsLive old (a_region r) → ⊥
     region-is-new o r nested now new in_it live =
@@ -113,17 +162,3 @@ module _ {W : Dialect} where
         has_some : (m : Option (OpRecord context_ids W)) → In r (list_of (λ (x : OpRecord context_ids W). x.regions) m) → IsSome m
         has_some None h = absurd h
         has_some (Some x) h = refl
-
-  module _ (old f : Forest context_ids W) (left : LeavesAll old f) where
-    -- whatever is written of what is new
-    pub leaves-written-op : (g : Forest context_ids W) (o : ArenaIndex) (loc : W.Loc) (pairs : List (Text × W.Attr)) → (IsLive old (an_op o) → ⊥) → g ≡ set_attributes (set_loc f (of_op o) loc) (of_op o) pairs → LeavesAll old g
-    leaves-written-op g o loc pairs new is =
-        let located = set_loc f (of_op o) loc in
-        leaves-op old located (leaves-op old f left located o (λ r. record r { loc = loc }) new refl) g o (λ r. record r { attributes = pairs }) new is
-
-    pub leaves-written-block : (g : Forest context_ids W) (b : ArenaIndex) (label : Option Text) (loc : W.Loc) (pairs : List (Text × W.Attr)) → (IsLive old (a_block b) → ⊥) → g ≡ set_attributes (set_loc (set_label f b label) (of_block b) loc) (of_block b) pairs → LeavesAll old g
-    leaves-written-block g b label loc pairs new is =
-        let labelled = set_label f b label in
-        let located = set_loc labelled (of_block b) loc in
-        let one = leaves-block old f left labelled b (λ r. record r { label = label }) new refl in
-        leaves-block old located (leaves-block old labelled one located b (λ r. record r { loc = loc }) new refl) g b (λ r. record r { attributes = pairs }) new is

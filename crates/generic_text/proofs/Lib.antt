@@ -1,4 +1,7 @@
+pub mod Apart
 pub mod BuiltOn
+pub mod Counted
+pub mod Emptied
 pub mod Filled
 pub mod Left
 pub mod Lists

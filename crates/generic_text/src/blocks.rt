@@ -1,9 +1,9 @@
 //! Blocks, made in no region yet, with their arguments.
 
-ghost use Rattle.std.specs.Prelude.{◌≡◌, OnOk};
+ghost use Rattle.std.specs.Prelude.{◌≡◌, IfOk};
 ghost use Rattle.ir_model.specs.Forest.{a_block};
 ghost use Rattle.ir_core_queries.specs.State.{forest_of};
-ghost use Rattle.generic_text.specs.Left.{GenericForest, GoesOn, IsNew, LeavesAll};
+ghost use Rattle.generic_text.specs.Left.{GoesOn, IsNew, StaysApart};
 
 use crate::build_error::BuildError;
 use crate::made::{Block, Made, Room};
@@ -82,7 +82,7 @@ fn location_of(alloc: Global, room: &Room) -> Result<GenericLoc, AllocError> {
 
 // Writes the location of a block.
 fn locate(ctx: &mut Context<Generic>, block: Block, location: GenericLoc) -> Result<(), BuildError>
-    ensures { OnOk result ((first : GenericForest) → LeavesAll first (forest_of ctx.old) → IsNew first (a_block block.index) → LeavesAll first (forest_of ctx.new)) }
+    ensures { StaysApart (a_block block.index) (forest_of ctx.old) (forest_of ctx.new) }
 {
     let written = basic_block::deref_mut(ctx, block)?;
     written.loc = location;
@@ -98,6 +98,7 @@ fn define_arguments(
     row: usize,
     end: usize,
 ) -> Result<(), BuildError>
+    ensures ops { made.new.ops ≡ made.old.ops }
     ensures blocks { made.new.blocks ≡ made.old.blocks }
     ensures late { made.new.late ≡ made.old.late }
 {
@@ -113,6 +114,41 @@ fn define_arguments(
     Ok(())
 }
 
+// Reads the rows of a block, and answers its location.
+fn read_block<'a>(
+    ctx: &mut Context<Generic>,
+    source: Source<'a>,
+    meanings: &mut Meanings<'a>,
+    room: &mut Room,
+    row: usize,
+    end: usize,
+) -> Result<GenericLoc, BuildError>
+    ensures { forest_of ctx.new ≡ forest_of ctx.old }
+{
+    room.clear();
+    for at in row.saturating_add(1)..end {
+        read_argument(ctx, source, meanings, room, at)?;
+    }
+    Ok(location_of(ctx.alloc(), room)?)
+}
+
+// Makes a block of what was read.
+fn make(
+    ctx: &mut Context<Generic>,
+    made: &mut Made,
+    room: &Room,
+    row: usize,
+) -> Result<Block, BuildError>
+    ensures goes_on { GoesOn (forest_of ctx.old) made.old (forest_of ctx.new) made.new }
+    ensures new { IfOk result (λ block. IsNew (forest_of ctx.old) (a_block block.index)) }
+{
+    made.blocks.reserve(1)?;
+    ctx.recall_live_was_made();
+    let block = basic_block::new(ctx, None, room.types.as_slice())?;
+    made.add_block(row, block)?;
+    Ok(block)
+}
+
 /// Makes the block of a label, or of a region that begins with that row.
 pub(crate) fn make_block<'a>(
     ctx: &mut Context<Generic>,
@@ -122,18 +158,11 @@ pub(crate) fn make_block<'a>(
     room: &mut Room,
     row: usize,
 ) -> Result<(), BuildError>
-    ensures { OnOk result (GoesOn (forest_of ctx.old) made.old (forest_of ctx.new) made.new) }
+    ensures { GoesOn (forest_of ctx.old) made.old (forest_of ctx.new) made.new }
 {
-    room.clear();
     let end = arguments_end(source, row);
-    for at in row.saturating_add(1)..end {
-        read_argument(ctx, source, meanings, room, at)?;
-    }
-    let location = location_of(ctx.alloc(), room)?;
-    made.blocks.reserve(1)?;
-    ctx.recall_live_was_made();
-    let block = basic_block::new(ctx, None, room.types.as_slice())?;
-    made.add_block(row, block)?;
+    let location = read_block(ctx, source, meanings, room, row, end)?;
+    let block = make(ctx, made, room, row)?;
     locate(ctx, block, location)?;
     define_arguments(ctx, source, made, block, row, end)
 }

@@ -24,6 +24,9 @@ pub enum BuildError {
     /// The rows are those of no tree, or the names aren't what `resolve` answers of them: they don't describe what was built.
     #[error("no tree")]
     NoTree,
+    /// What was made couldn't all be taken out again, which would be a fault of this crate.
+    #[error("what was made couldn't be taken out again")]
+    LeftBehind,
 }
 
 impl From<CoreError> for BuildError {

@@ -1,11 +1,11 @@
 //! From the rows of a text to operations in a context. What was built is compared with the rows before it is answered.
 
-ghost use Rattle.std.specs.Prelude.{◌≡◌, [], IfOk, OnErr, OnOk, map, true};
+ghost use Rattle.std.specs.Prelude.{◌≡◌, ◌⊎◌, [], IfErr, IfOk, OnErr, OnOk, map, true};
 ghost use Rattle.ir_core_context.specs.Calls.{NoEntity};
 ghost use Rattle.ir_core_queries.specs.State.{forest_of};
 ghost use Rattle.ir_text_described.specs.Described.{IsDescribedBy};
 ghost use Rattle.generic_text.specs.GenericWords.{generic_words, named_tree};
-ghost use Rattle.generic_text.specs.Left.{GoesOn, LeavesAll};
+ghost use Rattle.generic_text.specs.Left.{BuildsOn, GenericForest, GoesOn, IsWithin, LeavesAll};
 
 use crate::blocks::make_block;
 use crate::build_error::BuildError;
@@ -14,7 +14,7 @@ use crate::made::{Block, Made, Op, Room};
 use crate::meanings::Meanings;
 use crate::operations::{connect, make_op};
 use crate::regions::fill_regions;
-use crate::taking_back::take_back;
+use crate::taking_back::{LiveCount, take_back};
 use generic_dialect::Generic;
 use ir_core_queries::Context;
 use ir_text_outline::{Names, OpRows, Outline, Row, Source, narrow, outline_of};
@@ -39,7 +39,7 @@ fn make_blocks<'a>(
     room: &mut Room,
     outline: &Outline,
 ) -> Result<(), BuildError>
-    ensures { OnOk result (GoesOn (forest_of ctx.old) made.old (forest_of ctx.new) made.new) }
+    ensures { GoesOn (forest_of ctx.old) made.old (forest_of ctx.new) made.new }
 {
     for rows in outline.blocks.iter() {
         make_block(ctx, source, meanings, made, room, rows.row as usize)?;
@@ -58,7 +58,7 @@ fn make_whole_op<'a>(
     rows: OpRows,
     place: usize,
 ) -> Result<(), BuildError>
-    ensures { OnOk result (GoesOn (forest_of ctx.old) made.old (forest_of ctx.new) made.new) }
+    ensures { GoesOn (forest_of ctx.old) made.old (forest_of ctx.new) made.new }
 {
     let op = make_op(ctx, source, meanings, made, room, rows)?;
     if room.is_late {
@@ -76,7 +76,7 @@ fn make_ops<'a>(
     room: &mut Room,
     outline: &Outline,
 ) -> Result<(), BuildError>
-    ensures { OnOk result (GoesOn (forest_of ctx.old) made.old (forest_of ctx.new) made.new) }
+    ensures { GoesOn (forest_of ctx.old) made.old (forest_of ctx.new) made.new }
 {
     for (place, rows) in outline.ops.iter().enumerate() {
         make_whole_op(ctx, source, meanings, made, room, outline, *rows, place)?;
@@ -91,7 +91,7 @@ fn connect_all(
     made: &Made,
     outline: &Outline,
 ) -> Result<(), BuildError>
-    ensures { OnOk result (GoesOn (forest_of ctx.old) made.now (forest_of ctx.new) made.now) }
+    ensures { GoesOn (forest_of ctx.old) made.now (forest_of ctx.new) made.now }
 {
     for (op, place) in made.late.iter() {
         connect(ctx, source, made, outline, *op, *place)?;
@@ -105,7 +105,7 @@ fn make_place(
     made: &mut Made,
     outline: &Outline,
 ) -> Result<(), BuildError>
-    ensures { OnOk result (GoesOn (forest_of ctx.old) made.old (forest_of ctx.new) made.new) }
+    ensures { GoesOn (forest_of ctx.old) made.old (forest_of ctx.new) made.new }
 {
     ctx.reserve(outline.ops.len())?;
     made.reserve(outline.ops.len(), outline.blocks.len())?;
@@ -114,7 +114,7 @@ fn make_place(
 
 // Makes all.
 fn make_all(ctx: &mut Context<Generic>, source: Source, made: &mut Made) -> Result<(), BuildError>
-    ensures { OnOk result (GoesOn (forest_of ctx.old) made.old (forest_of ctx.new) made.new) }
+    ensures { GoesOn (forest_of ctx.old) made.old (forest_of ctx.new) made.new }
 {
     let alloc = ctx.alloc();
     let outline = outline_of(alloc, source.rows)?;
@@ -132,17 +132,32 @@ fn make_described(
     source: Source,
     made: &mut Made,
 ) -> Result<(), BuildError>
-    requires blocks { made.old.blocks.items ≡ [] }
-    requires late { made.old.late.items ≡ [] }
     ensures described { OnOk result (IsDescribedBy (forest_of ctx.new) (generic_words ctx.new) true (named_tree source.entry.text.now source.entry.rows.now source.entry.names.now) (map (λ p. p.index) made.new.tops.items)) }
-    ensures left { OnOk result (LeavesAll (forest_of ctx.old) (forest_of ctx.new)) }
+    ensures goes_on { GoesOn (forest_of ctx.old) made.old (forest_of ctx.new) made.new }
 {
-    ctx.recall_well_formed();
     make_all(ctx, source, made)?;
     made.forget_rows(ctx.alloc());
     let tops = made.tops.as_slice();
     check_described(ctx, tops, source.text, source.rows, source.names, true)?;
     Ok(())
+}
+
+// Takes all out again that was made since so many were live, and answers the error, or `LeftBehind` where more are live still.
+fn taken_back(
+    ctx: &mut Context<Generic>,
+    made: &Made,
+    before: LiveCount,
+    error: BuildError,
+) -> BuildError
+    ensures left { (first : GenericForest) → BuildsOn first (forest_of ctx.old) made.now → LeavesAll first (forest_of ctx.new) }
+    ensures all { (result ≡ BuildError.LeftBehind) ⊎ IsWithin before ctx.new }
+{
+    take_back(ctx, made);
+    if LiveCount::of(ctx).is_within(before) {
+        error
+    } else {
+        BuildError::LeftBehind
+    }
 }
 
 // Makes all, or takes it out again.
@@ -151,22 +166,25 @@ fn make_or_take_back(
     source: Source,
     made: &mut Made,
 ) -> Result<(), BuildError>
+    requires ops { made.old.ops.items ≡ [] }
     requires blocks { made.old.blocks.items ≡ [] }
     requires late { made.old.late.items ≡ [] }
     ensures described { OnOk result (IsDescribedBy (forest_of ctx.new) (generic_words ctx.new) true (named_tree source.entry.text.now source.entry.rows.now source.entry.names.now) (map (λ p. p.index) made.new.tops.items)) }
-    ensures left { OnOk result (LeavesAll (forest_of ctx.old) (forest_of ctx.new)) }
+    ensures left { LeavesAll (forest_of ctx.old) (forest_of ctx.new) }
+    ensures taken_back { IfErr result (λ e. (e ≡ BuildError.LeftBehind) ⊎ (forest_of ctx.new ≡ forest_of ctx.old)) }
     ensures err { NoEntity (forest_of ctx.old) → OnErr result (NoEntity (forest_of ctx.new)) }
 {
     let was_empty = ctx.is_ir_empty();
+    let before = LiveCount::of(ctx);
+    ctx.recall_well_formed();
     match make_described(ctx, source, made) {
         Ok(()) => Ok(()),
         Err(error) => {
             if was_empty {
                 ctx.clear();
-            } else {
-                take_back(ctx, made);
+                return Err(error);
             }
-            Err(error)
+            Err(taken_back(ctx, made, before, error))
         }
     }
 }
@@ -174,7 +192,7 @@ fn make_or_take_back(
 /// Builds what the rows of a text say, which `parse` read, with the names that `resolve` found. It compares what it built with the rows, so that its clause doesn't rest on how things are built.
 ///
 /// # Errors
-/// `Core` for memory, numbers and slots, `TooManyTexts`, `KeyTwice`, and `NoTree` where the rows are those of no tree or the names are others'. Then what was made is taken out again; only saved texts and types are left.
+/// `Core` for memory, numbers and slots, `TooManyTexts`, `KeyTwice`, and `NoTree` where the rows are those of no tree or the names are others'. Then what was made is taken out again; only saved texts and types are left. `LeftBehind` where it can't be, which would be a fault of this crate.
 pub fn build(
     ctx: &mut Context<Generic>,
     text: &[u8],
@@ -183,8 +201,10 @@ pub fn build(
 ) -> Result<Built, BuildError>
     // The rows, which have the locations, describe the operations outside all regions, in their order and with all that is inside them.
     ensures described { IfOk result (λ b. IsDescribedBy (forest_of ctx.new) (generic_words ctx.new) true (named_tree text.now rows.now names.now) (map (λ p. p.index) b.tops.items)) }
-    // All operations, blocks and regions that were there are as they were.
-    ensures left { OnOk result (LeavesAll (forest_of ctx.old) (forest_of ctx.new)) }
+    // All operations, blocks and regions that were there are as they were, under an error too.
+    ensures left { LeavesAll (forest_of ctx.old) (forest_of ctx.new) }
+    // Under an error nothing else is there: all operations, blocks and regions are those that were there, as they were. Else the error is `LeftBehind`.
+    ensures taken_back { IfErr result (λ e. (e ≡ BuildError.LeftBehind) ⊎ (forest_of ctx.new ≡ forest_of ctx.old)) }
     // In a context without operations, blocks and regions there are none after an error.
     ensures err { NoEntity (forest_of ctx.old) → OnErr result (NoEntity (forest_of ctx.new)) }
 {

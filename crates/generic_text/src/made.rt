@@ -1,7 +1,6 @@
 //! What is made so far, and what an operation is made of.
 
-ghost use Rattle.std.specs.Prelude.{◌≡◌, ◌++◌, ◌∷◌, [], IfOk, IfSome, OnOk, slice_get};
-ghost use Rattle.std.specs.List.{All};
+ghost use Rattle.std.specs.Prelude.{◌≡◌, ◌++◌, ◌∷◌, [], IfOk, OnErr, OnOk};
 
 use generic_dialect::{Generic, GenericAttr, TextId};
 use ir_base_dialects::{Ptr, TypeHandle};
@@ -38,6 +37,7 @@ pub(crate) struct Made {
 impl Made {
     /// Nothing is made yet, of a tree of so many rows.
     pub(crate) fn new(alloc: Global, rows: usize) -> Result<Made, AllocError>
+        ensures ops { IfOk result (λ m. m.ops.items ≡ []) }
         ensures blocks { IfOk result (λ m. m.blocks.items ≡ []) }
         ensures late { IfOk result (λ m. m.late.items ≡ []) }
     {
@@ -55,6 +55,7 @@ impl Made {
 
     /// Makes place for so many operations and blocks.
     pub(crate) fn reserve(&mut self, ops: usize, blocks: usize) -> Result<(), AllocError>
+        ensures ops { self.new.ops.items ≡ self.old.ops.items }
         ensures blocks { self.new.blocks.items ≡ self.old.blocks.items }
         ensures late { self.new.late.items ≡ self.old.late.items }
     {
@@ -64,7 +65,10 @@ impl Made {
 
     /// Lets go of what rows define, and of what names what is defined later.
     pub(crate) fn forget_rows(&mut self, alloc: Global)
-        ensures { self.new.tops ≡ self.old.tops }
+        ensures tops { self.new.tops ≡ self.old.tops }
+        ensures ops { self.new.ops ≡ self.old.ops }
+        ensures blocks { self.new.blocks ≡ self.old.blocks }
+        ensures late { self.new.late.items ≡ [] }
     {
         self.values = Vec::new(alloc);
         self.numbers = Vec::new(alloc);
@@ -73,6 +77,7 @@ impl Made {
 
     // The row has that number.
     fn put_number(&mut self, row: usize, number: usize)
+        ensures ops { self.new.ops ≡ self.old.ops }
         ensures blocks { self.new.blocks ≡ self.old.blocks }
         ensures late { self.new.late ≡ self.old.late }
     {
@@ -91,7 +96,9 @@ impl Made {
 
     /// The block of a label, or of the region that begins with that row.
     pub(crate) fn add_block(&mut self, row: usize, block: Block) -> Result<(), AllocError>
+        ensures ops { self.new.ops ≡ self.old.ops }
         ensures blocks { OnOk result (self.new.blocks.items ≡ self.old.blocks.items ++ block ∷ []) }
+        ensures err { OnErr result (self.new.blocks.items ≡ self.old.blocks.items) }
         ensures late { self.new.late ≡ self.old.late }
     {
         let number = self.blocks.len();
@@ -108,6 +115,7 @@ impl Made {
 
     /// The values that are put next stand under the name in that row.
     pub(crate) fn begin_values(&mut self, row: usize, ahead: usize)
+        ensures ops { self.new.ops ≡ self.old.ops }
         ensures blocks { self.new.blocks ≡ self.old.blocks }
         ensures late { self.new.late ≡ self.old.late }
     {
@@ -117,6 +125,7 @@ impl Made {
 
     /// A value is made.
     pub(crate) fn add_value(&mut self, value: Value<Generic>) -> Result<(), AllocError>
+        ensures ops { self.new.ops ≡ self.old.ops }
         ensures blocks { self.new.blocks ≡ self.old.blocks }
         ensures late { self.new.late ≡ self.old.late }
     {

@@ -1,9 +1,9 @@
 //! Operations, made of their rows, in their blocks.
 
-ghost use Rattle.std.specs.Prelude.{◌≡◌, IfOk, OnOk};
+ghost use Rattle.std.specs.Prelude.{◌≡◌, IfOk};
 ghost use Rattle.ir_model.specs.Forest.{an_op};
 ghost use Rattle.ir_core_queries.specs.State.{forest_of};
-ghost use Rattle.generic_text.specs.Left.{BuildsOn, GenericForest, GoesOn, GoesOnAt, IsNew, LeavesAll};
+ghost use Rattle.generic_text.specs.Left.{GoesOn, GoesOnAt, IsNew, StaysApart};
 
 use crate::build_error::BuildError;
 use crate::made::{Made, Op, Room};
@@ -154,6 +154,7 @@ fn define_results(
     rows: OpRows,
     count: usize,
 ) -> Result<(), BuildError>
+    ensures ops { made.new.ops ≡ made.old.ops }
     ensures blocks { made.new.blocks ≡ made.old.blocks }
     ensures late { made.new.late ≡ made.old.late }
 {
@@ -223,7 +224,7 @@ fn place(
     op: Op,
     block: Option<u32>,
 ) -> Result<(), BuildError>
-    ensures { OnOk result (GoesOn (forest_of ctx.old) made.old (forest_of ctx.new) made.new) }
+    ensures { GoesOnAt (an_op op.index) (forest_of ctx.old) made.old (forest_of ctx.new) made.new }
 {
     match block {
         None => {
@@ -245,10 +246,8 @@ fn make(
     kind: u32,
     rows: OpRows,
 ) -> Result<Op, BuildError>
-    ensures left { OnOk result ((first : GenericForest) → LeavesAll first (forest_of ctx.old) → LeavesAll first (forest_of ctx.new)) }
+    ensures goes_on { GoesOn (forest_of ctx.old) made.old (forest_of ctx.new) made.new }
     ensures new { IfOk result (λ op. IsNew (forest_of ctx.old) (an_op op.index)) }
-    ensures blocks { made.new.blocks.items ≡ made.old.blocks.items }
-    ensures late { made.new.late.items ≡ made.old.late.items }
 {
     made.ops.reserve(1)?;
     ctx.recall_live_was_made();
@@ -272,7 +271,7 @@ fn decorate<'a>(
     room: &Room,
     op: Op,
 ) -> Result<(), BuildError>
-    ensures { OnOk result ((first : GenericForest) → LeavesAll first (forest_of ctx.old) → IsNew first (an_op op.index) → LeavesAll first (forest_of ctx.new)) }
+    ensures { StaysApart (an_op op.index) (forest_of ctx.old) (forest_of ctx.new) }
 {
     if room.is_bare() {
         return Ok(());
@@ -281,8 +280,42 @@ fn decorate<'a>(
     let written = operation::deref_mut(ctx, op)?;
     put_attributes(&mut written.attributes, alloc, source, meanings, room)?;
     put_properties(&mut written.attributes, room)?;
+    written.attributes.shrink_to_fit();
     set_location(&mut written.loc, room);
     Ok(())
+}
+
+// Reads the rows of an operation, and answers its kind.
+fn read_whole<'a>(
+    ctx: &mut Context<Generic>,
+    source: Source<'a>,
+    meanings: &mut Meanings<'a>,
+    made: &Made,
+    room: &mut Room,
+    rows: OpRows,
+) -> Result<u32, BuildError>
+    ensures { forest_of ctx.new ≡ forest_of ctx.old }
+{
+    read_op(ctx, source, meanings, made, room, rows)?;
+    let name = source.unquoted(rows.name as usize);
+    meanings.kind_of(ctx, name, rows.ends_block)
+}
+
+// Puts an operation that was made where it stands, gives its results their names, and sets what else it has.
+fn finish<'a>(
+    ctx: &mut Context<Generic>,
+    source: Source<'a>,
+    meanings: &mut Meanings<'a>,
+    made: &mut Made,
+    room: &Room,
+    op: Op,
+    rows: OpRows,
+) -> Result<(), BuildError>
+    ensures { GoesOnAt (an_op op.index) (forest_of ctx.old) made.old (forest_of ctx.new) made.new }
+{
+    place(ctx, made, op, rows.block)?;
+    define_results(ctx, source, made, op, rows, room.types.len())?;
+    decorate(ctx, source, meanings, room, op)
 }
 
 /// Makes an operation, behind the others of its block. Its regions are empty yet.
@@ -294,16 +327,12 @@ pub(crate) fn make_op<'a>(
     room: &mut Room,
     rows: OpRows,
 ) -> Result<Op, BuildError>
-    ensures goes_on { OnOk result (GoesOn (forest_of ctx.old) made.old (forest_of ctx.new) made.new) }
+    ensures goes_on { GoesOn (forest_of ctx.old) made.old (forest_of ctx.new) made.new }
     ensures new { IfOk result (λ op. IsNew (forest_of ctx.old) (an_op op.index)) }
 {
-    read_op(ctx, source, meanings, made, room, rows)?;
-    let name = source.unquoted(rows.name as usize);
-    let kind = meanings.kind_of(ctx, name, rows.ends_block)?;
+    let kind = read_whole(ctx, source, meanings, made, room, rows)?;
     let op = make(ctx, made, room, kind, rows)?;
-    place(ctx, made, op, rows.block)?;
-    define_results(ctx, source, made, op, rows, room.types.len())?;
-    decorate(ctx, source, meanings, room, op)?;
+    finish(ctx, source, meanings, made, room, op, rows)?;
     Ok(op)
 }
 
@@ -316,20 +345,18 @@ pub(crate) fn connect(
     op: Op,
     place: u32,
 ) -> Result<(), BuildError>
-    ensures { OnOk result (GoesOnAt (an_op op.index) (forest_of ctx.old) made.now (forest_of ctx.new) made.now) }
+    ensures { GoesOnAt (an_op op.index) (forest_of ctx.old) made.now (forest_of ctx.new) made.now }
 {
     let Some(rows) = outline.ops.get(place as usize) else {
         return Err(BuildError::NoTree);
     };
     for at in rows.name as usize..rows.head_end as usize {
-        if source.part(at) == Part::Operand {
-            push_operand(ctx, source, made, op, at)?;
-        }
+        push_operand(ctx, source, made, op, at)?;
     }
     Ok(())
 }
 
-// Gives an operation the operand in this row.
+// Gives an operation the operand in this row, if there is one.
 fn push_operand(
     ctx: &mut Context<Generic>,
     source: Source,
@@ -337,8 +364,11 @@ fn push_operand(
     op: Op,
     at: usize,
 ) -> Result<(), BuildError>
-    ensures { OnOk result (GoesOnAt (an_op op.index) (forest_of ctx.old) made.now (forest_of ctx.new) made.now) }
+    ensures { GoesOnAt (an_op op.index) (forest_of ctx.old) made.now (forest_of ctx.new) made.now }
 {
+    if source.part(at) != Part::Operand {
+        return Ok(());
+    }
     let Some(row) = source.definition(at) else {
         return Err(BuildError::NoTree);
     };

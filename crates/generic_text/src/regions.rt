@@ -1,6 +1,5 @@
 //! Blocks put into the regions of the operations that they belong to.
 
-ghost use Rattle.std.specs.Prelude.{OnOk};
 ghost use Rattle.ir_model.specs.Forest.{a_region, an_op};
 ghost use Rattle.ir_core_queries.specs.State.{forest_of};
 ghost use Rattle.generic_text.specs.Left.{GoesOnAt};
@@ -21,7 +20,7 @@ fn put_block(
     region: Ptr<Region>,
     place: u32,
 ) -> Result<Option<u32>, BuildError>
-    ensures { OnOk result (GoesOnAt (a_region region.index) (forest_of ctx.old) made.now (forest_of ctx.new) made.now) }
+    ensures { GoesOnAt (a_region region.index) (forest_of ctx.old) made.now (forest_of ctx.new) made.now }
 {
     let Some(block) = made.blocks.get(place as usize) else {
         return Err(BuildError::NoTree);
@@ -41,7 +40,7 @@ fn put_blocks(
     region: Ptr<Region>,
     last: Option<u32>,
 ) -> Result<(), BuildError>
-    ensures { OnOk result (GoesOnAt (a_region region.index) (forest_of ctx.old) made.now (forest_of ctx.new) made.now) }
+    ensures { GoesOnAt (a_region region.index) (forest_of ctx.old) made.now (forest_of ctx.new) made.now }
 {
     let mut next = last;
     for _ in 0..outline.blocks.len() {
@@ -62,7 +61,7 @@ fn fill_region(
     index: usize,
     place: Option<u32>,
 ) -> Result<Option<u32>, BuildError>
-    ensures { OnOk result (GoesOnAt (an_op op.index) (forest_of ctx.old) made.now (forest_of ctx.new) made.now) }
+    ensures { GoesOnAt (an_op op.index) (forest_of ctx.old) made.now (forest_of ctx.new) made.now }
 {
     let Some(place) = place else {
         return Err(BuildError::NoTree);
@@ -84,7 +83,7 @@ pub(crate) fn fill_regions(
     op: Op,
     rows: OpRows,
 ) -> Result<(), BuildError>
-    ensures { OnOk result (GoesOnAt (an_op op.index) (forest_of ctx.old) made.now (forest_of ctx.new) made.now) }
+    ensures { GoesOnAt (an_op op.index) (forest_of ctx.old) made.now (forest_of ctx.new) made.now }
 {
     let mut place = rows.last_region;
     for index in (0..rows.regions as usize).rev() {

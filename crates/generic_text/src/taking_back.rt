@@ -1,9 +1,48 @@
 //! What was made, taken out again.
 
+ghost use Rattle.std.specs.Prelude.{◌≡◌, ◌≤◌, IsTrue};
+ghost use Rattle.ir_model.specs.Forest.{a_block, an_op};
+ghost use Rattle.ir_model.specs.Arenas.{arena_len};
+ghost use Rattle.ir_core_queries.specs.State.{forest_of};
+ghost use Rattle.generic_text.specs.Left.{BuildsOn, GenericForest, StandsApart, StaysApart};
+
 use crate::made::{Block, Made, Op};
 use generic_dialect::Generic;
 use ir_checked_core::{basic_block, operation};
 use ir_core_queries::{BlockPlace, BlockPtr, Context, OperationPlace, OperationPtr};
+
+/// How many operations, blocks and regions are live.
+#[derive(Clone, Copy, Drop)]
+pub(crate) struct LiveCount {
+    ops: usize,
+    blocks: usize,
+    regions: usize,
+}
+
+impl LiveCount {
+    /// So many as a context has.
+    pub(crate) fn of(ctx: &Context<Generic>) -> LiveCount
+        ensures ops { result.ops ≡ arena_len ctx.now.records.ops }
+        ensures blocks { result.blocks ≡ arena_len ctx.now.records.blocks }
+        ensures regions { result.regions ≡ arena_len ctx.now.records.regions }
+    {
+        let records = ctx.records();
+        LiveCount {
+            ops: records.ops.len(),
+            blocks: records.blocks.len(),
+            regions: records.regions.len(),
+        }
+    }
+
+    /// Whether there are no more of each than before.
+    pub(crate) fn is_within(self, before: LiveCount) -> bool
+        ensures ops { IsTrue result → self.ops ≤ before.ops }
+        ensures blocks { IsTrue result → self.blocks ≤ before.blocks }
+        ensures regions { IsTrue result → self.regions ≤ before.regions }
+    {
+        self.ops <= before.ops && self.blocks <= before.blocks && self.regions <= before.regions
+    }
+}
 
 // Whether an operation is live, and stands in no block.
 fn is_loose(ctx: &Context<Generic>, op: Op) -> bool {
@@ -16,45 +55,55 @@ fn is_loose_block(ctx: &Context<Generic>, block: Block) -> bool {
 }
 
 // Takes the uses of an operation out, and of all inside it, if it stands in no block.
-fn drop_uses(ctx: &mut Context<Generic>, op: Op) {
+fn drop_uses(ctx: &mut Context<Generic>, op: Op)
+    ensures { StaysApart (an_op op.index) (forest_of ctx.old) (forest_of ctx.new) }
+{
     if is_loose(ctx, op) {
         let _ = operation::drop_all_uses(op, ctx);
     }
 }
 
 // Takes the uses of all inside a block out, if it stands in no region.
-fn drop_block_uses(ctx: &mut Context<Generic>, block: Block) {
+fn drop_block_uses(ctx: &mut Context<Generic>, block: Block)
+    ensures { StaysApart (a_block block.index) (forest_of ctx.old) (forest_of ctx.new) }
+{
     if is_loose_block(ctx, block) {
         let _ = basic_block::drop_all_uses(block, ctx);
     }
 }
 
-// Erases an operation, if it stands in no block.
-fn erase(ctx: &mut Context<Generic>, op: Op) {
+/// Erases an operation, if it stands in no block.
+pub(crate) fn erase(ctx: &mut Context<Generic>, op: Op)
+    ensures { StaysApart (an_op op.index) (forest_of ctx.old) (forest_of ctx.new) }
+{
     if is_loose(ctx, op) {
         let _ = operation::erase(op, ctx);
     }
 }
 
 // Erases a block, if it stands in no region.
-fn erase_block(ctx: &mut Context<Generic>, block: Block) {
+fn erase_block(ctx: &mut Context<Generic>, block: Block)
+    ensures { StaysApart (a_block block.index) (forest_of ctx.old) (forest_of ctx.new) }
+{
     if is_loose_block(ctx, block) {
         let _ = basic_block::erase(block, ctx);
     }
 }
 
 /// Takes all out again that was made.
-pub(crate) fn take_back(ctx: &mut Context<Generic>, made: &Made) {
-    for (op, _) in made.ops.iter() {
+pub(crate) fn take_back(ctx: &mut Context<Generic>, made: &Made)
+    ensures { (first : GenericForest) → BuildsOn first (forest_of ctx.old) made.now → StandsApart first (forest_of ctx.new) }
+{
+    'uses: for (op, _) in made.ops.iter() {
         drop_uses(ctx, *op);
     }
-    for block in made.blocks.iter() {
+    'block_uses: for block in made.blocks.iter() {
         drop_block_uses(ctx, *block);
     }
-    for (op, _) in made.ops.iter() {
+    'ops: for (op, _) in made.ops.iter() {
         erase(ctx, *op);
     }
-    for block in made.blocks.iter() {
+    'loose_blocks: for block in made.blocks.iter() {
         erase_block(ctx, *block);
     }
 }

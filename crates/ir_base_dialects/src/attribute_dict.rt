@@ -201,6 +201,15 @@ impl<D: Dialects> AttributeDict<D> {
         }
     }
 
+    /// Gives back the memory that is kept for pairs to come, as far as the table can. The pairs stay.
+    pub fn shrink_to_fit(&mut self)
+        ensures same { self.new ≡ self.old }
+    {
+        if let Some(table) = &mut self.table {
+            table.shrink_to_fit();
+        }
+    }
+
     /// All pairs, with the memory that they own. The dictionary is empty then.
     pub fn take(&mut self) -> Self
         ensures value { result ≡ self.old }

@@ -103,7 +103,7 @@ impl From<BuildError> for Fault {
     fn from(error: BuildError) -> Fault {
         match error {
             BuildError::Core(CoreError::OutOfMemory) => Fault::OutOfMemory,
-            BuildError::NoTree => Fault::Different,
+            BuildError::NoTree | BuildError::LeftBehind => Fault::Different,
             _ => Fault::Building(error),
         }
     }

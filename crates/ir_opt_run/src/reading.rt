@@ -71,7 +71,7 @@ fn build_fault(rows: &[Row], error: BuildError) -> Fault {
 // Builds a tree.
 fn build_tree(ctx: &mut Context<Generic>, text: &[u8], tree: &NamedTree) -> Result<Built, Fault>
     ensures described { IfOk result (λ b. IsDescribedBy (forest_of ctx.new) (generic_words ctx.new) true (named_tree text.now tree.now.rows.items tree.now.names) (map (λ p. p.index) b.tops.items)) }
-    ensures left { OnOk result (LeavesAll (forest_of ctx.old) (forest_of ctx.new)) }
+    ensures left { LeavesAll (forest_of ctx.old) (forest_of ctx.new) }
 {
     let rows = tree.rows.as_slice();
     match build(ctx, text, rows, &tree.names) {
@@ -92,7 +92,7 @@ fn root_of(
     ensures live { IfOk result (λ root. IsLive (forest_of ctx.new) (an_op root.index)) }
     ensures said { IfOk result (λ root. Says (forest_of ctx.new) (generic_words ctx.new) true text.now (map (λ p. p.index) tops.now)) }
     ensures encloses { IfOk result (λ root. Encloses (forest_of ctx.new) (generic_words ctx.new) root.index (map (λ p. p.index) tops.now)) }
-    ensures left { OnOk result (LeavesAll (forest_of ctx.old) (forest_of ctx.new)) }
+    ensures left { LeavesAll (forest_of ctx.old) (forest_of ctx.new) }
 {
     if let Some(root) = only_module(ctx, tops) {
         return Ok(root);
@@ -141,7 +141,7 @@ fn read_into(ctx: &mut Context<Generic>, text: &[u8], was_empty: bool) -> Result
     ensures closed { IfOk result (λ m. IsClosed (forest_of ctx.new) (an_op m.root.index)) }
     ensures said { IfOk result (λ m. (operations : List ArenaIndex) × Says (forest_of ctx.new) (generic_words ctx.new) true text.now operations × Encloses (forest_of ctx.new) (generic_words ctx.new) m.root.index operations) }
     ensures only { IsTrue was_empty → IfOk result (λ m. HasOnly (forest_of ctx.new) (an_op m.root.index)) }
-    ensures left { OnOk result (LeavesAll (forest_of ctx.old) (forest_of ctx.new)) }
+    ensures left { LeavesAll (forest_of ctx.old) (forest_of ctx.new) }
 {
     let alloc = ctx.alloc();
     let tree = read_tree(alloc, text)?;
@@ -159,14 +159,14 @@ fn read_into(ctx: &mut Context<Generic>, text: &[u8], was_empty: bool) -> Result
 /// Reads a text into a context. What was built is compared with the text, and where the context was empty, also with all that is there.
 ///
 /// # Errors
-/// The first fault in the text; want of memory, numbers or slots; and `Different` where what was built isn't what the text says, which would be a fault of this program. Then a context that had no operation, block or region has none again; only types and saved texts are left.
+/// The first fault in the text; want of memory, numbers or slots; and `Different` where what was built isn't what the text says, which would be a fault of this program. Then a context that had no operation, block or region has none again; only types and saved texts are left. In any other context what was there stays as it was, and what was built may be left beside it.
 pub fn read_module(ctx: &mut Context<Generic>, text: &[u8]) -> Result<Module, Fault>
     ensures live { IfOk result (λ m. IsLive (forest_of ctx.new) (an_op m.root.index)) }
     ensures closed { IfOk result (λ m. IsClosed (forest_of ctx.new) (an_op m.root.index)) }
     ensures said { IfOk result (λ m. (operations : List ArenaIndex) × Says (forest_of ctx.new) (generic_words ctx.new) true text.now operations × Encloses (forest_of ctx.new) (generic_words ctx.new) m.root.index operations) }
     ensures only { NoEntity (forest_of ctx.old) → IfOk result (λ m. HasOnly (forest_of ctx.new) (an_op m.root.index)) }
-    // All operations, blocks and regions that were there are as they were.
-    ensures left { OnOk result (LeavesAll (forest_of ctx.old) (forest_of ctx.new)) }
+    // All operations, blocks and regions that were there are as they were, under an error too.
+    ensures left { LeavesAll (forest_of ctx.old) (forest_of ctx.new) }
     ensures err { NoEntity (forest_of ctx.old) → OnErr result (NoEntity (forest_of ctx.new)) }
 {
     let was_empty = ctx.is_ir_empty();
@@ -175,6 +175,7 @@ pub fn read_module(ctx: &mut Context<Generic>, text: &[u8]) -> Result<Module, Fa
         Err(fault) => {
             if was_empty {
                 ctx.clear();
+                return Err(fault);
             }
             Err(fault)
         }

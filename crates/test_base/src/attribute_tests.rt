@@ -158,9 +158,10 @@ fn is_outlined_id(rt: &impl Abort, alloc: Global, printed: &str) -> bool {
     same && prints(rt, alloc, &id, printed)
 }
 
-// Whether three attributes are copied, told by their interfaces and taken out.
+// Whether three attributes are there once memory was given back, are copied, told by their interfaces and taken out.
 fn are_three_told(rt: &impl Abort, alloc: Global) -> bool {
     let mut dict = three(rt, alloc);
+    dict.shrink_to_fit();
     has_keys(&dict, &["a", "b", "c"])
         && has_copies(rt, &dict, &["a", "c"])
         && is_last_typed(&dict)

@@ -384,3 +384,43 @@ const LOCATED: &[u8] =
 fn modules_are_read_and_printed(rt: HostRuntime) {
     assert!(rt; is_printed_again(rt.alloc(), LOCATED));
 }
+
+// A module one of whose operations has a key twice, spelled apart.
+const KEY_TWICE: &[u8] =
+    b"\"builtin.module\"() ({\n^bb0(%0: i32):\n  \"t.a\"(%0) : (i32) -> ()\n  \"t.b\"(%0) {x, \"x\"} : (i32) -> ()\n}) : () -> ()\n";
+
+// How many operations, blocks and regions there are.
+fn live(ctx: &Context<Generic>) -> (usize, usize, usize) {
+    let records = ctx.records();
+    (
+        records.ops.len(),
+        records.blocks.len(),
+        records.regions.len(),
+    )
+}
+
+// Whether a text that can't be built is refused, and leaves as many operations, blocks and regions as before.
+fn leaves_as_many(ctx: &mut Context<Generic>) -> bool {
+    let before = live(ctx);
+    let refused = read_module(ctx, KEY_TWICE).is_err();
+    refused && live(ctx) == before
+}
+
+// What is printed of a module, where a text that can't be built leaves it alone.
+fn printed_beside_a_fault(ctx: &mut Context<Generic>) -> Result<Option<Vec<u8>>, Fault> {
+    let module = read_module(ctx, LOCATED)?;
+    if !leaves_as_many(ctx) {
+        return Ok(None);
+    }
+    Ok(Some(print_operation(ctx, module.root, true)?))
+}
+
+// Refuses building that leaves something behind under an error, or takes what was there.
+#[test]
+fn errors_leave_what_was_there(rt: HostRuntime) -> Result<(), Fail> {
+    let mut ctx = Context::new(rt.alloc());
+    let outcome = printed_beside_a_fault(&mut ctx);
+    let printed = context::end(ctx, outcome)?;
+    assert!(rt; printed.is_some_and(|text| text.as_slice() == LOCATED));
+    Ok(())
+}

@@ -20,15 +20,18 @@ pub enum DictionaryCall {
     Clone,
     /// `clone_skip_outlined`.
     CloneSkipOutlined,
+    /// `shrink_to_fit`.
+    ShrinkToFit,
 }
 
 impl DictionaryCall {
     /// All of them.
-    pub const ALL: [DictionaryCall; 4] = [
+    pub const ALL: [DictionaryCall; 5] = [
         DictionaryCall::First,
         DictionaryCall::More,
         DictionaryCall::Clone,
         DictionaryCall::CloneSkipOutlined,
+        DictionaryCall::ShrinkToFit,
     ];
 
     /// The call as `ALL` has it.
@@ -45,6 +48,7 @@ impl StoreCall for DictionaryCall {
             DictionaryCall::First | DictionaryCall::More => "AttributeDict::set",
             DictionaryCall::Clone => "AttributeDict::clone",
             DictionaryCall::CloneSkipOutlined => "clone_skip_outlined",
+            DictionaryCall::ShrinkToFit => "AttributeDict::shrink_to_fit",
         }
     }
 
@@ -54,6 +58,7 @@ impl StoreCall for DictionaryCall {
             DictionaryCall::More => set_nine(alloc, &mut AttributeDict::new(alloc)),
             DictionaryCall::Clone => copies(&three(alloc)?),
             DictionaryCall::CloneSkipOutlined => skips_one(&three(alloc)?),
+            DictionaryCall::ShrinkToFit => shrinks(three(alloc)?),
         }
     }
 }
@@ -68,6 +73,13 @@ fn skips_one(dict: &AttributeDict<Toy>) -> Result<bool, CoreError> {
     let copy = dict.clone_skip_outlined()?;
     let hidden = copy.get::<ToyOutlined>(&Identifier::new("hidden"));
     Ok((copy.len(), hidden.is_none()) == (2, true))
+}
+
+// Whether the pairs are the same once memory was given back.
+fn shrinks(mut dict: AttributeDict<Toy>) -> Result<bool, CoreError> {
+    let before = dict.clone()?;
+    dict.shrink_to_fit();
+    Ok(dict == before)
 }
 
 // A number with this value.

@@ -2,4 +2,4 @@ use Rattle.std.proofs.Common.{◌≡◌}
 use Rattle.generic_text.proofs.blocks.define_arguments.Given as goal
 
 abbrev pub invariant-loop-at : goal.invariant-loop-at
-invariant-loop-at l = (l.made.blocks ≡ l.fn.made.blocks) × (l.made.late ≡ l.fn.made.late)
+invariant-loop-at l = (l.made.ops ≡ l.fn.made.ops) × (l.made.blocks ≡ l.fn.made.blocks) × (l.made.late ≡ l.fn.made.late)
