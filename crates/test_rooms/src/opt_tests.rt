@@ -1,7 +1,7 @@
 // What `run_opt` prints and tells, and its status.
 use generic_dialect::Generic;
 use ir_checked_core::context;
-use ir_core_queries::Context;
+use ir_core_queries::{Context, OperationPtr};
 use ir_opt_run::{Fault, Options, Pass, print_operation, read_module, run_opt};
 use std::alloc::{AllocError, Global};
 use std::io;
@@ -406,13 +406,14 @@ fn leaves_as_many(ctx: &mut Context<Generic>) -> bool {
     refused && live(ctx) == before
 }
 
-// What is printed of a module, where a text that can't be built leaves it alone.
+// What is printed of a module behind a text that can't be built, where that leaves as many as before.
 fn printed_beside_a_fault(ctx: &mut Context<Generic>) -> Result<Option<Vec<u8>>, Fault> {
     let module = read_module(ctx, LOCATED)?;
-    if !leaves_as_many(ctx) {
-        return Ok(None);
+    if leaves_as_many(ctx) && module.root.is_live(ctx) {
+        Ok(Some(print_operation(ctx, module.root, true)?))
+    } else {
+        Ok(None)
     }
-    Ok(Some(print_operation(ctx, module.root, true)?))
 }
 
 // Refuses building that leaves something behind under an error, or takes what was there.
