@@ -2,10 +2,11 @@
  *
  * REFUSE is the number of the request that is refused, counted from 1; with 0 none is, and with `between` each one that is made between the lines.
  * Between a line `ready` on standard output and a line `done` stands a call of which the program means that it asks for nothing, or else that it asks.
- * At the end two lines are written to the file that REQUESTS names: the numbers of all requests, of those between such lines, of how often the one line came and then the other, and of how often without a request between them; and the number of requests between each two such lines. */
+ * At the end two lines are written to the file that REQUESTS names: the numbers of all requests, of those between such lines, of how often the one line came and then the other, of how often without a request between them, and of the refused requests that would have made a block no larger; and the number of requests between each two such lines. */
 #define _GNU_SOURCE
 #include <dlfcn.h>
 #include <fcntl.h>
+#include <malloc.h>
 #include <stdio.h>
 #include <stdlib.h>
 #include <string.h>
@@ -13,7 +14,7 @@
 
 enum { MOST_PAIRS = 1 << 18 };
 
-static long asked, refused, between, pairs, quiet, before;
+static long asked, refused, between, pairs, quiet, before, lessening;
 static long counts[MOST_PAIRS];
 static int watching, refuses_between;
 
@@ -21,14 +22,14 @@ __attribute__((constructor)) static void start(void) {
     const char *number = getenv("REFUSE");
     refuses_between = number && !strcmp(number, "between");
     refused = number ? atol(number) : 0;
-    asked = between = pairs = quiet = 0;
+    asked = between = pairs = quiet = lessening = 0;
 }
 
 __attribute__((destructor)) static void end(void) {
     const char *path = getenv("REQUESTS");
     int file = path ? open(path, O_WRONLY | O_CREAT | O_TRUNC, 0600) : -1;
     if (file < 0) return;
-    dprintf(file, "%ld %ld %ld %ld\n", asked, between, pairs, quiet);
+    dprintf(file, "%ld %ld %ld %ld %ld\n", asked, between, pairs, quiet, lessening);
     for (long i = 0; i < pairs && i < MOST_PAIRS; i++) dprintf(file, "%ld ", counts[i]);
     dprintf(file, "\n");
     close(file);
@@ -57,7 +58,9 @@ void *malloc(size_t size) {
 void *realloc(void *old, size_t size) {
     static void *(*next)(void *, size_t);
     if (!next) next = (void *(*)(void *, size_t))dlsym(RTLD_NEXT, "realloc");
-    return is_refused() ? NULL : next(old, size);
+    if (!is_refused()) return next(old, size);
+    lessening += old && size <= malloc_usable_size(old);
+    return NULL;
 }
 
 /* A line comes in one write, as the language writes it. The watch begins behind the first line, and ends before the other. */
