@@ -64,10 +64,11 @@ fn edits(alloc: Global) -> Result<Vec<Edit<Toy>>, CoreError> {
 // Makes one of each in the session.
 fn make_each(alloc: Global, session: &mut Session<Toy>) -> Result<(), CoreError> {
     session.run(edits(alloc)?)?;
-    if session.block(0).is_none() {
-        return Err(CoreError::OutOfMemory);
+    if has_one_of_each(session) {
+        Ok(())
+    } else {
+        Err(CoreError::OutOfMemory)
     }
-    Ok(())
 }
 
 fn has_one_of_each(session: &Session<Toy>) -> bool {
