@@ -14,7 +14,7 @@ use ir_text_tree::{Part, Row};
 use std::alloc::{AllocError, Global};
 
 /// What is counted.
-#[derive(Clone, Copy, Debug, PartialEq, Eq)]
+#[derive(Clone, Copy)]
 pub(crate) enum Counted {
     /// Operands.
     Operands,

@@ -6,7 +6,7 @@ use crate::fault::{Fault, Wrong};
 use ir_text_tree::Row;
 
 /// A row that has a fault.
-#[derive(Clone, Copy, Debug, PartialEq, Eq)]
+#[derive(Clone, Copy)]
 pub(crate) struct Found {
     /// The row.
     pub(crate) row: usize,

@@ -14,7 +14,7 @@ use std::alloc::{AllocError, Global};
 use std::collections::HashMap;
 
 /// Names that are given once in their scope.
-#[derive(Clone, Copy, Debug, PartialEq, Eq)]
+#[derive(Clone, Copy)]
 pub(crate) enum NameKind {
     /// A block's, in its region.
     Block,

@@ -5,7 +5,7 @@ ghost use Rattle.ir_text_tokens.specs.ByteClasses.{class_of_byte, class_ahead};
 use crate::token::{Bracket, Mark, Sign};
 
 /// What a byte may begin, go on with, or end.
-#[derive(Clone, Copy, Debug, PartialEq, Eq)]
+#[derive(Clone, Copy)]
 pub enum Class {
     /// LF, which ends a line.
     Newline,

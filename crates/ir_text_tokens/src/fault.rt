@@ -83,7 +83,7 @@ impl<T: Drop> From<AllocFailed<T>> for Fault {
 }
 
 /// What can't be read at a place.
-#[derive(Clone, Copy, Debug, PartialEq, Eq)]
+#[derive(Clone, Copy)]
 pub enum Problem {
     /// A character that can't stand there.
     Character,

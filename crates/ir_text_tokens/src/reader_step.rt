@@ -14,7 +14,7 @@ use crate::going_on::{name_goes_on, number_goes_on, word_goes_on};
 use crate::token::{Bracket, Kind, Mark, Sign};
 
 /// What a string stands in.
-#[derive(Clone, Copy, Debug, PartialEq, Eq)]
+#[derive(Clone, Copy)]
 pub enum Around {
     /// In no group: it is a token.
     Nothing,
@@ -23,7 +23,7 @@ pub enum Around {
 }
 
 /// Where the reader is.
-#[derive(Clone, Copy, Debug, PartialEq, Eq)]
+#[derive(Clone, Copy)]
 pub enum Mode {
     /// Outside all tokens.
     Between,
@@ -50,7 +50,7 @@ pub enum Mode {
 }
 
 /// What becomes of the brackets that are open in a group, apart from its first.
-#[derive(Clone, Copy, Debug, PartialEq, Eq)]
+#[derive(Clone, Copy)]
 pub enum Nesting {
     /// They stay.
     Kept,
@@ -61,7 +61,7 @@ pub enum Nesting {
 }
 
 /// What a byte does.
-#[derive(Clone, Copy, Debug, PartialEq, Eq)]
+#[derive(Clone, Copy)]
 pub enum Step {
     /// The reader goes on there, in these brackets.
     Go(Mode, Nesting),

@@ -3,110 +3,119 @@ ghost use Rattle.std.specs.Prelude.{◌≡◌};
 ghost use Rattle.ir_text_tree.specs.TreeFaults.{fault_place};
 
 use std::alloc::{AllocError, AllocFailed};
+use std::fmt;
+use std::fmt::{Display, Write};
 use thiserror::Error;
 
 /// What has to stand at a place.
-#[derive(Clone, Copy, Debug, Drop, PartialEq, Eq, Error)]
+#[derive(Clone, Copy, Debug, Drop, PartialEq, Eq)]
 pub enum Wanted {
     /// Outside all regions an operation, or the end.
-    #[error("an operation")]
     Operation,
     /// In a region an operation, a block, or the region's end.
-    #[error("an operation, a block or `}}`")]
     Inside,
     /// What follows the name of a result.
-    #[error("`:`, `,` or `=`")]
     AfterResult,
     /// How many results stand under a name.
-    #[error("a number")]
     Count,
     /// What follows that number.
-    #[error("`,` or `=`")]
     AfterCount,
     /// The name of a value.
-    #[error("the name of a value")]
     ValueName,
     /// The name of an operation.
-    #[error("the name of an operation, in quotes")]
     OperationName,
     /// A parenthesis.
-    #[error("`(`")]
     OpenParenthesis,
     /// An operand, or the end of the operands.
-    #[error("the name of a value or `)`")]
     FirstOperand,
     /// What follows the name of an operand.
-    #[error("`#` and a number, `,` or `)`")]
     AfterOperand,
     /// What follows one of several in parentheses.
-    #[error("`,` or `)`")]
     CommaOrParenthesis,
     /// What follows the operands.
-    #[error("`[`, `<`, `(`, `{{` or `:`")]
     AfterOperands,
     /// The name of a block.
-    #[error("the name of a block")]
     BlockName,
     /// What follows a successor.
-    #[error("`,` or `]`")]
     AfterSuccessor,
     /// What follows the successors.
-    #[error("`<`, `(`, `{{` or `:`")]
     AfterSuccessors,
     /// What follows the properties.
-    #[error("`(`, `{{` or `:`")]
     AfterProperties,
     /// A region.
-    #[error("`{{`")]
     Region,
     /// What follows the regions.
-    #[error("`{{` or `:`")]
     AfterRegions,
     /// A key, or the end of the attributes.
-    #[error("a key or `}}`")]
     FirstKey,
     /// A key.
-    #[error("a key")]
     Key,
     /// What follows a key.
-    #[error("`=`, `,` or `}}`")]
     AfterKey,
     /// A colon.
-    #[error("`:`")]
     Colon,
     /// A type, or the end of the types.
-    #[error("a type or `)`")]
     FirstType,
     /// An arrow.
-    #[error("`->`")]
     Arrow,
     /// A type, or several in parentheses.
-    #[error("a type or `(`")]
     ResultTypes,
     /// What follows the name of a block at its beginning.
-    #[error("`(` or `:`")]
     AfterLabel,
     /// An argument, or the end of the arguments.
-    #[error("the name of an argument or `)`")]
     FirstArgument,
     /// The value of an attribute.
-    #[error("a value")]
     Value,
     /// A type.
-    #[error("a type")]
     Type,
     /// A location.
-    #[error("a location")]
     Location,
     /// The rest of a value, or what follows it.
-    #[error("the rest of the value, `,` or `}}`")]
     InValue,
     /// The rest of a type, or what follows it.
-    #[error("the rest of the type, `,` or `)`")]
     InType,
     /// The rest of a location, or what follows it.
-    #[error("the rest of the location or `)`")]
     InLocation,
+}
+
+impl Display for Wanted {
+    fn fmt<W: Write>(&self, f: &mut fmt::Formatter<W>) -> fmt::Result {
+        f.write_str(match self {
+            Wanted::Operation => "an operation",
+            Wanted::Inside => "an operation, a block or `}`",
+            Wanted::AfterResult => "`:`, `,` or `=`",
+            Wanted::Count => "a number",
+            Wanted::AfterCount => "`,` or `=`",
+            Wanted::ValueName => "the name of a value",
+            Wanted::OperationName => "the name of an operation, in quotes",
+            Wanted::OpenParenthesis => "`(`",
+            Wanted::FirstOperand => "the name of a value or `)`",
+            Wanted::AfterOperand => "`#` and a number, `,` or `)`",
+            Wanted::CommaOrParenthesis => "`,` or `)`",
+            Wanted::AfterOperands => "`[`, `<`, `(`, `{` or `:`",
+            Wanted::BlockName => "the name of a block",
+            Wanted::AfterSuccessor => "`,` or `]`",
+            Wanted::AfterSuccessors => "`<`, `(`, `{` or `:`",
+            Wanted::AfterProperties => "`(`, `{` or `:`",
+            Wanted::Region => "`{`",
+            Wanted::AfterRegions => "`{` or `:`",
+            Wanted::FirstKey => "a key or `}`",
+            Wanted::Key => "a key",
+            Wanted::AfterKey => "`=`, `,` or `}`",
+            Wanted::Colon => "`:`",
+            Wanted::FirstType => "a type or `)`",
+            Wanted::Arrow => "`->`",
+            Wanted::ResultTypes => "a type or `(`",
+            Wanted::AfterLabel => "`(` or `:`",
+            Wanted::FirstArgument => "the name of an argument or `)`",
+            Wanted::Value => "a value",
+            Wanted::Type => "a type",
+            Wanted::Location => "a location",
+            Wanted::InValue => "the rest of the value, `,` or `}`",
+            Wanted::InType => "the rest of the type, `,` or `)`",
+            Wanted::InLocation => "the rest of the location or `)`",
+        })
+    }
 }
 
 /// Why tokens are no tree: the first fault, with the index of the byte at which reading stopped.

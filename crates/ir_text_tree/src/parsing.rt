@@ -93,7 +93,7 @@ fn put(rows: &mut Vec<Row>, row: Option<Row>) -> Result<(), AllocError>
 }
 
 /// Where the reader of a tree is, between two tokens.
-#[derive(Clone, Copy, Debug, PartialEq, Eq)]
+#[derive(Clone, Copy)]
 pub struct State {
     /// Which token may follow.
     pub mode: Mode,

@@ -46,7 +46,7 @@ pub enum Sort {
 }
 
 /// A token: what it can be, and where it stands.
-#[derive(Clone, Copy, Debug, PartialEq, Eq)]
+#[derive(Clone, Copy)]
 pub struct Piece {
     /// What it can be.
     pub sort: Sort,

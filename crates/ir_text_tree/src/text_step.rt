@@ -6,7 +6,7 @@ use crate::row::Part;
 use crate::sort::Sort;
 
 /// What a text is.
-#[derive(Clone, Copy, Debug, PartialEq, Eq)]
+#[derive(Clone, Copy)]
 pub enum TextKind {
     /// The value of an attribute.
     Value,
@@ -23,7 +23,7 @@ pub enum TextKind {
 }
 
 /// A pair of brackets.
-#[derive(Clone, Copy, Debug, PartialEq, Eq)]
+#[derive(Clone, Copy)]
 pub enum Bracket {
     /// `(` and `)`
     Round,
@@ -34,7 +34,7 @@ pub enum Bracket {
 }
 
 /// What becomes of the brackets that are open in a text.
-#[derive(Clone, Copy, Debug, PartialEq, Eq)]
+#[derive(Clone, Copy)]
 pub enum Nesting {
     /// They stay.
     Kept,

@@ -8,7 +8,7 @@ use crate::sort::Sort;
 use crate::text_step::{Bracket, Nesting, TextKind, part_of_text, takes};
 
 /// Where the reader is, in the results of an operation.
-#[derive(Clone, Copy, Debug, PartialEq, Eq)]
+#[derive(Clone, Copy)]
 pub enum ResultsMode {
     /// Behind a name.
     Behind,
@@ -23,7 +23,7 @@ pub enum ResultsMode {
 }
 
 /// Where the reader is, in the operands of an operation.
-#[derive(Clone, Copy, Debug, PartialEq, Eq)]
+#[derive(Clone, Copy)]
 pub enum OperandsMode {
     /// Before the parenthesis.
     Open,
@@ -38,7 +38,7 @@ pub enum OperandsMode {
 }
 
 /// Where the reader is, between the operands of an operation and its attributes.
-#[derive(Clone, Copy, Debug, PartialEq, Eq)]
+#[derive(Clone, Copy)]
 pub enum PartsMode {
     /// Behind the operands.
     Operands,
@@ -59,7 +59,7 @@ pub enum PartsMode {
 }
 
 /// Where the reader is, in the attributes of an operation.
-#[derive(Clone, Copy, Debug, PartialEq, Eq)]
+#[derive(Clone, Copy)]
 pub enum EntriesMode {
     /// Before the first key.
     First,
@@ -72,7 +72,7 @@ pub enum EntriesMode {
 }
 
 /// Where the reader is, in the types of an operation.
-#[derive(Clone, Copy, Debug, PartialEq, Eq)]
+#[derive(Clone, Copy)]
 pub enum TypesMode {
     /// Before the parenthesis.
     Open,
@@ -89,7 +89,7 @@ pub enum TypesMode {
 }
 
 /// Where the reader is, in the head of a block.
-#[derive(Clone, Copy, Debug, PartialEq, Eq)]
+#[derive(Clone, Copy)]
 pub enum LabelMode {
     /// Behind the block's name.
     Behind,
@@ -108,7 +108,7 @@ pub enum LabelMode {
 }
 
 /// Where the reader is.
-#[derive(Clone, Copy, Debug, PartialEq, Eq)]
+#[derive(Clone, Copy)]
 pub enum Mode {
     /// Before the first operation of the text.
     Start,
@@ -137,7 +137,7 @@ pub enum Mode {
 }
 
 /// What becomes of a token.
-#[derive(Clone, Copy, Debug, PartialEq, Eq)]
+#[derive(Clone, Copy)]
 pub enum Action {
     /// Nothing: it separates.
     Skip,
@@ -156,7 +156,7 @@ pub enum Action {
 }
 
 /// What a token does.
-#[derive(Clone, Copy, Debug, PartialEq, Eq)]
+#[derive(Clone, Copy)]
 pub enum Step {
     /// The text before it, if there is one, is that part; then the reader goes on there.
     Go {

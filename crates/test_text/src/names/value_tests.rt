@@ -53,23 +53,31 @@ fn values_of_texts(rt: HostRuntime) -> Result<(), Fail> {
     Ok(())
 }
 
-// Puts a text so often.
-fn repeat(out: &mut Vec<u8>, text: &[u8], times: u32) -> Result<(), AllocError> {
-    for _ in 0..times {
-        out.extend_from_slice(text)?;
+// Texts behind one another, each so often.
+fn text_of(alloc: Global, parts: &[(&[u8], u32)]) -> Result<Vec<u8>, AllocError> {
+    let mut out = Vec::new(alloc);
+    for (text, times) in parts {
+        for _ in 0..*times {
+            out.extend_from_slice(*text)?;
+        }
     }
-    Ok(())
+    Ok(out)
 }
+
+// The definition of the value.
+const DEFINITION: &[u8] = b"%v = \"d\"() : () -> i1\n";
 
 // A value that is named in the innermost region and defined behind the outermost.
 #[test]
 fn deep_text(rt: HostRuntime) -> Result<(), Fail> {
-    let mut text = Vec::new(rt.alloc());
-    repeat(&mut text, b"\"a\"() ({\n", DEPTH)?;
-    repeat(&mut text, b"\"u\"(%v) : (i1) -> ()\n", 1)?;
-    repeat(&mut text, b"}) : () -> ()\n", DEPTH)?;
-    let end = text.len();
-    repeat(&mut text, b"%v = \"d\"() : () -> i1\n", 1)?;
+    let parts: &[(&[u8], u32)] = &[
+        (b"\"a\"() ({\n", DEPTH),
+        (b"\"u\"(%v) : (i1) -> ()\n", 1),
+        (b"}) : () -> ()\n", DEPTH),
+        (DEFINITION, 1),
+    ];
+    let text = text_of(rt.alloc(), parts)?;
+    let end = text.len().saturating_sub(DEFINITION.len());
     let tree = parse(rt.alloc(), text.as_slice())?;
     let names = resolve(rt.alloc(), text.as_slice(), &tree.rows)?;
     let starts = starts_of(rt.alloc(), &tree.rows, &names.values)?;

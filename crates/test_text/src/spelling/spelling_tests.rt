@@ -63,19 +63,29 @@ fn are_alike(tree: &Tree, other: &Tree) -> bool {
             .all(|(row, with)| row.part == with.part)
 }
 
+// The text of the tree of a text.
+fn spelled(alloc: Global, text: &[u8]) -> Result<Vec<u8>, Fail> {
+    let tree = parse(alloc, text)?;
+    let out = spell(alloc, text, tree.rows.as_slice())?;
+    Ok(out)
+}
+
+// Whether two texts have the same parts with the same pieces.
+fn are_same(alloc: Global, text: &[u8], other: &[u8]) -> Result<bool, Fail> {
+    let tree = parse(alloc, text)?;
+    let again = parse(alloc, other)?;
+    let pieces = pieces_of(alloc, text, &tree)?;
+    let same_pieces = pieces_of(alloc, other, &again)?;
+    Ok(are_alike(&tree, &again) && pieces.as_slice() == same_pieces.as_slice())
+}
+
 #[test]
 fn spelled_trees(rt: HostRuntime) -> Result<(), Fail> {
     for (text, wanted) in SPELLED {
-        let tree = parse(rt.alloc(), *text)?;
-        let out = spell(rt.alloc(), *text, tree.rows.as_slice())?;
+        let out = spelled(rt.alloc(), *text)?;
         assert!(rt; out.as_slice() == *wanted);
-        let again = parse(rt.alloc(), out.as_slice())?;
-        assert!(rt; are_alike(&tree, &again));
-        let pieces = pieces_of(rt.alloc(), *text, &tree)?;
-        let same_pieces = pieces_of(rt.alloc(), out.as_slice(), &again)?;
-        assert!(rt; pieces.as_slice() == same_pieces.as_slice());
-        let same = spell(rt.alloc(), out.as_slice(), again.rows.as_slice())?;
-        assert!(rt; same.as_slice() == out.as_slice());
+        assert!(rt; are_same(rt.alloc(), *text, out.as_slice())?);
+        assert!(rt; spelled(rt.alloc(), out.as_slice())?.as_slice() == out.as_slice());
     }
     Ok(())
 }

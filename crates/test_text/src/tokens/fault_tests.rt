@@ -44,77 +44,33 @@ const FAULTS: &[(&[u8], (&str, u64, u64))] = &[
     (b"<{[(<>)]}", ("group", 1, 10)),
 ];
 
-// A text, and what its front parts give, from the empty one on: `ok`, or the fault.
+// A text, and the lengths at which its front part has a fault, with that fault.
 const WHOLE: &[u8] = b"%0 = \"a.b\\0A\"(%x#1) {k = !t<(i32) -> \"]\">}\n  : (i32) -> i64 // end";
 
-const CUTS: &[(&str, u64, u64)] = &[
-    ("ok", 0, 0),
-    ("character", 1, 1),
-    ("ok", 0, 0),
-    ("ok", 0, 0),
-    ("ok", 0, 0),
-    ("ok", 0, 0),
-    ("string", 1, 7),
-    ("string", 1, 8),
-    ("string", 1, 9),
-    ("string", 1, 10),
-    ("string", 1, 11),
-    ("string", 1, 12),
-    ("string", 1, 13),
-    ("ok", 0, 0),
-    ("ok", 0, 0),
-    ("character", 1, 15),
-    ("ok", 0, 0),
-    ("ok", 0, 0),
-    ("ok", 0, 0),
-    ("ok", 0, 0),
-    ("ok", 0, 0),
-    ("ok", 0, 0),
-    ("ok", 0, 0),
-    ("ok", 0, 0),
-    ("ok", 0, 0),
-    ("ok", 0, 0),
-    ("ok", 0, 0),
-    ("ok", 0, 0),
-    ("group", 1, 29),
-    ("group", 1, 30),
-    ("group", 1, 31),
-    ("group", 1, 32),
-    ("group", 1, 33),
-    ("group", 1, 34),
-    ("group", 1, 35),
-    ("group", 1, 36),
-    ("group", 1, 37),
-    ("group", 1, 38),
-    ("string", 1, 39),
-    ("string", 1, 40),
-    ("group", 1, 41),
-    ("ok", 0, 0),
-    ("ok", 0, 0),
-    ("ok", 0, 0),
-    ("ok", 0, 0),
-    ("ok", 0, 0),
-    ("ok", 0, 0),
-    ("ok", 0, 0),
-    ("ok", 0, 0),
-    ("ok", 0, 0),
-    ("ok", 0, 0),
-    ("ok", 0, 0),
-    ("ok", 0, 0),
-    ("ok", 0, 0),
-    ("ok", 0, 0),
-    ("ok", 0, 0),
-    ("ok", 0, 0),
-    ("ok", 0, 0),
-    ("ok", 0, 0),
-    ("ok", 0, 0),
-    ("ok", 0, 0),
-    ("character", 2, 18),
-    ("ok", 0, 0),
-    ("ok", 0, 0),
-    ("ok", 0, 0),
-    ("ok", 0, 0),
-    ("ok", 0, 0),
+const CUTS: &[(usize, (&str, u64, u64))] = &[
+    (1, ("character", 1, 1)),
+    (6, ("string", 1, 7)),
+    (7, ("string", 1, 8)),
+    (8, ("string", 1, 9)),
+    (9, ("string", 1, 10)),
+    (10, ("string", 1, 11)),
+    (11, ("string", 1, 12)),
+    (12, ("string", 1, 13)),
+    (15, ("character", 1, 15)),
+    (28, ("group", 1, 29)),
+    (29, ("group", 1, 30)),
+    (30, ("group", 1, 31)),
+    (31, ("group", 1, 32)),
+    (32, ("group", 1, 33)),
+    (33, ("group", 1, 34)),
+    (34, ("group", 1, 35)),
+    (35, ("group", 1, 36)),
+    (36, ("group", 1, 37)),
+    (37, ("group", 1, 38)),
+    (38, ("string", 1, 39)),
+    (39, ("string", 1, 40)),
+    (40, ("group", 1, 41)),
+    (61, ("character", 2, 18)),
 ];
 
 #[test]
@@ -125,14 +81,21 @@ fn faults_of_texts(rt: HostRuntime) -> Result<(), Fail> {
     Ok(())
 }
 
-#[test]
-fn faults_of_cut_texts(rt: HostRuntime) -> Result<(), Fail> {
-    for (length, wanted) in CUTS.iter().enumerate() {
-        if length <= WHOLE.len() {
-            assert!(rt; outcome(rt.alloc(), &WHOLE[..length]) == *wanted);
+// What the front part of this length gives: `ok`, or the fault.
+fn wanted_at(length: usize) -> (&'static str, u64, u64) {
+    for (cut, fault) in CUTS {
+        if *cut == length {
+            return *fault;
         }
     }
-    assert!(rt; CUTS.len() == WHOLE.len() + 1);
+    ("ok", 0, 0)
+}
+
+#[test]
+fn faults_of_cut_texts(rt: HostRuntime) -> Result<(), Fail> {
+    for length in 0..=WHOLE.len() {
+        assert!(rt; outcome(rt.alloc(), &WHOLE[..length]) == wanted_at(length));
+    }
     Ok(())
 }
 

@@ -5,8 +5,10 @@ use std::alloc::Global;
 use std::process::Abort;
 use std::test::Fail;
 
-// Tokens with what has to stand at the place of their first fault.
-const FAULTS: &[(&[u8], Wanted, u32)] = &[
+// Tokens with what has to stand at the place of their first fault, in tables of their own, since the cost of a table grows faster than its rows.
+
+// What stands before an operation, its results, its name and its operands.
+const NAMES: &[(&[u8], Wanted, u32)] = &[
     (b"", Wanted::Operation, 0),
     (b"w", Wanted::Operation, 0),
     (b"}", Wanted::Operation, 0),
@@ -44,6 +46,10 @@ const FAULTS: &[(&[u8], Wanted, u32)] = &[
     (b"\"(%,", Wanted::ValueName, 8),
     (b"\"(%,)", Wanted::ValueName, 8),
     (b"\"(%#,w", Wanted::ValueName, 10),
+];
+
+// What follows the operands, and regions.
+const REGIONS: &[(&[u8], Wanted, u32)] = &[
     (b"\"()", Wanted::AfterOperands, 6),
     (b"\"()w", Wanted::AfterOperands, 6),
     (b"\"())", Wanted::AfterOperands, 6),
@@ -69,6 +75,10 @@ const FAULTS: &[(&[u8], Wanted, u32)] = &[
     (b"\"()({})", Wanted::AfterRegions, 14),
     (b"\"()({})<", Wanted::AfterRegions, 14),
     (b"\"()({})(", Wanted::AfterRegions, 14),
+];
+
+// Attributes.
+const ATTRIBUTES: &[(&[u8], Wanted, u32)] = &[
     (b"\"(){", Wanted::FirstKey, 8),
     (b"\"(){%", Wanted::FirstKey, 8),
     (b"\"(){,", Wanted::FirstKey, 8),
@@ -92,6 +102,10 @@ const FAULTS: &[(&[u8], Wanted, u32)] = &[
     (b"\"(){}", Wanted::Colon, 10),
     (b"\"(){}{", Wanted::Colon, 10),
     (b"\"(){w}(", Wanted::Colon, 12),
+];
+
+// Types.
+const TYPES: &[(&[u8], Wanted, u32)] = &[
     (b"\"():", Wanted::OpenParenthesis, 8),
     (b"\"():w", Wanted::OpenParenthesis, 8),
     (b"\"():(", Wanted::FirstType, 10),
@@ -118,6 +132,10 @@ const FAULTS: &[(&[u8], Wanted, u32)] = &[
     (b"\"():()>(w,", Wanted::Type, 20),
     (b"\"():()>(w,)", Wanted::Type, 20),
     (b"\"():()>(w)w", Wanted::Operation, 20),
+];
+
+// Locations and heads of blocks.
+const LABELS: &[(&[u8], Wanted, u32)] = &[
     (b"\"():()>()l", Wanted::OpenParenthesis, 20),
     (b"\"():()>()lw", Wanted::OpenParenthesis, 20),
     (b"\"():()>()l(", Wanted::Location, 22),
@@ -153,10 +171,14 @@ const FAULTS: &[(&[u8], Wanted, u32)] = &[
     (b"\"()({^(%:w)w", Wanted::Colon, 22),
 ];
 
-#[test]
-fn faults_of_tokens(rt: HostRuntime) -> Result<(), Fail> {
-    for (letters, wanted, at) in FAULTS {
-        let fault = fault_of(rt.alloc(), *letters)?;
+// Asserts that the tokens of each row have this fault first.
+fn expect_faults(
+    rt: &impl Abort,
+    alloc: Global,
+    rows: &[(&[u8], Wanted, u32)],
+) -> Result<(), Fail> {
+    for (letters, wanted, at) in rows {
+        let fault = fault_of(alloc, *letters)?;
         let is_fault = fault
             == Some(Fault::Expected {
                 wanted: *wanted,
@@ -165,6 +187,31 @@ fn faults_of_tokens(rt: HostRuntime) -> Result<(), Fail> {
         assert!(rt; is_fault);
     }
     Ok(())
+}
+
+#[test]
+fn faults_of_names(rt: HostRuntime) -> Result<(), Fail> {
+    expect_faults(&rt, rt.alloc(), NAMES)
+}
+
+#[test]
+fn faults_of_regions(rt: HostRuntime) -> Result<(), Fail> {
+    expect_faults(&rt, rt.alloc(), REGIONS)
+}
+
+#[test]
+fn faults_of_attributes(rt: HostRuntime) -> Result<(), Fail> {
+    expect_faults(&rt, rt.alloc(), ATTRIBUTES)
+}
+
+#[test]
+fn faults_of_types(rt: HostRuntime) -> Result<(), Fail> {
+    expect_faults(&rt, rt.alloc(), TYPES)
+}
+
+#[test]
+fn faults_of_labels(rt: HostRuntime) -> Result<(), Fail> {
+    expect_faults(&rt, rt.alloc(), LABELS)
 }
 
 // What has to stand at a place, as a text.
