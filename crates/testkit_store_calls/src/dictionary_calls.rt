@@ -90,6 +90,28 @@ fn number(value: i64) -> ToyInt {
     }
 }
 
+// Sets the number at the key.
+fn set_number(
+    alloc: Global,
+    dict: &mut AttributeDict<Toy>,
+    key: &str,
+    value: i64,
+) -> Result<(), CoreError> {
+    dict.set(owned(alloc, key)?, number(value))
+}
+
+// Whether the number stands at the key.
+fn has_number(
+    alloc: Global,
+    dict: &AttributeDict<Toy>,
+    key: &str,
+    value: i64,
+) -> Result<bool, CoreError> {
+    let name = owned(alloc, key)?;
+    let found = dict.get::<ToyInt>(&name);
+    Ok(found.is_some_and(|number| number.value == value))
+}
+
 // Whether the number is set at the key. Where memory lacks, the dictionary is as before, and takes it afterwards.
 fn sets(
     alloc: Global,
@@ -98,15 +120,13 @@ fn sets(
     value: i64,
 ) -> Result<bool, CoreError> {
     let before = dict.clone()?;
-    let name = owned(alloc, key)?;
-    let again = owned(alloc, key)?;
-    if dict.set(name, number(value)) == Err(CoreError::OutOfMemory) {
+    let ended = set_number(alloc, dict, key, value);
+    if ended == Err(CoreError::OutOfMemory) {
         let is_as_before = *dict == before;
-        dict.set(again, number(value))?;
+        set_number(alloc, dict, key, value)?;
         return Ok(is_as_before && dict.len() == before.len().wrapping_add(1));
     }
-    let found = dict.get::<ToyInt>(&again);
-    Ok(found.is_some_and(|number| number.value == value))
+    has_number(alloc, dict, key, value)
 }
 
 // Whether nine pairs are set, one after the other.
@@ -125,7 +145,7 @@ fn text(alloc: Global) -> Result<String, CoreError> {
 
 // Sets a number, a text, and a text that is to be outlined.
 fn set_three(alloc: Global, dict: &mut AttributeDict<Toy>) -> Result<(), CoreError> {
-    dict.set(owned(alloc, "number")?, number(3))?;
+    set_number(alloc, dict, "number", 3)?;
     dict.set(owned(alloc, "text")?, ToyText(text(alloc)?))?;
     dict.set(owned(alloc, "hidden")?, ToyOutlined(text(alloc)?))
 }

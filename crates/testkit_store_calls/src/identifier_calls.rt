@@ -48,21 +48,36 @@ impl StoreCall for IdentifierCall {
 
     fn make(self, alloc: Global) -> Result<bool, CoreError> {
         match self {
-            IdentifierCall::FromText => Ok(owned(alloc, "abc")?.as_str() == "abc"),
-            IdentifierCall::Join => {
-                let joined = Identifier::new("ab").join(alloc, &Identifier::new("c"))?;
-                Ok(joined.as_str() == "abc")
-            }
-            IdentifierCall::IntoText => {
-                let text = Identifier::new("abc").into_text(alloc)?;
-                Ok(text.as_str() == "abc")
-            }
-            IdentifierCall::Clone => {
-                let identifier = owned(alloc, "abc")?;
-                Ok(identifier.clone()? == identifier)
-            }
+            IdentifierCall::FromText => makes(alloc),
+            IdentifierCall::Join => joins(alloc),
+            IdentifierCall::IntoText => tells(alloc),
+            IdentifierCall::Clone => copies(alloc),
         }
     }
+}
+
+// Whether the identifier is the text.
+fn makes(alloc: Global) -> Result<bool, CoreError> {
+    let made = owned(alloc, "abc")?;
+    Ok(made.as_str() == "abc")
+}
+
+// Whether the identifier is both.
+fn joins(alloc: Global) -> Result<bool, CoreError> {
+    let joined = Identifier::new("ab").join(alloc, &Identifier::new("c"))?;
+    Ok(joined.as_str() == "abc")
+}
+
+// Whether the text is the identifier.
+fn tells(alloc: Global) -> Result<bool, CoreError> {
+    let text = Identifier::new("abc").into_text(alloc)?;
+    Ok(text.as_str() == "abc")
+}
+
+// Whether the copy is equal.
+fn copies(alloc: Global) -> Result<bool, CoreError> {
+    let identifier = owned(alloc, "abc")?;
+    Ok(identifier.clone()? == identifier)
 }
 
 /// The refusal of a copy. The texts here are all identifiers.
