@@ -35,15 +35,61 @@ fn expect_steps(rt: &impl Abort, lists: &mut Nodes, steps: &[(Step, bool, &[u32]
     }
 }
 
+// The steps of tests, each with whether it is carried out, and the lists of both parts behind it.
+const INSERTS: &[(Step, bool, &[u32], &[u32])] = &[
+    (Front(1, 1), true, &[1], &[]),
+    (After(2, 1), true, &[1, 2], &[]),
+    (After(4, 2), true, &[1, 2, 4], &[]),
+];
+
+const UNLINKS: &[(Step, bool, &[u32], &[u32])] = &[
+    (Back(1, 1), true, &[1], &[]),
+    (Back(4, 1), true, &[1, 4], &[]),
+    (Before(2, 4), true, &[1, 2, 4], &[]),
+    (Out(2), true, &[1, 4], &[]),
+    (Out(1), true, &[4], &[]),
+    (Out(4), true, &[], &[]),
+];
+
+const CONDITIONS: &[(Step, bool, &[u32], &[u32])] = &[
+    (Front(1, 1), true, &[1], &[]),
+    (Front(1, 1), false, &[1], &[]),
+    (Back(1, 1), false, &[1], &[]),
+    (After(1, 1), false, &[1], &[]),
+    (Out(2), false, &[1], &[]),
+    (After(2, 3), false, &[1], &[]),
+    (Before(2, 3), false, &[1], &[]),
+    (Join(1, 1), false, &[1], &[]),
+];
+
+const APPENDS: &[(Step, bool, &[u32], &[u32])] = &[
+    (Back(1, 1), true, &[1], &[]),
+    (Back(2, 1), true, &[1, 2], &[]),
+    (Back(3, 2), true, &[1, 2], &[3]),
+    (Back(4, 2), true, &[1, 2], &[3, 4]),
+    (Join(1, 2), true, &[1, 2, 3, 4], &[]),
+];
+
+const APPENDS_TO_NOTHING: &[(Step, bool, &[u32], &[u32])] = &[
+    (Join(1, 2), true, &[], &[]),
+    (Back(1, 2), true, &[], &[1]),
+    (Join(1, 2), true, &[1], &[]),
+];
+
+const APPENDS_AND_UNLINKS: &[(Step, bool, &[u32], &[u32])] = &[
+    (Back(1, 1), true, &[1], &[]),
+    (Back(2, 1), true, &[1, 2], &[]),
+    (Back(3, 1), true, &[1, 2, 3], &[]),
+    (Back(4, 2), true, &[1, 2, 3], &[4]),
+    (Join(1, 2), true, &[1, 2, 3, 4], &[]),
+    (Out(3), true, &[1, 2, 4], &[]),
+    (Out(4), true, &[1, 2], &[]),
+];
+
 #[test]
 fn list_inserts(rt: HostRuntime) {
     let mut lists = nodes(&rt, rt.alloc());
-    let steps: [(Step, bool, &[u32], &[u32]); 3] = [
-        (Front(1, 1), true, &[1], &[]),
-        (After(2, 1), true, &[1, 2], &[]),
-        (After(4, 2), true, &[1, 2, 4], &[]),
-    ];
-    expect_steps(&rt, &mut lists, &steps);
+    expect_steps(&rt, &mut lists, INSERTS);
     expect_same(&rt, lists.is_linked(in_slot(3)), false);
     expect_steps(&rt, &mut lists, &[(Before(3, 1), true, &[3, 1, 2, 4], &[])]);
 }
@@ -52,12 +98,7 @@ fn list_inserts(rt: HostRuntime) {
 #[test]
 fn list_inserts_from_both_ends(rt: HostRuntime) {
     let mut lists = nodes(&rt, rt.alloc());
-    let steps: [(Step, bool, &[u32], &[u32]); 3] = [
-        (Front(1, 1), true, &[1], &[]),
-        (After(2, 1), true, &[1, 2], &[]),
-        (After(4, 2), true, &[1, 2, 4], &[]),
-    ];
-    expect_steps(&rt, &mut lists, &steps);
+    expect_steps(&rt, &mut lists, INSERTS);
     expect_same(
         &rt,
         lists.is_read_by_turns(&rt, in_slot(1), [1, 4, 2]),
@@ -68,15 +109,7 @@ fn list_inserts_from_both_ends(rt: HostRuntime) {
 #[test]
 fn list_unlinks(rt: HostRuntime) {
     let mut lists = nodes(&rt, rt.alloc());
-    let steps: [(Step, bool, &[u32], &[u32]); 6] = [
-        (Back(1, 1), true, &[1], &[]),
-        (Back(4, 1), true, &[1, 4], &[]),
-        (Before(2, 4), true, &[1, 2, 4], &[]),
-        (Out(2), true, &[1, 4], &[]),
-        (Out(1), true, &[4], &[]),
-        (Out(4), true, &[], &[]),
-    ];
-    expect_steps(&rt, &mut lists, &steps);
+    expect_steps(&rt, &mut lists, UNLINKS);
     for slot in [1, 2, 4] {
         expect_same(&rt, lists.has_no_links(in_slot(slot)), true);
     }
@@ -85,30 +118,13 @@ fn list_unlinks(rt: HostRuntime) {
 #[test]
 fn list_conditions(rt: HostRuntime) {
     let mut lists = nodes(&rt, rt.alloc());
-    let steps: [(Step, bool, &[u32], &[u32]); 8] = [
-        (Front(1, 1), true, &[1], &[]),
-        (Front(1, 1), false, &[1], &[]),
-        (Back(1, 1), false, &[1], &[]),
-        (After(1, 1), false, &[1], &[]),
-        (Out(2), false, &[1], &[]),
-        (After(2, 3), false, &[1], &[]),
-        (Before(2, 3), false, &[1], &[]),
-        (Join(1, 1), false, &[1], &[]),
-    ];
-    expect_steps(&rt, &mut lists, &steps);
+    expect_steps(&rt, &mut lists, CONDITIONS);
 }
 
 #[test]
 fn list_append(rt: HostRuntime) {
     let mut lists = nodes(&rt, rt.alloc());
-    let steps: [(Step, bool, &[u32], &[u32]); 5] = [
-        (Back(1, 1), true, &[1], &[]),
-        (Back(2, 1), true, &[1, 2], &[]),
-        (Back(3, 2), true, &[1, 2], &[3]),
-        (Back(4, 2), true, &[1, 2], &[3, 4]),
-        (Join(1, 2), true, &[1, 2, 3, 4], &[]),
-    ];
-    expect_steps(&rt, &mut lists, &steps);
+    expect_steps(&rt, &mut lists, APPENDS);
     let names = (lists.name(in_slot(1)), lists.name(in_slot(2)));
     let rest = (lists.payload(in_slot(3)), names);
     expect_same(&rt, rest, (Some(3), (Some(7), Some(8))));
@@ -117,27 +133,13 @@ fn list_append(rt: HostRuntime) {
 #[test]
 fn list_append_to_nothing(rt: HostRuntime) {
     let mut lists = nodes(&rt, rt.alloc());
-    let steps: [(Step, bool, &[u32], &[u32]); 3] = [
-        (Join(1, 2), true, &[], &[]),
-        (Back(1, 2), true, &[], &[1]),
-        (Join(1, 2), true, &[1], &[]),
-    ];
-    expect_steps(&rt, &mut lists, &steps);
+    expect_steps(&rt, &mut lists, APPENDS_TO_NOTHING);
 }
 
 #[test]
 fn list_append_then_unlink(rt: HostRuntime) {
     let mut lists = nodes(&rt, rt.alloc());
-    let steps: [(Step, bool, &[u32], &[u32]); 7] = [
-        (Back(1, 1), true, &[1], &[]),
-        (Back(2, 1), true, &[1, 2], &[]),
-        (Back(3, 1), true, &[1, 2, 3], &[]),
-        (Back(4, 2), true, &[1, 2, 3], &[4]),
-        (Join(1, 2), true, &[1, 2, 3, 4], &[]),
-        (Out(3), true, &[1, 2, 4], &[]),
-        (Out(4), true, &[1, 2], &[]),
-    ];
-    expect_steps(&rt, &mut lists, &steps);
+    expect_steps(&rt, &mut lists, APPENDS_AND_UNLINKS);
 }
 
 // Carries out steps, each of which is done.
