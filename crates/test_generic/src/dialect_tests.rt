@@ -16,14 +16,21 @@ fn prints<T: Display>(rt: &impl Abort, alloc: Global, value: &T, expected: &str)
 }
 
 #[test]
-fn ids(rt: HostRuntime) {
-    let alloc = rt.alloc();
-    let operation = Generic::op_id(alloc, 65_536).expect(&rt, "memory");
-    let attribute = Generic::attr_id(alloc, 0).expect(&rt, "memory");
-    let ty = Generic::type_id(alloc, 0).expect(&rt, "memory");
-    assert!(rt; prints(&rt, alloc, &operation, "generic.operation"));
-    assert!(rt; prints(&rt, alloc, &attribute, "generic.text"));
-    assert!(rt; prints(&rt, alloc, &ty, "generic.text"));
+fn operation_ids(rt: HostRuntime) {
+    let operation = Generic::op_id(rt.alloc(), 65_536).expect(&rt, "memory");
+    assert!(rt; prints(&rt, rt.alloc(), &operation, "generic.operation"));
+}
+
+#[test]
+fn attribute_ids(rt: HostRuntime) {
+    let attribute = Generic::attr_id(rt.alloc(), 0).expect(&rt, "memory");
+    assert!(rt; prints(&rt, rt.alloc(), &attribute, "generic.text"));
+}
+
+#[test]
+fn type_ids(rt: HostRuntime) {
+    let ty = Generic::type_id(rt.alloc(), 0).expect(&rt, "memory");
+    assert!(rt; prints(&rt, rt.alloc(), &ty, "generic.text"));
 }
 
 #[test]
@@ -48,20 +55,38 @@ fn attributes(rt: HostRuntime) {
     }
 }
 
+// The attribute of the properties.
+const PROPERTIES: GenericAttr = GenericAttr::Text(TextId(5));
+
+// A dictionary with properties and a flag.
+fn dictionary(rt: &impl Abort, alloc: Global) -> AttributeDict<Generic> {
+    let mut dict: AttributeDict<Generic> = AttributeDict::new(alloc);
+    dict.set(properties_key(), PROPERTIES).expect(rt, "memory");
+    dict.set(Identifier::new("flag"), GenericAttr::Unit)
+        .expect(rt, "memory");
+    dict
+}
+
+// What stands under the key of the flag.
+fn flag(dict: &AttributeDict<Generic>) -> Option<&GenericAttr> {
+    dict.get::<GenericAttr>(&Identifier::new("flag"))
+}
+
 #[test]
 fn dictionaries(rt: HostRuntime) {
-    let mut dict: AttributeDict<Generic> = AttributeDict::new(rt.alloc());
-    let text = GenericAttr::Text(TextId(5));
-    dict.set(properties_key(), text).expect(&rt, "memory");
-    dict.set(Identifier::new("flag"), GenericAttr::Unit)
-        .expect(&rt, "memory");
-    assert!(rt; dict.get::<GenericAttr>(&properties_key()) == Some(&text));
-    assert!(rt; dict.get::<GenericAttr>(&Identifier::new("flag")) == Some(&GenericAttr::Unit));
+    let dict = dictionary(&rt, rt.alloc());
+    assert!(rt; dict.get::<GenericAttr>(&properties_key()) == Some(&PROPERTIES));
+    assert!(rt; flag(&dict) == Some(&GenericAttr::Unit));
     assert!(rt; dict.get::<GenericAttr>(&Identifier::new("other")).is_none());
+}
+
+#[test]
+fn dictionaries_are_written(rt: HostRuntime) {
+    let mut dict = dictionary(&rt, rt.alloc());
     if let Some(attr) = dict.get_mut::<GenericAttr>(&Identifier::new("flag")) {
-        *attr = text;
+        *attr = PROPERTIES;
     }
-    assert!(rt; dict.get::<GenericAttr>(&Identifier::new("flag")) == Some(&text));
+    assert!(rt; flag(&dict) == Some(&PROPERTIES));
 }
 
 #[test]
