@@ -30,9 +30,9 @@ told-some means P (Some x) p e h = subst P (sym (same_Some _ _ e)) h
 
 module _ {W : Dialect} (f : Forest context_ids W) (nested : Nested f) where
   -- what is inside a live entity is live
-  pub inside-live : (root x : Entity context_ids) → IsLive f root → Inside f root x → IsLive f x
-  inside-live root x live itself = live
-  inside-live root x live (below {c = c} h w) = nested.live x c h
+  pub inside_live : (root x : Entity context_ids) → IsLive f root → Inside f root x → IsLive f x
+  inside_live root x live itself = live
+  inside_live root x live (below {c = c} h w) = nested.live x c h
 
   -- what is inside the root, and not the root itself, stands in something inside it
   pub owner-inside : (root x : Entity context_ids) → (x ≡ root → ⊥) → Inside f root x → (p : Entity context_ids) × In x (children f p) × Inside f root p

@@ -13,7 +13,7 @@ use Rattle.ir_view.specs.declared.order.WalkOrder.{WalkOrder}
 use Rattle.ir_view.specs.declared.order.WalkOrder.TheVariants.{PostOrder, Preorder}
 use Rattle.ir_view.specs.Left.{left_from}
 use Rattle.ir_view.specs.Listings.{IsInOrder, ahead_in, behind_in, listing}
-use Rattle.ir_view.proofs.Forests.{inside-live, lists}
+use Rattle.ir_view.proofs.Forests.{inside_live, lists}
 use Rattle.ir_view.proofs.Lefts.{left-step}
 use Rattle.ir_view.proofs.Levels.{ordered-is}
 
@@ -43,7 +43,7 @@ module _ {D A K B S X L : Type 0} (s : ContextState D A K B S X L) (formed : Nes
     each-once = lists (forest_of s) formed (ahead_in order) (behind_in order) (own order) e xs is
 
     pub each-live : IsLive (forest_of s) e → All (λ x. IsLive (forest_of s) x) xs
-    each-live live = all-of (λ x. IsLive (forest_of s) x) xs (λ x i. inside-live (forest_of s) formed e x live ((each-once.exact x).0 i))
+    each-live live = all-of (λ x. IsLive (forest_of s) x) xs (λ x i. inside_live (forest_of s) formed e x live ((each-once.exact x).0 i))
 
     -- a walk that is at an entity inside has it left, and what is left from the next on
     pub taken : (here : Entity context_ids) (next : Option (Entity context_ids)) → Inside (forest_of s) e here

@@ -18,6 +18,7 @@ use ir_core_nesting::recall_depths_follow;
 use ir_core_queries::{Context, Entity};
 
 // The entity that first children lead to, in which nothing stands.
+#[tactic(auto, using(crate::proofs::Forests::inside_live))]
 fn innermost<D: Dialects>(ctx: &Context<D>, start: Entity<D>) -> Entity<D>
     requires { IsLive (forest_of ctx.now) (meant start) }
     ensures inside { Inside (forest_of ctx.now) (meant start) (meant result) }
@@ -34,6 +35,7 @@ fn innermost<D: Dialects>(ctx: &Context<D>, start: Entity<D>) -> Entity<D>
 }
 
 // What comes after an entity in post-order: the innermost of the one beside it, or else what it stands in.
+#[tactic(auto, using(crate::proofs::Forests::inside_live))]
 fn next_in_post_order<D: Dialects>(
     ctx: &Context<D>,
     root: Entity<D>,
@@ -56,6 +58,7 @@ fn next_in_post_order<D: Dialects>(
 }
 
 // What comes in preorder after an entity in which nothing stands: the one beside it, or beside the first around it that has one beside it.
+#[tactic(auto, using(crate::proofs::Forests::inside_live))]
 fn next_after_leaf<D: Dialects>(
     ctx: &Context<D>,
     root: Entity<D>,
@@ -82,6 +85,7 @@ fn next_after_leaf<D: Dialects>(
 }
 
 // What comes after an entity in preorder: what stands in it first, or else what comes after a leaf.
+#[tactic(auto, using(crate::proofs::Forests::inside_live))]
 fn next_in_preorder<D: Dialects>(
     ctx: &Context<D>,
     root: Entity<D>,

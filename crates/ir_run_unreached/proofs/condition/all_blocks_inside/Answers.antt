@@ -11,12 +11,6 @@ use Rattle.ir_run_unreached.proofs.condition.all_blocks_inside.Goals as goal
 pub loop-block-init : goal.loop-block-init
 loop-block-init g c = λ b. (λ h. absurd (subst (In b) c.new-marked.ensures h), λ h. absurd h.1)
 
-pub mark_inside-requires : goal.mark_inside-requires
-mark_inside-requires g c =
-    let bs = c.args.blocks.now in
-    let k = c.loop-block.block-index in
-    each_seen bs (λ p. p.index) (λ b. IsLive (forest_of c.args.ctx.now) (a_block b)) c.requires _ (got_in (map (λ p. p.index) bs) k _ (seen_or bs (λ p. p.index) k _ c.loop-block-test.true))
-
 pub loop-block-preserved : goal.loop-block-preserved
 loop-block-preserved g c =
     let bs = c.args.blocks.now in

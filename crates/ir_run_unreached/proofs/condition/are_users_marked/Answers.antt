@@ -8,11 +8,6 @@ use Rattle.ir_core_erasing.proofs.Users.{or-same}
 use Rattle.ir_run_unreached.specs.Kept.{StandsInMarked}
 use Rattle.ir_run_unreached.proofs.condition.are_users_marked.Goals as goal
 
-pub stands_in_marked-requires : goal.stands_in_marked-requires
-stands_in_marked-requires g c =
-    let is = c.from_index.ensures ∙ c.user.ensures ∙ ap (λ (u : UseIndex). u.user) c.used-item.is in
-    subst (λ o. IsLive (forest_of c.args.ctx.now) (an_op o)) (sym is) (c.requires c.loop-used.used-index c.used-item.result c.loop-used-test.true)
-
 pub loop-used-preserved : goal.loop-used-preserved
 loop-used-preserved g c =
     let f = forest_of c.args.ctx.now in

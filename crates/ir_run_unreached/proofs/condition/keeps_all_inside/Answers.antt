@@ -14,14 +14,6 @@ loop-entity-init g c =
     let f = forest_of c.args.ctx.now in
     (tt, tt, ([], subst (ListsSubtree f (a_block c.args.block.index)) (sym c.into_iter-entity-iterator.ensures.into_iter_gives) c.inside-entity-items.ensures.each, λ x h. absurd h))
 
-pub keeps_names-requires : goal.keeps_names-requires
-keeps_names-requires g c =
-    let f = forest_of c.args.ctx.now in
-    let i = c.loop-entity.invariant.2 in
-    let x = meant c.in-Some.entity in
-    let lists = subst (ListsSubtree f (a_block c.args.block.index)) (over i.0 _ _ x c.in-Some.ensures.steps) i.1 in
-    inside_live f c.recall_well_formed.ensures.nested (a_block c.args.block.index) x c.requires ((lists.exact x).0 (In-left x (i.0 ++ x ∷ []) _ (In-right x i.0 (x ∷ []) (inl refl))))
-
 pub loop-entity-preserved : goal.loop-entity-preserved
 loop-entity-preserved g c =
     let f = forest_of c.args.ctx.now in

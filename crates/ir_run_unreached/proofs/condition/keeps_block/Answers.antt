@@ -14,10 +14,6 @@ use Rattle.ir_run_unreached.proofs.Slices.{named_users_live, users_named}
 use Rattle.ir_run_unreached.proofs.Values.{argument_means}
 use Rattle.ir_run_unreached.proofs.condition.keeps_block.Goals as goal
 
-pub are_users_marked-requires : goal.are_users_marked-requires
-are_users_marked-requires g c =
-    named_users_live (forest_of c.args.ctx.now) (λ (u : UseIndex). u.user) c.args.marked.now (the_block c.args.block.index) c.kept_uses.result.now c.kept_uses.ensures.users
-
 pub returns-then-not-are_users_marked : goal.returns-then-not-are_users_marked
 returns-then-not-are_users_marked g c =
     let f = forest_of c.args.ctx.now in
@@ -26,9 +22,6 @@ returns-then-not-are_users_marked g c =
       λ e. absurd (false≢true e),
       λ keep. absurd (false≢true (sym c.if-not-are_users_marked.true ∙ c.are_users_marked.ensures.1 ((users_named f (λ (u : UseIndex). u.user) m (the_block b) c.kept_uses.result.now c.kept_uses.ensures.users).1 (own_block f m b keep)))),
     )
-
-pub keeps_value-requires : goal.keeps_value-requires
-keeps_value-requires g c = c.deref-of.ensures.leads.arguments c.get_argument.result.index c.loop-place.place c.get_argument.ensures.definer c.get_argument.ensures.number
 
 pub loop-place-preserved : goal.loop-place-preserved
 loop-place-preserved g c =

@@ -14,12 +14,6 @@ use Rattle.ir_run_unreached.proofs.condition.keeps_each.Goals as goal
 pub loop-block-init : goal.loop-block-init
 loop-block-init g c = λ b h. absurd h
 
-pub keeps_all_inside-requires : goal.keeps_all_inside-requires
-keeps_all_inside-requires g c =
-    let bs = c.args.blocks.now in
-    let k = c.loop-block.block-index in
-    each_seen bs (λ p. p.index) (λ b. IsLive (forest_of c.args.ctx.now) (a_block b)) c.requires _ (got_in (map (λ p. p.index) bs) k _ (seen_or bs (λ p. p.index) k _ c.loop-block-test.true))
-
 pub loop-block-preserved : goal.loop-block-preserved
 loop-block-preserved g c =
     let f = forest_of c.args.ctx.now in

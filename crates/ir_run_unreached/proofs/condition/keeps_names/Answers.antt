@@ -7,14 +7,8 @@ use Rattle.ir_run_unreached.specs.Kept.{KeepsOwn}
 use Rattle.ir_run_unreached.proofs.KeptNames.{region_keeps}
 use Rattle.ir_run_unreached.proofs.condition.keeps_names.Goals as goal
 
-pub keeps_results-requires : goal.keeps_results-requires
-keeps_results-requires g c = subst (λ e. IsLive (forest_of c.args.ctx.now) (meant e)) c.in-Op.is c.requires
-
 pub returns-in-Op : goal.returns-in-Op
 returns-in-Op g c = subst (λ e. IsTrue c.keeps_results.result ↔ KeepsOwn (forest_of c.args.ctx.now) c.args.marked.now (meant e)) (sym c.in-Op.is) c.keeps_results.ensures
-
-pub keeps_block-requires : goal.keeps_block-requires
-keeps_block-requires g c = subst (λ e. IsLive (forest_of c.args.ctx.now) (meant e)) c.in-Block.is c.requires
 
 pub returns-in-Block : goal.returns-in-Block
 returns-in-Block g c = subst (λ e. IsTrue c.keeps_block.result ↔ KeepsOwn (forest_of c.args.ctx.now) c.args.marked.now (meant e)) (sym c.in-Block.is) c.keeps_block.ensures

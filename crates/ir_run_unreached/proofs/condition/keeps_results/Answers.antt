@@ -12,9 +12,6 @@ use Rattle.ir_run_unreached.proofs.Places.{result_at, result_count}
 use Rattle.ir_run_unreached.proofs.Values.{result_means}
 use Rattle.ir_run_unreached.proofs.condition.keeps_results.Goals as goal
 
-pub keeps_value-requires : goal.keeps_value-requires
-keeps_value-requires g c = c.deref-operation.ensures.leads.results c.get_result.result.index c.loop-place.place c.get_result.ensures.definer c.get_result.ensures.number
-
 pub loop-place-preserved : goal.loop-place-preserved
 loop-place-preserved g c =
     let f = forest_of c.args.ctx.now in

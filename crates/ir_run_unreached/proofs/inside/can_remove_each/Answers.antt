@@ -13,12 +13,6 @@ use Rattle.ir_run_unreached.proofs.inside.can_remove_each.Goals as goal
 pub loop-region-init : goal.loop-region-init
 loop-region-init g c = λ r h. absurd h
 
-pub can_remove_unreached-requires : goal.can_remove_unreached-requires
-can_remove_unreached-requires g c =
-    let rs = c.args.regions.now in
-    let k = c.loop-region.region-index in
-    each_seen rs (λ p. p.index) (λ r. IsLive (forest_of c.args.ctx.now) (a_region r)) c.requires _ (got_in (map (λ p. p.index) rs) k _ (seen_or rs (λ p. p.index) k _ c.loop-region-test.true))
-
 pub loop-region-preserved : goal.loop-region-preserved
 loop-region-preserved g c =
     let rs = c.args.regions.now in

@@ -11,11 +11,6 @@ use Rattle.ir_run_unreached.proofs.removing.drop_each.Goals as goal
 pub loop-block-init : goal.loop-block-init
 loop-block-init g c = (λ h d. d, c.requires, same_itself _)
 
-pub drop_all_uses-requires : goal.drop_all_uses-requires
-drop_all_uses-requires g c =
-    let k = c.loop-block.block-index in
-    each_seen c.args.blocks.now (λ p. p.index) (λ b. IsLive (forest_of c.loop-block.ctx) (a_block b)) c.loop-block.invariant.1 _ (got_in (map (λ p. p.index) c.args.blocks.now) k _ (seen_or c.args.blocks.now (λ p. p.index) k _ c.loop-block-test.true))
-
 pub loop-block-preserved : goal.loop-block-preserved
 loop-block-preserved g c =
     let bs = c.args.blocks.now in

@@ -5,7 +5,7 @@ use Rattle.ir_model.proofs.Relinks.{first_in}
 use Rattle.ir_core_nesting.specs.Climbs.{depth, size}
 use Rattle.ir_core_context.specs.State.{forest_of}
 use Rattle.ir_core_queries.specs.Entities.{meant}
-use Rattle.ir_view.proofs.Forests.{first-none, inside-live}
+use Rattle.ir_view.proofs.Forests.{first-none}
 use Rattle.ir_view.proofs.Steps.{leads-self, leads-down, leads-first}
 use Rattle.ir_view.proofs.next.innermost.Goals as goal
 
@@ -34,9 +34,6 @@ loop-child-smaller g c =
     let fits : depth t (Some child) ≤ suc (size t) = c.recall_depths_follow.ensures.fits t (Some child) in
     let smaller : suc (size t) - depth t (Some child) < suc (size t) - depth t (Some here) = omega (arith, more, fits) in
     smaller
-
-pub first_child-requires : goal.first_child-requires
-first_child-requires g c = inside-live (forest_of c.args.ctx.now) c.recall_well_formed.ensures.nested (meant c.args.start) (meant c.loop-child.current) c.requires c.loop-child.invariant.inside
 
 pub returns-clause-inside : goal.returns-clause-inside
 returns-clause-inside g c = c.loop-child.invariant.inside

@@ -4,7 +4,7 @@ use Rattle.ir_model.specs.Nesting.{Inside}
 use Rattle.ir_model.specs.Parent.{first_of}
 use Rattle.ir_core_context.specs.State.{forest_of}
 use Rattle.ir_core_queries.specs.Entities.{meant}
-use Rattle.ir_view.proofs.Forests.{told-apart, inside-live, beside, beside-inside, owner-in, pre-starts, climb-ends, climb-beside, climb-up}
+use Rattle.ir_view.proofs.Forests.{told-apart, beside, beside-inside, owner-in, pre-starts, climb-ends, climb-beside, climb-up}
 use Rattle.ir_view.proofs.next.next_after_leaf.Goals as goal
 
 pub loop-root-init : goal.loop-root-init
@@ -12,12 +12,6 @@ loop-root-init g c = record {
   inside = c.requires.inside;
   after = λ xs before behind is splits. pre-starts (forest_of c.args.ctx.now) c.recall_well_formed.ensures.nested (meant c.args.root) (meant c.args.here) c.requires.inside xs before behind splits is c.requires.leaf;
 }
-
-pub next_beside-requires : goal.next_beside-requires
-next_beside-requires g c = inside-live (forest_of c.args.ctx.now) c.recall_well_formed.ensures.nested (meant c.args.root) (meant c.loop-root.current) c.requires.live c.loop-root.invariant.inside
-
-pub owner-requires : goal.owner-requires
-owner-requires g c = inside-live (forest_of c.args.ctx.now) c.recall_well_formed.ensures.nested (meant c.args.root) (meant c.loop-root.current) c.requires.live c.loop-root.invariant.inside
 
 pub returns-in-Some-clause-inside : goal.returns-in-Some-clause-inside
 returns-in-Some-clause-inside g c =

@@ -4,15 +4,12 @@ use Rattle.ir_model.specs.Nesting.{children, Inside}
 use Rattle.ir_model.proofs.Nests.{Within-trans}
 use Rattle.ir_core_context.specs.State.{forest_of}
 use Rattle.ir_core_queries.specs.Entities.{meant}
-use Rattle.ir_view.proofs.Forests.{told-apart, told-some, inside-live, beside, beside-inside, owner-in, post-ends, post-beside, post-around}
+use Rattle.ir_view.proofs.Forests.{told-apart, told-some, inside_live, beside, beside-inside, owner-in, post-ends, post-beside, post-around}
 use Rattle.ir_view.proofs.next.next_in_post_order.Goals as goal
 
 pub returns-then-is_same-clause-next : goal.returns-then-is_same-clause-next
 returns-then-is_same-clause-next g c = λ xs before behind is splits.
     post-ends (forest_of c.args.ctx.now) c.recall_well_formed.ensures.nested (meant c.args.root) (meant c.args.here) c.requires.inside xs before behind splits is (c.is_same.ensures.0 c.if-is_same.true)
-
-pub next_beside-requires : goal.next_beside-requires
-next_beside-requires g c = inside-live (forest_of c.args.ctx.now) c.recall_well_formed.ensures.nested (meant c.args.root) (meant c.args.here) c.requires.live c.requires.inside
 
 pub innermost-requires : goal.innermost-requires
 innermost-requires g c =
@@ -22,10 +19,7 @@ innermost-requires g c =
     let here = meant c.args.here in
     let sibling = meant c.in-Some.sibling in
     let other = told-apart c.is_same.result (here ≡ root) c.is_same.ensures c.if-is_same.false in
-    inside-live f nested root sibling c.requires.live (beside-inside f nested root here sibling (beside f nested root here sibling other c.requires.inside c.in-Some.ensures))
-
-pub owner-requires : goal.owner-requires
-owner-requires g c = inside-live (forest_of c.args.ctx.now) c.recall_well_formed.ensures.nested (meant c.args.root) (meant c.args.here) c.requires.live c.requires.inside
+    inside_live f nested root sibling c.requires.live (beside-inside f nested root here sibling (beside f nested root here sibling other c.requires.inside c.in-Some.ensures))
 
 pub returns-in-Some-clause-inside : goal.returns-in-Some-clause-inside
 returns-in-Some-clause-inside g c =

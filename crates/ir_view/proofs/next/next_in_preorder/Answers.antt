@@ -2,11 +2,8 @@ use Rattle.std.proofs.Common.{sym}
 use Rattle.ir_model.specs.Nesting.{children}
 use Rattle.ir_core_context.specs.State.{forest_of}
 use Rattle.ir_core_queries.specs.Entities.{meant}
-use Rattle.ir_view.proofs.Forests.{first-inside, first-none, inside-live, pre-first}
+use Rattle.ir_view.proofs.Forests.{first-inside, first-none, pre-first}
 use Rattle.ir_view.proofs.next.next_in_preorder.Goals as goal
-
-pub first_child-requires : goal.first_child-requires
-first_child-requires g c = inside-live (forest_of c.args.ctx.now) c.recall_well_formed.ensures.nested (meant c.args.root) (meant c.args.here) c.requires.live c.requires.inside
 
 pub returns-in-Some-clause-inside : goal.returns-in-Some-clause-inside
 returns-in-Some-clause-inside g c = first-inside (forest_of c.args.ctx.now) c.recall_well_formed.ensures.nested (meant c.args.root) (meant c.args.here) (meant c.in-Some.child) c.in-Some.ensures c.requires.inside
