@@ -1,11 +1,10 @@
 use Rattle.std.proofs.Common.{map, sym, subst, arith}
 use Rattle.ir_model.specs.Forest.{a_block}
-use Rattle.ir_model.specs.Nesting.{In, IsLive}
-use Rattle.ir_model.proofs.Edges.{got_in}
+use Rattle.ir_model.specs.Nesting.{In}
 use Rattle.ir_core_queries.specs.State.{forest_of}
 use Rattle.ir_run_unreached.specs.Kept.{IsInsideOne}
 use Rattle.ir_run_unreached.proofs.Marking.{taken_all}
-use Rattle.ir_run_unreached.proofs.Slices.{each_seen, inside_more, length_seen, seen_or}
+use Rattle.ir_run_unreached.proofs.Slices.{inside_more, length_seen, seen_or}
 use Rattle.ir_run_unreached.proofs.condition.all_blocks_inside.Goals as goal
 
 pub loop-block-init : goal.loop-block-init

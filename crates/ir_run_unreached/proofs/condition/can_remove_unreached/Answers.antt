@@ -8,6 +8,20 @@ use Rattle.ir_run_unreached.proofs.Removals.{each_live}
 use Rattle.ir_run_unreached.proofs.Slices.{seen_each}
 use Rattle.ir_run_unreached.proofs.condition.can_remove_unreached.Goals as goal
 
+pub all_blocks_inside-requires : goal.all_blocks_inside-requires
+all_blocks_inside-requires g c =
+    let f = forest_of c.args.ctx.now in
+    let r = c.args.region.index in
+    subst (λ xs. All (λ p. IsLive f (a_block p.index)) xs) (sym c.as_slice-listed.ensures.value)
+    (seen_each c.in_ok-blocks.blocks.items (λ p. p.index) (λ b. IsLive f (a_block b)) (λ b h. each_live f r c.recall_well_formed.ensures.nested _ c.in_ok-blocks.ensures.listed b h))
+
+pub keeps_each-requires : goal.keeps_each-requires
+keeps_each-requires g c =
+    let f = forest_of c.args.ctx.now in
+    let r = c.args.region.index in
+    subst (λ xs. All (λ p. IsLive f (a_block p.index)) xs) (sym c.as_slice-listed.ensures.value)
+    (seen_each c.in_ok-blocks.blocks.items (λ p. p.index) (λ b. IsLive f (a_block b)) (λ b h. each_live f r c.recall_well_formed.ensures.nested _ c.in_ok-blocks.ensures.listed b h))
+
 pub returns-clause-exact : goal.returns-clause-exact
 returns-clause-exact g c =
     let f = forest_of c.args.ctx.now in

@@ -6,7 +6,7 @@ use Rattle.ir_model.proofs.Nests.{In-left, In-right}
 use Rattle.ir_core_queries.specs.Entities.{meant}
 use Rattle.ir_core_queries.specs.State.{forest_of}
 use Rattle.ir_run_unreached.proofs.KeptNames.{passed_more}
-use Rattle.ir_run_unreached.proofs.Slices.{inside_live, over, whole}
+use Rattle.ir_run_unreached.proofs.Slices.{over, whole}
 use Rattle.ir_run_unreached.proofs.condition.keeps_all_inside.Goals as goal
 
 pub loop-entity-init : goal.loop-entity-init

@@ -1,9 +1,9 @@
-use Rattle.std.proofs.Common.{◌≡◌, refl, sym, subst, ap, ◌∙◌, arith}
+use Rattle.std.proofs.Common.{refl, sym, subst, ap, ◌∙◌, arith}
 use Rattle.std.proofs.lemmas.Bool.{false≢true}
 use Rattle.ir_model.specs.Forest.{a_value, of_block, the_block}
 use Rattle.ir_model.specs.Nesting.{In, numbers_of, ops_of}
 use Rattle.ir_core_queries.specs.State.{forest_of}
-use Rattle.ir_core_records.specs.Meaning.{block_record, value_of}
+use Rattle.ir_core_records.specs.Meaning.{block_record}
 use Rattle.ir_core_records.specs.declared.record.Definer.TheVariants.{Block}
 use Rattle.ir_core_records.specs.declared.record.UseIndex.{UseIndex}
 use Rattle.ir_run_unreached.specs.Kept.{KeepsNamed}
@@ -13,6 +13,10 @@ use Rattle.ir_run_unreached.proofs.Places.{argument_at, argument_count}
 use Rattle.ir_run_unreached.proofs.Slices.{named_users_live, users_named}
 use Rattle.ir_run_unreached.proofs.Values.{argument_means}
 use Rattle.ir_run_unreached.proofs.condition.keeps_block.Goals as goal
+
+pub are_users_marked-requires : goal.are_users_marked-requires
+are_users_marked-requires g c =
+    named_users_live (forest_of c.args.ctx.now) (λ (u : UseIndex). u.user) c.args.marked.now (the_block c.args.block.index) c.kept_uses.result.now c.kept_uses.ensures.users
 
 pub returns-then-not-are_users_marked : goal.returns-then-not-are_users_marked
 returns-then-not-are_users_marked g c =

@@ -3,12 +3,12 @@ use Rattle.std.proofs.lemmas.Bool.{false≢true}
 use Rattle.ir_model.specs.declared.ids.ArenaIndex.{ArenaIndex}
 use Rattle.ir_model.specs.ContextIds.{context_ids}
 use Rattle.ir_model.specs.Forest.{Entity, a_block}
-use Rattle.ir_model.specs.Nesting.{In, Inside, IsLive}
+use Rattle.ir_model.specs.Nesting.{In, Inside}
 use Rattle.ir_model.proofs.Edges.{got_in}
 use Rattle.ir_core_queries.specs.State.{forest_of}
 use Rattle.ir_run_unreached.specs.Kept.{KeepsOwn}
 use Rattle.ir_run_unreached.proofs.Marking.{taken_all}
-use Rattle.ir_run_unreached.proofs.Slices.{each_seen, first_each, length_seen, seen_or}
+use Rattle.ir_run_unreached.proofs.Slices.{first_each, length_seen, seen_or}
 use Rattle.ir_run_unreached.proofs.condition.keeps_each.Goals as goal
 
 pub loop-block-init : goal.loop-block-init

@@ -1,6 +1,5 @@
 use Rattle.std.proofs.Common.{◌↔◌, refl, sym, subst}
 use Rattle.std.specs.Prelude.{IsTrue}
-use Rattle.ir_model.specs.Nesting.{IsLive}
 use Rattle.ir_core_queries.specs.Entities.{meant}
 use Rattle.ir_core_queries.specs.State.{forest_of}
 use Rattle.ir_run_unreached.specs.Kept.{KeepsOwn}

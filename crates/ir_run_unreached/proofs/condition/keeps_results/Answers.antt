@@ -1,9 +1,9 @@
-use Rattle.std.proofs.Common.{◌≡◌, refl, sym, subst, ap, ◌∙◌, arith}
+use Rattle.std.proofs.Common.{refl, sym, subst, ap, ◌∙◌, arith}
 use Rattle.std.proofs.lemmas.Bool.{false≢true}
 use Rattle.ir_model.specs.Forest.{a_value, of_op}
 use Rattle.ir_model.specs.Nesting.{In, numbers_of}
 use Rattle.ir_core_queries.specs.State.{forest_of}
-use Rattle.ir_core_records.specs.Meaning.{op_record, value_of}
+use Rattle.ir_core_records.specs.Meaning.{op_record}
 use Rattle.ir_core_records.specs.declared.record.Definer.TheVariants.{Op}
 use Rattle.ir_run_unreached.specs.Kept.{KeepsNamed}
 use Rattle.ir_run_unreached.proofs.KeptNames.{first_more, op_keeps, own_value}

@@ -10,6 +10,16 @@ use Rattle.ir_run_unreached.specs.Kept.{StandsInMarked}
 use Rattle.ir_run_unreached.proofs.Slices.{kept_live, kept_named}
 use Rattle.ir_run_unreached.proofs.condition.keeps_value.Goals as goal
 
+pub uses-requires : goal.uses-requires
+uses-requires g c = rw c.records.ensures (live-value c.args.ctx.now.records c.args.value.index c.requires)
+
+pub are_users_marked-requires : goal.are_users_marked-requires
+are_users_marked-requires g c =
+    let f = forest_of c.args.ctx.now in
+    let v = c.args.value.index in
+    let same : c.as_slice.result.now ≡ uses_at c.args.ctx.now.records v = c.as_slice.ensures ∙ c.uses.ensures ∙ ap (λ t. uses_at t v) c.records.ensures in
+    subst (λ us. All (λ (u : UseIndex). IsLive f (an_op u.user)) us) (sym same) (kept_live f use_of c.args.marked.now (value_of v) (uses_at c.args.ctx.now.records v) (c.recall_uses_exact.ensures.values v c.requires))
+
 pub returns : goal.returns
 returns g c =
     let f = forest_of c.args.ctx.now in

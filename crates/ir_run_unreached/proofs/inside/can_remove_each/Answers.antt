@@ -1,13 +1,12 @@
 use Rattle.std.proofs.Common.{map, refl, sym, subst, ◌∙◌, arith}
 use Rattle.std.proofs.lemmas.Bool.{false≢true}
 use Rattle.ir_model.specs.declared.ids.ArenaIndex.{ArenaIndex}
-use Rattle.ir_model.specs.Forest.{a_region}
-use Rattle.ir_model.specs.Nesting.{In, IsLive}
+use Rattle.ir_model.specs.Nesting.{In}
 use Rattle.ir_model.proofs.Edges.{got_in}
 use Rattle.ir_model_passes.specs.Unreached.{NamesStayInside}
 use Rattle.ir_core_queries.specs.State.{forest_of}
 use Rattle.ir_run_unreached.proofs.Marking.{taken_all}
-use Rattle.ir_run_unreached.proofs.Slices.{each_seen, first_each, length_seen, seen_or}
+use Rattle.ir_run_unreached.proofs.Slices.{first_each, length_seen, seen_or}
 use Rattle.ir_run_unreached.proofs.inside.can_remove_each.Goals as goal
 
 pub loop-region-init : goal.loop-region-init

@@ -13,6 +13,13 @@ use Rattle.ir_run_unreached.proofs.inside.treat_each.Goals as goal
 pub loop-region-init : goal.loop-region-init
 loop-region-init g c = ((0, treating_starts c.args.root.index (forest_of c.args.ctx.now) _ c.requires.listed c.requires.names), same_itself _)
 
+pub treat-requires : goal.treat-requires
+treat-requires g c =
+    let rs = c.args.regions.now in
+    let k = c.loop-region.region-index in
+    let t = c.loop-region.invariant.0.1 in
+    λ live. t.names _ (t.inside _ (got_in (map (λ p. p.index) rs) k _ (seen_or rs (λ p. p.index) k _ c.loop-region-test.true)) live)
+
 pub returns-in_err-treat-clause-partly : goal.returns-in_err-treat-clause-partly
 returns-in_err-treat-clause-partly g c =
     let t = c.loop-region.invariant.0 in

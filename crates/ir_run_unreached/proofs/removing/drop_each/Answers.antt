@@ -1,7 +1,6 @@
 use Rattle.std.proofs.Common.{◌+◌, map, refl, sym, subst, arith}
 use Rattle.ir_model.specs.Forest.{a_block}
 use Rattle.ir_model.specs.Nesting.{IsLive}
-use Rattle.ir_model.proofs.Edges.{got_in}
 use Rattle.ir_core_queries.specs.State.{forest_of}
 use Rattle.ir_run_unreached.specs.Removals.{DropsEach, none_dropped, one_dropped}
 use Rattle.ir_run_unreached.proofs.Rest.{same_itself, same_joined}

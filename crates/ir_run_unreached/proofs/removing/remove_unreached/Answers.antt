@@ -10,6 +10,19 @@ use Rattle.ir_run_unreached.proofs.Rest.{same_joined}
 use Rattle.ir_run_unreached.proofs.Slices.{length_seen, seen_each}
 use Rattle.ir_run_unreached.proofs.removing.remove_unreached.Goals as goal
 
+pub drop_each-requires : goal.drop_each-requires
+drop_each-requires g c =
+    let f = forest_of c.args.ctx.now in
+    subst (λ xs. All (λ p. IsLive f (a_block p.index)) xs) (sym c.as_slice-listed.ensures.value)
+    (seen_each c.in_ok-blocks.blocks.items (λ p. p.index) (λ b. IsLive f (a_block b)) (λ b h. each_live f c.args.region.index c.recall_well_formed.ensures.nested _ c.in_ok-blocks.ensures.listed b h))
+
+pub erase_each-requires : goal.erase_each-requires
+erase_each-requires g c =
+    let f = forest_of c.args.ctx.now in
+    let drops = subst (λ xs. DropsEach f (map (λ p. p.index) xs) (forest_of c.drop_each.new.ctx)) c.as_slice-listed.ensures.value c.drop_each.ensures.dropped in
+    subst (λ xs. CanEraseEach (forest_of c.drop_each.new.ctx) (map (λ p. p.index) xs)) (sym c.as_slice-listed.ensures.value)
+    (can_erase f c.args.region.index c.recall_well_formed.ensures.nested _ c.in_ok-blocks.ensures.listed c.requires.names (forest_of c.drop_each.new.ctx) drops)
+
 pub returns : goal.returns
 returns g c =
     let f = forest_of c.args.ctx.now in
