@@ -15,7 +15,7 @@ use ir_view_parts::{
     Context, Op, Operation, OperationKind, OperationPtr, Value, ValueQueries, op_impls_static,
 };
 use std::alloc::Global;
-use std::fmt::Debug;
+use std::fmt::{Debug, Display};
 use std::process::Abort;
 
 // What the call answered. Where it was refused the test ends, also for want of memory.
@@ -23,24 +23,44 @@ fn done<T, E: Debug>(rt: &impl Abort, answer: Result<T, E>) -> T {
     answer.expect(rt, "the call was refused")
 }
 
-// The ids of the dialect's operations and types, one behind the other.
-fn ids(rt: &impl Abort, alloc: Global) -> String {
-    let constant = done(rt, <Constant as Op<Calc>>::get_opid_static(alloc));
-    let less = done(rt, <Less as Op<Calc>>::get_opid_static(alloc));
-    let number = done(rt, Number { bits: 8 }.get_type_id(alloc));
-    let truth = done(rt, Truth.get_type_id(alloc));
-    let literal = done(rt, Calc::attr_id(alloc, 0));
-    let remark = done(rt, Calc::attr_id(alloc, 1));
-    done(
-        rt,
-        format!(in alloc; "{constant} {less} {number} {truth} {literal} {remark}"),
-    )
+// Asserts that an id prints as this text.
+fn expect_id<T: Display + Drop>(rt: &impl Abort, alloc: Global, id: T, text: &str) {
+    let printed = done(rt, format!(in alloc; "{id}"));
+    assert!(rt; printed.as_str() == text);
+}
+
+// The ids of the dialect's operations.
+fn operation_ids(rt: &impl Abort, alloc: Global) {
+    let constant = <Constant as Op<Calc>>::get_opid_static(alloc);
+    expect_id(rt, alloc, done(rt, constant), "calc.constant");
+    let less = <Less as Op<Calc>>::get_opid_static(alloc);
+    expect_id(rt, alloc, done(rt, less), "calc.less");
+}
+
+// The ids of its types.
+fn type_ids(rt: &impl Abort, alloc: Global) {
+    let number = Number { bits: 8 }.get_type_id(alloc);
+    expect_id(rt, alloc, done(rt, number), "calc.number");
+    expect_id(rt, alloc, done(rt, Truth.get_type_id(alloc)), "calc.truth");
 }
 
 #[test]
 fn names_of_kinds(rt: HostRuntime) {
-    let text = "calc.constant calc.less calc.number calc.truth calc.literal calc.remark";
-    assert!(rt; ids(&rt, rt.alloc()).as_str() == text);
+    let alloc = rt.alloc();
+    operation_ids(&rt, alloc);
+    type_ids(&rt, alloc);
+    expect_id(
+        &rt,
+        alloc,
+        done(&rt, Calc::attr_id(alloc, 0)),
+        "calc.literal",
+    );
+    expect_id(
+        &rt,
+        alloc,
+        done(&rt, Calc::attr_id(alloc, 1)),
+        "calc.remark",
+    );
     assert!(rt; op_impls_static::<Less, PureOpInterface, Calc>());
 }
 
@@ -154,19 +174,29 @@ fn fault(code: u32) -> Result<(), VerifyErr> {
     Err(VerifyErr::VerifierErr(VerifierErr { code }))
 }
 
-// A comparison without sides is found, and so is a type without bits.
-fn checks(rt: &impl Abort, ctx: &mut Context<Calc>) {
+// Asserts what verification found.
+fn expect_found(rt: &impl Abort, told: Result<(), VerifyErr>, wanted: Result<(), VerifyErr>) {
+    assert!(rt; told == wanted);
+}
+
+// A comparison is right, and one without sides is found.
+fn check_comparisons(rt: &impl Abort, ctx: &mut Context<Calc>) {
     let less = done(rt, Less::compare(ctx, 16, 3, 5));
-    assert!(rt; found(rt, ctx, less.op) == Ok(()));
+    expect_found(rt, found(rt, ctx, less.op), Ok(()));
     let bare = done(rt, operation::new(ctx, Less::KIND, &[], &[], &[], 0));
-    assert!(rt; found(rt, ctx, bare) == fault(SIDES));
+    expect_found(rt, found(rt, ctx, bare), fault(SIDES));
+}
+
+// A type without bits is found.
+fn check_types(rt: &impl Abort, ctx: &Context<Calc>) {
     let empty = CalcType::Number(Number { bits: 0 });
-    assert!(rt; verify_type(&empty, ctx, &CalcChecks) == fault(NO_BITS));
+    expect_found(rt, verify_type(&empty, ctx, &CalcChecks), fault(NO_BITS));
 }
 
 #[test]
 fn checks_of_the_dialect(rt: HostRuntime) {
     let mut ctx: Context<Calc> = Context::new(rt.alloc());
-    checks(&rt, &mut ctx);
+    check_comparisons(&rt, &mut ctx);
+    check_types(&rt, &ctx);
     context::end(ctx, ());
 }
