@@ -89,21 +89,54 @@ fn found_at<V: Verifiers<Toy>>(
     items: Items,
     verifiers: &V,
 ) -> Result<Found, TextError> {
-    match (call, items) {
-        ("op", Items::One(Item::Op(op))) => Ok(operation::verify(op, ctx, verifiers).ok()),
-        ("verify_operation", Items::One(Item::Op(op))) => {
-            Ok(verify::verify_operation(op, ctx, verifiers).ok())
-        }
-        ("verify_op", Items::One(Item::Op(op))) => Ok(op_with_kind_found(ctx, op, verifiers)),
-        ("block", Items::One(Item::Block(block))) => {
-            Ok(basic_block::verify(block, ctx, verifiers).ok())
-        }
-        ("region", Items::One(Item::Region(region))) => {
-            Ok(region::verify(region, ctx, verifiers).ok())
-        }
-        ("value", Items::One(Item::Value(value))) => Ok(value::verify(value, ctx, verifiers).ok()),
-        ("type", Items::One(Item::Type(ty))) => Ok(types::verify(ty, ctx, verifiers).ok()),
-        ("verify_type", Items::One(Item::Type(ty))) => Ok(type_by_call_found(ctx, ty, verifiers)),
+    match items {
+        Items::One(Item::Op(op)) => found_at_op(ctx, call, op, verifiers),
+        Items::One(Item::Type(ty)) => found_at_type(ctx, call, ty, verifiers),
+        Items::One(item) => found_at_part(ctx, call, item, verifiers),
+        _ => Err(TextError::Malformed),
+    }
+}
+
+// What a call finds at an operation.
+fn found_at_op<V: Verifiers<Toy>>(
+    ctx: &Context<Toy>,
+    call: &str,
+    op: Ptr<Operation<Toy>>,
+    verifiers: &V,
+) -> Result<Found, TextError> {
+    match call {
+        "op" => Ok(operation::verify(op, ctx, verifiers).ok()),
+        "verify_operation" => Ok(verify::verify_operation(op, ctx, verifiers).ok()),
+        "verify_op" => Ok(op_with_kind_found(ctx, op, verifiers)),
+        _ => Err(TextError::Malformed),
+    }
+}
+
+// What a call finds at a type.
+fn found_at_type<V: Verifiers<Toy>>(
+    ctx: &Context<Toy>,
+    call: &str,
+    ty: TypeHandle,
+    verifiers: &V,
+) -> Result<Found, TextError> {
+    match call {
+        "type" => Ok(types::verify(ty, ctx, verifiers).ok()),
+        "verify_type" => Ok(type_by_call_found(ctx, ty, verifiers)),
+        _ => Err(TextError::Malformed),
+    }
+}
+
+// What a call finds at a block, a region or a value.
+fn found_at_part<V: Verifiers<Toy>>(
+    ctx: &Context<Toy>,
+    call: &str,
+    item: Item,
+    verifiers: &V,
+) -> Result<Found, TextError> {
+    match (call, item) {
+        ("block", Item::Block(block)) => Ok(basic_block::verify(block, ctx, verifiers).ok()),
+        ("region", Item::Region(region)) => Ok(region::verify(region, ctx, verifiers).ok()),
+        ("value", Item::Value(value)) => Ok(value::verify(value, ctx, verifiers).ok()),
         _ => Err(TextError::Malformed),
     }
 }
