@@ -218,31 +218,37 @@ fn copies_before_what_they_name_are_forwarded(rt: HostRuntime) -> anyhow::Result
     Ok(())
 }
 
+// Lets a driver apply patterns inside a live root, in at most so many steps, and asserts how it ends.
+fn expect_end<P: Pattern<Toy>>(
+    rt: &impl Abort,
+    ctx: &mut Context<Toy>,
+    root: Op,
+    patterns: &[P],
+    limit: usize,
+    wanted: (End, usize),
+) -> Checked<()> {
+    assert!(rt; root.is_live(ctx));
+    let rewritten = rewrite(ctx, root, patterns, limit, &mut DummyListener)?;
+    assert!(rt; (rewritten.end, rewritten.steps) == wanted);
+    Ok(())
+}
+
 fn check_ends(rt: &impl Abort, ctx: &mut Context<Toy>) -> Checked<()> {
     let (root, block) = nest(ctx)?;
     chain(ctx, block, false)?;
-    assert!(rt; root.is_live(ctx));
-    let none = rewrite(ctx, root, &[Forward], 0, &mut DummyListener)?;
-    assert!(rt;
-        none.end == End::Limit && none.steps == 0,
-        "no step is allowed"
-    );
-    assert!(rt; root.is_live(ctx));
-    let two = rewrite(ctx, root, &[Forward], 2, &mut DummyListener)?;
-    assert!(rt;
-        two.end == End::Limit && two.steps == 2,
-        "two steps are allowed"
-    );
-    assert!(rt; root.is_live(ctx));
-    let rest = rewrite(ctx, root, &[Forward], 2, &mut DummyListener)?;
-    assert!(rt; rest.end == End::Done && rest.steps == 1, "one was left");
+    // no step is allowed, then two are, and then one is left
+    expect_end(rt, ctx, root, &[Forward], 0, (End::Limit, 0))?;
+    expect_end(rt, ctx, root, &[Forward], 2, (End::Limit, 2))?;
+    expect_end(rt, ctx, root, &[Forward], 2, (End::Done, 1))?;
+    check_gone(rt, ctx, root)
+}
+
+// The root goes, and each step is told.
+fn check_gone(rt: &impl Abort, ctx: &mut Context<Toy>, root: Op) -> Checked<()> {
     let mut gone = Gone(0);
     assert!(rt; root.is_live(ctx));
     let all = rewrite(ctx, root, &[Vanish], 100, &mut gone)?;
-    assert!(rt;
-        all.end == End::RootGone && !root.is_live(ctx),
-        "the root is gone"
-    );
+    assert!(rt; all.end == End::RootGone && !root.is_live(ctx));
     assert!(rt; all.steps == gone.0, "each step was told");
     Ok(())
 }
@@ -263,27 +269,26 @@ fn check_asked(rt: &impl Abort, ctx: &mut Context<Toy>) -> Checked<()> {
     let source = put(ctx, block, SOURCE, &[])?;
     let value = operation::get_result(source, ctx, 0)?;
     let used = put(ctx, block, USE, &[value])?;
-    assert!(rt; root.is_live(ctx));
-    let rewritten = rewrite(ctx, root, &[Eat], 100, &mut DummyListener)?;
-    assert!(rt;
-        rewritten.end == End::Done && rewritten.steps == 2,
-        "what is gone isn't asked"
-    );
-    assert!(rt;
-        has_ops(ctx, block, &[eater, source, used])?,
-        "what is named stays"
-    );
+    // what is gone isn't asked, and what is named stays
+    expect_end(rt, ctx, root, &[Eat], 100, (End::Done, 2))?;
+    assert!(rt; has_ops(ctx, block, &[eater, source, used])?);
+    check_both(rt, ctx, root, block, value)
+}
+
+// Of two patterns either is asked, and an error is told.
+fn check_both(
+    rt: &impl Abort,
+    ctx: &mut Context<Toy>,
+    root: Op,
+    block: Block,
+    value: Value<Toy>,
+) -> Checked<()> {
     put(ctx, block, COPY, &[value])?;
-    assert!(rt; root.is_live(ctx));
-    let both = rewrite(ctx, root, &[Both(Forward, Eat)], 100, &mut DummyListener)?;
-    assert!(rt; both.end == End::Done && both.steps == 1, "either is asked");
+    expect_end(rt, ctx, root, &[Both(Forward, Eat)], 100, (End::Done, 1))?;
     put(ctx, block, FAULT, &[])?;
     assert!(rt; root.is_live(ctx));
     let fault = rewrite(ctx, root, &[Both(Forward, Eat)], 100, &mut DummyListener);
-    assert!(rt;
-        is_refused(&fault, Call::OperationGetOperand, Condition::OutOfRange),
-        "an error is told"
-    );
+    assert!(rt; is_refused(&fault, Call::OperationGetOperand, Condition::OutOfRange));
     Ok(())
 }
 
@@ -295,6 +300,22 @@ fn only_what_stands_inside_is_asked(rt: HostRuntime) -> anyhow::Result<()> {
     Ok(())
 }
 
+// What is told where two eaters are turned: of each operation that was made twice, and of the eater that it took the place of.
+fn turned(ctx: &Context<Toy>, block: Block, eaters: [Op; 2]) -> Checked<Vec<Op>> {
+    let mut expected = Vec::new(ctx.alloc());
+    let mut turn = 0;
+    for made in basic_block::iter(block, ctx)? {
+        expected.push(made)?;
+        expected.push(made)?;
+        if turn < 2 {
+            expected.push(eaters[turn])?;
+            turn += 1;
+        }
+    }
+    Ok(expected)
+}
+
+// Each change is told by its kind, and by its operation, the front one first.
 fn check_told(rt: &impl Abort, ctx: &mut Context<Toy>) -> Checked<()> {
     let (root, block) = nest(ctx)?;
     let first = put(ctx, block, EATER, &[])?;
@@ -306,25 +327,9 @@ fn check_told(rt: &impl Abort, ctx: &mut Context<Toy>) -> Checked<()> {
     assert!(rt; root.is_live(ctx));
     let rewritten = rewrite(ctx, root, &[Turn], 100, &mut told)?;
     assert!(rt; rewritten.steps == 2, "each eater is a step");
-    let mut expected = Vec::new(ctx.alloc());
-    let mut eaters = Vec::new(ctx.alloc());
-    eaters.push(second)?;
-    eaters.push(first)?;
-    for made in basic_block::iter(block, ctx)? {
-        expected.push(made)?;
-        expected.push(made)?;
-        if let Some(eater) = eaters.pop() {
-            expected.push(eater)?;
-        }
-    }
-    assert!(rt;
-        told.letters.as_str() == "imeime",
-        "each change is told by its kind"
-    );
-    assert!(rt;
-        told.ops.as_slice() == expected.as_slice(),
-        "and by its operation, the front one first"
-    );
+    let expected = turned(ctx, block, [first, second])?;
+    assert!(rt; told.letters.as_str() == "imeime");
+    assert!(rt; told.ops.as_slice() == expected.as_slice());
     Ok(())
 }
 
