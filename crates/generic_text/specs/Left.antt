@@ -15,12 +15,16 @@ use Rattle.generic_dialect.specs.declared.generic.KeptAttr.{KeptAttr}
 use Rattle.generic_text.specs.declared.made.Made.{Made}
 use Rattle.generic_text.specs.declared.taking_back.LiveCount.{LiveCount}
 
+-- no more operations, blocks and regions than so many
+pub record AreWithin (count most : LiveCount) : Type 0 where
+  pub ops : count.ops ≤ most.ops
+  pub blocks : count.blocks ≤ most.blocks
+  pub regions : count.regions ≤ most.regions
+
 module _ {D A K B S X L : Type 0} where
-  -- no more operations, blocks and regions are live than so many
-  pub record IsWithin (most : LiveCount) (s : ContextState D A K B S X L) : Type 0 where
-    pub ops : arena_len s.records.ops ≤ most.ops
-    pub blocks : arena_len s.records.blocks ≤ most.blocks
-    pub regions : arena_len s.records.regions ≤ most.regions
+  -- how many operations, blocks and regions are live
+  abbrev pub live_count : ContextState D A K B S X L → LiveCount
+  live_count s = record { ops = arena_len s.records.ops; blocks = arena_len s.records.blocks; regions = arena_len s.records.regions }
 
 module _ {W : Dialect} where
   -- Each operation, block and region that was there has its record still.

@@ -4,3 +4,4 @@ pub mod GenericWords
 pub mod Left
 pub mod Tables
 pub mod Checks
+pub mod Refusals

@@ -1,11 +1,14 @@
 //! From the rows of a text to operations in a context. What was built is compared with the rows before it is answered.
 
-ghost use Rattle.std.specs.Prelude.{◌≡◌, ◌⊎◌, [], IfErr, IfOk, OnErr, OnOk, map, true};
+ghost use Rattle.std.specs.Prelude.{◌≡◌, ◌↔◌, ◌<◌, ◌⊎◌, [], IfErr, IfOk, IsTrue, OnErr, OnOk, length, map, true};
 ghost use Rattle.ir_core_context.specs.Calls.{NoEntity};
-ghost use Rattle.ir_core_queries.specs.State.{forest_of};
+ghost use Rattle.ir_core_queries.specs.State.{bare, forest_of};
 ghost use Rattle.ir_text_described.specs.Described.{IsDescribedBy};
+ghost use Rattle.ir_text_outline.specs.Reading.{IsRead};
 ghost use Rattle.generic_text.specs.GenericWords.{generic_words, named_tree};
-ghost use Rattle.generic_text.specs.Left.{BuildsOn, GenericForest, GoesOn, IsWithin, LeavesAll};
+ghost use Rattle.generic_text.specs.declared.taking_back.LiveCount.{LiveCount as PlainLiveCount};
+ghost use Rattle.generic_text.specs.Left.{AreWithin, BuildsOn, GenericForest, GoesOn, LeavesAll, live_count};
+ghost use Rattle.generic_text.specs.Refusals.{IfNoTree, IsSo};
 
 use crate::blocks::make_block;
 use crate::build_error::BuildError;
@@ -15,9 +18,11 @@ use crate::meanings::Meanings;
 use crate::operations::{connect, make_op};
 use crate::regions::fill_regions;
 use crate::taking_back::{LiveCount, take_back};
-use generic_dialect::Generic;
+use generic_dialect::{Generic, OPEN_NAMES};
+use ir_base_dialects::CoreError;
 use ir_core_queries::Context;
 use ir_text_outline::{Names, OpRows, Outline, Row, Source, narrow, outline_of};
+use std::alloc::Global;
 
 /// What was built of a text.
 #[derive(Drop)]
@@ -142,19 +147,50 @@ fn make_described(
     Ok(())
 }
 
+// Whether more texts are saved than can be names of operations.
+fn has_too_many_texts(ctx: &Context<Generic>) -> bool
+    ensures { IsTrue result ↔ (2147450880 < length (bare ctx.now).beside.saved) }
+{
+    ctx.saved_at(OPEN_NAMES as usize).is_some()
+}
+
+// Why nothing was built, where it isn't for want of anything: by whether the rows and names are those of the text.
+fn difference(alloc: Global, source: Source) -> BuildError
+    ensures { IfNoTree result (IsRead source.entry.text.now source.entry.rows.now source.entry.names.now) }
+{
+    match source.is_read(alloc) {
+        Ok(true) => BuildError::Different,
+        Ok(false) => BuildError::NoTree,
+        Err(_) => BuildError::Core(CoreError::OutOfMemory),
+    }
+}
+
+// An error whose reason was looked up.
+fn looked_up(ctx: &Context<Generic>, source: Source, error: BuildError) -> BuildError
+    ensures { (before : PlainLiveCount) → IsSo source.entry.text.now source.entry.rows.now source.entry.names.now before ctx.now result }
+{
+    match error {
+        BuildError::Core(error) => BuildError::Core(error),
+        BuildError::TooManyTexts if has_too_many_texts(ctx) => BuildError::TooManyTexts,
+        _ => difference(ctx.alloc(), source),
+    }
+}
+
 // Takes all out again that was made since so many were live, and answers the error, or `LeftBehind` where more are live still.
 fn taken_back(
     ctx: &mut Context<Generic>,
+    source: Source,
     made: &Made,
     before: LiveCount,
     error: BuildError,
 ) -> BuildError
     ensures left { (first : GenericForest) → BuildsOn first (forest_of ctx.old) made.now → LeavesAll first (forest_of ctx.new) }
-    ensures all { (result ≡ BuildError.LeftBehind) ⊎ IsWithin before ctx.new }
+    ensures all { (result ≡ BuildError.LeftBehind) ⊎ AreWithin (live_count ctx.new) before }
+    ensures why { IsSo source.entry.text.now source.entry.rows.now source.entry.names.now before ctx.new result }
 {
     take_back(ctx, made);
     if LiveCount::of(ctx).is_within(before) {
-        error
+        looked_up(ctx, source, error)
     } else {
         BuildError::LeftBehind
     }
@@ -172,6 +208,7 @@ fn make_or_take_back(
     ensures described { OnOk result (IsDescribedBy (forest_of ctx.new) (generic_words ctx.new) true (named_tree source.entry.text.now source.entry.rows.now source.entry.names.now) (map (λ p. p.index) made.new.tops.items)) }
     ensures left { LeavesAll (forest_of ctx.old) (forest_of ctx.new) }
     ensures taken_back { IfErr result (λ e. (e ≡ BuildError.LeftBehind) ⊎ (forest_of ctx.new ≡ forest_of ctx.old)) }
+    ensures why { IfErr result (λ e. IsSo source.entry.text.now source.entry.rows.now source.entry.names.now (live_count ctx.old) ctx.new e) }
     ensures err { NoEntity (forest_of ctx.old) → OnErr result (NoEntity (forest_of ctx.new)) }
 {
     let was_empty = ctx.is_ir_empty();
@@ -182,9 +219,9 @@ fn make_or_take_back(
         Err(error) => {
             if was_empty {
                 ctx.clear();
-                return Err(error);
+                return Err(looked_up(ctx, source, error));
             }
-            Err(taken_back(ctx, made, before, error))
+            Err(taken_back(ctx, source, made, before, error))
         }
     }
 }
@@ -192,7 +229,7 @@ fn make_or_take_back(
 /// Builds what the rows of a text say, which `parse` read, with the names that `resolve` found. It compares what it built with the rows, so that its clause doesn't rest on how things are built.
 ///
 /// # Errors
-/// `Core` for memory, numbers and slots, `TooManyTexts`, `KeyTwice`, and `NoTree` where the rows are those of no tree or the names are others'. Then what was made is taken out again; only saved texts and types are left. `LeftBehind` where it can't be, which would be a fault of this crate.
+/// `Core` for memory, numbers and slots; `TooManyTexts`; and `NoTree` where the rows aren't those that `parse` reads of the text, or the names not those that `resolve` finds in them. Then what was made is taken out again; only saved texts and types are left. `Different` where the rows and names are right and something else was made, and `LeftBehind` where what was made can't be taken out again: these two would be faults of this crate.
 pub fn build(
     ctx: &mut Context<Generic>,
     text: &[u8],
@@ -205,6 +242,8 @@ pub fn build(
     ensures left { LeavesAll (forest_of ctx.old) (forest_of ctx.new) }
     // Under an error nothing else is there: all operations, blocks and regions are those that were there, as they were. Else the error is `LeftBehind`.
     ensures taken_back { IfErr result (λ e. (e ≡ BuildError.LeftBehind) ⊎ (forest_of ctx.new ≡ forest_of ctx.old)) }
+    // Too many texts are saved where `TooManyTexts` comes; the rows and names aren't those of the text where `NoTree` does, and they are where `Different` does; and more is live than before where `LeftBehind` does.
+    ensures why { IfErr result (λ e. IsSo text.now rows.now names.now (live_count ctx.old) ctx.new e) }
     // In a context without operations, blocks and regions there are none after an error.
     ensures err { NoEntity (forest_of ctx.old) → OnErr result (NoEntity (forest_of ctx.new)) }
 {

@@ -18,12 +18,22 @@ pub enum DescribedErr {
 }
 
 impl From<AllocError> for DescribedErr {
+    ghost use Rattle.std.specs.Prelude.{◌≡◌};
+    ghost use Rattle.generic_text.specs.declared.described_error.DescribedErr.TheVariants.{OutOfMemory};
+
+    ghost from_gives = { λ _ answer. answer ≡ OutOfMemory };
+
     fn from(_error: AllocError) -> DescribedErr {
         DescribedErr::OutOfMemory
     }
 }
 
 impl<T: Drop> From<AllocFailed<T>> for DescribedErr {
+    ghost use Rattle.std.specs.Prelude.{◌≡◌};
+    ghost use Rattle.generic_text.specs.declared.described_error.DescribedErr.TheVariants.{OutOfMemory};
+
+    ghost from_gives = { λ _ answer. answer ≡ OutOfMemory };
+
     fn from(_error: AllocFailed<T>) -> DescribedErr {
         DescribedErr::OutOfMemory
     }

@@ -177,12 +177,11 @@ fn put_attribute(
     attributes: &mut AttributeDict<Generic>,
     key: Identifier,
     attribute: GenericAttr,
-    row: usize,
 ) -> Result<(), BuildError> {
     let before = attributes.len();
     attributes.set::<GenericAttr>(key, attribute)?;
     if attributes.len() == before {
-        return Err(BuildError::KeyTwice { row });
+        return Err(BuildError::NoTree);
     }
     Ok(())
 }
@@ -197,7 +196,7 @@ fn put_attributes<'a>(
 ) -> Result<(), BuildError> {
     for (at, attribute) in room.attributes.iter() {
         let key = meanings.key_of(alloc, source.unquoted(*at))?;
-        put_attribute(attributes, key, *attribute, *at)?;
+        put_attribute(attributes, key, *attribute)?;
     }
     Ok(())
 }

@@ -1,10 +1,9 @@
 //! What was made, taken out again.
 
-ghost use Rattle.std.specs.Prelude.{◌≡◌, ◌≤◌, IsTrue};
+ghost use Rattle.std.specs.Prelude.{◌≡◌, ◌↔◌, IsTrue};
 ghost use Rattle.ir_model.specs.Forest.{a_block, an_op};
-ghost use Rattle.ir_model.specs.Arenas.{arena_len};
 ghost use Rattle.ir_core_queries.specs.State.{forest_of};
-ghost use Rattle.generic_text.specs.Left.{BuildsOn, GenericForest, StandsApart, StaysApart};
+ghost use Rattle.generic_text.specs.Left.{AreWithin, BuildsOn, GenericForest, StandsApart, StaysApart, live_count};
 
 use crate::made::{Block, Made, Op};
 use generic_dialect::Generic;
@@ -22,9 +21,7 @@ pub(crate) struct LiveCount {
 impl LiveCount {
     /// So many as a context has.
     pub(crate) fn of(ctx: &Context<Generic>) -> LiveCount
-        ensures ops { result.ops ≡ arena_len ctx.now.records.ops }
-        ensures blocks { result.blocks ≡ arena_len ctx.now.records.blocks }
-        ensures regions { result.regions ≡ arena_len ctx.now.records.regions }
+        ensures { result ≡ live_count ctx.now }
     {
         let records = ctx.records();
         LiveCount {
@@ -36,9 +33,7 @@ impl LiveCount {
 
     /// Whether there are no more of each than before.
     pub(crate) fn is_within(self, before: LiveCount) -> bool
-        ensures ops { IsTrue result → self.ops ≤ before.ops }
-        ensures blocks { IsTrue result → self.blocks ≤ before.blocks }
-        ensures regions { IsTrue result → self.regions ≤ before.regions }
+        ensures { IsTrue result ↔ AreWithin self before }
     {
         self.ops <= before.ops && self.blocks <= before.blocks && self.regions <= before.regions
     }

@@ -1,5 +1,5 @@
 -- What a run makes, by its steps.
-use Rattle.std.proofs.Common.{refl, ◌≡◌, ◌∷◌, [], ℕ, Bool, true, List, IfOk, Result, Ok, Err, ap, subst, ◌∙◌}
+use Rattle.std.proofs.Common.{refl, ◌≡◌, ◌∷◌, [], ℕ, Bool, true, List, ap, subst, ◌∙◌}
 use Rattle.ir_model.specs.declared.ids.ArenaIndex.{ArenaIndex}
 use Rattle.ir_model.specs.ContextIds.{context_ids}
 use Rattle.ir_model.specs.Forest.{Dialect, Behaviour, Forest, an_op}
@@ -33,9 +33,10 @@ pub words_are_generic : {D : Type 0} (s : ContextState D KeptAttr GenericType (U
 words_are_generic s apart exact = record { saved = (bare s).beside.saved; types = types_of s; are = refl; apart = apart; exact = exact }
 
 module _ {W : Dialect} (B : Behaviour W) (same : SameAttributes W) (AreWords : Words W → Type 0) (passes : List Pass) (located : Bool) (text : List ℕ) where
-  one_made : (f g : Forest context_ids W) (words later : Words W) (types : ℕ) (root : ArenaIndex) (out : List ℕ) → ((operations : List ArenaIndex) × Says f words true text operations × Encloses f words root operations)
+  -- whatever text says what stands there at last is what the run makes
+  pub run_made : (f g : Forest context_ids W) (words later : Words W) (types : ℕ) (root : ArenaIndex) (out : List ℕ) → ((operations : List ArenaIndex) × Says f words true text operations × Encloses f words root operations)
       → AreWords words × IsClosed f (an_op root) × WellFormed f types → PassesLead B same root passes f g → later ≡ words → Says g later located out (root ∷ []) → Optimises B same AreWords passes located text out
-  one_made f g words later types root out (operations, said, encloses) (are_words, closed, formed) led same printed =
+  run_made f g words later types root out (operations, said, encloses) (are_words, closed, formed) led same printed =
       record {
         before = f;
         after = g;
@@ -51,8 +52,3 @@ module _ {W : Dialect} (B : Behaviour W) (same : SameAttributes W) (AreWords : W
         led = led;
         printed = subst (λ (w : Words W). Says g w located out (root ∷ [])) same printed;
       }
-
-  pub run_made : {X E : Type 0} (items : X → List ℕ) (f g : Forest context_ids W) (words later : Words W) (types : ℕ) (root : ArenaIndex) (r : Result X E) → ((operations : List ArenaIndex) × Says f words true text operations × Encloses f words root operations)
-      → AreWords words × IsClosed f (an_op root) × WellFormed f types → PassesLead B same root passes f g → later ≡ words → IfOk r (λ out. Says g later located (items out) (root ∷ [])) → IfOk r (λ out. Optimises B same AreWords passes located text (items out))
-  run_made items f g words later types root (Ok out) read facts led same printed = one_made f g words later types root (items out) read facts led same printed
-  run_made items f g words later types root (Err e) read facts led same printed = tt

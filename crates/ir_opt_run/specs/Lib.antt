@@ -7,3 +7,4 @@ pub mod PureNames
 pub mod SaidLaws
 pub mod WrittenAlike
 pub mod GenericVerifiers
+pub mod Faults

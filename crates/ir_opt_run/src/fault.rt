@@ -82,6 +82,11 @@ impl Fault {
 }
 
 impl From<ir_text_reader::Fault> for Fault {
+    ghost use Rattle.std.specs.Prelude.{◌≡◌};
+    ghost use Rattle.ir_opt_run.specs.Faults.{of_reading};
+
+    ghost from_gives = { λ error fault. fault ≡ of_reading error };
+
     fn from(fault: ir_text_reader::Fault) -> Fault {
         match fault {
             ir_text_reader::Fault::OutOfMemory => Fault::OutOfMemory,
@@ -91,6 +96,11 @@ impl From<ir_text_reader::Fault> for Fault {
 }
 
 impl From<ir_text_names::Fault> for Fault {
+    ghost use Rattle.std.specs.Prelude.{◌≡◌};
+    ghost use Rattle.ir_opt_run.specs.Faults.{of_naming};
+
+    ghost from_gives = { λ error fault. fault ≡ of_naming error };
+
     fn from(fault: ir_text_names::Fault) -> Fault {
         match fault {
             ir_text_names::Fault::OutOfMemory => Fault::OutOfMemory,
@@ -100,16 +110,26 @@ impl From<ir_text_names::Fault> for Fault {
 }
 
 impl From<BuildError> for Fault {
+    ghost use Rattle.std.specs.Prelude.{◌≡◌};
+    ghost use Rattle.ir_opt_run.specs.Faults.{of_building};
+
+    ghost from_gives = { λ error fault. fault ≡ of_building error };
+
     fn from(error: BuildError) -> Fault {
         match error {
             BuildError::Core(CoreError::OutOfMemory) => Fault::OutOfMemory,
-            BuildError::NoTree | BuildError::LeftBehind => Fault::Different,
-            _ => Fault::Building(error),
+            BuildError::Core(_) | BuildError::TooManyTexts => Fault::Building(error),
+            BuildError::NoTree | BuildError::Different | BuildError::LeftBehind => Fault::Different,
         }
     }
 }
 
 impl From<DescribedErr> for Fault {
+    ghost use Rattle.std.specs.Prelude.{◌≡◌};
+    ghost use Rattle.ir_opt_run.specs.Faults.{of_described};
+
+    ghost from_gives = { λ error fault. fault ≡ of_described error };
+
     fn from(error: DescribedErr) -> Fault {
         match error {
             DescribedErr::OutOfMemory => Fault::OutOfMemory,
@@ -119,6 +139,11 @@ impl From<DescribedErr> for Fault {
 }
 
 impl From<DescribeErr> for Fault {
+    ghost use Rattle.std.specs.Prelude.{◌≡◌};
+    ghost use Rattle.ir_opt_run.specs.Faults.{of_describing};
+
+    ghost from_gives = { λ error fault. fault ≡ of_describing error };
+
     fn from(error: DescribeErr) -> Fault {
         match error {
             DescribeErr::OutOfMemory => Fault::OutOfMemory,
@@ -128,18 +153,33 @@ impl From<DescribeErr> for Fault {
 }
 
 impl From<CoreError> for Fault {
+    ghost use Rattle.std.specs.Prelude.{◌≡◌};
+    ghost use Rattle.ir_opt_run.specs.Faults.{of_core};
+
+    ghost from_gives = { λ error fault. fault ≡ of_core error };
+
     fn from(error: CoreError) -> Fault {
         Fault::from(BuildError::Core(error))
     }
 }
 
 impl From<AllocError> for Fault {
+    ghost use Rattle.std.specs.Prelude.{◌≡◌};
+    ghost use Rattle.ir_opt_run.specs.declared.fault.Fault.TheVariants.{OutOfMemory};
+
+    ghost from_gives = { λ _ fault. fault ≡ OutOfMemory };
+
     fn from(_error: AllocError) -> Fault {
         Fault::OutOfMemory
     }
 }
 
 impl<T: Drop> From<AllocFailed<T>> for Fault {
+    ghost use Rattle.std.specs.Prelude.{◌≡◌};
+    ghost use Rattle.ir_opt_run.specs.declared.fault.Fault.TheVariants.{OutOfMemory};
+
+    ghost from_gives = { λ _ fault. fault ≡ OutOfMemory };
+
     fn from(_error: AllocFailed<T>) -> Fault {
         Fault::OutOfMemory
     }

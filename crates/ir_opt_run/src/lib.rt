@@ -3,6 +3,7 @@
 
 mod fault;
 mod generic_verifiers;
+mod making;
 mod optimising;
 mod options;
 mod passes;

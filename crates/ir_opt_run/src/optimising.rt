@@ -1,24 +1,24 @@
-//! One text: read, worked on by passes, and printed.
+//! One text: read into a context, and worked on by passes.
 //!
-//! What was built of the text is compared with the text, and what would be printed is read again and compared with what stands in the context. So what a run promises rests on these comparisons, and not on how things are built and described.
-ghost use Rattle.std.specs.Prelude.{IfOk, OnOk};
+//! What was built of the text is compared with the text. So what a run promises rests on this comparison, and not on how things are built.
+ghost use Rattle.std.specs.Prelude.{◌∷◌, [], ℕ, List, IfOk, OnOk};
+ghost use Rattle.generic_text.specs.GenericWords.{generic_words};
 ghost use Rattle.ir_model.specs.Forest.{an_op};
 ghost use Rattle.ir_model.specs.Nesting.{IsLive};
 ghost use Rattle.ir_core_queries.specs.State.{bare, forest_of};
 ghost use Rattle.ir_core_queries.specs.Calls.{SameButForest};
 ghost use Rattle.ir_opt_run.specs.GenericBehaviour.{AreGenericWords, generic_behaviour, generic_same};
+ghost use Rattle.ir_opt_run.specs.Modules.{Says};
 ghost use Rattle.ir_opt_run.specs.Passes.{PassLeads, PassesLead};
 ghost use Rattle.ir_opt_run.specs.Runs.{Optimises};
 
 use crate::fault::Fault;
 use crate::options::{Options, Pass};
 use crate::passes::run_pass;
-use crate::printing::print_operation;
-use crate::reading::{Module, read_module};
+use crate::reading::{Module, Op, read_module};
 use crate::verifying::verify;
 use generic_dialect::Generic;
 use ir_core_queries::Context;
-use std::alloc::Global;
 use std::io::Write;
 
 // Verifies, where it is asked for.
@@ -76,14 +76,19 @@ fn run_all<F: Write>(
     Ok(())
 }
 
-// Reads a text into the context, runs the passes, and gives the text of what stands there.
-fn work<F: Write>(
+/// Reads a text into a context, runs the passes, and answers the operation around all. What passes did is told on the log, where it is asked for.
+///
+/// # Errors
+/// The first fault in the text, what verification found, want of memory, numbers or slots; and `Different` where what was built isn't what the text says, which would be a fault of this program.
+pub(crate) fn work<F: Write>(
     ctx: &mut Context<Generic>,
     options: &Options,
     text: &[u8],
     log: &mut F,
-) -> Result<Vec<u8>, Fault>
-    ensures optimised { IfOk result (λ out. Optimises generic_behaviour generic_same AreGenericWords options.now.passes.items options.now.prints_locations text.now out.items) }
+) -> Result<Op, Fault>
+    ensures live { IfOk result (λ root. IsLive (forest_of ctx.new) (an_op root.index)) }
+    // Whatever text says what stands in that operation then is what a run makes of this text.
+    ensures worked { IfOk result (λ root. (out : List ℕ) → Says (forest_of ctx.new) (generic_words ctx.new) options.now.prints_locations out (root.index ∷ []) → Optimises generic_behaviour generic_same AreGenericWords options.now.passes.items options.now.prints_locations text.now out) }
 {
     let module = read_module(ctx, text)?;
     ctx.recall_well_formed();
@@ -91,22 +96,5 @@ fn work<F: Write>(
     ctx.recall_types_exact();
     verify_if(ctx, options, &module)?;
     run_all(ctx, options, &module, log)?;
-    print_operation(ctx, module.root, options.prints_locations)
-}
-
-/// Reads a text, runs the passes, and gives the text of what comes of it. What passes did is told on the log, where it is asked for.
-///
-/// # Errors
-/// The first fault in the text, what verification found, want of memory, numbers or slots; and `Different` where what was built or would be printed isn't what the context has, which would be a fault of this program.
-pub(crate) fn optimise<F: Write>(
-    alloc: Global,
-    options: &Options,
-    text: &[u8],
-    log: &mut F,
-) -> Result<Vec<u8>, Fault>
-    ensures optimised { IfOk result (λ out. Optimises generic_behaviour generic_same AreGenericWords options.now.passes.items options.now.prints_locations text.now out.items) }
-{
-    let mut ctx = Context::new(alloc);
-    let outcome = work(&mut ctx, options, text, log);
-    ir_checked_core::context::end(ctx, outcome)
+    Ok(module.root)
 }

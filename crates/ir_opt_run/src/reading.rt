@@ -15,10 +15,9 @@ use crate::fault::Fault;
 use crate::saying::check_said;
 use crate::trees::{NamedTree, read_tree};
 use generic_dialect::Generic;
-use generic_text::{BuildError, Built, build, enclose, only_module};
+use generic_text::{Built, build, enclose, only_module};
 use ir_base_dialects::Ptr;
 use ir_core_queries::{BasicBlock, Context, Entity, Operation, OperationPtr, can_erase};
-use ir_text_names::Wrong;
 use ir_text_reader::Row;
 use ir_view::walk::all_inside;
 use std::alloc::{AllocError, Global};
@@ -57,27 +56,12 @@ fn places(alloc: Global, rows: &[Row], ops: &[(Op, u32)]) -> Result<Vec<(Op, u32
     Ok(places)
 }
 
-// Why nothing was built, by its place in the text.
-fn build_fault(rows: &[Row], error: BuildError) -> Fault {
-    match error {
-        BuildError::KeyTwice { row } => Fault::Naming(ir_text_names::Fault::Wrong {
-            what: Wrong::KeyTwice,
-            at: start_of(rows, row),
-        }),
-        _ => Fault::from(error),
-    }
-}
-
 // Builds a tree.
 fn build_tree(ctx: &mut Context<Generic>, text: &[u8], tree: &NamedTree) -> Result<Built, Fault>
     ensures described { IfOk result (λ b. IsDescribedBy (forest_of ctx.new) (generic_words ctx.new) true (named_tree text.now tree.now.rows.items tree.now.names) (map (λ p. p.index) b.tops.items)) }
     ensures left { LeavesAll (forest_of ctx.old) (forest_of ctx.new) }
 {
-    let rows = tree.rows.as_slice();
-    match build(ctx, text, rows, &tree.names) {
-        Ok(built) => Ok(built),
-        Err(error) => Err(build_fault(rows, error)),
-    }
+    Ok(build(ctx, text, tree.rows.as_slice(), &tree.names)?)
 }
 
 // The operation around all that was built: the only one outside all regions, if it is a module, or else a module that is made around these. What stands in this is compared with the text once more.

@@ -6,9 +6,9 @@ ghost use Rattle.std.specs.Io.KnownBytes.{Appends};
 ghost use Rattle.ir_opt_run.specs.Runs.{Makes, Optimises, OptimisesParts, Prints, PrintsFront};
 
 use crate::fault::Fault;
-use crate::optimising::optimise;
+use crate::making::{part_made, whole_made};
 use crate::options::Options;
-use crate::telling::{Told, tell};
+use crate::telling::tell;
 use ir_text_run::first_part;
 use ir_text_spelling::write_bytes;
 use std::alloc::Global;
@@ -52,35 +52,6 @@ fn write_out<W: Write>(text: &[u8], output: &mut W) -> u8
     }
 }
 
-// Tells of a fault of one text, before which so many lines of the input stand.
-fn tell_of<F: Write>(options: &Options, text: &[u8], lines: u64, error: Fault, log: &mut F) {
-    let told = Told {
-        name: options.name,
-        text,
-        lines,
-    };
-    tell(told, error, log);
-}
-
-// What comes of a text, if it has no fault; a fault is told.
-fn text_made<F: Write>(
-    alloc: Global,
-    options: &Options,
-    text: &[u8],
-    lines: u64,
-    log: &mut F,
-) -> Option<Vec<u8>>
-    ensures made { IfSome result (λ out. Optimises generic_behaviour generic_same AreGenericWords options.now.passes.items options.now.prints_locations text.now out.items) }
-{
-    match optimise(alloc, options, text, log) {
-        Ok(out) => Some(out),
-        Err(error) => {
-            tell_of(options, text, lines, error, log);
-            None
-        }
-    }
-}
-
 // Puts what comes of a part behind what came of those before; whether it has no fault. A fault is told.
 fn add_part<F: Write>(
     alloc: Global,
@@ -92,7 +63,7 @@ fn add_part<F: Write>(
 ) -> Result<bool, Fault>
     ensures made { IfOk result (λ is_well. is_well ≡ true → (out : List ℕ) × Optimises generic_behaviour generic_same AreGenericWords options.now.passes.items options.now.prints_locations part.now out × (printed.new.items ≡ printed.old.items ++ out)) }
 {
-    match text_made(alloc, options, part, lines, log) {
+    match part_made(alloc, options, part, lines, log) {
         Some(out) => {
             printed.extend_from_slice(&out)?;
             Ok(true)
@@ -135,16 +106,16 @@ fn parts_made<F: Write>(
 }
 
 // What comes of the input, if it has no fault; a fault is told.
-fn made<F: Write>(alloc: Global, options: &Options, text: &[u8], log: &mut F) -> Option<Vec<u8>>
-    ensures made { IfSome result (λ out. Makes generic_behaviour generic_same AreGenericWords options.now.passes.items options.now.prints_locations options.now.splits_input text.now out.items) }
+fn made<F: Write>(alloc: Global, options: &Options, text: Vec<u8>, log: &mut F) -> Option<Vec<u8>>
+    ensures made { IfSome result (λ out. Makes generic_behaviour generic_same AreGenericWords options.now.passes.items options.now.prints_locations options.now.splits_input text.items out.items) }
 {
     if !options.splits_input {
-        return text_made(alloc, options, text, 0, log);
+        return whole_made(alloc, options, text, log);
     }
-    match parts_made(alloc, options, text, log) {
+    match parts_made(alloc, options, text.as_slice(), log) {
         Ok(out) => out,
         Err(error) => {
-            tell_of(options, &[], 0, error, log);
+            tell(options, &[], 0, error, log);
             None
         }
     }
@@ -170,12 +141,12 @@ pub fn run_opt<R: Read, W: Write, F: Write>(
     ensures front { result ≡ 3 → IfSome (R.remaining input.old) (λ text. PrintsFront generic_behaviour generic_same AreGenericWords options.now.passes.items options.now.prints_locations options.now.splits_input text (W.contents output.old) (W.contents output.new)) }
 {
     match read_input(alloc, input) {
-        Ok(text) => match made(alloc, options, text.as_slice(), log) {
+        Ok(text) => match made(alloc, options, text, log) {
             Some(out) => write_out(out.as_slice(), output),
             None => 1,
         },
         Err(error) => {
-            tell_of(options, &[], 0, error, log);
+            tell(options, &[], 0, error, log);
             1
         }
     }

@@ -1,5 +1,5 @@
 -- Numbers as far as 64 bits hold them.
-use Rattle.std.proofs.Common.{◌≡◌, ◌∙◌, ℕ, ◌+◌, ◌-◌, ◌*◌, ◌≤◌, Bool, true, false, cond, List, [], ◌∷◌, refl, sym, ap, arith}
+use Rattle.std.proofs.Common.{◌≡◌, ◌∙◌, ℕ, ◌+◌, ◌-◌, ◌*◌, ◌≤◌, Bool, true, false, cond, List, [], ◌∷◌, sym, ap, arith}
 use Rattle.std.specs.Char.{is_ascii_digit}
 use Rattle.ir_text_outline.specs.Sources.{digits_behind, held, with_digit}
 

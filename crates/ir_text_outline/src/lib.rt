@@ -3,6 +3,7 @@
 
 mod narrowing;
 mod outlining;
+mod reading;
 mod source;
 
 pub use ir_text_names::Names;

@@ -1,8 +1,12 @@
 // What `run_opt` prints and tells, and its status.
 use generic_dialect::Generic;
+use generic_text::{BuildError, build};
+use ir_base_dialects::{CoreError, Limits};
 use ir_checked_core::context;
 use ir_core_queries::{Context, OperationPtr};
 use ir_opt_run::{Fault, Options, Pass, print_operation, read_module, run_opt};
+use ir_text_names::resolve;
+use ir_text_reader::parse;
 use std::alloc::{AllocError, Global};
 use std::io;
 use std::io::{ErrorKind, Read, Write};
@@ -385,9 +389,17 @@ fn modules_are_read_and_printed(rt: HostRuntime) {
     assert!(rt; is_printed_again(rt.alloc(), LOCATED));
 }
 
+// A module with two values, of which one is made of the other.
+const TWO_VALUES: &[u8] =
+    b"\"builtin.module\"() ({\n  %0 = \"t.c\"() : () -> i32\n  %1 = \"t.d\"(%0) : (i32) -> i32\n}) : () -> ()\n";
+
 // A module one of whose operations has a key twice, spelled apart.
 const KEY_TWICE: &[u8] =
     b"\"builtin.module\"() ({\n^bb0(%0: i32):\n  \"t.a\"(%0) : (i32) -> ()\n  \"t.b\"(%0) {x, \"x\"} : (i32) -> ()\n}) : () -> ()\n";
+
+// The same with another key, so that its names can be told: they stand in the same rows.
+const TWO_KEYS: &[u8] =
+    b"\"builtin.module\"() ({\n^bb0(%0: i32):\n  \"t.a\"(%0) : (i32) -> ()\n  \"t.b\"(%0) {x, \"y\"} : (i32) -> ()\n}) : () -> ()\n";
 
 // How many operations, blocks and regions there are.
 fn live(ctx: &Context<Generic>) -> (usize, usize, usize) {
@@ -399,11 +411,28 @@ fn live(ctx: &Context<Generic>) -> (usize, usize, usize) {
     )
 }
 
-// Whether a text that can't be built is refused, and leaves as many operations, blocks and regions as before.
+// Why the rows of a text aren't built with names that it hasn't.
+fn refusal_of_names(ctx: &mut Context<Generic>) -> Option<BuildError> {
+    let alloc = ctx.alloc();
+    let tree = parse(alloc, KEY_TWICE).ok()?;
+    let other = parse(alloc, TWO_KEYS).ok()?;
+    let names = resolve(alloc, TWO_KEYS, other.rows.as_slice()).ok()?;
+    build(ctx, KEY_TWICE, tree.rows.as_slice(), &names).err()
+}
+
+// Why a text isn't read for which the context has too few numbers of values.
+fn refusal_of_values(ctx: &mut Context<Generic>) -> Option<Fault> {
+    read_module(ctx, TWO_VALUES).err()
+}
+
+// Whether what can't be built is refused for its reason, and leaves as many operations, blocks and regions as before.
 fn leaves_as_many(ctx: &mut Context<Generic>) -> bool {
     let before = live(ctx);
-    let refused = read_module(ctx, KEY_TWICE).is_err();
-    refused && live(ctx) == before
+    let spent = Fault::Building(BuildError::Core(CoreError::CounterSpent));
+    refusal_of_names(ctx) == Some(BuildError::NoTree)
+        && live(ctx) == before
+        && refusal_of_values(ctx) == Some(spent)
+        && live(ctx) == before
 }
 
 // What is printed of a module behind a text that can't be built, where that leaves as many as before.
@@ -419,7 +448,13 @@ fn printed_beside_a_fault(ctx: &mut Context<Generic>) -> Result<Option<Vec<u8>>,
 // Refuses building that leaves something behind under an error, or takes what was there.
 #[test]
 fn errors_leave_what_was_there(rt: HostRuntime) -> Result<(), Fail> {
-    let mut ctx = Context::new(rt.alloc());
+    let limits = Limits {
+        values: 3,
+        uses: 100,
+        slots: 100,
+        last_version: 9,
+    };
+    let mut ctx = Context::with_limits(rt.alloc(), limits);
     let outcome = printed_beside_a_fault(&mut ctx);
     let printed = context::end(ctx, outcome)?;
     assert!(rt; printed.is_some_and(|text| text.as_slice() == LOCATED));

@@ -1,5 +1,8 @@
-use Rattle.std.proofs.Common.{inl, inr, arith}
+use Rattle.std.proofs.Common.{inl, inr, subst}
 use Rattle.ir_core_queries.specs.State.{forest_of}
+use Rattle.generic_text.specs.declared.taking_back.LiveCount.{LiveCount}
+use Rattle.generic_text.specs.Left.{AreWithin, live_count}
+use Rattle.generic_text.specs.Refusals.{IsSo}
 use Rattle.generic_text.proofs.BuiltOn.{begins}
 use Rattle.generic_text.proofs.Counted.{same_count, same_empty}
 use Rattle.generic_text.proofs.Left.{leaves-empty}
@@ -25,6 +28,12 @@ pub returns-else-was_empty-clause-taken_back : goal.returns-else-was_empty-claus
 returns-else-was_empty-clause-taken_back c =
     elim c.taken_back.ensures.all [
       | inl left ↦ inl left
-      | inr within ↦ inr (same_count c.args.ctx.now.records c.taken_back.new.ctx.records (returns-else-was_empty-clause-left c)
-          (omega (arith, within.ops, c.of-before.ensures.ops)) (omega (arith, within.blocks, c.of-before.ensures.blocks)) (omega (arith, within.regions, c.of-before.ensures.regions)))
+      | inr within ↦ let within' : AreWithin (live_count c.taken_back.new.ctx) (live_count c.args.ctx.now) = subst (λ (n : LiveCount). AreWithin (live_count c.taken_back.new.ctx) n) c.of-before.ensures within in inr (same_count c.args.ctx.now.records c.taken_back.new.ctx.records (returns-else-was_empty-clause-left c)
+          within'.ops within'.blocks within'.regions)
     ]
+
+pub returns-else-was_empty-clause-why : goal.returns-else-was_empty-clause-why
+returns-else-was_empty-clause-why c = subst (λ (n : LiveCount). IsSo c.args.source.text.now c.args.source.rows.now c.args.source.names.now n c.taken_back.new.ctx c.taken_back.result) c.of-before.ensures c.taken_back.ensures.why
+
+pub returns-then-was_empty-clause-why : goal.returns-then-was_empty-clause-why
+returns-then-was_empty-clause-why c = c.looked_up.ensures (live_count c.args.ctx.now)
