@@ -7,3 +7,5 @@ pub mod PlaceLemmas
 pub mod KeyLemmas
 pub mod HashLemmas
 pub mod AttributeWrites
+pub mod PairLemmas
+pub mod EqualLemmas

@@ -1,6 +1,6 @@
 -- Attribute dictionaries: lists of pairs of a key's text and an attribute, with distinct keys.
 use Rattle.std.specs.Prelude.{◌≡◌, ℕ, Bool, true, false, not, ◌&&◌, ◌||◌, ◌++◌, nat_eq, List, map, filter, Option, Some, None, is_some, if◌then◌else◌}
-use Rattle.std.specs.List.{AllZip}
+use Rattle.std.specs.List.{All, AllZip}
 use Rattle.std.specs.Option.{option_map_or}
 use Rattle.std.specs.HashMap.{entries_eq}
 use Rattle.std.specs.Cmp.Lexicographic.{pointwise, slice_cmp}
@@ -9,7 +9,7 @@ use Rattle.std.specs.Ordering.{nat_cmp, is_lt}
 use Rattle.std.specs.FinMap.{entries, from_entries}
 use Rattle.std.specs.Hash as fed
 use Rattle.std.specs.Hash.{HashWrites}
-use Rattle.ir_model.specs.Stores.{attribute_at, set_attribute}
+use Rattle.ir_model.specs.Stores.{attribute_at, set_attribute, SameAttribute}
 
 -- the keys are equal where their texts are
 abbrev pub same_key : List ℕ → List ℕ → Bool
@@ -49,6 +49,10 @@ module _ {A : Type 0} where
   -- at each key of either, both have an attribute and the two are equal
   abbrev pub same_pairs : (A → A → Bool) → List (List ℕ × A) → List (List ℕ × A) → Bool
   same_pairs same d e = entries_eq same_key (λ p q. same p.1 q.1) d e
+
+  -- each pair's key leads to an equal attribute in the other list
+  abbrev pub IsWithin : (A → A → Bool) → List (List ℕ × A) → List (List ℕ × A) → Type 0
+  IsWithin same d e = All (λ p. SameAttribute same (Some p.1) (attribute_at e p.0)) d
 
   -- the pairs by rising key, each with what is fed of its attribute
   abbrev pub by_key : (A → HashWrites) → List (List ℕ × A) → List (List ℕ × HashWrites)

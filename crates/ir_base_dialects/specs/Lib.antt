@@ -1,6 +1,8 @@
 pub mod Stores
 pub mod VerifierGroups
 pub mod Attributes
-pub mod LazyTable
+pub mod KeptPairs
+pub mod TableLends
+pub mod PairLends
 pub mod AttributeLends
 pub mod AttributeLaws

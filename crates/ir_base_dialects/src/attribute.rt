@@ -9,6 +9,7 @@ pub use crate::attribute_dict::AttributeDict;
 use crate::dialects::Dialects;
 use crate::interfaces;
 use crate::interfaces::AttrInterfaceMarker;
+pub use crate::pairs::Iter;
 use crate::type_handle::TypeHandle;
 use ir_base_identifiers::AttrId;
 use ir_model::CoreError;

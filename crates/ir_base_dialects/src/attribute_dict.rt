@@ -1,5 +1,5 @@
 //! Dictionaries of attributes.
-ghost use Rattle.std.specs.Prelude.{◌≡◌, ◌↔◌, ◌&&◌, [], length, true, not, filter, None, IsTrue, IfOk, IfErr, OnOk, OnErr, option_and_then, option_map};
+ghost use Rattle.std.specs.Prelude.{◌≡◌, ◌↔◌, ◌&&◌, [], length, slice_get, true, not, filter, None, Some, IsTrue, IfOk, IfErr, OnOk, OnErr, option_and_then, option_map};
 ghost use Rattle.std.specs.Option.{option_copied, option_copied_mut};
 ghost use Rattle.std.specs.Borrow.{sem};
 ghost use Rattle.std.specs.List.{IsDistinct};
@@ -7,15 +7,14 @@ ghost use Rattle.std.specs.Map.{keys_of};
 ghost use Rattle.std.specs.Map.Iter.{ShowsInOrder, deref_pair};
 ghost use Rattle.ir_model.specs.declared.error.CoreError.TheVariants.{OutOfMemory};
 ghost use Rattle.ir_base_dialects.specs.declared.interfaces.TheConstants.{OUTLINED_ATTRIBUTE};
-ghost use Rattle.ir_model.specs.Stores.{attribute_at, set_attribute, without_attribute, HasDistinctKeys};
-ghost use Rattle.ir_base_dialects.specs.Attributes.{same_key, passing, is_outlined, kept_pairs, same_pairs, AreCopies, dict_input, IsNextPair, is_above, is_below};
+ghost use Rattle.ir_model.specs.Stores.{attribute_at, set_attribute, without_attribute, HasDistinctKeys, SameAttribute};
+ghost use Rattle.ir_base_dialects.specs.Attributes.{same_key, passing, is_outlined, kept_pairs, same_pairs, AreCopies, dict_input, IsNextPair, IsWithin, is_above, is_below};
 ghost use Rattle.ir_base_dialects.specs.AttributeLaws.{same_pairs-laws, same_pairs-equivalence, by_key-equal};
 
 use crate::attribute::{Attribute, attr_impls, attr_should_outline};
 use crate::dialects::Dialects;
 use crate::interfaces::AttrInterfaceMarker;
-use indexmap::IndexMap;
-use indexmap::map::{Iter, Slice};
+use crate::pairs::{Iter, Pairs};
 use ir_base_identifiers::Identifier;
 use ir_model::CoreError;
 use std::alloc::Global;
@@ -24,10 +23,10 @@ use std::marker::Model;
 
 /// A list of pairs of a key and an attribute, with distinct keys.
 ///
-/// A new key goes last, and a key that is there keeps its place. The table is made with the first pair, so a dictionary that never had one takes 16 bytes. It stands for pliron's `AttributeDict`.
+/// A new key goes last, and a key that is there keeps its place. The first eight pairs stand in a vector, and those beyond them in a hash table. A dictionary that never had a pair takes 16 bytes. It stands for pliron's `AttributeDict`.
 #[derive(Drop)]
 pub struct AttributeDict<D: Dialects> {
-    table: Option<Box<IndexMap<Identifier, D::Attr>>>,
+    pairs: Option<Box<Pairs<D::Attr>>>,
     alloc: Global,
 }
 
@@ -36,9 +35,9 @@ impl<D: Dialects> Model for AttributeDict<D> {
 
     ghost Value = { List (List ℕ × D.Attr) };
 
-    ghost use Rattle.ir_base_dialects.specs.LazyTable.{pairs_in};
+    ghost use Rattle.ir_base_dialects.specs.KeptPairs.{pairs_in};
 
-    ghost view = { λ d. pairs_in d.table };
+    ghost view = { λ d. pairs_in d.pairs };
 }
 
 // Whether the key is above the bound, where there is one.
@@ -61,20 +60,6 @@ fn is_before<V>(key: &Identifier, pair: Option<(&Identifier, &V)>) -> bool
     }
 }
 
-// The table of a dictionary, or one that stands for it where there is none.
-fn table_of<'a, D: Dialects>(
-    dict: &'a AttributeDict<D>,
-    none: &'a IndexMap<Identifier, D::Attr>,
-) -> &'a IndexMap<Identifier, D::Attr>
-    requires { none.now.entries ≡ [] }
-    ensures { result.now.entries ≡ dict.now }
-{
-    match &dict.table {
-        Some(table) => table,
-        None => none,
-    }
-}
-
 impl<D: Dialects> AttributeDict<D> {
     ghost use Rattle.ir_base_dialects.specs.AttributeLends.{lends_value};
 
@@ -82,26 +67,25 @@ impl<D: Dialects> AttributeDict<D> {
     pub fn new(alloc: Global) -> Self
         ensures { result ≡ [] }
     {
-        AttributeDict { table: None, alloc }
+        AttributeDict { pairs: None, alloc }
     }
 
-    // The pairs in their order.
-    fn pairs(&self) -> Slice<'_, Identifier, D::Attr>
-        ensures pairs { result ≡ self.now }
-        ensures distinct { IsDistinct same_key (keys_of result) }
+    // The pair at a place.
+    fn get_index(&self, place: usize) -> Option<(&Identifier, &D::Attr)>
+        ensures entry { option_map deref_pair result ≡ slice_get self.now place }
     {
-        if let Some(table) = &self.table {
-            return table.as_slice();
+        match &self.pairs {
+            Some(pairs) => pairs.get_index(place),
+            None => None,
         }
-        Slice::new()
     }
 
     // The attribute at the key, where there is one.
     fn attr(&self, key: &Identifier) -> Option<&D::Attr>
         ensures { option_copied result ≡ attribute_at self.now key.now }
     {
-        match &self.table {
-            Some(table) => table.get(key),
+        match &self.pairs {
+            Some(pairs) => pairs.get(key),
             None => None,
         }
     }
@@ -113,15 +97,11 @@ impl<D: Dialects> AttributeDict<D> {
         ensures unchanged { OnErr result (self.new ≡ self.old) }
         ensures only_new { OnErr result (attribute_at self.old key ≡ None) }
     {
-        match &mut self.table {
-            Some(table) => {
-                table.insert(key, attr)?;
-                Ok(())
-            }
+        match &mut self.pairs {
+            Some(pairs) => pairs.insert(key, attr),
             None => {
-                let mut table = IndexMap::new(self.alloc);
-                table.insert(key, attr)?;
-                self.table = Some(Box::new(self.alloc, table)?);
+                let pairs = Pairs::with_first(self.alloc, key, attr)?;
+                self.pairs = Some(Box::new(self.alloc, pairs)?);
                 Ok(())
             }
         }
@@ -132,14 +112,17 @@ impl<D: Dialects> AttributeDict<D> {
         ensures count { result ≡ length self.now }
         ensures distinct { HasDistinctKeys self.now }
     {
-        self.pairs().len()
+        match &self.pairs {
+            Some(pairs) => pairs.len(),
+            None => 0,
+        }
     }
 
     /// Whether there is no pair.
     pub fn is_empty(&self) -> bool
         ensures { IsTrue result ↔ (self.now ≡ []) }
     {
-        self.pairs().is_empty()
+        self.len() == 0
     }
 
     /// The value of the attribute at the key, where there is one of the kind of `T`.
@@ -157,9 +140,9 @@ impl<D: Dialects> AttributeDict<D> {
         ensures* writes_back { sem 𝓛 (lends_value D.row D.Attr.row D.TypeKey.row D.TypeBody.row D.Saved.row D.Aux.row D.Loc.row D.Dialects D.Attr.Hash D.TypeKey.Hash D.TypeBody.Default D.Saved.Hash D.Loc.Default T.row T.with_value self.entry key.now result) }
         ensures value { option_copied_mut result ≡ option_and_then T.value_of (attribute_at self.old key.now) }
     {
-        match &mut self.table {
-            Some(table) => {
-                let attr = table.get_mut(key)?;
+        match &mut self.pairs {
+            Some(pairs) => {
+                let attr = pairs.get_mut(key)?;
                 T::of_attr_mut(attr)
             }
             None => None,
@@ -195,18 +178,18 @@ impl<D: Dialects> AttributeDict<D> {
         ensures value { result ≡ attribute_at self.old key.now }
         ensures rest { self.new ≡ without_attribute self.old key.now }
     {
-        match &mut self.table {
-            Some(table) => table.shift_remove(key),
+        match &mut self.pairs {
+            Some(pairs) => pairs.remove(key),
             None => None,
         }
     }
 
-    /// Gives back the memory that is kept for pairs to come, as far as the table can. The pairs stay.
+    /// Gives back the memory that is kept for pairs to come, as far as a table can. The pairs stay.
     pub fn shrink_to_fit(&mut self)
         ensures same { self.new ≡ self.old }
     {
-        if let Some(table) = &mut self.table {
-            table.shrink_to_fit();
+        if let Some(pairs) = &mut self.pairs {
+            pairs.shrink_to_fit();
         }
     }
 
@@ -216,17 +199,20 @@ impl<D: Dialects> AttributeDict<D> {
         ensures left { self.new ≡ [] }
     {
         AttributeDict {
-            table: self.table.take(),
+            pairs: self.pairs.take(),
             alloc: self.alloc,
         }
     }
 
     /// The pairs in their order.
-    pub fn iter(&self) -> Iter<'_, Identifier, D::Attr>
+    pub fn iter(&self) -> Iter<'_, D::Attr>
         ensures rest { result ≡ self.now }
         ensures runs { ShowsInOrder (deref_pair {K = Identifier} {X = D.Attr}) }
     {
-        self.pairs().iter()
+        if let Some(pairs) = &self.pairs {
+            return pairs.iter();
+        }
+        Iter::none()
     }
 
     // Copies the pairs in their order: all of them, or those whose attribute isn't to be outlined.
@@ -234,10 +220,9 @@ impl<D: Dialects> AttributeDict<D> {
         ensures copies { IfOk result (AreCopies D.Attr.eq (kept_pairs (is_outlined D.attr_kind_of D.attr_impls_of D.attr_outline_of) all self.now)) }
         ensures error { IfErr result (λ error. error ≡ OutOfMemory) }
     {
-        let pairs = self.pairs();
         let mut copy = AttributeDict::new(self.alloc);
-        for place in 0..pairs.len() {
-            if let Some((key, attr)) = pairs.get_index(place) {
+        for place in 0..self.len() {
+            if let Some((key, attr)) = self.get_index(place) {
                 if all || !attr_should_outline::<D>(attr) {
                     copy.put(key.clone()?, D::copy_attr(self.alloc, attr)?)?;
                 }
@@ -246,14 +231,38 @@ impl<D: Dialects> AttributeDict<D> {
         Ok(copy)
     }
 
+    // Whether the key leads to an equal attribute.
+    fn has_equal(&self, key: &Identifier, attr: &D::Attr) -> bool
+        ensures { IsTrue result ↔ SameAttribute D.Attr.eq (Some attr.now) (attribute_at self.now key.now) }
+    {
+        match self.attr(key) {
+            Some(there) => *attr == *there,
+            None => false,
+        }
+    }
+
+    // Whether each key leads to an equal attribute in the other dictionary.
+    fn is_within(&self, other: &AttributeDict<D>) -> bool
+        ensures within { IsTrue result ↔ IsWithin D.Attr.eq self.now other.now }
+        ensures distinct { HasDistinctKeys self.now }
+    {
+        for place in 0..self.len() {
+            if let Some((key, attr)) = self.get_index(place) {
+                if !other.has_equal(key, attr) {
+                    return false;
+                }
+            }
+        }
+        true
+    }
+
     // The pair with the least key above this one, or of all where there is none.
     fn next_pair(&self, after: Option<&Identifier>) -> Option<(&Identifier, &D::Attr)>
         ensures next { IsNextPair (option_copied after.entry) self.now (option_map deref_pair result) }
     {
-        let pairs = self.pairs();
         let mut next = None;
-        for place in 0..pairs.len() {
-            if let Some((key, attr)) = pairs.get_index(place) {
+        for place in 0..self.len() {
+            if let Some((key, attr)) = self.get_index(place) {
                 if is_after(after, key) && is_before(key, next) {
                     next = Some((key, attr));
                 }
@@ -286,8 +295,7 @@ impl<D: Dialects> PartialEq for AttributeDict<D> {
     ghost laws = { same_pairs-laws D.Attr.eq D.Attr.Eq.laws };
 
     fn eq(&self, other: &AttributeDict<D>) -> bool {
-        let none = IndexMap::new(self.alloc);
-        *table_of(self, &none) == *table_of(other, &none)
+        self.is_within(other) && other.is_within(self)
     }
 }
 

@@ -7,6 +7,8 @@ pub mod attribute;
 mod attribute_dict;
 mod dialects;
 pub mod interfaces;
+mod lazy_table;
+mod pairs;
 mod saved_value;
 mod storage_uniquer;
 mod store_laws;

@@ -5,4 +5,4 @@ use Rattle.ir_base_dialects.specs.Attributes.{IsNextPair}
 use Rattle.ir_base_dialects.proofs.attribute_dict.AttributeDict.next_pair.Given as goal
 
 abbrev pub invariant-loop-place : goal.invariant-loop-place
-invariant-loop-place g l = IsNextPair (option_copied l.after) (take l.place l.pairs) (option_map deref_pair l.next)
+invariant-loop-place g l = IsNextPair (option_copied l.after) (take l.place l.self) (option_map deref_pair l.next)

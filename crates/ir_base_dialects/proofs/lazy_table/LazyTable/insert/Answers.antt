@@ -1,7 +1,7 @@
 use Rattle.std.proofs.Common.{◌≡◌, ap, ◌∙◌, rules}
 use Rattle.ir_model.specs.Stores.{set_attribute}
 use Rattle.ir_base_dialects.proofs.AttributeWrites.{insert_entry-is}
-use Rattle.ir_base_dialects.proofs.attribute_dict.AttributeDict.put.Goals as goal
+use Rattle.ir_base_dialects.proofs.lazy_table.LazyTable.insert.Goals as goal
 
 pub returns-in_ok-insert-in-Some-clause-set : goal.returns-in_ok-insert-in-Some-clause-set
 returns-in_ok-insert-in-Some-clause-set g c =

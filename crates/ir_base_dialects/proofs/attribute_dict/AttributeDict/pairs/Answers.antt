@@ -1,6 +1,0 @@
-use Rattle.std.proofs.Common.{[]}
-use Rattle.ir_base_dialects.proofs.KeyLemmas.{distinct_keys}
-use Rattle.ir_base_dialects.proofs.attribute_dict.AttributeDict.pairs.Goals as goal
-
-pub returns-clause-distinct : goal.returns-clause-distinct
-returns-clause-distinct g c = rw c.new.ensures ((distinct_keys {A = g.row.D-Attr.Denot} []).1 tt)
