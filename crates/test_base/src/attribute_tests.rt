@@ -28,14 +28,19 @@ fn number(value: i64) -> ToyInt {
     }
 }
 
-// One of five keys.
+// One of ten keys.
 fn key(place: usize) -> Identifier {
     match place {
         0 => Identifier::new("a"),
         1 => Identifier::new("b"),
         2 => Identifier::new("c"),
         3 => Identifier::new("d"),
-        _ => Identifier::new("e"),
+        4 => Identifier::new("e"),
+        5 => Identifier::new("f"),
+        6 => Identifier::new("g"),
+        7 => Identifier::new("h"),
+        8 => Identifier::new("i"),
+        _ => Identifier::new("j"),
     }
 }
 
@@ -233,15 +238,49 @@ fn put_next(rt: &impl Abort, dict: &mut Dict, next: u32) {
     answer.expect(rt, "memory");
 }
 
-// The last number is put again, which needs no memory.
+// Two numbers are put again, which needs no memory.
 #[test]
 fn refused_set_changes_nothing(rt: HostRuntime) {
     let mut dict = Dict::new(rt.alloc());
-    for next in 0..4u32 {
+    for next in 0..9u32 {
         put_next(&rt, &mut dict, next);
     }
-    let answer = dict.set(key(3), number(3));
-    expect_same(&rt, (answer, counts_to(&dict, 4)), (Ok(()), true));
+    let answers = [dict.set(key(3), number(3)), dict.set(key(8), number(8))];
+    expect_same(
+        &rt,
+        (answers, counts_to(&dict, 9)),
+        ([Ok(()), Ok(())], true),
+    );
+}
+
+// A dictionary of ten numbers, each at its key.
+fn ten(rt: &impl Abort, alloc: Global) -> Dict {
+    let mut dict = Dict::new(alloc);
+    for next in 0..10u32 {
+        put(rt, &mut dict, next as usize, number(i64::from(next)));
+    }
+    dict
+}
+
+// Takes the numbers at two of ten keys out and puts them again. Whether the keys are in their order before and after that.
+fn keeps_order(rt: &impl Abort, dict: &mut Dict, [first, last]: [u32; 2]) -> [bool; 3] {
+    let taken = [first, last].map(|next| take(dict, next as usize).is_some()) == [true; 2];
+    let left = has_keys(dict, &["a", "c", "d", "e", "f", "g", "h", "j"]);
+    for next in [first, last] {
+        put(rt, dict, next as usize, number(i64::from(next)));
+    }
+    let all = ["a", "c", "d", "e", "f", "g", "h", "j", "b", "i"];
+    [taken, left, has_keys(dict, &all)]
+}
+
+// Refuses a dictionary that puts a pair among the first eight while others stand behind them.
+#[test]
+fn pairs_behind_the_eighth(rt: HostRuntime) {
+    let alloc = rt.alloc();
+    let mut dict = ten(&rt, alloc);
+    expect_same(&rt, keeps_order(&rt, &mut dict, [1, 8]), [true; 3]);
+    let other = ten(&rt, alloc);
+    expect_same(&rt, are_alike(&dict, &other), true);
 }
 
 // Writes a value through a loan, where there is one of its kind at the key. Its contract follows from that of `get_mut`.
