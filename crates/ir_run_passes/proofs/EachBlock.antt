@@ -28,6 +28,11 @@ use Rattle.ir_run_passes.proofs.Places.{read_at}
 abbrev pub E : Type 0
 E = Entity context_ids
 
+-- with one more item
+pub map_push : {A B : Type 0} (f : A → B) (xs : List A) (x : A) (rest : List B) → map f (xs ++ x ∷ []) ++ rest ≡ map f xs ++ f x ∷ rest
+map_push f [] x rest = refl
+map_push f (y ∷ ys) x rest = ap (λ l. f y ∷ l) (map_push f ys x rest)
+
 -- ## What redirected operands leave
 
 module _ {W : Dialect} where
